@@ -1,0 +1,11 @@
+-- What a journal keeps.
+use Rattle.std.specs.Prelude.{ℕ, List}
+
+pub record Kept (T : Type 0) : Type 0 where
+  pub items : List T
+  -- the bytes of all items together
+  pub used : ℕ
+  -- how many items it takes without memory
+  pub room : ℕ
+  pub most_items : ℕ
+  pub most_bytes : ℕ

@@ -1,0 +1,22 @@
+//! Messages as text: the written form of a message, and which message a text spells (RFC 3261
+//! section 7).
+#![tactic(auto)]
+
+mod addresses;
+mod first;
+mod headers;
+mod items;
+mod lines;
+mod messages;
+mod names;
+mod pieces;
+mod reading;
+mod refused;
+#[cfg(test)]
+mod tests;
+mod uris;
+
+pub use messages::{text_of, write};
+pub use reading::read;
+pub use refused::MessageRefused;
+pub use uris::uri_text;

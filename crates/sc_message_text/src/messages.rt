@@ -1,0 +1,142 @@
+//! Whole messages (RFC 3261 section 7).
+
+ghost use Rattle.std.specs.Prelude.{◌≡◌, ◌++◌, length, decimal, IfOk, OnErr, OnOk};
+ghost use Rattle.std.specs.List.{flat_map};
+ghost use Rattle.sc_grammar.specs.Written.{address_text, closing_lines, contact_line, crlf, cseq_text, dialog_lines, field_line, head_text, hops_line, line, request_line, routing_lines, status_line, written};
+ghost use Rattle.sc_value.specs.HeaderNames.{call_id_name, content_length_name, cseq_name, from_name, to_name};
+
+use crate::headers::put_cseq;
+use crate::items::put_items;
+use crate::lines::{
+    ContactLine, FieldLine, RecordRouteLine, RouteLine, ViaLine, put_address_line, put_line,
+    put_name, put_number_line,
+};
+use crate::names;
+use crate::pieces::{put_byte, put_line_end, put_version};
+use crate::uris::put_uri;
+use sc_value::{
+    Address, CSeq, Contact, Field, Head, Message, NoMemory, Request, Response, Text, Via, write_u64,
+};
+use std::alloc::Global;
+
+/// The written form of a message, in a text of its own (RFC 3261 section 7). The order of the
+/// headers is Via, Route, Record-Route, Max-Forwards (in requests alone), From, To, Call-ID, CSeq,
+/// Contact, all others, Content-Length, one line an item. The one error is want of memory.
+pub fn text_of(alloc: Global, message: &Message) -> Result<Text, NoMemory>
+    ensures { IfOk result (λ text. text ≡ written message.now) }
+{
+    let mut out = Text::new(alloc);
+    put_message(message, &mut out)?;
+    Ok(out)
+}
+
+/// Puts the written form of a message at the end of a text (RFC 3261 section 7), as [`text_of`]
+/// gives it. The one error is want of memory, and then the text is as before.
+pub fn write(alloc: Global, message: &Message, out: &mut Text) -> Result<(), NoMemory>
+    ensures ok { OnOk result (out.new ≡ out.old ++ written message.now) }
+    ensures err { OnErr result (out.new ≡ out.old) }
+{
+    let text = text_of(alloc, message)?;
+    out.append(text.as_bytes())
+}
+
+#[tactic(auto, unfolding(sc_grammar::specs::Written::written))]
+fn put_message(message: &Message, out: &mut Text) -> Result<(), NoMemory>
+    ensures { OnOk result (out.new ≡ out.old ++ written message.now) }
+{
+    match message {
+        Message::Request(request) => {
+            put_request_line(request, out)?;
+            put_head(Some(request.hops), &request.head, out)
+        }
+        Message::Response(response) => {
+            put_status_line(response, out)?;
+            put_head(None, &response.head, out)
+        }
+    }
+}
+
+#[tactic(auto, unfolding(sc_grammar::specs::Written::request_line))]
+fn put_request_line(request: &Request, out: &mut Text) -> Result<(), NoMemory>
+    ensures { OnOk result (out.new ≡ out.old ++ request_line request.now) }
+{
+    out.append(request.method.as_bytes())?;
+    put_byte(b' ', out)?;
+    put_uri(&request.uri, out)?;
+    put_byte(b' ', out)?;
+    put_version(out)?;
+    put_line_end(out)
+}
+
+#[tactic(auto, unfolding(sc_grammar::specs::Written::status_line))]
+fn put_status_line(response: &Response, out: &mut Text) -> Result<(), NoMemory>
+    ensures { OnOk result (out.new ≡ out.old ++ status_line response.now) }
+{
+    put_version(out)?;
+    put_byte(b' ', out)?;
+    write_u64(u64::from(response.code), out)?;
+    put_byte(b' ', out)?;
+    out.append(response.reason.as_bytes())?;
+    put_line_end(out)
+}
+
+// All that follows the start line.
+#[tactic(auto, unfolding(sc_grammar::specs::Written::head_text))]
+fn put_head(hops: Option<u8>, head: &Head, out: &mut Text) -> Result<(), NoMemory>
+    ensures { OnOk result (out.new ≡ out.old ++ head_text hops head.now) }
+{
+    put_routing_lines(head, out)?;
+    put_hops_line(hops, out)?;
+    put_dialog_lines(head, out)?;
+    put_closing_lines(head, out)?;
+    put_line_end(out)?;
+    out.append(head.body.as_bytes())
+}
+
+// The lists of Via, Route and Record-Route.
+#[tactic(auto, unfolding(sc_grammar::specs::Written::routing_lines))]
+fn put_routing_lines(head: &Head, out: &mut Text) -> Result<(), NoMemory>
+    ensures { OnOk result (out.new ≡ out.old ++ routing_lines head.now) }
+{
+    put_items::<Via, ViaLine>(head.via.as_slice(), out)?;
+    put_items::<Address, RouteLine>(head.route.as_slice(), out)?;
+    put_items::<Address, RecordRouteLine>(head.record_route.as_slice(), out)
+}
+
+#[tactic(auto, unfolding(sc_grammar::specs::Written::hops_line))]
+fn put_hops_line(hops: Option<u8>, out: &mut Text) -> Result<(), NoMemory>
+    ensures { OnOk result (out.new ≡ out.old ++ hops_line hops) }
+{
+    match hops {
+        Some(hops) => put_number_line(names::max_forwards(), u64::from(hops), out),
+        None => Ok(()),
+    }
+}
+
+#[tactic(auto, unfolding(sc_grammar::specs::Written::dialog_lines))]
+fn put_dialog_lines(head: &Head, out: &mut Text) -> Result<(), NoMemory>
+    ensures { OnOk result (out.new ≡ out.old ++ dialog_lines head.now) }
+{
+    put_address_line(names::from(), &head.from, out)?;
+    put_address_line(names::to(), &head.to, out)?;
+    put_line(names::call_id(), head.call_id.as_bytes(), out)?;
+    put_cseq_line(&head.cseq, out)
+}
+
+#[tactic(auto, unfolding(sc_grammar::specs::Written::line))]
+fn put_cseq_line(cseq: &CSeq, out: &mut Text) -> Result<(), NoMemory>
+    ensures { OnOk result (out.new ≡ out.old ++ line cseq_name (cseq_text cseq.now)) }
+{
+    put_name(names::cseq(), out)?;
+    put_cseq(cseq, out)?;
+    put_line_end(out)
+}
+
+#[tactic(auto, unfolding(sc_grammar::specs::Written::closing_lines))]
+fn put_closing_lines(head: &Head, out: &mut Text) -> Result<(), NoMemory>
+    ensures { OnOk result (out.new ≡ out.old ++ closing_lines head.now) }
+{
+    put_items::<Contact, ContactLine>(head.contact.as_slice(), out)?;
+    put_items::<Field, FieldLine>(head.others.as_slice(), out)?;
+    put_number_line(names::content_length(), head.body.len() as u64, out)
+}

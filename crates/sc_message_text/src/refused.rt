@@ -1,0 +1,24 @@
+ghost use Rattle.std.specs.Prelude.{◌≡◌};
+
+use sc_value::NoMemory;
+
+/// Why a text is no message.
+#[derive(Debug, Clone, Copy, PartialEq, Eq)]
+pub enum MessageRefused {
+    /// The text spells no message (RFC 3261 section 7). `at` is the place where it goes wrong, in
+    /// bytes from 0, and `kind` is what is wrong there; 1 is the start line. Until the whole
+    /// grammar is read each refused text has place 0 and kind 1.
+    Refused { at: usize, kind: u8 },
+    /// There was no memory to read the text. It says nothing of the text.
+    NoMemory,
+}
+
+impl From<NoMemory> for MessageRefused {
+    ghost use Rattle.sc_message_text.specs.declared.refused.MessageRefused.TheVariants.{NoMemory};
+
+    ghost from_gives = { λ _ e. e ≡ NoMemory };
+
+    fn from(_cause: NoMemory) -> MessageRefused {
+        MessageRefused::NoMemory
+    }
+}

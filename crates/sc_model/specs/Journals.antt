@@ -1,0 +1,100 @@
+-- The run of a journal: what its steps make of hosts without sessions, from a first moment on.
+use Rattle.std.specs.Prelude.{◌≡◌, ℕ, ◌+◌, ◌<◌, ◌⊎◌, List, [], ◌∷◌, ◌++◌, Option, None, Some, length, map, sum_by}
+use Rattle.std.specs.List.{fold}
+use Rattle.sc_value.specs.declared.parts.Param.{Param}
+use Rattle.sc_value.specs.declared.parts.SipUri.{SipUri}
+use Rattle.sc_value.specs.declared.parts.Uri.{Uri}
+use Rattle.sc_value.specs.declared.parts.Uri.TheVariants.{Sip, Other}
+use Rattle.sc_value.specs.declared.parts.Contact.{Contact}
+use Rattle.sc_value.specs.declared.parts.Contact.TheVariants.{Star, At}
+use Rattle.sc_value.specs.declared.parts.Field.{Field}
+use Rattle.sc_value.specs.declared.message.Sent.{Sent}
+use Rattle.sc_terms.specs.declared.calls.Answer.{Answer}
+use Rattle.sc_terms.specs.declared.calls.Call.{Call}
+use Rattle.sc_terms.specs.declared.calls.Call.TheVariants.{Respond}
+use Rattle.sc_terms.specs.declared.calls.CallRecord.{CallRecord}
+use Rattle.sc_terms.specs.declared.steps.Step.{Step}
+use Rattle.sc_terms.specs.declared.steps.Step.TheVariants as steps
+use Rattle.sc_grammar.specs.Written.{Bytes, written}
+use Rattle.sc_model.specs.Hosts.{Net, quiet_host, stepped, sent_by, IsAllowed}
+use Rattle.sc_parts.specs.declared.setup.Setup.{Setup}
+
+-- the net, and all that was sent outside
+pub record Run : Type 0 where
+  pub net : Net
+  pub sent : List Sent
+
+-- hosts without sessions, one for each application, of this epoch at this moment
+unfoldable pub start_net : Setup → ℕ → ℕ → Net
+start_net setup epoch began = record { hosts = map (λ app. quiet_host) setup.config.app; epoch = epoch; now = began; count = 0 }
+
+unfoldable pub start : Setup → ℕ → ℕ → Run
+start setup epoch began = record { net = start_net setup epoch began; sent = [] }
+
+unfoldable pub advanced : Setup → Run → Step → Run
+advanced setup run step = record { net = stepped setup run.net step; sent = run.sent ++ sent_by setup run.net step }
+
+unfoldable pub chained_from : Setup → Run → List Step → Run
+chained_from setup run journal = fold (advanced setup) run journal
+
+-- the run of a journal of this epoch, begun at this moment
+unfoldable pub chained : Setup → ℕ → ℕ → List Step → Run
+chained setup epoch began journal = chained_from setup (start setup epoch began) journal
+
+-- each step may be taken where it is taken
+unfoldable pub IsLawfulFrom : Setup → Run → List Step → Type 0
+IsLawfulFrom setup run [] = Unit {0}
+IsLawfulFrom setup run (step ∷ steps) = IsAllowed setup run.net step × IsLawfulFrom setup (advanced setup run step) steps
+
+unfoldable pub IsLawful : Setup → ℕ → ℕ → List Step → Type 0
+IsLawful setup epoch began journal = IsLawfulFrom setup (start setup epoch began) journal
+
+-- all that the run sends, in order
+unfoldable pub all_sent : Setup → ℕ → ℕ → List Step → List Sent
+all_sent setup epoch began journal = (chained setup epoch began journal).sent
+
+-- ## The size of a journal
+
+unfoldable pub option_size : Option Bytes → ℕ
+option_size None = 0
+option_size (Some text) = length text
+
+unfoldable pub param_size : Param → ℕ
+param_size param = length param.name + option_size param.value
+
+unfoldable pub sip_uri_size : SipUri → ℕ
+sip_uri_size uri = option_size uri.user + length uri.host + sum_by param_size uri.params + option_size uri.headers
+
+unfoldable pub uri_size : Uri → ℕ
+uri_size (Sip uri) = sip_uri_size uri
+uri_size (Other text) = length text
+
+unfoldable pub contact_size : Contact → ℕ
+contact_size Star = 0
+contact_size (At address) = option_size address.display + uri_size address.uri + sum_by param_size address.params
+
+unfoldable pub field_size : Field → ℕ
+field_size field = length field.name + length field.value
+
+-- the lengths of all texts of an answer
+unfoldable pub answer_size : Answer → ℕ
+answer_size answer = length answer.reason + sum_by field_size answer.fields + sum_by contact_size answer.contact + length answer.body
+
+unfoldable pub call_size : Call → ℕ
+call_size (Respond req answer) = answer_size answer
+
+unfoldable pub record_size : CallRecord → ℕ
+record_size made = call_size made.call
+
+-- the bytes of a step: of a message its written text, of a turn all texts in its calls
+unfoldable pub step_size : Step → ℕ
+step_size (steps.In place message) = length (written message)
+step_size (steps.Turn app event now calls end) = sum_by record_size calls
+
+unfoldable pub journal_size : List Step → ℕ
+journal_size journal = sum_by step_size journal
+
+-- the journal has no room for the step: it stands at its limit of steps, or the step would pass its
+-- limit of bytes
+unfoldable pub HasNoRoom : ℕ → ℕ → List Step → ℕ → Type 0
+HasNoRoom most_steps most_bytes journal size = (length journal ≡ most_steps) ⊎ (most_bytes < journal_size journal + size)

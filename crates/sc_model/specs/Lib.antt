@@ -1,0 +1,13 @@
+pub mod Charters
+pub mod FixedSettings
+pub mod Histories
+pub mod Hosts
+pub mod Journals
+pub mod Names
+pub mod Records
+pub mod Responses
+pub mod Routing
+pub mod Scripts
+pub mod SessionStates
+pub mod Settings
+pub mod Turns

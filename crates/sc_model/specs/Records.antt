@@ -1,0 +1,53 @@
+-- The records of a run as text.
+use Rattle.std.specs.Prelude.{ℕ, List, [], ◌∷◌, ◌++◌, decimal, codes, length, slice_index}
+use Rattle.std.specs.List.{flat_map}
+use Rattle.sc_value.specs.declared.ids.Place.{Place}
+use Rattle.sc_value.specs.declared.ids.Place.TheVariants.{Back, To}
+use Rattle.sc_value.specs.declared.message.Sent.{Sent}
+use Rattle.sc_terms.specs.declared.steps.Step.{Step}
+use Rattle.sc_grammar.specs.Written.{Bytes, written}
+use Rattle.sc_model.specs.Hosts.{live_count}
+use Rattle.sc_model.specs.Journals.{chained, all_sent}
+use Rattle.sc_parts.specs.declared.setup.Setup.{Setup}
+
+-- `a.b.c.d`
+unfoldable pub ip_text : List ℕ → Bytes
+ip_text ip = decimal (slice_index ip 0) ++ 46 ∷ [] ++ decimal (slice_index ip 1) ++ 46 ∷ [] ++ (decimal (slice_index ip 2) ++ 46 ∷ [] ++ decimal (slice_index ip 3))
+
+-- `cN` or `a.b.c.d:port`
+unfoldable pub place_text : Place → Bytes
+place_text (Back number) = 99 ∷ [] ++ decimal number
+place_text (To ip port) = ip_text ip ++ 58 ∷ [] ++ decimal port
+
+unfoldable pub out_word : Bytes
+out_word = codes "out "
+
+-- `out PLACE N`, and a line feed
+unfoldable pub record_line : Place → ℕ → Bytes
+record_line place size = out_word ++ place_text place ++ 32 ∷ [] ++ decimal size ++ 10 ∷ []
+
+-- the line, the message's bytes and a line feed
+unfoldable pub record_text : Sent → Bytes
+record_text sent = record_line sent.place (length (written sent.message)) ++ written sent.message ++ 10 ∷ []
+
+unfoldable pub records : List Sent → Bytes
+records sent = flat_map record_text sent
+
+unfoldable pub end_word : Bytes
+end_word = codes "end "
+
+-- `end STEPS SENT LIVE`, and a line feed
+unfoldable pub end_text : ℕ → ℕ → ℕ → Bytes
+end_text steps sent live = end_word ++ decimal steps ++ 32 ∷ [] ++ decimal sent ++ 32 ∷ [] ++ (decimal live ++ 10 ∷ [])
+
+-- the records of all that a journal sends
+unfoldable pub journal_records : Setup → List Step → Bytes
+journal_records setup journal = records (all_sent setup 0 0 journal)
+
+-- the last line: the steps, the sent messages and the live sessions
+unfoldable pub end_line : Setup → List Step → Bytes
+end_line setup journal = end_text (length journal) (length (all_sent setup 0 0 journal)) (live_count (chained setup 0 0 journal).net)
+
+-- the whole output
+unfoldable pub output : Setup → List Step → Bytes
+output setup journal = journal_records setup journal ++ end_line setup journal

@@ -1,0 +1,43 @@
+-- The response to a received request (RFC 3261 section 8.2.6).
+use Rattle.std.specs.Prelude.{[], ◌∷◌, ◌++◌, Some, is_some, if◌then◌else◌, map}
+use Rattle.sc_value.specs.declared.parts.Address.{Address}
+use Rattle.sc_value.specs.declared.parts.Param.{Param}
+use Rattle.sc_value.specs.declared.parts.Field.{Field}
+use Rattle.sc_value.specs.declared.message.Head.{Head}
+use Rattle.sc_value.specs.declared.message.Request.{Request}
+use Rattle.sc_value.specs.declared.message.Response.{Response}
+use Rattle.sc_value.specs.HeaderNames.{long_name}
+use Rattle.sc_value.specs.Params.{param_value, tag_name}
+use Rattle.sc_terms.specs.declared.calls.Answer.{Answer}
+use Rattle.sc_grammar.specs.Written.{Bytes}
+
+-- `;tag=..`
+unfoldable pub tag_param : Bytes → Param
+tag_param tag = record { name = tag_name; value = Some tag }
+
+-- the address with this tag, where it has none
+unfoldable pub with_tag : Bytes → Address → Address
+with_tag tag address =
+    if is_some (param_value tag_name address.params) then address else record address { params = address.params ++ tag_param tag ∷ [] }
+
+-- a header that a servlet sets; its compact name is kept as its long one
+unfoldable pub kept_field : Field → Field
+kept_field field = record { name = long_name field.name; value = field.value }
+
+-- Via, From, Call-ID and CSeq are those of the request, and To with the own tag
+unfoldable pub response_head : Bytes → Request → Answer → Head
+response_head tag request answer = record {
+  via = request.head.via;
+  route = [];
+  record_route = [];
+  from = request.head.from;
+  to = with_tag tag request.head.to;
+  call_id = request.head.call_id;
+  cseq = request.head.cseq;
+  contact = answer.contact;
+  others = map kept_field answer.fields;
+  body = answer.body;
+}
+
+unfoldable pub response_to : Bytes → Request → Answer → Response
+response_to tag request answer = record { code = answer.code; reason = answer.reason; head = response_head tag request answer }

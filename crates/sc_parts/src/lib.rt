@@ -1,0 +1,18 @@
+//! What a host is made of: its transactions, and what an application session is and waits for.
+//! Plain data, no logic.
+#![tactic(auto)]
+
+mod chosen;
+mod copies;
+mod outcome;
+mod server;
+mod session;
+mod setup;
+mod waiting;
+
+pub use chosen::Chosen;
+pub use outcome::{Order, Outcome};
+pub use server::Server;
+pub use session::{Received, Session};
+pub use setup::Setup;
+pub use waiting::{Queued, Waiting};

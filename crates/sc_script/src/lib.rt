@@ -1,0 +1,13 @@
+//! Scripts and the records of a run, as text: the lines that a script says, and what is written of
+//! each message that was sent and of the run's end.
+#![tactic(auto)]
+
+mod reading;
+mod records;
+mod refused;
+#[cfg(test)]
+mod tests;
+
+pub use reading::read;
+pub use records::{write_end, write_sent};
+pub use refused::ScriptRefused;

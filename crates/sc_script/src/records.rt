@@ -1,0 +1,134 @@
+//! The records of a run.
+
+ghost use Rattle.std.specs.Prelude.{◌≡◌, ◌++◌, [], ◌∷◌, decimal, length, IfOk, OnErr, OnOk, slice_index};
+ghost use Rattle.sc_grammar.specs.Written.{written};
+ghost use Rattle.sc_model.specs.Records.{end_text, end_word, ip_text, out_word, place_text, record_line, record_text};
+
+use sc_message_text::text_of;
+use sc_value::{NoMemory, Place, Sent, Text, write_u64};
+use std::alloc::Global;
+
+/// Puts the record of a message that was sent at the end of a text: the line `out PLACE N`, where N
+/// is the length of the message in bytes, then the message and a line feed. PLACE is `cN` for the
+/// connection N that a peer opened, and `a.b.c.d:port` for an address. The one error is want of
+/// memory, and then the text is as before.
+#[tactic(auto, unfolding(sc_model::specs::Records::record_text))]
+pub fn write_sent(alloc: Global, sent: &Sent, out: &mut Text) -> Result<(), NoMemory>
+    ensures ok { OnOk result (out.new ≡ out.old ++ record_text sent.now) }
+    ensures err { OnErr result (out.new ≡ out.old) }
+{
+    let text = text_of(alloc, &sent.message)?;
+    let whole = record_of(alloc, sent.place, text.as_bytes())?;
+    out.append(whole.as_bytes())
+}
+
+// The record of a message with this text, in a text of its own.
+fn record_of(alloc: Global, place: Place, text: &[u8]) -> Result<Text, NoMemory>
+    ensures { IfOk result (λ whole. whole ≡ record_line place (length text.now) ++ text.now ++ 10 ∷ []) }
+{
+    let mut whole = Text::new(alloc);
+    put_record_line(place, text.len() as u64, &mut whole)?;
+    whole.append(text)?;
+    whole.append(b"\n")?;
+    Ok(whole)
+}
+
+#[tactic(auto, unfolding(sc_model::specs::Records::record_line))]
+fn put_record_line(place: Place, size: u64, out: &mut Text) -> Result<(), NoMemory>
+    ensures { OnOk result (out.new ≡ out.old ++ record_line place size) }
+{
+    put_out_word(out)?;
+    put_place(place, out)?;
+    out.append(b" ")?;
+    write_u64(size, out)?;
+    out.append(b"\n")
+}
+
+#[tactic(auto, unfolding(sc_model::specs::Records::out_word))]
+fn put_out_word(out: &mut Text) -> Result<(), NoMemory>
+    ensures { OnOk result (out.new ≡ out.old ++ out_word) }
+{
+    out.append(b"out ")
+}
+
+#[tactic(auto, unfolding(sc_model::specs::Records::place_text))]
+fn put_place(place: Place, out: &mut Text) -> Result<(), NoMemory>
+    ensures { OnOk result (out.new ≡ out.old ++ place_text place) }
+{
+    match place {
+        Place::Back(number) => {
+            out.append(b"c")?;
+            write_u64(number, out)
+        }
+        Place::To(ip, port) => {
+            put_ip(ip, out)?;
+            out.append(b":")?;
+            write_u64(u64::from(port), out)
+        }
+    }
+}
+
+#[tactic(auto, unfolding(sc_model::specs::Records::ip_text))]
+fn put_ip(ip: [u8; 4], out: &mut Text) -> Result<(), NoMemory>
+    ensures { OnOk result (out.new ≡ out.old ++ ip_text ip) }
+{
+    put_pair(ip[0], ip[1], out)?;
+    out.append(b".")?;
+    put_pair(ip[2], ip[3], out)
+}
+
+// `a.b`
+fn put_pair(a: u8, b: u8, out: &mut Text) -> Result<(), NoMemory>
+    ensures { OnOk result (out.new ≡ out.old ++ (decimal a ++ 46 ∷ [] ++ decimal b)) }
+{
+    write_u64(u64::from(a), out)?;
+    out.append(b".")?;
+    write_u64(u64::from(b), out)
+}
+
+/// Puts the last line of a run at the end of a text: `end STEPS SENT LIVE`, the number of steps,
+/// of messages that were sent and of application sessions that live, and a line feed. The one error
+/// is want of memory, and then the text is as before.
+pub fn write_end(
+    alloc: Global,
+    steps: u64,
+    sent: u64,
+    live: u64,
+    out: &mut Text,
+) -> Result<(), NoMemory>
+    ensures ok { OnOk result (out.new ≡ out.old ++ end_text steps sent live) }
+    ensures err { OnErr result (out.new ≡ out.old) }
+{
+    let line = end_of(alloc, steps, sent, live)?;
+    out.append(line.as_bytes())
+}
+
+// The last line, in a text of its own.
+#[tactic(auto, unfolding(sc_model::specs::Records::end_text))]
+fn end_of(alloc: Global, steps: u64, sent: u64, live: u64) -> Result<Text, NoMemory>
+    ensures { IfOk result (λ line. line ≡ end_text steps sent live) }
+{
+    let mut line = Text::new(alloc);
+    put_end_word(&mut line)?;
+    put_counts(steps, sent, &mut line)?;
+    line.append(b" ")?;
+    write_u64(live, &mut line)?;
+    line.append(b"\n")?;
+    Ok(line)
+}
+
+// `STEPS SENT`
+fn put_counts(steps: u64, sent: u64, out: &mut Text) -> Result<(), NoMemory>
+    ensures { OnOk result (out.new ≡ out.old ++ (decimal steps ++ 32 ∷ [] ++ decimal sent)) }
+{
+    write_u64(steps, out)?;
+    out.append(b" ")?;
+    write_u64(sent, out)
+}
+
+#[tactic(auto, unfolding(sc_model::specs::Records::end_word))]
+fn put_end_word(out: &mut Text) -> Result<(), NoMemory>
+    ensures { OnOk result (out.new ≡ out.old ++ end_word) }
+{
+    out.append(b"end ")
+}

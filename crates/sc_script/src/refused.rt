@@ -1,0 +1,24 @@
+ghost use Rattle.std.specs.Prelude.{◌≡◌};
+
+use sc_value::NoMemory;
+
+/// Why a text is no script.
+#[derive(Debug, Clone, Copy, PartialEq, Eq)]
+pub enum ScriptRefused {
+    /// The text is no script that can be run. `at` is the place where it goes wrong, in bytes from
+    /// 0, and `kind` is what is wrong there; 8 is a script that is not run yet. Until all scripts
+    /// are read each refused text has place 0 and kind 8.
+    Refused { at: usize, kind: u8 },
+    /// There was no memory to read the text. It says nothing of the text.
+    NoMemory,
+}
+
+impl From<NoMemory> for ScriptRefused {
+    ghost use Rattle.sc_script.specs.declared.refused.ScriptRefused.TheVariants.{NoMemory};
+
+    ghost from_gives = { λ _ e. e ≡ NoMemory };
+
+    fn from(_cause: NoMemory) -> ScriptRefused {
+        ScriptRefused::NoMemory
+    }
+}

@@ -1,0 +1,18 @@
+//! The plain types of turns, steps, scripts and settings: what a servlet is shown, what it calls,
+//! what the journal keeps, and what a configuration and a routing table say. No logic.
+#![tactic(auto)]
+
+mod calls;
+mod charters;
+mod copies;
+mod events;
+mod settings;
+mod steps;
+mod views;
+
+pub use calls::{Answer, Call, CallAnswer, CallRecord, End, Refusal};
+pub use charters::{Charter, ListenerCharter};
+pub use events::Event;
+pub use settings::{AppEntry, Config, Dar, HostEntry, MethodList, Modifier, Tuple};
+pub use steps::{Line, Step};
+pub use views::{Period, RequestView, Role, SessionView, State, TimerView, View};

@@ -1,0 +1,78 @@
+//! A configuration and a routing table as plain data.
+
+use sc_value::{Address, List, Region, Text};
+
+/// The settings of a container.
+#[derive(Drop)]
+pub struct Config {
+    /// The address and the port, 1 to 65,535, that the container listens at.
+    pub listen: ([u8; 4], u16),
+    /// The domain whose requests are the container's own.
+    pub domain: Text,
+    /// 1 to 16 letters and digits that begin all names that the container draws.
+    pub salt: Text,
+    /// The number of worker threads, 1 to 32.
+    pub workers: u32,
+    /// After so many connections the server ends, 0 for never; at most 1,000,000.
+    pub stop_after: u32,
+    /// How many steps the journal takes, 1 to 1,000,000.
+    pub journal_steps: u64,
+    /// How many bytes the journal takes, 1 to 67,108,864.
+    pub journal_bytes: u64,
+    /// After so many steps an idle server begins a new journal, 0 for never; at most 1,000,000.
+    pub epoch_steps: u64,
+    /// The names that the container knows, in byte order.
+    pub hosts: List<HostEntry>,
+    /// The applications, 1 to 64. The place of one is the number of its host.
+    pub app: List<AppEntry>,
+}
+
+/// A host's name with its address.
+#[derive(Drop)]
+pub struct HostEntry {
+    pub name: Text,
+    pub ip: [u8; 4],
+}
+
+/// An application.
+#[derive(Drop)]
+pub struct AppEntry {
+    pub name: Text,
+    /// The place of its kind in the catalogue.
+    pub kind: usize,
+    pub params: List<Text>,
+    /// After so many minutes its sessions expire, 0 or less for never; -1 to 10,080.
+    pub expires: i32,
+}
+
+/// The table of the Default Application Router (JSR 289 appendix C).
+#[derive(Drop)]
+pub struct Dar {
+    pub lists: List<MethodList>,
+}
+
+/// The applications for a method, in order.
+#[derive(Drop)]
+pub struct MethodList {
+    pub method: Text,
+    pub tuples: List<Tuple>,
+}
+
+/// An application in the order of a method.
+#[derive(Drop)]
+pub struct Tuple {
+    /// The application's place in the configuration.
+    pub app: u32,
+    /// The subscriber: a text, or `DAR:` and the name of a header that gives it.
+    pub subscriber: Text,
+    pub region: Region,
+    pub route: Option<Address>,
+    pub modifier: Modifier,
+}
+
+/// What is done with a tuple's route (JSR 289 section 15.6).
+#[derive(Clone, Copy, Debug, PartialEq, Eq)]
+pub enum Modifier {
+    /// The route isn't used.
+    NoRoute,
+}

@@ -1,0 +1,4 @@
+pub mod HeaderNames
+pub mod Lists
+pub mod Params
+pub mod Tokens

@@ -1,0 +1,36 @@
+//! The values that the whole container speaks of: texts, lists, names of sessions, outside places,
+//! and SIP messages with all their parts (RFC 3261 section 7).
+//!
+//! A contract sees a [`Text`] as its bytes and a [`List`] as its items, so every message is plain
+//! data there: two messages are equal exactly where all their parts are.
+#![tactic(auto)]
+
+mod boxed;
+mod clone_in;
+mod discard;
+mod ids;
+mod list;
+mod message;
+mod message_copies;
+mod names;
+mod no_memory;
+mod numbers;
+mod part_copies;
+mod parts;
+mod same;
+mod text;
+mod tokens;
+
+pub use boxed::Boxed;
+pub use clone_in::CloneIn;
+pub use discard::Discard;
+pub use ids::{AppId, Place, Region, ReqId, SessId, TimerId};
+pub use list::List;
+pub use message::{Head, Message, Request, Response, Sent};
+pub use names::{is_system_name, long_name, same_name};
+pub use no_memory::NoMemory;
+pub use numbers::write_u64;
+pub use parts::{Address, CSeq, Contact, Field, Param, SipUri, Uri, Via, branch, tag};
+pub use same::Same;
+pub use text::Text;
+pub use tokens::{is_one_line, is_token, is_value};

@@ -1,0 +1,53 @@
+//! Messages (RFC 3261 section 7).
+
+use crate::{Address, CSeq, Contact, Field, List, Place, Text, Uri, Via};
+
+/// The headers and the body of a message. Max-Forwards stands in the request, and Content-Length
+/// is the length of the body.
+#[derive(Drop)]
+pub struct Head {
+    pub via: List<Via>,
+    pub route: List<Address>,
+    pub record_route: List<Address>,
+    pub from: Address,
+    pub to: Address,
+    pub call_id: Text,
+    pub cseq: CSeq,
+    pub contact: List<Contact>,
+    /// The headers without structure, in order.
+    pub others: List<Field>,
+    pub body: Text,
+}
+
+/// A request (RFC 3261 section 7.1).
+#[derive(Drop)]
+pub struct Request {
+    pub method: Text,
+    pub uri: Uri,
+    /// Max-Forwards; 70 where the request had none.
+    pub hops: u8,
+    pub head: Head,
+}
+
+/// A response (RFC 3261 section 7.2).
+#[derive(Drop)]
+pub struct Response {
+    /// The status code, 100 to 699.
+    pub code: u16,
+    pub reason: Text,
+    pub head: Head,
+}
+
+/// A request or a response.
+#[derive(Drop)]
+pub enum Message {
+    Request(Request),
+    Response(Response),
+}
+
+/// A message with the place that it goes to.
+#[derive(Drop)]
+pub struct Sent {
+    pub place: Place,
+    pub message: Message,
+}

@@ -1,0 +1,108 @@
+//! The parts of a message's head (RFC 3261 sections 19.1, 20 and 25.1).
+
+ghost use Rattle.std.specs.Prelude.{◌≡◌, position};
+ghost use Rattle.std.specs.Option.{option_copied};
+ghost use Rattle.sc_value.specs.Params.{param_value, branch_name, tag_name, is_named};
+
+use crate::{List, Text, same_name};
+
+/// A parameter of a URI, an address or a Via: `;name` or `;name=value`. An empty value is not the
+/// same as none.
+#[derive(Drop)]
+pub struct Param {
+    pub name: Text,
+    pub value: Option<Text>,
+}
+
+/// A `sip:` URI (RFC 3261 section 19.1.1). The user part holds the password, and the headers are
+/// all that follows `?`, both as written.
+#[derive(Drop)]
+pub struct SipUri {
+    pub user: Option<Text>,
+    pub host: Text,
+    pub port: Option<u16>,
+    pub params: List<Param>,
+    pub headers: Option<Text>,
+}
+
+/// A `sip:` URI in its parts, or a URI of another scheme as written.
+#[derive(Drop)]
+pub enum Uri {
+    Sip(SipUri),
+    Other(Text),
+}
+
+/// An address with its header parameters (RFC 3261 section 20.10). The display is as written, with
+/// its quotes.
+#[derive(Drop)]
+pub struct Address {
+    pub display: Option<Text>,
+    pub uri: Uri,
+    pub params: List<Param>,
+}
+
+/// An item of a Contact header: `*` or an address.
+#[derive(Drop)]
+pub enum Contact {
+    Star,
+    At(Address),
+}
+
+/// An item of a Via header, of version `SIP/2.0` (RFC 3261 section 20.42).
+#[derive(Drop)]
+pub struct Via {
+    pub transport: Text,
+    pub host: Text,
+    pub port: Option<u16>,
+    pub params: List<Param>,
+}
+
+/// The sequence number of a request with its method (RFC 3261 section 20.16).
+#[derive(Drop)]
+pub struct CSeq {
+    pub number: u32,
+    pub method: Text,
+}
+
+/// A header that has no structure here: its name, never in compact form, and its value.
+#[derive(Drop)]
+pub struct Field {
+    pub name: Text,
+    pub value: Text,
+}
+
+/// The value of the address's parameter `tag`, None exactly where there is none (RFC 3261 section
+/// 19.3).
+#[tactic(auto, unfolding(crate::specs::Params::tag_name))]
+pub fn tag(address: &Address) -> Option<&Text>
+    ensures { option_copied result ≡ param_value tag_name address.now.params }
+{
+    value_in(address.params.as_slice(), b"tag")
+}
+
+/// The value of the Via's parameter `branch`, None exactly where there is none (RFC 3261 section
+/// 8.1.1.7).
+#[tactic(auto, unfolding(crate::specs::Params::branch_name))]
+pub fn branch(via: &Via) -> Option<&Text>
+    ensures { option_copied result ≡ param_value branch_name via.now.params }
+{
+    value_in(via.params.as_slice(), b"branch")
+}
+
+#[tactic(auto, unfolding(crate::specs::Params::param_value), using(crate::proofs::ListFacts::find_position, crate::proofs::ListFacts::find_none))]
+fn value_in<'a>(params: &'a [Param], name: &[u8]) -> Option<&'a Text>
+    ensures { option_copied result ≡ param_value name.now params.now }
+{
+    match place_in(params, name) {
+        Some(at) => params[at].value.as_ref(),
+        None => None,
+    }
+}
+
+fn place_in(params: &[Param], name: &[u8]) -> Option<usize>
+    ensures { result ≡ position (is_named name.now) params.now }
+{
+    params
+        .iter()
+        .position(|param| same_name(param.name.as_bytes(), name))
+}
