@@ -1,0 +1,7 @@
+pub mod Counts
+pub mod Nets
+pub mod Runs
+pub mod Sendings
+pub mod Small
+pub mod Standings
+pub mod TurnSteps

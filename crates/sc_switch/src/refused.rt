@@ -1,0 +1,53 @@
+use sc_calls::Done;
+use std::alloc::AllocError;
+
+/// Why a step was refused. Nothing is changed and no message is sent.
+#[derive(Clone, Copy, Debug, PartialEq, Eq)]
+pub enum StepRefused {
+    /// The journal has its most steps, or with this step would have more than its most bytes; the
+    /// two limits.
+    JournalFull { steps: u64, bytes: u64 },
+    /// Want of memory.
+    NoMemory,
+}
+
+/// What became of a turn that was brought.
+#[derive(Clone, Copy, Debug, PartialEq, Eq)]
+pub enum Committed {
+    /// It is the last step of the journal.
+    Taken,
+    /// No lease of its number is live; the number. Nothing is changed.
+    Gone(u64),
+    /// The brought lease or its charters aren't those of the live lease of its number; the number.
+    /// That lease ends, and its event can be leased again.
+    Other(u64),
+}
+
+/// A turn that was refused: it is handed back, and its lease stays live.
+#[derive(Drop)]
+pub struct CommitRefused {
+    pub done: Done,
+    pub cause: StepRefused,
+}
+
+impl From<AllocError> for StepRefused {
+    ghost use Rattle.std.specs.Prelude.{◌≡◌};
+    ghost use Rattle.sc_switch.specs.declared.refused.StepRefused.TheVariants.{NoMemory};
+
+    ghost from_gives = { λ _ e. e ≡ NoMemory };
+
+    fn from(_cause: AllocError) -> StepRefused {
+        StepRefused::NoMemory
+    }
+}
+
+impl From<sc_value::NoMemory> for StepRefused {
+    ghost use Rattle.std.specs.Prelude.{◌≡◌};
+    ghost use Rattle.sc_switch.specs.declared.refused.StepRefused.TheVariants.{NoMemory};
+
+    ghost from_gives = { λ _ e. e ≡ NoMemory };
+
+    fn from(_cause: sc_value::NoMemory) -> StepRefused {
+        StepRefused::NoMemory
+    }
+}
