@@ -82,7 +82,7 @@ impl Switch {
     ///
     /// # Errors
     ///
-    /// `JournalFull` exactly where the journal has no room for the step, and `NoMemory`; nothing is
+    /// `JournalFull` only where the journal has no room for the step, and `NoMemory`; nothing is
     /// then changed.
     pub fn arrive(
         &mut self,
@@ -143,7 +143,7 @@ impl Switch {
     ///
     /// # Errors
     ///
-    /// `JournalFull` exactly where the journal has no room for the step; `NoMemory` for want of
+    /// `JournalFull` only where the journal has no room for the step; `NoMemory` for want of
     /// memory, and where the turn ended as `Starved`. The turn is handed back, its lease stays live,
     /// and nothing is changed.
     #[tactic(auto, unfolding(crate::specs::Answers::Received))]
