@@ -1,6 +1,6 @@
 -- What the one script is made of: a frame of fixed lines round the text of its message.
 use denote.Ref.{Bor}
-use Rattle.std.proofs.Common.{◌≡◌, List, ◌++◌, ◌∙◌, Option, None, Some, length, refl, ap, sym}
+use Rattle.std.proofs.Common.{◌≡◌, ℕ, ◌+◌, List, ◌++◌, ◌∙◌, Option, None, Some, length, length-append, refl, ap, sym}
 use Rattle.std.proofs.lemmas.List.{append_cancel_left, append_cancel_right}
 use Rattle.std.specs.Fmt.{digits}
 use Rattle.std.specs.Option.{MatchOption}
@@ -37,6 +37,12 @@ is_script bytes text lines framed first said =
 script_is : (bytes : Bytes) (lines : List Line) → IsScript bytes lines → bytes ≡ opening ++ (first_text ++ closing_words)
 unfolding IsScript IsSpelledBy first_text
 script_is bytes lines (message, spelled, written_is, said) = rw (written_is, spelled.0) first_script
+
+-- a script is short
+pub script_length : (bytes : Bytes) (lines : List Line) → IsScript bytes lines → length bytes ≡ 236
+unfolding opening closing_words
+script_length bytes lines script =
+    ap length (script_is bytes lines script) ∙ length-append opening (first_text ++ closing_words) ∙ ap (λ (n : ℕ). length opening + n) (length-append first_text closing_words ∙ ap (λ (n : ℕ). n + length closing_words) first_length)
 
 pub no_frame : (bytes : Bytes) → ((text : Bytes) → bytes ≡ opening ++ (text ++ closing_words) → ⊥) → (lines : List Line) → IsScript bytes lines → ⊥
 no_frame bytes none lines script = none first_text (script_is bytes lines script)

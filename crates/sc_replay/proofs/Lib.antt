@@ -1,0 +1,9 @@
+pub mod Drivings
+pub mod Endings
+pub mod Playings
+pub mod Readings
+pub mod Replayings
+pub mod Runnings
+pub mod Startings
+pub mod Words
+pub mod Writings

@@ -1,0 +1,33 @@
+-- The words of a command line.
+use Rattle.std.proofs.Common.{◌≡◌, ◌<◌, ◌≤◌, List, [], ◌∷◌, map, length, sym, ap, ◌∙◌, arith}
+use Rattle.std.specs.Prelude.{get_or}
+use Rattle.sc_grammar.specs.Written.{Bytes}
+use Rattle.sc_replay.specs.Replaying.{IsReplay, replay_word, script_name}
+
+-- four words of which the first is `replay`
+pub words_replay : {S : Type 0} (f : S → Bytes) (words : List S) (word : S) → 4 ≤ length words → length words < 5 → word ≡ get_or words 0 word → f word ≡ replay_word → IsReplay (map f words)
+words_replay f [] word least below first is = absurd (omega (arith, least))
+words_replay f (a ∷ []) word least below first is = absurd (omega (arith, least))
+words_replay f (a ∷ b ∷ []) word least below first is = absurd (omega (arith, least))
+words_replay f (a ∷ b ∷ c ∷ []) word least below first is = absurd (omega (arith, least))
+words_replay f (a ∷ b ∷ c ∷ d ∷ []) word least below first is = record {
+  config = f b;
+  dar = f c;
+  script = f d;
+  words_are = ap (λ (x : Bytes). x ∷ f b ∷ f c ∷ f d ∷ []) (sym (ap f first) ∙ is);
+}
+words_replay f (a ∷ b ∷ c ∷ d ∷ e ∷ more) word least below first is = absurd (omega (arith, below))
+
+-- the first of them is
+pub words_first : {S : Type 0} (f : S → Bytes) (words : List S) (word : S) → 4 ≤ length words → word ≡ get_or words 0 word → IsReplay (map f words) → f word ≡ replay_word
+words_first f [] word least first is = absurd (omega (arith, least))
+words_first f (a ∷ more) word least first is = ap f first ∙ ap (λ (ws : List Bytes). get_or ws 0 []) is.words_are
+
+-- and the fourth names the script
+pub words_script : {S : Type 0} (f : S → Bytes) (words : List S) (word : S) → 4 ≤ length words → length words < 5 → word ≡ get_or words 3 word → f word ≡ script_name (map f words)
+unfolding script_name
+words_script f [] word least below is = absurd (omega (arith, least))
+words_script f (a ∷ []) word least below is = absurd (omega (arith, least))
+words_script f (a ∷ b ∷ []) word least below is = absurd (omega (arith, least))
+words_script f (a ∷ b ∷ c ∷ []) word least below is = absurd (omega (arith, least))
+words_script f (a ∷ b ∷ c ∷ d ∷ more) word least below is = ap f is

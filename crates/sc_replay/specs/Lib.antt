@@ -1,0 +1,4 @@
+pub mod Playing
+pub mod Replaying
+pub mod Running
+pub mod Starting

@@ -1,0 +1,40 @@
+-- How the program ends: its exit status, and the line that it writes on standard error.
+use Rattle.std.specs.Prelude.{ℕ, List, [], ◌∷◌, ◌++◌, codes, decimal}
+use Rattle.sc_grammar.specs.Written.{Bytes}
+use Rattle.sc_switch.specs.declared.ran.Status.{Status}
+use Rattle.sc_switch.specs.declared.ran.Status.TheVariants as statuses
+
+unfoldable pub exit_status : Status → ℕ
+exit_status statuses.Done = 0
+exit_status statuses.Usage = 2
+exit_status (statuses.Config kind key) = 3
+exit_status statuses.JournalFull = 5
+exit_status statuses.NoMemory = 7
+exit_status (statuses.Script at kind) = 8
+exit_status statuses.Read = 9
+exit_status statuses.Write = 10
+
+unfoldable pub config_word : Bytes
+config_word = codes "config "
+
+unfoldable pub script_word : Bytes
+script_word = codes "script "
+
+-- what follows `sipd: `
+unfoldable pub cause_text : Status → Bytes
+cause_text statuses.Done = []
+cause_text statuses.Usage = codes "usage"
+cause_text (statuses.Config kind key) = config_word ++ decimal kind ++ 32 ∷ [] ++ key
+cause_text statuses.JournalFull = codes "journal full"
+cause_text statuses.NoMemory = codes "no memory"
+cause_text (statuses.Script at kind) = script_word ++ decimal at ++ 32 ∷ [] ++ decimal kind
+cause_text statuses.Read = codes "read"
+cause_text statuses.Write = codes "write"
+
+unfoldable pub program_word : Bytes
+program_word = codes "sipd: "
+
+-- the line, none where all was done
+unfoldable pub line_text : Status → Bytes
+line_text statuses.Done = []
+line_text status = program_word ++ cause_text status ++ 10 ∷ []

@@ -1,0 +1,30 @@
+//! What `--help` and `--version` write.
+
+pub const VERSION: &str = "sipd 0.1.0\n";
+
+pub const HELP: &str = "\
+sipd, a SIP Servlet container (JSR 289, RFC 3261)
+
+usage: sipd replay CONFIG DAR SCRIPT
+       sipd --help
+       sipd --version
+
+replay runs a script: messages that arrive and turns that servlets take. It
+writes a record for each message that is sent, a line `out PLACE N`, the N
+bytes of the message and a line feed, and at the end the line
+`end STEPS SENT LIVE`: how many steps were taken, messages sent, and
+application sessions live on.
+
+Today CONFIG and DAR are not read: one application, of the kind `answer`,
+gets each OPTIONS request. One script is read, examples/options/script.
+
+The exit status, and the line on standard error:
+   0                          all was read and written
+   2  sipd: usage             the command line has another form
+   3  sipd: config KIND KEY   the configuration is refused
+   5  sipd: journal full      a step was due that the journal had no room for
+   7  sipd: no memory         want of memory
+   8  sipd: script AT KIND    the script is refused, at this byte
+   9  sipd: read              a file could not be read
+  10  sipd: write             standard output could not be written
+";
