@@ -1,6 +1,7 @@
-ghost use Rattle.std.specs.Prelude.{◌≡◌, ◌==◌, ◌+◌, ◌<◌, ◌≤◌, ◌++◌, ◌∷◌, [], ◌⊎◌, ◌↔◌, length, vec_len, vec_capacity, IsTrue, OnOk, OnErr};
+ghost use Rattle.std.specs.Prelude.{◌≡◌, ◌==◌, ◌+◌, ◌<◌, ◌≤◌, ◌++◌, ◌∷◌, [], ◌⊎◌, ◌↔◌, length, vec_len, vec_capacity, IsTrue, IfErr, OnOk, OnErr};
 ghost use Rattle.std.specs.Option.{option_copied};
 ghost use Rattle.std.specs.List.{slice_get};
+ghost use Rattle.sc_journal.specs.Pushing.{IsFull, RefusesPush};
 
 use std::alloc::{AllocError, Global};
 use std::marker::Model;
@@ -23,6 +24,22 @@ impl<T> Model for Journal<T> {
     ghost view = { λ j. record { items = j.items.items; used = j.used; room = vec_capacity j.items - length j.items.items; most_items = j.most_items; most_bytes = j.most_bytes } };
 
     ghost invariant = { λ j. (length j.items.items ≤ j.most_items) × (j.used ≤ j.most_bytes) };
+}
+
+/// Why an item was not put. It is handed back, and the journal is as it was.
+#[derive(Drop)]
+pub enum PushRefused<T> {
+    /// The journal has its most items, or with the item would have more than its most bytes; the
+    /// two limits.
+    Full {
+        item: T,
+        most_items: u64,
+        most_bytes: u64,
+    },
+    /// Want of memory.
+    NoMemory {
+        item: T,
+    },
 }
 
 impl<T> Journal<T> {
@@ -77,9 +94,40 @@ impl<T> Journal<T> {
     /// Whether an item of so many bytes finds no room: the journal has its most items, or with it
     /// would have more than its most bytes.
     pub fn is_full(&self, bytes: u64) -> bool
-        ensures full { IsTrue result ↔ ((length self.now.items ≡ self.now.most_items) ⊎ (self.now.most_bytes < self.now.used + bytes)) }
+        ensures full { IsTrue result ↔ IsFull self.now bytes }
     {
         self.items.len() as u64 == self.most_items || bytes > self.most_bytes - self.used
+    }
+
+    /// Puts an item of so many bytes at the end.
+    ///
+    /// # Errors
+    ///
+    /// `Full` exactly where the journal has its most items, or with the item would have more than its
+    /// most bytes, else `NoMemory` for want of memory. The item is handed back, and the journal is as
+    /// it was.
+    pub fn push(&mut self, item: T, bytes: u64) -> Result<(), PushRefused<T>>
+    where
+        T: Drop,
+        ensures ok { OnOk result (self.new ≡ record self.old { items = self.old.items ++ item ∷ []; used = self.old.used + bytes; room = self.new.room }) }
+        ensures room { OnOk result (¬ (IsFull self.old bytes)) }
+        ensures err { OnErr result (self.new ≡ record self.old { room = self.new.room }) }
+        ensures refused { IfErr result (λ cause. RefusesPush self.old item bytes cause) }
+    {
+        if self.is_full(bytes) {
+            return Err(PushRefused::Full {
+                item,
+                most_items: self.most_items,
+                most_bytes: self.most_bytes,
+            });
+        }
+        match self.reserve() {
+            Ok(()) => {
+                self.put(item, bytes);
+                Ok(())
+            }
+            Err(_) => Err(PushRefused::NoMemory { item }),
+        }
     }
 
     /// Makes room for one more item. For want of memory all is as before.

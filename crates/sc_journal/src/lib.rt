@@ -3,4 +3,7 @@
 
 mod journal;
 
-pub use journal::Journal;
+pub use journal::{Journal, PushRefused};
+
+#[cfg(test)]
+mod tests;
