@@ -8,6 +8,9 @@ pub mod Records
 pub mod Responses
 pub mod Routing
 pub mod Scripts
+pub mod ServerTransactions
 pub mod SessionStates
 pub mod Settings
+pub mod TransactionTables
+pub mod Transactions
 pub mod Turns

@@ -1,0 +1,296 @@
+-- What proofs may use of transactions: their states, timers and outputs with one item more, row by row.
+-- No other file opens the definitions.
+use Rattle.std.proofs.Common.{◌≡◌, ℕ, ◌+◌, ◌==◌, List, [], ◌∷◌, Bool, true, false, not, ◌&&◌, ◌||◌, Option, None, Some, is_some, if◌then◌else◌, refl, ap, ◌∙◌, sym, ◌⊎◌, inl, inr}
+use Rattle.std.proofs.Common.{arith, nat_lt, nat_le}
+use Rattle.std.proofs.Math.Bool.{and-false, and-true}
+use Rattle.std.proofs.lemmas.Bool.Decides.{nat_tests}
+use Rattle.sc_parts.specs.declared.transactions.TxnState.{TxnState}
+use Rattle.sc_parts.specs.declared.transactions.TxnState.TheVariants.{Calling, Trying, Proceeding, Completed, Accepted, Terminated}
+use Rattle.sc_parts.specs.declared.transactions.ClientOut.{ClientOut}
+use Rattle.sc_parts.specs.declared.transactions.ClientItem.{ClientItem}
+use Rattle.sc_parts.specs.declared.transactions.ClientItem.TheVariants.{ResponseCame, CancelAsked, MomentCame, PlaceLost}
+use Rattle.sc_parts.specs.declared.transactions.ServerItem.{ServerItem}
+use Rattle.sc_parts.specs.declared.transactions.ServerItem.TheVariants as server
+use Rattle.sc_model.specs.SessionStates.{is_final}
+use Rattle.sc_model.specs.Transactions.{Found, TIMEOUT, is_success, is_failure, is_reached, is_undecided, has_provisional, has_asking, cancel_moment, decision, first_in_time, waiting_due, due_after, asks_cancel, reaches, timer_m, state_from, due_from, client_state, client_due, client_out, NOTHING, told_waiting, told_accepted, wants_ack}
+use Rattle.sc_model.specs.ServerTransactions.{has_answer, final_answer, state_at, due_at, server_state, server_due, is_sent, is_sent_again, is_absorbed, sends_in, repeats_in, absorbs_in}
+use Rattle.sc_model.specs.TransactionTables.{decided_state, decided_due, next_waiting, next_state, is_calling, is_proceeding, sends_cancel, provisional_due, next_waiting_due, next_due, waiting_out, output, answered_state, answered_due, next_undecided, undecided_due, ends, next_server_state, next_server_due}
+use Rattle.sc_model.proofs.ClientTransactions.{client_state-next, client_due-next, client_out-is}
+use Rattle.sc_model.proofs.ServerTransactions.{server_state-next, server_due-next}
+
+-- ## The tables where nothing has decided a client transaction
+
+next_state-undecided : (invite : Bool) (state : TxnState) (due : Option ℕ) (item : ClientItem) → is_undecided state ≡ true → next_state invite state due item ≡ next_waiting invite state due item
+next_state-undecided invite Calling due item e = refl
+next_state-undecided invite Trying due item e = refl
+next_state-undecided invite Proceeding due item e = refl
+next_state-undecided invite Completed due item e = cc
+next_state-undecided invite Accepted due item e = cc
+next_state-undecided invite Terminated due item e = cc
+
+next_due-undecided : (invite : Bool) (state : TxnState) (due : Option ℕ) (asked : Bool) (item : ClientItem) → is_undecided state ≡ true → next_due invite state due asked item ≡ next_waiting_due invite state due asked item
+next_due-undecided invite Calling due asked item e = refl
+next_due-undecided invite Trying due asked item e = refl
+next_due-undecided invite Proceeding due asked item e = refl
+next_due-undecided invite Completed due asked item e = cc
+next_due-undecided invite Accepted due asked item e = cc
+next_due-undecided invite Terminated due asked item e = cc
+
+output-undecided : (invite : Bool) (state : TxnState) (due : Option ℕ) (asked : Bool) (item : ClientItem) → is_undecided state ≡ true → output invite state due asked item ≡ waiting_out invite state due asked item
+output-undecided invite Calling due asked item e = refl
+output-undecided invite Trying due asked item e = refl
+output-undecided invite Proceeding due asked item e = refl
+output-undecided invite Completed due asked item e = cc
+output-undecided invite Accepted due asked item e = cc
+output-undecided invite Terminated due asked item e = cc
+
+no_failure : (code : ℕ) → is_final code ≡ false → is_failure code ≡ false
+no_failure code e = grind (arith, nat_tests)
+
+not_hundred : (code : ℕ) → is_final code ≡ true → (code == 100) ≡ false
+not_hundred code e = grind (arith, nat_tests)
+
+-- ## Client transactions
+
+-- a transaction that nothing has passed
+pub client_state-none : (invite : Bool) (sent : ℕ) → client_state invite sent [] ≡ (if invite then Calling else Trying)
+unfolding client_state state_from has_provisional decision first_in_time
+client_state-none invite sent = refl
+
+pub client_due-none : (invite : Bool) (sent : ℕ) → client_due invite sent [] ≡ Some (sent + TIMEOUT)
+unfolding client_due due_from waiting_due due_after has_provisional cancel_moment decision first_in_time
+client_due-none true sent = refl
+client_due-none false sent = refl
+
+-- a transaction that something has decided is Accepted or Terminated
+pub client_state-decided : (invite : Bool) (sent : ℕ) (passed : List ClientItem) → is_undecided (client_state invite sent passed) ≡ false → (client_state invite sent passed ≡ Accepted) ⊎ (client_state invite sent passed ≡ Terminated)
+unfolding client_state state_from
+client_state-decided invite sent passed = by_decision invite (has_provisional passed) (decision invite sent passed)
+  where
+    later : (timer : Option ℕ) → ((if is_some timer then Accepted else Terminated) ≡ Accepted) ⊎ ((if is_some timer then Accepted else Terminated) ≡ Terminated)
+    later None = inr refl
+    later (Some due) = inl refl
+    by_decision : (invite provisional : Bool) (decided : Option (Found ClientItem)) → is_undecided (state_from invite provisional decided) ≡ false → (state_from invite provisional decided ≡ Accepted) ⊎ (state_from invite provisional decided ≡ Terminated)
+    by_decision true true None e = cc
+    by_decision true false None e = cc
+    by_decision false true None e = cc
+    by_decision false false None e = cc
+    by_decision invite provisional (Some decided) e = later (timer_m invite decided)
+
+-- in Terminated no timer runs
+pub client_due-terminated : (invite : Bool) (sent : ℕ) (passed : List ClientItem) → client_state invite sent passed ≡ Terminated → client_due invite sent passed ≡ None
+unfolding client_state client_due state_from due_from
+client_due-terminated invite sent passed = by_decision invite (has_provisional passed) (decision invite sent passed)
+  where
+    later : (timer : Option ℕ) → (if is_some timer then Accepted else Terminated) ≡ Terminated → timer ≡ None
+    later None e = refl
+    later (Some due) e = cc
+    by_decision : (invite provisional : Bool) (decided : Option (Found ClientItem)) → state_from invite provisional decided ≡ Terminated → due_from invite (waiting_due invite sent passed) decided ≡ None
+    by_decision true true None e = cc
+    by_decision true false None e = cc
+    by_decision false true None e = cc
+    by_decision false false None e = cc
+    by_decision invite provisional (Some decided) e = later (timer_m invite decided) e
+
+-- ### A CANCEL is asked for
+
+pub has_asking-none : has_asking [] ≡ false
+unfolding has_asking
+has_asking-none = refl
+
+pub has_asking-next : (passed : List ClientItem) (item : ClientItem) → has_asking (item ∷ passed) ≡ (asks_cancel item || has_asking passed)
+unfolding has_asking
+has_asking-next passed item = refl
+
+module _ (invite : Bool) (sent : ℕ) (passed : List ClientItem) (moment : ℕ) where
+
+  state_kept : (state : TxnState) (due : Option ℕ) → next_state invite state due (CancelAsked moment) ≡ state
+  unfolding reaches
+  state_kept Calling due = refl
+  state_kept Trying due = refl
+  state_kept Proceeding due = refl
+  state_kept Completed due = refl
+  state_kept Accepted due = refl
+  state_kept Terminated due = refl
+
+  due_moved : (state : TxnState) (due : Option ℕ) (asked : Bool) → next_due invite state due asked (CancelAsked moment) ≡ (if sends_cancel invite state asked (CancelAsked moment) then Some (moment + TIMEOUT) else due)
+  unfolding reaches
+  due_moved Calling due asked = refl
+  due_moved Trying due asked = refl
+  due_moved Proceeding due asked = refl
+  due_moved Completed due asked = rw (and-false invite) refl
+  due_moved Accepted due asked = rw (and-false invite) refl
+  due_moved Terminated due asked = rw (and-false invite) refl
+
+  cancel_out : (state : TxnState) (due : Option ℕ) (asked : Bool) → output invite state due asked (CancelAsked moment) ≡ record NOTHING { cancel = sends_cancel invite state asked (CancelAsked moment) }
+  unfolding told_waiting told_accepted wants_ack
+  cancel_out Calling due asked = rw (and-false invite) refl
+  cancel_out Trying due asked = rw (and-false invite) refl
+  cancel_out Proceeding due asked = rw (and-false invite) refl
+  cancel_out Completed due asked = rw (and-false invite) refl
+  cancel_out Accepted due asked = rw (and-false invite) refl
+  cancel_out Terminated due asked = rw (and-false invite) refl
+
+  -- no state is changed; in Proceeding of an INVITE the first asking makes the CANCEL go
+  pub client_state-asking : client_state invite sent (CancelAsked moment ∷ passed) ≡ client_state invite sent passed
+  client_state-asking = client_state-next invite sent passed (CancelAsked moment) ∙ state_kept (client_state invite sent passed) (client_due invite sent passed)
+
+  pub client_due-asking : client_due invite sent (CancelAsked moment ∷ passed) ≡ (if sends_cancel invite (client_state invite sent passed) (has_asking passed) (CancelAsked moment) then Some (moment + TIMEOUT) else client_due invite sent passed)
+  client_due-asking = client_due-next invite sent passed (CancelAsked moment) ∙ due_moved (client_state invite sent passed) (client_due invite sent passed) (has_asking passed)
+
+  pub client_out-asking : client_out invite sent passed (CancelAsked moment) ≡ record NOTHING { cancel = sends_cancel invite (client_state invite sent passed) (has_asking passed) (CancelAsked moment) }
+  client_out-asking = client_out-is invite sent passed (CancelAsked moment) ∙ cancel_out (client_state invite sent passed) (client_due invite sent passed) (has_asking passed)
+
+-- ### Where nothing has decided it
+
+module _ (invite : Bool) (sent : ℕ) (passed : List ClientItem) (waits : is_undecided (client_state invite sent passed) ≡ true) where
+
+  state_by_table : (item : ClientItem) → client_state invite sent (item ∷ passed) ≡ next_waiting invite (client_state invite sent passed) (client_due invite sent passed) item
+  state_by_table item = client_state-next invite sent passed item ∙ next_state-undecided invite (client_state invite sent passed) (client_due invite sent passed) item waits
+
+  due_by_table : (item : ClientItem) → client_due invite sent (item ∷ passed) ≡ next_waiting_due invite (client_state invite sent passed) (client_due invite sent passed) (has_asking passed) item
+  due_by_table item = client_due-next invite sent passed item ∙ next_due-undecided invite (client_state invite sent passed) (client_due invite sent passed) (has_asking passed) item waits
+
+  out_by_table : (item : ClientItem) → client_out invite sent passed item ≡ waiting_out invite (client_state invite sent passed) (client_due invite sent passed) (has_asking passed) item
+  out_by_table item = client_out-is invite sent passed item ∙ output-undecided invite (client_state invite sent passed) (client_due invite sent passed) (has_asking passed) item waits
+
+  -- a provisional response makes Proceeding; all but 100 are told, and a held CANCEL goes
+  pub client_state-provisional : (code moment : ℕ) → is_final code ≡ false → client_state invite sent (ResponseCame code moment ∷ passed) ≡ Proceeding
+  client_state-provisional code moment e = rw (state_by_table (ResponseCame code moment), e) refl
+
+  pub client_due-provisional : (code moment : ℕ) → is_final code ≡ false → client_due invite sent (ResponseCame code moment ∷ passed) ≡ provisional_due (client_state invite sent passed) (client_due invite sent passed) (has_asking passed) moment
+  client_due-provisional code moment e = rw (due_by_table (ResponseCame code moment), e) refl
+
+  -- a final response decides
+  pub client_state-final : (code moment : ℕ) → is_final code ≡ true → client_state invite sent (ResponseCame code moment ∷ passed) ≡ decided_state invite code
+  client_state-final code moment e = rw (state_by_table (ResponseCame code moment), e) refl
+
+  pub client_due-final : (code moment : ℕ) → is_final code ≡ true → client_due invite sent (ResponseCame code moment ∷ passed) ≡ decided_due invite code moment
+  client_due-final code moment e = rw (due_by_table (ResponseCame code moment), e) refl
+
+  pub client_out-provisional : (code moment : ℕ) → is_final code ≡ false → client_out invite sent passed (ResponseCame code moment) ≡ record {
+    tell = if code == 100 then None else Some code;
+    ack = false;
+    cancel = is_calling (client_state invite sent passed) && has_asking passed;
+  }
+  unfolding told_waiting wants_ack
+  client_out-provisional code moment e = rw (out_by_table (ResponseCame code moment), no_failure code e, and-false invite, e, and-true (is_calling (client_state invite sent passed) && has_asking passed)) refl
+
+  pub client_out-final : (code moment : ℕ) → is_final code ≡ true → client_out invite sent passed (ResponseCame code moment) ≡ record { tell = Some code; ack = invite && is_failure code; cancel = false }
+  unfolding told_waiting wants_ack
+  client_out-final code moment e = rw (out_by_table (ResponseCame code moment), not_hundred code e, e, and-false (is_calling (client_state invite sent passed) && has_asking passed)) refl
+
+  -- a moment at which the timer is due ends it, and 408 is told
+  pub client_state-reached : (moment : ℕ) → is_reached (client_due invite sent passed) moment ≡ true → client_state invite sent (MomentCame moment ∷ passed) ≡ Terminated
+  client_state-reached moment e = rw (state_by_table (MomentCame moment), e) refl
+
+  pub client_due-reached : (moment : ℕ) → is_reached (client_due invite sent passed) moment ≡ true → client_due invite sent (MomentCame moment ∷ passed) ≡ None
+  client_due-reached moment e = rw (due_by_table (MomentCame moment), e) refl
+
+  pub client_out-reached : (moment : ℕ) → is_reached (client_due invite sent passed) moment ≡ true → client_out invite sent passed (MomentCame moment) ≡ record NOTHING { tell = Some 408 }
+  unfolding told_waiting wants_ack
+  client_out-reached moment e = rw (out_by_table (MomentCame moment), e, and-false invite) refl
+
+  -- the loss of the place ends it, and 503 is told
+  pub client_state-lost : client_state invite sent (PlaceLost ∷ passed) ≡ Terminated
+  client_state-lost = state_by_table PlaceLost
+
+  pub client_due-lost : client_due invite sent (PlaceLost ∷ passed) ≡ None
+  client_due-lost = due_by_table PlaceLost
+
+  pub client_out-lost : client_out invite sent passed PlaceLost ≡ record NOTHING { tell = Some 503 }
+  unfolding told_waiting wants_ack
+  client_out-lost = rw (out_by_table PlaceLost, and-false invite) refl
+
+-- ### A moment at which the timer that runs isn't due changes nothing
+
+module _ (invite : Bool) (sent : ℕ) (passed : List ClientItem) (moment : ℕ) (early : is_reached (client_due invite sent passed) moment ≡ false) where
+
+  state_early : (state : TxnState) (due : Option ℕ) → is_reached due moment ≡ false → next_state invite state due (MomentCame moment) ≡ state
+  unfolding reaches
+  state_early Calling due e = rw e refl
+  state_early Trying due e = rw e refl
+  state_early Proceeding due e = rw e refl
+  state_early Completed due e = refl
+  state_early Accepted due e = rw e refl
+  state_early Terminated due e = refl
+
+  due_early : (state : TxnState) (due : Option ℕ) → is_reached due moment ≡ false → next_due invite state due (has_asking passed) (MomentCame moment) ≡ due
+  unfolding reaches
+  due_early Calling due e = rw e refl
+  due_early Trying due e = rw e refl
+  due_early Proceeding due e = rw e refl
+  due_early Completed due e = refl
+  due_early Accepted due e = rw e refl
+  due_early Terminated due e = refl
+
+  nothing_out : (state : TxnState) (due : Option ℕ) → is_reached due moment ≡ false → output invite state due (has_asking passed) (MomentCame moment) ≡ NOTHING
+  unfolding told_waiting told_accepted wants_ack
+  nothing_out Calling due e = rw (e, and-false invite) refl
+  nothing_out Trying due e = rw (e, and-false invite) refl
+  nothing_out Proceeding due e = rw (e, and-false invite) refl
+  nothing_out Completed due e = refl
+  nothing_out Accepted due e = refl
+  nothing_out Terminated due e = refl
+
+  pub client_state-early : client_state invite sent (MomentCame moment ∷ passed) ≡ client_state invite sent passed
+  client_state-early = client_state-next invite sent passed (MomentCame moment) ∙ state_early (client_state invite sent passed) (client_due invite sent passed) early
+
+  pub client_due-early : client_due invite sent (MomentCame moment ∷ passed) ≡ client_due invite sent passed
+  client_due-early = client_due-next invite sent passed (MomentCame moment) ∙ due_early (client_state invite sent passed) (client_due invite sent passed) early
+
+  pub client_out-early : client_out invite sent passed (MomentCame moment) ≡ NOTHING
+  client_out-early = client_out-is invite sent passed (MomentCame moment) ∙ nothing_out (client_state invite sent passed) (client_due invite sent passed) early
+
+-- ### Where something has decided it, another item than the moment of timer M
+
+module _ (invite : Bool) (sent : ℕ) (passed : List ClientItem) (item : ClientItem) (decided : is_undecided (client_state invite sent passed) ≡ false) (early : reaches (client_due invite sent passed) item ≡ false) where
+
+  state_stays : (state : TxnState) (due : Option ℕ) → is_undecided state ≡ false → reaches due item ≡ false → next_state invite state due item ≡ state
+  state_stays Calling due e f = cc
+  state_stays Trying due e f = cc
+  state_stays Proceeding due e f = cc
+  state_stays Completed due e f = refl
+  state_stays Accepted due e f = rw f refl
+  state_stays Terminated due e f = refl
+
+  due_stays : (state : TxnState) (due : Option ℕ) → is_undecided state ≡ false → reaches due item ≡ false → next_due invite state due (has_asking passed) item ≡ due
+  due_stays Calling due e f = cc
+  due_stays Trying due e f = cc
+  due_stays Proceeding due e f = cc
+  due_stays Completed due e f = refl
+  due_stays Accepted due e f = rw f refl
+  due_stays Terminated due e f = refl
+
+  -- nothing changes
+  pub client_state-settled : client_state invite sent (item ∷ passed) ≡ client_state invite sent passed
+  client_state-settled = client_state-next invite sent passed item ∙ state_stays (client_state invite sent passed) (client_due invite sent passed) decided early
+
+  pub client_due-settled : client_due invite sent (item ∷ passed) ≡ client_due invite sent passed
+  client_due-settled = client_due-next invite sent passed item ∙ due_stays (client_state invite sent passed) (client_due invite sent passed) decided early
+
+-- ### In Accepted
+
+module _ (invite : Bool) (sent : ℕ) (passed : List ClientItem) (accepted : client_state invite sent passed ≡ Accepted) where
+
+  -- it stays until a moment at which timer M is due
+  pub client_state-accepted : (item : ClientItem) → client_state invite sent (item ∷ passed) ≡ (if reaches (client_due invite sent passed) item then Terminated else Accepted)
+  client_state-accepted item = rw (client_state-next invite sent passed item, accepted) refl
+
+  pub client_due-accepted : (item : ClientItem) → client_due invite sent (item ∷ passed) ≡ (if reaches (client_due invite sent passed) item then None else client_due invite sent passed)
+  client_due-accepted item = rw (client_due-next invite sent passed item, accepted) refl
+
+  -- a further 2xx is told, and it does nothing else
+  pub client_out-accepted : (item : ClientItem) → client_out invite sent passed item ≡ record NOTHING { tell = told_accepted item }
+  client_out-accepted item = rw (client_out-is invite sent passed item, accepted) refl
+
+-- ### In Terminated
+
+module _ (invite : Bool) (sent : ℕ) (passed : List ClientItem) (ended : client_state invite sent passed ≡ Terminated) where
+
+  -- it stays, and does nothing
+  pub client_state-terminated : (item : ClientItem) → client_state invite sent (item ∷ passed) ≡ Terminated
+  client_state-terminated item = rw (client_state-next invite sent passed item, ended) refl
+
+  pub client_out-terminated : (item : ClientItem) → client_out invite sent passed item ≡ NOTHING
+  client_out-terminated item = rw (client_out-is invite sent passed item, ended) refl
