@@ -1,17 +1,15 @@
 -- The tables of client transactions (RFC 3261 figures 5 and 6, RFC 6026 figure 2): what the definitions'
 -- search of the whole list comes to with one item more.
-use Rattle.std.proofs.Common.{◌≡◌, ℕ, ◌+◌, List, [], ◌∷◌, Bool, true, false, not, ◌&&◌, ◌||◌, Option, None, Some, is_some, is_none, if◌then◌else◌, refl, ap, ◌∙◌, sym}
+use Rattle.std.proofs.Common.{◌≡◌, ℕ, ◌+◌, List, [], ◌∷◌, Bool, true, false, not, ◌&&◌, ◌||◌, Option, None, Some, is_some, is_none, if◌then◌else◌, refl, ◌∙◌, sym}
 use Rattle.std.specs.Prelude.{option_map}
 use Rattle.std.proofs.Common.{arith}
 use Rattle.std.proofs.Math.Bool.{and-false}
 use Rattle.std.specs.List.{list_any}
-use Rattle.sc_parts.specs.declared.transactions.TxnState.{TxnState}
-use Rattle.sc_parts.specs.declared.transactions.TxnState.TheVariants.{Calling, Trying, Proceeding, Completed, Accepted, Terminated}
-use Rattle.sc_parts.specs.declared.transactions.ClientOut.{ClientOut}
+use Rattle.sc_parts.specs.declared.transactions.TxnState.TheVariants.{Calling, Trying, Proceeding, Accepted, Terminated}
 use Rattle.sc_parts.specs.declared.transactions.ClientItem.{ClientItem}
 use Rattle.sc_parts.specs.declared.transactions.ClientItem.TheVariants.{ResponseCame, CancelAsked, MomentCame, PlaceLost}
 use Rattle.sc_model.specs.SessionStates.{is_final}
-use Rattle.sc_model.specs.Transactions.{TIMEOUT, is_provisional, is_success, Found, found_with, first_in_time, brings_provisional, asks_cancel, has_provisional, has_asking, lets_cancel_go, moment_of, cancel_moment, due_after, waiting_due, is_reached, decides, decision, accepted_due, reaches, timer_m, state_from, client_state, due_from, client_due, NOTHING, told_waiting, wants_ack, told_accepted, out_from, client_out}
+use Rattle.sc_model.specs.Transactions.{TIMEOUT, is_provisional, is_success, Found, found_with, first_in_time, brings_provisional, asks_cancel, has_provisional, has_asking, lets_cancel_go, moment_of, cancel_moment, due_after, waiting_due, is_reached, decides, decision, accepted_due, reaches, timer_m, state_from, client_state, due_from, client_due, NOTHING, told_accepted, out_from, client_out}
 use Rattle.sc_model.specs.TransactionTables.{next_waiting, next_state, sends_cancel, provisional_due, next_waiting_due, next_due, waiting_out, output}
 
 -- ## One item more
@@ -215,7 +213,6 @@ output-waiting false false asked due item = refl
 out-next : (invite : Bool) (sent : ℕ) (passed : List ClientItem) (item : ClientItem) (decided : Option (Found ClientItem)) → out_from invite sent passed item decided ≡ output invite (state_from invite (has_provisional passed) decided) (due_from invite (waiting_due invite sent passed) decided) (has_asking passed) item
 unfolding out_from due_from state_from
 out-next invite sent passed item None = rw (cancel-sent invite passed item) (output-waiting invite (has_provisional passed) (has_asking passed) (waiting_due invite sent passed) item)
-
 out-next invite sent passed item (Some decided) = later (timer_m invite decided)
   where
     later : (timer : Option ℕ) → (if is_some timer then record NOTHING { tell = told_accepted item } else NOTHING) ≡ output invite (if is_some timer then Accepted else Terminated) timer (has_asking passed) item

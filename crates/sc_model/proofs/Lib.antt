@@ -1,5 +1,8 @@
 mod Cases
+mod ClientTables
 pub mod ClientTransactions
+pub mod ServerTables
 pub mod ServerTransactionFacts
 pub mod ServerTransactions
+mod TransactionCases
 pub mod TransactionFacts

@@ -1,34 +1,15 @@
 -- What proofs may use of server transactions: their states, timers and answers with one item more, row
--- by row. No other file opens the definitions.
-use Rattle.std.proofs.Common.{◌≡◌, ℕ, ◌+◌, List, [], ◌∷◌, Bool, true, false, not, ◌&&◌, ◌||◌, Option, None, Some, is_some, if◌then◌else◌, refl, sym, ◌∙◌, ◌⊎◌, inl, inr}
+-- by row. Proofs above need nothing else of the definitions.
+use Rattle.std.proofs.Common.{◌≡◌, ℕ, List, [], ◌∷◌, Bool, true, false, ◌&&◌, ◌||◌, Option, None, Some, is_some, if◌then◌else◌, refl, ◌∙◌}
 use Rattle.std.proofs.Math.Bool.{and-false}
-use Rattle.sc_parts.specs.declared.transactions.TxnState.{TxnState}
 use Rattle.sc_parts.specs.declared.transactions.TxnState.TheVariants.{Calling, Trying, Proceeding, Completed, Accepted, Terminated}
 use Rattle.sc_parts.specs.declared.transactions.ServerItem.{ServerItem}
 use Rattle.sc_parts.specs.declared.transactions.ServerItem.TheVariants.{RequestAgain, AckCame, AnswerGiven, MomentCame}
-use Rattle.sc_model.specs.SessionStates.{is_final}
-use Rattle.sc_model.specs.Transactions.{TIMEOUT, Found, found_with, first_in_time, is_success, is_reached, is_undecided}
+use Rattle.sc_model.specs.Transactions.{Found, found_with, first_in_time, is_success, is_reached, is_undecided}
 use Rattle.sc_model.specs.ServerTransactions.{is_answer, has_answer, is_final_answer, final_answer, answers_success, final_timer, state_at, due_at, server_state, server_due, is_sent, is_sent_again, is_absorbed, sends_in, repeats_in, absorbs_in}
-use Rattle.sc_model.specs.TransactionTables.{answered_state, answered_due, next_undecided, undecided_due, ends, next_server_state, next_server_due}
+use Rattle.sc_model.specs.TransactionTables.{answered_state, answered_due, next_undecided, undecided_due, ends}
 use Rattle.sc_model.proofs.ServerTransactions.{server_state-next, server_due-next}
-
--- ## The tables where no final answer was given
-
-next_state-undecided : (invite : Bool) (state : TxnState) (due : Option ℕ) (item : ServerItem) → is_undecided state ≡ true → next_server_state invite state due item ≡ next_undecided invite state item
-next_state-undecided invite Calling due item e = refl
-next_state-undecided invite Trying due item e = refl
-next_state-undecided invite Proceeding due item e = refl
-next_state-undecided invite Completed due item e = cc
-next_state-undecided invite Accepted due item e = cc
-next_state-undecided invite Terminated due item e = cc
-
-next_due-undecided : (invite : Bool) (state : TxnState) (due : Option ℕ) (item : ServerItem) → is_undecided state ≡ true → next_server_due invite state due item ≡ undecided_due invite item
-next_due-undecided invite Calling due item e = refl
-next_due-undecided invite Trying due item e = refl
-next_due-undecided invite Proceeding due item e = refl
-next_due-undecided invite Completed due item e = cc
-next_due-undecided invite Accepted due item e = cc
-next_due-undecided invite Terminated due item e = cc
+use Rattle.sc_model.proofs.ServerTables.{next_state-undecided, next_due-undecided, sends_in-undecided, state_kept, due_kept, state_ended, due_ended, early_end, reached_end}
 
 -- ## Every state
 
@@ -51,6 +32,7 @@ server_state-calling invite passed = by_answer invite (has_answer passed) (final
     later None success e = cc
     later (Some due) true e = cc
     later (Some due) false e = cc
+
     by_answer : (invite answered : Bool) (decided : Option (Found ServerItem)) → state_at invite answered decided ≡ Calling → ⊥
     by_answer true answered None e = cc
     by_answer false true None e = cc
@@ -66,6 +48,7 @@ server_due-terminated invite passed = by_answer invite (has_answer passed) (fina
     later None success e = refl
     later (Some due) true e = cc
     later (Some due) false e = cc
+
     by_answer : (invite answered : Bool) (decided : Option (Found ServerItem)) → state_at invite answered decided ≡ Terminated → due_at invite decided ≡ None
     by_answer true answered None e = cc
     by_answer false true None e = cc
@@ -106,19 +89,9 @@ decided-due invite answered (Some decided) e = later (final_timer invite decided
     later (Some due) true e = cc
     later (Some due) false e = cc
 
-sends_in-undecided : (invite : Bool) (state : TxnState) (code : ℕ) → is_undecided state ≡ true → sends_in invite state code ≡ true
-unfolding sends_in
-sends_in-undecided invite Calling code e = refl
-sends_in-undecided invite Trying code e = refl
-sends_in-undecided invite Proceeding code e = refl
-sends_in-undecided invite Completed code e = cc
-sends_in-undecided invite Accepted code e = cc
-sends_in-undecided invite Terminated code e = cc
-
 -- ## Where no final answer was given
 
 module _ (invite : Bool) (passed : List ServerItem) (waits : is_undecided (server_state invite passed) ≡ true) where
-
   state_by_table : (item : ServerItem) → server_state invite (item ∷ passed) ≡ next_undecided invite (server_state invite passed) item
   state_by_table item = server_state-next invite passed item ∙ next_state-undecided invite (server_state invite passed) (server_due invite passed) item waits
 
@@ -154,103 +127,7 @@ pub has_answer-next : (passed : List ServerItem) (item : ServerItem) → has_ans
 unfolding has_answer
 has_answer-next passed item = refl
 
--- an answer and the request that comes again end nothing
-pub ends-answer : (state : TxnState) (due : Option ℕ) (code moment : ℕ) → ends state due (AnswerGiven code moment) ≡ false
-ends-answer Calling due code moment = refl
-ends-answer Trying due code moment = refl
-ends-answer Proceeding due code moment = refl
-ends-answer Completed due code moment = refl
-ends-answer Accepted due code moment = refl
-ends-answer Terminated due code moment = refl
-
-pub ends-again : (state : TxnState) (due : Option ℕ) → ends state due RequestAgain ≡ false
-ends-again Calling due = refl
-ends-again Trying due = refl
-ends-again Proceeding due = refl
-ends-again Completed due = refl
-ends-again Accepted due = refl
-ends-again Terminated due = refl
-
--- an ACK ends exactly where it is absorbed
-pub ends-ack : (state : TxnState) (due : Option ℕ) → ends state due AckCame ≡ absorbs_in state
-unfolding absorbs_in
-ends-ack Calling due = refl
-ends-ack Trying due = refl
-ends-ack Proceeding due = refl
-ends-ack Completed due = refl
-ends-ack Accepted due = refl
-ends-ack Terminated due = refl
-
-not_answered : (invite : Bool) (state : TxnState) (item : ServerItem) → is_answer item ≡ false → next_undecided invite state item ≡ state
-unfolding is_answer
-not_answered invite state RequestAgain e = refl
-not_answered invite state AckCame e = refl
-not_answered invite state (AnswerGiven code moment) e = cc
-not_answered invite state (MomentCame moment) e = refl
-
-no_due : (invite : Bool) (item : ServerItem) → is_answer item ≡ false → undecided_due invite item ≡ None
-unfolding is_answer
-no_due invite RequestAgain e = refl
-no_due invite AckCame e = refl
-no_due invite (AnswerGiven code moment) e = cc
-no_due invite (MomentCame moment) e = refl
-
-never_reached : (due : Option ℕ) (moment : ℕ) → due ≡ None → is_reached due moment ≡ true → ⊥
-unfolding is_reached
-never_reached None moment none e = cc
-never_reached (Some due) moment none e = cc
-
-state_kept : (invite : Bool) (state : TxnState) (due : Option ℕ) (item : ServerItem) → ends state due item ≡ false → (is_undecided state && is_answer item) ≡ false → next_server_state invite state due item ≡ state
-state_kept invite Completed due item e answers = rw e refl
-state_kept invite Accepted due item e answers = rw e refl
-state_kept invite Terminated due item e answers = refl
-state_kept invite Calling due item e answers = not_answered invite Calling item answers
-state_kept invite Trying due item e answers = not_answered invite Trying item answers
-state_kept invite Proceeding due item e answers = not_answered invite Proceeding item answers
-
-due_kept : (invite : Bool) (state : TxnState) (due : Option ℕ) (item : ServerItem) → (is_undecided state ≡ true → due ≡ None) → ends state due item ≡ false → (is_undecided state && is_answer item) ≡ false → next_server_due invite state due item ≡ due
-due_kept invite Completed due item none e answers = rw e refl
-due_kept invite Accepted due item none e answers = rw e refl
-due_kept invite Terminated due item none e answers = refl
-due_kept invite Calling due item none e answers = no_due invite item answers ∙ sym (none refl)
-due_kept invite Trying due item none e answers = no_due invite item answers ∙ sym (none refl)
-due_kept invite Proceeding due item none e answers = no_due invite item answers ∙ sym (none refl)
-
-state_ended : (invite : Bool) (state : TxnState) (due : Option ℕ) (item : ServerItem) → ends state due item ≡ true → next_server_state invite state due item ≡ Terminated
-state_ended invite Calling due item e = cc
-state_ended invite Trying due item e = cc
-state_ended invite Proceeding due item e = cc
-state_ended invite Completed due item e = rw e refl
-state_ended invite Accepted due item e = rw e refl
-state_ended invite Terminated due item e = cc
-
-due_ended : (invite : Bool) (state : TxnState) (due : Option ℕ) (item : ServerItem) → ends state due item ≡ true → next_server_due invite state due item ≡ None
-due_ended invite Calling due item e = cc
-due_ended invite Trying due item e = cc
-due_ended invite Proceeding due item e = cc
-due_ended invite Completed due item e = rw e refl
-due_ended invite Accepted due item e = rw e refl
-due_ended invite Terminated due item e = cc
-
-early_end : (state : TxnState) (due : Option ℕ) (moment : ℕ) → is_reached due moment ≡ false → ends state due (MomentCame moment) ≡ false
-early_end Calling due moment e = refl
-early_end Trying due moment e = refl
-early_end Proceeding due moment e = refl
-early_end Completed due moment e = e
-early_end Accepted due moment e = e
-early_end Terminated due moment e = refl
-
--- the timer runs in Completed and Accepted alone
-reached_end : (state : TxnState) (due : Option ℕ) (moment : ℕ) → (is_undecided state ≡ true → due ≡ None) → (state ≡ Terminated → due ≡ None) → is_reached due moment ≡ true → ends state due (MomentCame moment) ≡ true
-reached_end Calling due moment none over e = absurd (never_reached due moment (none refl) e)
-reached_end Trying due moment none over e = absurd (never_reached due moment (none refl) e)
-reached_end Proceeding due moment none over e = absurd (never_reached due moment (none refl) e)
-reached_end Completed due moment none over e = e
-reached_end Accepted due moment none over e = e
-reached_end Terminated due moment none over e = absurd (never_reached due moment (over refl) e)
-
 module _ (invite : Bool) (passed : List ServerItem) where
-
   pub ends-early : (moment : ℕ) → is_reached (server_due invite passed) moment ≡ false → ends (server_state invite passed) (server_due invite passed) (MomentCame moment) ≡ false
   ends-early moment e = early_end (server_state invite passed) (server_due invite passed) moment e
 
@@ -258,7 +135,6 @@ module _ (invite : Bool) (passed : List ServerItem) where
   ends-reached moment e = reached_end (server_state invite passed) (server_due invite passed) moment (server_due-undecided invite passed) (server_due-terminated invite passed) e
 
   module _ (item : ServerItem) (over : ends (server_state invite passed) (server_due invite passed) item ≡ true) where
-
     pub server_state-ended : server_state invite (item ∷ passed) ≡ Terminated
     server_state-ended = server_state-next invite passed item ∙ state_ended invite (server_state invite passed) (server_due invite passed) item over
 
@@ -266,7 +142,6 @@ module _ (invite : Bool) (passed : List ServerItem) where
     server_due-ended = server_due-next invite passed item ∙ due_ended invite (server_state invite passed) (server_due invite passed) item over
 
   module _ (item : ServerItem) (lasts : ends (server_state invite passed) (server_due invite passed) item ≡ false) (unanswered : (is_undecided (server_state invite passed) && is_answer item) ≡ false) where
-
     pub server_state-kept : server_state invite (item ∷ passed) ≡ server_state invite passed
     server_state-kept = server_state-next invite passed item ∙ state_kept invite (server_state invite passed) (server_due invite passed) item lasts unanswered
 
@@ -276,7 +151,6 @@ module _ (invite : Bool) (passed : List ServerItem) where
 -- ## In Accepted
 
 module _ (invite : Bool) (passed : List ServerItem) (accepted : server_state invite passed ≡ Accepted) where
-
   -- it stays until a moment at which timer L is due
   pub server_state-accepted : (item : ServerItem) → server_state invite (item ∷ passed) ≡ (if ends Accepted (server_due invite passed) item then Terminated else Accepted)
   server_state-accepted item = rw (server_state-next invite passed item, accepted) refl
@@ -300,7 +174,6 @@ module _ (invite : Bool) (passed : List ServerItem) (accepted : server_state inv
 -- ## In Completed
 
 module _ (invite : Bool) (passed : List ServerItem) (completed : server_state invite passed ≡ Completed) where
-
   -- it stays until the ACK or a moment at which timer H is due
   pub server_state-completed : (item : ServerItem) → server_state invite (item ∷ passed) ≡ (if ends Completed (server_due invite passed) item then Terminated else Completed)
   server_state-completed item = rw (server_state-next invite passed item, completed) refl
@@ -324,7 +197,6 @@ module _ (invite : Bool) (passed : List ServerItem) (completed : server_state in
 -- ## In Terminated
 
 module _ (invite : Bool) (passed : List ServerItem) (ended : server_state invite passed ≡ Terminated) where
-
   -- it stays; a 2xx to INVITE is sent, and nothing else
   pub server_state-terminated : (item : ServerItem) → server_state invite (item ∷ passed) ≡ Terminated
   server_state-terminated item = rw (server_state-next invite passed item, ended) refl

@@ -1,9 +1,8 @@
 -- The tables of server transactions (RFC 3261 figures 7 and 8, RFC 6026 figure 1): what the definitions'
 -- search of the whole list comes to with one item more.
-use Rattle.std.proofs.Common.{◌≡◌, ℕ, ◌+◌, List, [], ◌∷◌, Bool, true, false, not, ◌&&◌, ◌||◌, Option, None, Some, is_some, nat_le, if◌then◌else◌, refl, ◌∙◌, sym, arith}
+use Rattle.std.proofs.Common.{◌≡◌, ℕ, ◌+◌, List, ◌∷◌, Bool, true, false, not, ◌&&◌, ◌||◌, Option, None, Some, is_some, nat_le, if◌then◌else◌, refl, ◌∙◌}
 use Rattle.std.specs.List.{list_any}
-use Rattle.sc_parts.specs.declared.transactions.TxnState.{TxnState}
-use Rattle.sc_parts.specs.declared.transactions.TxnState.TheVariants.{Calling, Trying, Proceeding, Completed, Accepted, Terminated}
+use Rattle.sc_parts.specs.declared.transactions.TxnState.TheVariants.{Proceeding, Completed, Accepted, Terminated}
 use Rattle.sc_parts.specs.declared.transactions.ServerItem.{ServerItem}
 use Rattle.sc_parts.specs.declared.transactions.ServerItem.TheVariants.{RequestAgain, AckCame, AnswerGiven, MomentCame}
 use Rattle.sc_model.specs.SessionStates.{is_final}

@@ -1,54 +1,15 @@
--- What proofs may use of transactions: their states, timers and outputs with one item more, row by row.
--- No other file opens the definitions.
-use Rattle.std.proofs.Common.{◌≡◌, ℕ, ◌+◌, ◌==◌, List, [], ◌∷◌, Bool, true, false, not, ◌&&◌, ◌||◌, Option, None, Some, is_some, if◌then◌else◌, refl, ap, ◌∙◌, sym, ◌⊎◌, inl, inr}
-use Rattle.std.proofs.Common.{arith, nat_lt, nat_le}
+-- What proofs may use of client transactions: their states, timers and outputs with one item more, row
+-- by row. Proofs above need nothing else of the definitions.
+use Rattle.std.proofs.Common.{◌≡◌, ℕ, ◌+◌, ◌==◌, List, [], ◌∷◌, Bool, true, false, ◌&&◌, ◌||◌, Option, None, Some, is_some, if◌then◌else◌, refl, ◌∙◌, ◌⊎◌, inl, inr}
 use Rattle.std.proofs.Math.Bool.{and-false, and-true}
-use Rattle.std.proofs.lemmas.Bool.Decides.{nat_tests}
-use Rattle.sc_parts.specs.declared.transactions.TxnState.{TxnState}
-use Rattle.sc_parts.specs.declared.transactions.TxnState.TheVariants.{Calling, Trying, Proceeding, Completed, Accepted, Terminated}
-use Rattle.sc_parts.specs.declared.transactions.ClientOut.{ClientOut}
+use Rattle.sc_parts.specs.declared.transactions.TxnState.TheVariants.{Calling, Trying, Proceeding, Accepted, Terminated}
 use Rattle.sc_parts.specs.declared.transactions.ClientItem.{ClientItem}
 use Rattle.sc_parts.specs.declared.transactions.ClientItem.TheVariants.{ResponseCame, CancelAsked, MomentCame, PlaceLost}
-use Rattle.sc_parts.specs.declared.transactions.ServerItem.{ServerItem}
-use Rattle.sc_parts.specs.declared.transactions.ServerItem.TheVariants as server
 use Rattle.sc_model.specs.SessionStates.{is_final}
-use Rattle.sc_model.specs.Transactions.{Found, TIMEOUT, is_success, is_failure, is_reached, is_undecided, has_provisional, has_asking, cancel_moment, decision, first_in_time, waiting_due, due_after, asks_cancel, reaches, timer_m, state_from, due_from, client_state, client_due, client_out, NOTHING, told_waiting, told_accepted, wants_ack}
-use Rattle.sc_model.specs.ServerTransactions.{has_answer, final_answer, state_at, due_at, server_state, server_due, is_sent, is_sent_again, is_absorbed, sends_in, repeats_in, absorbs_in}
-use Rattle.sc_model.specs.TransactionTables.{decided_state, decided_due, next_waiting, next_state, is_calling, is_proceeding, sends_cancel, provisional_due, next_waiting_due, next_due, waiting_out, output, answered_state, answered_due, next_undecided, undecided_due, ends, next_server_state, next_server_due}
+use Rattle.sc_model.specs.Transactions.{Found, TIMEOUT, is_failure, is_reached, is_undecided, has_provisional, has_asking, cancel_moment, decision, first_in_time, waiting_due, due_after, asks_cancel, reaches, timer_m, state_from, due_from, client_state, client_due, client_out, NOTHING, told_waiting, told_accepted, wants_ack}
+use Rattle.sc_model.specs.TransactionTables.{decided_state, decided_due, next_waiting, is_calling, sends_cancel, provisional_due, next_waiting_due, waiting_out}
 use Rattle.sc_model.proofs.ClientTransactions.{client_state-next, client_due-next, client_out-is}
-use Rattle.sc_model.proofs.ServerTransactions.{server_state-next, server_due-next}
-
--- ## The tables where nothing has decided a client transaction
-
-next_state-undecided : (invite : Bool) (state : TxnState) (due : Option ℕ) (item : ClientItem) → is_undecided state ≡ true → next_state invite state due item ≡ next_waiting invite state due item
-next_state-undecided invite Calling due item e = refl
-next_state-undecided invite Trying due item e = refl
-next_state-undecided invite Proceeding due item e = refl
-next_state-undecided invite Completed due item e = cc
-next_state-undecided invite Accepted due item e = cc
-next_state-undecided invite Terminated due item e = cc
-
-next_due-undecided : (invite : Bool) (state : TxnState) (due : Option ℕ) (asked : Bool) (item : ClientItem) → is_undecided state ≡ true → next_due invite state due asked item ≡ next_waiting_due invite state due asked item
-next_due-undecided invite Calling due asked item e = refl
-next_due-undecided invite Trying due asked item e = refl
-next_due-undecided invite Proceeding due asked item e = refl
-next_due-undecided invite Completed due asked item e = cc
-next_due-undecided invite Accepted due asked item e = cc
-next_due-undecided invite Terminated due asked item e = cc
-
-output-undecided : (invite : Bool) (state : TxnState) (due : Option ℕ) (asked : Bool) (item : ClientItem) → is_undecided state ≡ true → output invite state due asked item ≡ waiting_out invite state due asked item
-output-undecided invite Calling due asked item e = refl
-output-undecided invite Trying due asked item e = refl
-output-undecided invite Proceeding due asked item e = refl
-output-undecided invite Completed due asked item e = cc
-output-undecided invite Accepted due asked item e = cc
-output-undecided invite Terminated due asked item e = cc
-
-no_failure : (code : ℕ) → is_final code ≡ false → is_failure code ≡ false
-no_failure code e = grind (arith, nat_tests)
-
-not_hundred : (code : ℕ) → is_final code ≡ true → (code == 100) ≡ false
-not_hundred code e = grind (arith, nat_tests)
+use Rattle.sc_model.proofs.ClientTables.{next_state-undecided, next_due-undecided, output-undecided, no_failure, not_hundred, state_kept, due_moved, cancel_out, state_early, due_early, nothing_out, state_stays, due_stays}
 
 -- ## Client transactions
 
@@ -70,6 +31,7 @@ client_state-decided invite sent passed = by_decision invite (has_provisional pa
     later : (timer : Option ℕ) → ((if is_some timer then Accepted else Terminated) ≡ Accepted) ⊎ ((if is_some timer then Accepted else Terminated) ≡ Terminated)
     later None = inr refl
     later (Some due) = inl refl
+
     by_decision : (invite provisional : Bool) (decided : Option (Found ClientItem)) → is_undecided (state_from invite provisional decided) ≡ false → (state_from invite provisional decided ≡ Accepted) ⊎ (state_from invite provisional decided ≡ Terminated)
     by_decision true true None e = cc
     by_decision true false None e = cc
@@ -85,6 +47,7 @@ client_due-terminated invite sent passed = by_decision invite (has_provisional p
     later : (timer : Option ℕ) → (if is_some timer then Accepted else Terminated) ≡ Terminated → timer ≡ None
     later None e = refl
     later (Some due) e = cc
+
     by_decision : (invite provisional : Bool) (decided : Option (Found ClientItem)) → state_from invite provisional decided ≡ Terminated → due_from invite (waiting_due invite sent passed) decided ≡ None
     by_decision true true None e = cc
     by_decision true false None e = cc
@@ -103,48 +66,19 @@ unfolding has_asking
 has_asking-next passed item = refl
 
 module _ (invite : Bool) (sent : ℕ) (passed : List ClientItem) (moment : ℕ) where
-
-  state_kept : (state : TxnState) (due : Option ℕ) → next_state invite state due (CancelAsked moment) ≡ state
-  unfolding reaches
-  state_kept Calling due = refl
-  state_kept Trying due = refl
-  state_kept Proceeding due = refl
-  state_kept Completed due = refl
-  state_kept Accepted due = refl
-  state_kept Terminated due = refl
-
-  due_moved : (state : TxnState) (due : Option ℕ) (asked : Bool) → next_due invite state due asked (CancelAsked moment) ≡ (if sends_cancel invite state asked (CancelAsked moment) then Some (moment + TIMEOUT) else due)
-  unfolding reaches
-  due_moved Calling due asked = refl
-  due_moved Trying due asked = refl
-  due_moved Proceeding due asked = refl
-  due_moved Completed due asked = rw (and-false invite) refl
-  due_moved Accepted due asked = rw (and-false invite) refl
-  due_moved Terminated due asked = rw (and-false invite) refl
-
-  cancel_out : (state : TxnState) (due : Option ℕ) (asked : Bool) → output invite state due asked (CancelAsked moment) ≡ record NOTHING { cancel = sends_cancel invite state asked (CancelAsked moment) }
-  unfolding told_waiting told_accepted wants_ack
-  cancel_out Calling due asked = rw (and-false invite) refl
-  cancel_out Trying due asked = rw (and-false invite) refl
-  cancel_out Proceeding due asked = rw (and-false invite) refl
-  cancel_out Completed due asked = rw (and-false invite) refl
-  cancel_out Accepted due asked = rw (and-false invite) refl
-  cancel_out Terminated due asked = rw (and-false invite) refl
-
   -- no state is changed; in Proceeding of an INVITE the first asking makes the CANCEL go
   pub client_state-asking : client_state invite sent (CancelAsked moment ∷ passed) ≡ client_state invite sent passed
-  client_state-asking = client_state-next invite sent passed (CancelAsked moment) ∙ state_kept (client_state invite sent passed) (client_due invite sent passed)
+  client_state-asking = client_state-next invite sent passed (CancelAsked moment) ∙ state_kept invite moment (client_state invite sent passed) (client_due invite sent passed)
 
   pub client_due-asking : client_due invite sent (CancelAsked moment ∷ passed) ≡ (if sends_cancel invite (client_state invite sent passed) (has_asking passed) (CancelAsked moment) then Some (moment + TIMEOUT) else client_due invite sent passed)
-  client_due-asking = client_due-next invite sent passed (CancelAsked moment) ∙ due_moved (client_state invite sent passed) (client_due invite sent passed) (has_asking passed)
+  client_due-asking = client_due-next invite sent passed (CancelAsked moment) ∙ due_moved invite moment (client_state invite sent passed) (client_due invite sent passed) (has_asking passed)
 
   pub client_out-asking : client_out invite sent passed (CancelAsked moment) ≡ record NOTHING { cancel = sends_cancel invite (client_state invite sent passed) (has_asking passed) (CancelAsked moment) }
-  client_out-asking = client_out-is invite sent passed (CancelAsked moment) ∙ cancel_out (client_state invite sent passed) (client_due invite sent passed) (has_asking passed)
+  client_out-asking = client_out-is invite sent passed (CancelAsked moment) ∙ cancel_out invite moment (client_state invite sent passed) (client_due invite sent passed) (has_asking passed)
 
 -- ### Where nothing has decided it
 
 module _ (invite : Bool) (sent : ℕ) (passed : List ClientItem) (waits : is_undecided (client_state invite sent passed) ≡ true) where
-
   state_by_table : (item : ClientItem) → client_state invite sent (item ∷ passed) ≡ next_waiting invite (client_state invite sent passed) (client_due invite sent passed) item
   state_by_table item = client_state-next invite sent passed item ∙ next_state-undecided invite (client_state invite sent passed) (client_due invite sent passed) item waits
 
@@ -205,74 +139,28 @@ module _ (invite : Bool) (sent : ℕ) (passed : List ClientItem) (waits : is_und
 -- ### A moment at which the timer that runs isn't due changes nothing
 
 module _ (invite : Bool) (sent : ℕ) (passed : List ClientItem) (moment : ℕ) (early : is_reached (client_due invite sent passed) moment ≡ false) where
-
-  state_early : (state : TxnState) (due : Option ℕ) → is_reached due moment ≡ false → next_state invite state due (MomentCame moment) ≡ state
-  unfolding reaches
-  state_early Calling due e = rw e refl
-  state_early Trying due e = rw e refl
-  state_early Proceeding due e = rw e refl
-  state_early Completed due e = refl
-  state_early Accepted due e = rw e refl
-  state_early Terminated due e = refl
-
-  due_early : (state : TxnState) (due : Option ℕ) → is_reached due moment ≡ false → next_due invite state due (has_asking passed) (MomentCame moment) ≡ due
-  unfolding reaches
-  due_early Calling due e = rw e refl
-  due_early Trying due e = rw e refl
-  due_early Proceeding due e = rw e refl
-  due_early Completed due e = refl
-  due_early Accepted due e = rw e refl
-  due_early Terminated due e = refl
-
-  nothing_out : (state : TxnState) (due : Option ℕ) → is_reached due moment ≡ false → output invite state due (has_asking passed) (MomentCame moment) ≡ NOTHING
-  unfolding told_waiting told_accepted wants_ack
-  nothing_out Calling due e = rw (e, and-false invite) refl
-  nothing_out Trying due e = rw (e, and-false invite) refl
-  nothing_out Proceeding due e = rw (e, and-false invite) refl
-  nothing_out Completed due e = refl
-  nothing_out Accepted due e = refl
-  nothing_out Terminated due e = refl
-
   pub client_state-early : client_state invite sent (MomentCame moment ∷ passed) ≡ client_state invite sent passed
-  client_state-early = client_state-next invite sent passed (MomentCame moment) ∙ state_early (client_state invite sent passed) (client_due invite sent passed) early
+  client_state-early = client_state-next invite sent passed (MomentCame moment) ∙ state_early invite (has_asking passed) moment (client_state invite sent passed) (client_due invite sent passed) early
 
   pub client_due-early : client_due invite sent (MomentCame moment ∷ passed) ≡ client_due invite sent passed
-  client_due-early = client_due-next invite sent passed (MomentCame moment) ∙ due_early (client_state invite sent passed) (client_due invite sent passed) early
+  client_due-early = client_due-next invite sent passed (MomentCame moment) ∙ due_early invite (has_asking passed) moment (client_state invite sent passed) (client_due invite sent passed) early
 
   pub client_out-early : client_out invite sent passed (MomentCame moment) ≡ NOTHING
-  client_out-early = client_out-is invite sent passed (MomentCame moment) ∙ nothing_out (client_state invite sent passed) (client_due invite sent passed) early
+  client_out-early = client_out-is invite sent passed (MomentCame moment) ∙ nothing_out invite (has_asking passed) moment (client_state invite sent passed) (client_due invite sent passed) early
 
 -- ### Where something has decided it, another item than the moment of timer M
 
 module _ (invite : Bool) (sent : ℕ) (passed : List ClientItem) (item : ClientItem) (decided : is_undecided (client_state invite sent passed) ≡ false) (early : reaches (client_due invite sent passed) item ≡ false) where
-
-  state_stays : (state : TxnState) (due : Option ℕ) → is_undecided state ≡ false → reaches due item ≡ false → next_state invite state due item ≡ state
-  state_stays Calling due e f = cc
-  state_stays Trying due e f = cc
-  state_stays Proceeding due e f = cc
-  state_stays Completed due e f = refl
-  state_stays Accepted due e f = rw f refl
-  state_stays Terminated due e f = refl
-
-  due_stays : (state : TxnState) (due : Option ℕ) → is_undecided state ≡ false → reaches due item ≡ false → next_due invite state due (has_asking passed) item ≡ due
-  due_stays Calling due e f = cc
-  due_stays Trying due e f = cc
-  due_stays Proceeding due e f = cc
-  due_stays Completed due e f = refl
-  due_stays Accepted due e f = rw f refl
-  due_stays Terminated due e f = refl
-
   -- nothing changes
   pub client_state-settled : client_state invite sent (item ∷ passed) ≡ client_state invite sent passed
-  client_state-settled = client_state-next invite sent passed item ∙ state_stays (client_state invite sent passed) (client_due invite sent passed) decided early
+  client_state-settled = client_state-next invite sent passed item ∙ state_stays invite (has_asking passed) item (client_state invite sent passed) (client_due invite sent passed) decided early
 
   pub client_due-settled : client_due invite sent (item ∷ passed) ≡ client_due invite sent passed
-  client_due-settled = client_due-next invite sent passed item ∙ due_stays (client_state invite sent passed) (client_due invite sent passed) decided early
+  client_due-settled = client_due-next invite sent passed item ∙ due_stays invite (has_asking passed) item (client_state invite sent passed) (client_due invite sent passed) decided early
 
 -- ### In Accepted
 
 module _ (invite : Bool) (sent : ℕ) (passed : List ClientItem) (accepted : client_state invite sent passed ≡ Accepted) where
-
   -- it stays until a moment at which timer M is due
   pub client_state-accepted : (item : ClientItem) → client_state invite sent (item ∷ passed) ≡ (if reaches (client_due invite sent passed) item then Terminated else Accepted)
   client_state-accepted item = rw (client_state-next invite sent passed item, accepted) refl
@@ -287,7 +175,6 @@ module _ (invite : Bool) (sent : ℕ) (passed : List ClientItem) (accepted : cli
 -- ### In Terminated
 
 module _ (invite : Bool) (sent : ℕ) (passed : List ClientItem) (ended : client_state invite sent passed ≡ Terminated) where
-
   -- it stays, and does nothing
   pub client_state-terminated : (item : ClientItem) → client_state invite sent (item ∷ passed) ≡ Terminated
   client_state-terminated item = rw (client_state-next invite sent passed item, ended) refl

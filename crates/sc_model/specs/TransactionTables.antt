@@ -1,7 +1,7 @@
 -- The tables of the standards' figures (RFC 3261 figures 5 to 8, RFC 6026 figures 1 and 2), from the
 -- state before an item and the timer that ran. They define nothing: that the search of the whole list
 -- comes to them with each item more is proved in proofs/ClientTransactions and proofs/ServerTransactions.
-use Rattle.std.specs.Prelude.{ℕ, ◌+◌, ◌==◌, Bool, true, false, not, ◌||◌, ◌&&◌, Option, None, Some, if◌then◌else◌}
+use Rattle.std.specs.Prelude.{ℕ, ◌+◌, Bool, true, false, not, ◌&&◌, Option, None, Some, if◌then◌else◌}
 use Rattle.sc_parts.specs.declared.transactions.TxnState.{TxnState}
 use Rattle.sc_parts.specs.declared.transactions.TxnState.TheVariants.{Calling, Trying, Proceeding, Completed, Accepted, Terminated}
 use Rattle.sc_parts.specs.declared.transactions.ClientOut.{ClientOut}
@@ -12,7 +12,7 @@ use Rattle.sc_parts.specs.declared.transactions.ServerItem.{ServerItem}
 use Rattle.sc_parts.specs.declared.transactions.ServerItem.TheVariants.{RequestAgain, AckCame, AnswerGiven}
 use Rattle.sc_parts.specs.declared.transactions.ServerItem.TheVariants as server
 use Rattle.sc_model.specs.SessionStates.{is_final}
-use Rattle.sc_model.specs.Transactions.{TIMEOUT, is_provisional, is_success, is_failure, is_reached, reaches, NOTHING, told_waiting, told_accepted, wants_ack}
+use Rattle.sc_model.specs.Transactions.{TIMEOUT, is_provisional, is_success, is_reached, reaches, NOTHING, told_waiting, told_accepted, wants_ack}
 
 -- ## Clients
 

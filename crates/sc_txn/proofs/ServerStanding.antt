@@ -1,14 +1,15 @@
 -- A server transaction that stands for a list stands for it with one item more, row by row.
-use Rattle.std.proofs.Common.{◌≡◌, ℕ, ◌+◌, List, [], ◌∷◌, Bool, true, false, ◌&&◌, ◌||◌, Option, None, if◌then◌else◌, refl, sym, ap, ◌∙◌}
+use Rattle.std.proofs.Common.{◌≡◌, ℕ, List, [], ◌∷◌, Bool, true, false, ◌&&◌, ◌||◌, Option, None, if◌then◌else◌, refl, sym, ap, ◌∙◌}
 use Rattle.std.proofs.Math.Bool.{and-false, and-true}
 use Rattle.sc_parts.specs.declared.transactions.TxnState.{TxnState}
 use Rattle.sc_parts.specs.declared.transactions.TxnState.TheVariants.{Trying, Proceeding, Terminated}
 use Rattle.sc_parts.specs.declared.transactions.ServerItem.{ServerItem}
 use Rattle.sc_parts.specs.declared.transactions.ServerItem.TheVariants.{RequestAgain, AckCame, AnswerGiven, MomentCame}
 use Rattle.sc_model.specs.Transactions.{is_undecided, is_reached}
-use Rattle.sc_model.specs.ServerTransactions.{is_answer, has_answer, server_state, server_due, is_sent, is_sent_again, is_absorbed, sends_in, repeats_in, absorbs_in}
+use Rattle.sc_model.specs.ServerTransactions.{is_answer, server_state, server_due, is_sent, is_sent_again, is_absorbed, sends_in, repeats_in, absorbs_in}
 use Rattle.sc_model.specs.TransactionTables.{ends, answered_state, answered_due}
-use Rattle.sc_model.proofs.ServerTransactionFacts.{server_state-none, server_due-none, has_answer-none, has_answer-next, has_answer-decided, ends-answer, ends-again, ends-ack, ends-early, ends-reached, server_state-answer, server_due-answer, server_state-ended, server_due-ended, server_state-kept, server_due-kept}
+use Rattle.sc_model.proofs.ServerTransactionFacts.{server_state-none, server_due-none, has_answer-none, has_answer-next, ends-early, ends-reached, server_state-answer, server_due-answer, server_state-ended, server_due-ended, server_state-kept, server_due-kept}
+use Rattle.sc_model.proofs.ServerTables.{ends-answer, ends-again, ends-ack}
 use Rattle.sc_txn.specs.Stands.{Server, ServerStands}
 
 pub new_stands : (invite : Bool) (state : TxnState) → state ≡ (if invite then Proceeding else Trying) → ServerStands (record { invite = invite; state = state; due = None; answered = false }) invite []
@@ -20,7 +21,6 @@ new_stands invite state is = record {
 }
 
 module _ (t : Server) (invite : Bool) (passed : List ServerItem) (stands : ServerStands t invite passed) where
-
   waits : is_undecided t.state ≡ true → is_undecided (server_state invite passed) ≡ true
   waits e = rw (← stands.state_is) e
 
@@ -82,6 +82,7 @@ module _ (t : Server) (invite : Bool) (passed : List ServerItem) (stands : Serve
     where
       lasts : ends (server_state invite passed) (server_due invite passed) (AnswerGiven code moment) ≡ false
       lasts = ends-answer (server_state invite passed) (server_due invite passed) code moment
+
       none : (is_undecided (server_state invite passed) && true) ≡ false
       none = and-true (is_undecided (server_state invite passed)) ∙ decided e
 

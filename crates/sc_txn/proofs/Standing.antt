@@ -1,14 +1,14 @@
 -- A client transaction that stands for a list stands for it with one item more, row by row.
 use Rattle.std.proofs.Common.{◌≡◌, ℕ, ◌+◌, ◌==◌, List, [], ◌∷◌, Bool, true, false, not, ◌&&◌, ◌||◌, Option, None, Some, if◌then◌else◌, refl, sym, ap, ◌∙◌, ◌⊎◌, inl, inr}
 use Rattle.sc_parts.specs.declared.transactions.TxnState.{TxnState}
-use Rattle.sc_parts.specs.declared.transactions.TxnState.TheVariants.{Calling, Trying, Proceeding, Completed, Accepted, Terminated}
+use Rattle.sc_parts.specs.declared.transactions.TxnState.TheVariants.{Calling, Trying, Proceeding, Accepted, Terminated}
 use Rattle.sc_parts.specs.declared.transactions.ClientOut.{ClientOut}
 use Rattle.sc_parts.specs.declared.transactions.ClientItem.{ClientItem}
 use Rattle.sc_parts.specs.declared.transactions.ClientItem.TheVariants.{ResponseCame, CancelAsked, MomentCame, PlaceLost}
 use Rattle.sc_model.specs.SessionStates.{is_final}
-use Rattle.sc_model.specs.Transactions.{TIMEOUT, is_success, is_failure, is_undecided, is_reached, reaches, asks_cancel, has_asking, client_state, client_due, client_out, NOTHING, told_accepted}
-use Rattle.sc_model.specs.TransactionTables.{decided_state, decided_due, provisional_due, is_calling, is_proceeding, sends_cancel}
-use Rattle.sc_model.proofs.TransactionFacts.{client_state-none, client_due-none, client_state-decided, client_due-terminated, has_asking-none, has_asking-next, client_state-asking, client_due-asking, client_out-asking, client_state-provisional, client_due-provisional, client_out-provisional, client_state-final, client_due-final, client_out-final, client_state-reached, client_due-reached, client_out-reached, client_state-lost, client_due-lost, client_out-lost, client_state-early, client_due-early, client_out-early, client_state-settled, client_due-settled, client_state-accepted, client_due-accepted, client_out-accepted, client_state-terminated, client_out-terminated}
+use Rattle.sc_model.specs.Transactions.{is_failure, is_undecided, is_reached, reaches, asks_cancel, client_state, client_due, client_out, NOTHING, told_accepted}
+use Rattle.sc_model.specs.TransactionTables.{decided_state, decided_due, provisional_due, is_calling, is_proceeding}
+use Rattle.sc_model.proofs.TransactionFacts.{client_state-none, client_due-none, client_state-decided, client_due-terminated, has_asking-none, has_asking-next, client_state-asking, client_due-asking, client_out-asking, client_state-provisional, client_due-provisional, client_out-provisional, client_state-final, client_due-final, client_out-final, client_state-reached, client_due-reached, client_out-reached, client_state-lost, client_due-lost, client_out-lost, client_state-early, client_due-early, client_out-early, client_state-settled, client_due-settled, client_state-accepted, client_due-accepted, client_out-accepted, client_out-terminated}
 use Rattle.sc_model.specs.TransactionTables.{output}
 use Rattle.sc_model.proofs.ClientTransactions.{client_out-is}
 use Rattle.sc_txn.specs.Stands.{Client, ClientStands}
@@ -27,7 +27,6 @@ never None moment none e = cc
 never (Some due) moment none e = cc
 
 module _ (t : Client) (invite : Bool) (sent : ℕ) (passed : List ClientItem) (stands : ClientStands t invite sent passed) where
-
   waits : is_undecided t.state ≡ true → is_undecided (client_state invite sent passed) ≡ true
   waits e = rw (← stands.state_is) e
 
@@ -118,11 +117,14 @@ module _ (t : Client) (invite : Bool) (sent : ℕ) (passed : List ClientItem) (s
     where
       reached : is_reached (client_due invite sent passed) moment ≡ true
       reached = rw (← stands.due_is) e
+
       ended : client_state invite sent (MomentCame moment ∷ passed) ≡ Terminated → client_due invite sent (MomentCame moment ∷ passed) ≡ None → ClientStands (record t { state = Terminated; due = None }) invite sent (MomentCame moment ∷ passed)
       ended state_is due_is = with_item (MomentCame moment) Terminated None t.asked state_is due_is refl
+
       by_state : (client_state invite sent passed ≡ Accepted) ⊎ (client_state invite sent passed ≡ Terminated) → ClientStands (record t { state = Terminated; due = None }) invite sent (MomentCame moment ∷ passed)
       by_state (inl accepted) = ended (rw (client_state-accepted invite sent passed accepted (MomentCame moment), reached) refl) (rw (client_due-accepted invite sent passed accepted (MomentCame moment), reached) refl)
       by_state (inr over) = absurd (never (client_due invite sent passed) moment (client_due-terminated invite sent passed over) reached)
+
       by_test : (test : Bool) → is_undecided t.state ≡ test → ClientStands (record t { state = Terminated; due = None }) invite sent (MomentCame moment ∷ passed)
       by_test true undecided = ended (client_state-reached invite sent passed (waits undecided) moment reached) (client_due-reached invite sent passed (waits undecided) moment reached)
       by_test false e = by_state (client_state-decided invite sent passed (decided e))

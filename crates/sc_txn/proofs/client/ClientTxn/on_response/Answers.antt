@@ -1,6 +1,5 @@
-use Rattle.std.proofs.Common.{◌≡◌, Bool, true, false, arith}
+use Rattle.std.proofs.Common.{◌≡◌, true, false}
 use Rattle.std.proofs.lemmas.Bool.{lt-ltb, le-ltb}
-use Rattle.sc_model.specs.SessionStates.{is_final}
 use Rattle.sc_model.specs.Transactions.{is_undecided}
 use Rattle.sc_txn.proofs.Standing.{response_settled, further_out, final_stands, final_out, provisional_stands, provisional_out}
 use Rattle.sc_txn.proofs.client.ClientTxn.on_response.Goals as goal
