@@ -1,4 +1,4 @@
--- The tables of client transactions (RFC 3261 figures 5 and 6, RFC 6026 figure 2): what the definitions'
+-- The tables of client transactions (RFC 3261 figures 5 and 6, RFC 6026 section 7.2): what the definitions'
 -- search of the whole list comes to with one item more.
 use Rattle.std.proofs.Common.{◌≡◌, ℕ, ◌+◌, List, [], ◌∷◌, Bool, true, false, not, ◌&&◌, ◌||◌, Option, None, Some, is_some, is_none, if◌then◌else◌, refl, ◌∙◌, sym}
 use Rattle.std.specs.Prelude.{option_map}

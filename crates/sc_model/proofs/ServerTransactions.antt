@@ -1,4 +1,4 @@
--- The tables of server transactions (RFC 3261 figures 7 and 8, RFC 6026 figure 1): what the definitions'
+-- The tables of server transactions (RFC 3261 figures 7 and 8, RFC 6026 section 7.1): what the definitions'
 -- search of the whole list comes to with one item more.
 use Rattle.std.proofs.Common.{◌≡◌, ℕ, ◌+◌, List, ◌∷◌, Bool, true, false, not, ◌&&◌, ◌||◌, Option, None, Some, is_some, nat_le, if◌then◌else◌, refl, ◌∙◌}
 use Rattle.std.specs.List.{list_any}
