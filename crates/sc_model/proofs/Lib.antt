@@ -1,3 +1,4 @@
+pub mod BestFacts
 mod Cases
 mod ClientTables
 pub mod ClientTransactions

@@ -1,3 +1,4 @@
+pub mod BestResponses
 pub mod Charters
 pub mod FixedSettings
 pub mod Histories
