@@ -5,7 +5,7 @@ ghost use Rattle.sc_parts.specs.declared.transactions.ClientItem.{ClientItem};
 ghost use Rattle.sc_model.specs.SessionStates.{is_final};
 ghost use Rattle.sc_model.specs.Transactions.{client_state, client_due, client_out, is_undecided, is_success, is_failure, is_reached, told_accepted, NOTHING};
 ghost use Rattle.sc_model.specs.TransactionTables.{decided_state, decided_due, provisional_due, is_calling, is_proceeding, sends_cancel, output};
-ghost use Rattle.sc_txn.specs.Stands.{ClientStands};
+ghost use Rattle.sc_txn.specs.Stands.{ClientStands, ClientTakes, ClientDoes};
 
 use crate::codes::{TIMEOUT, is_reached, is_success, is_undecided};
 use sc_parts::{ClientOut, TxnState};
@@ -31,7 +31,8 @@ impl Model for ClientTxn {
 }
 
 impl ClientTxn {
-    /// The transaction of an INVITE or of another request that is sent at this moment.
+    /// The transaction of an INVITE, or of another request, that is sent at this moment. Timer B or
+    /// F begins (RFC 3261 sections 17.1.1.2 and 17.1.2.2).
     pub fn new(invite: bool, now: u64) -> ClientTxn
         requires { now ≤ 2 ^ 63 }
         ensures { ClientStands result invite now [] }
@@ -46,25 +47,29 @@ impl ClientTxn {
 
     /// The state.
     pub fn state(&self) -> TxnState
-        ensures { (invite : Bool) (sent : ℕ) (passed : List ClientItem) → ClientStands self.now invite sent passed → result ≡ client_state invite sent passed }
+        ensures { (invite : Bool) (sent : ℕ) (passed : List ClientItem)
+            → ClientStands self.now invite sent passed → result ≡ client_state invite sent passed }
     {
         self.state
     }
 
     /// The moment at which the timer that runs is due; None exactly where none runs.
     pub fn due(&self) -> Option<u64>
-        ensures { (invite : Bool) (sent : ℕ) (passed : List ClientItem) → ClientStands self.now invite sent passed → result ≡ client_due invite sent passed }
+        ensures { (invite : Bool) (sent : ℕ) (passed : List ClientItem)
+            → ClientStands self.now invite sent passed → result ≡ client_due invite sent passed }
     {
         self.due
     }
 
-    /// A response of this code, 100 to 699, came.
+    /// A response of this code, 100 to 699, came at this moment. Before a final one it is told, but
+    /// for 100; the first final one decides (RFC 3261 sections 17.1.1.2 and 17.1.2.2). In Accepted
+    /// only a further 2xx is told, and in Terminated nothing is.
     pub fn on_response(&mut self, code: u16, now: u64) -> ClientOut
         requires moment { now ≤ 2 ^ 63 }
         requires least { 100 ≤ code }
         requires most { code ≤ 699 }
-        ensures stands { (invite : Bool) (sent : ℕ) (passed : List ClientItem) → ClientStands self.old invite sent passed → ClientStands self.new invite sent (ClientItem.ResponseCame code now ∷ passed) }
-        ensures does { (invite : Bool) (sent : ℕ) (passed : List ClientItem) → ClientStands self.old invite sent passed → result ≡ client_out invite sent passed (ClientItem.ResponseCame code now) }
+        ensures stands { ClientTakes self.old self.new (ClientItem.ResponseCame code now) }
+        ensures does { ClientDoes self.old (ClientItem.ResponseCame code now) result }
     {
         if !is_undecided(self.state) {
             return further(self.state, code);
@@ -110,12 +115,12 @@ impl ClientTxn {
         }
     }
 
-    /// A CANCEL is asked for. It is sent now in Proceeding of an INVITE, or with the next provisional
-    /// response, and once at most (RFC 3261 section 9.1).
+    /// A CANCEL is asked for at this moment. In Proceeding of an INVITE it is sent now, in Calling
+    /// with the first provisional response, and once at most (RFC 3261 section 9.1).
     pub fn on_cancel(&mut self, now: u64) -> ClientOut
         requires { now ≤ 2 ^ 63 }
-        ensures stands { (invite : Bool) (sent : ℕ) (passed : List ClientItem) → ClientStands self.old invite sent passed → ClientStands self.new invite sent (ClientItem.CancelAsked now ∷ passed) }
-        ensures does { (invite : Bool) (sent : ℕ) (passed : List ClientItem) → ClientStands self.old invite sent passed → result ≡ client_out invite sent passed (ClientItem.CancelAsked now) }
+        ensures stands { ClientTakes self.old self.new (ClientItem.CancelAsked now) }
+        ensures does { ClientDoes self.old (ClientItem.CancelAsked now) result }
     {
         let cancel = self.ask(now);
         ClientOut {
@@ -146,11 +151,12 @@ impl ClientTxn {
         self.invite && is_proceeding(self.state) && !self.asked
     }
 
-    /// The clock reached this moment.
+    /// The clock reached this moment. Where the timer that runs is due the transaction ends, and 408
+    /// is told unless it was Accepted (RFC 3261 section 8.1.3.1).
     pub fn on_timer(&mut self, now: u64) -> ClientOut
         requires { now ≤ 2 ^ 63 }
-        ensures stands { (invite : Bool) (sent : ℕ) (passed : List ClientItem) → ClientStands self.old invite sent passed → ClientStands self.new invite sent (ClientItem.MomentCame now ∷ passed) }
-        ensures does { (invite : Bool) (sent : ℕ) (passed : List ClientItem) → ClientStands self.old invite sent passed → result ≡ client_out invite sent passed (ClientItem.MomentCame now) }
+        ensures stands { ClientTakes self.old self.new (ClientItem.MomentCame now) }
+        ensures does { ClientDoes self.old (ClientItem.MomentCame now) result }
     {
         if !is_reached(self.due, now) {
             return nothing();
@@ -160,10 +166,11 @@ impl ClientTxn {
         if waited { told(408) } else { nothing() }
     }
 
-    /// The place that its request went to was lost.
+    /// The place that its request went to was lost. Before a final response this ends it, and 503 is
+    /// told (RFC 3261 section 8.1.3.1).
     pub fn on_lost(&mut self) -> ClientOut
-        ensures stands { (invite : Bool) (sent : ℕ) (passed : List ClientItem) → ClientStands self.old invite sent passed → ClientStands self.new invite sent (ClientItem.PlaceLost ∷ passed) }
-        ensures does { (invite : Bool) (sent : ℕ) (passed : List ClientItem) → ClientStands self.old invite sent passed → result ≡ client_out invite sent passed ClientItem.PlaceLost }
+        ensures stands { ClientTakes self.old self.new ClientItem.PlaceLost }
+        ensures does { ClientDoes self.old ClientItem.PlaceLost result }
     {
         if !is_undecided(self.state) {
             return nothing();

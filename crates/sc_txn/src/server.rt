@@ -6,7 +6,7 @@ ghost use Rattle.sc_model.specs.SessionStates.{is_final};
 ghost use Rattle.sc_model.specs.Transactions.{is_undecided, is_success, is_reached};
 ghost use Rattle.sc_model.specs.ServerTransactions.{server_state, server_due, is_sent, is_sent_again, is_absorbed, sends_in, repeats_in, absorbs_in};
 ghost use Rattle.sc_model.specs.TransactionTables.{answered_state, answered_due};
-ghost use Rattle.sc_txn.specs.Stands.{ServerStands};
+ghost use Rattle.sc_txn.specs.Stands.{ServerStands, ServerTakes};
 
 use crate::codes::{TIMEOUT, is_reached, is_success, is_undecided};
 use sc_parts::TxnState;
@@ -46,22 +46,26 @@ impl ServerTxn {
 
     /// The state.
     pub fn state(&self) -> TxnState
-        ensures { (invite : Bool) (passed : List ServerItem) → ServerStands self.now invite passed → result ≡ server_state invite passed }
+        ensures { (invite : Bool) (passed : List ServerItem)
+            → ServerStands self.now invite passed → result ≡ server_state invite passed }
     {
         self.state
     }
 
     /// The moment at which the timer that runs is due; None exactly where none runs.
     pub fn due(&self) -> Option<u64>
-        ensures { (invite : Bool) (passed : List ServerItem) → ServerStands self.now invite passed → result ≡ server_due invite passed }
+        ensures { (invite : Bool) (passed : List ServerItem)
+            → ServerStands self.now invite passed → result ≡ server_due invite passed }
     {
         self.due
     }
 
-    /// The request came again: whether the last answer is sent again.
+    /// The request came again: whether the last answer is sent again. It is where there is one, in
+    /// Proceeding and Completed (RFC 3261 sections 17.2.1 and 17.2.2).
     pub fn on_request(&mut self) -> bool
-        ensures stands { (invite : Bool) (passed : List ServerItem) → ServerStands self.old invite passed → ServerStands self.new invite (ServerItem.RequestAgain ∷ passed) }
-        ensures again { (invite : Bool) (passed : List ServerItem) → ServerStands self.old invite passed → result ≡ is_sent_again invite passed }
+        ensures stands { ServerTakes self.old self.new ServerItem.RequestAgain }
+        ensures again { (invite : Bool) (passed : List ServerItem)
+            → ServerStands self.old invite passed → result ≡ is_sent_again invite passed }
     {
         self.repeats()
     }
@@ -73,10 +77,12 @@ impl ServerTxn {
         self.answered && repeats_in(self.state)
     }
 
-    /// An ACK came: whether it is absorbed as that of the final answer.
+    /// An ACK came: whether it is absorbed as that of a final answer other than 2xx, which ends the
+    /// transaction (RFC 3261 section 17.2.1).
     pub fn on_ack(&mut self) -> bool
-        ensures stands { (invite : Bool) (passed : List ServerItem) → ServerStands self.old invite passed → ServerStands self.new invite (ServerItem.AckCame ∷ passed) }
-        ensures absorbed { (invite : Bool) (passed : List ServerItem) → ServerStands self.old invite passed → result ≡ is_absorbed invite passed }
+        ensures stands { ServerTakes self.old self.new ServerItem.AckCame }
+        ensures absorbed { (invite : Bool) (passed : List ServerItem)
+            → ServerStands self.old invite passed → result ≡ is_absorbed invite passed }
     {
         if !absorbs_in(self.state) {
             return false;
@@ -85,13 +91,15 @@ impl ServerTxn {
         true
     }
 
-    /// An answer of this code, 100 to 699, was given: whether it is sent.
+    /// An answer of this code, 100 to 699, was given at this moment: whether it is sent. The first
+    /// final one decides; after it a further 2xx to INVITE is sent, but not in Completed.
     pub fn on_answer(&mut self, code: u16, now: u64) -> bool
         requires moment { now ≤ 2 ^ 63 }
         requires least { 100 ≤ code }
         requires most { code ≤ 699 }
-        ensures stands { (invite : Bool) (passed : List ServerItem) → ServerStands self.old invite passed → ServerStands self.new invite (ServerItem.AnswerGiven code now ∷ passed) }
-        ensures sent { (invite : Bool) (passed : List ServerItem) → ServerStands self.old invite passed → result ≡ is_sent invite passed code }
+        ensures stands { ServerTakes self.old self.new (ServerItem.AnswerGiven code now) }
+        ensures sent { (invite : Bool) (passed : List ServerItem)
+            → ServerStands self.old invite passed → result ≡ is_sent invite passed code }
     {
         let sent = sends_in(self.invite, self.state, code);
         if is_undecided(self.state) {
@@ -112,10 +120,10 @@ impl ServerTxn {
         self.answered = true;
     }
 
-    /// The clock reached this moment.
+    /// The clock reached this moment. Where timer H or L is due the transaction ends.
     pub fn on_timer(&mut self, now: u64)
         requires { now ≤ 2 ^ 63 }
-        ensures stands { (invite : Bool) (passed : List ServerItem) → ServerStands self.old invite passed → ServerStands self.new invite (ServerItem.MomentCame now ∷ passed) }
+        ensures stands { ServerTakes self.old self.new (ServerItem.MomentCame now) }
     {
         if is_reached(self.due, now) {
             self.stop();
