@@ -1,3 +1,4 @@
+pub mod BestResponses
 pub mod Charters
 pub mod FixedSettings
 pub mod Histories
@@ -8,6 +9,9 @@ pub mod Records
 pub mod Responses
 pub mod Routing
 pub mod Scripts
+pub mod ServerTransactions
 pub mod SessionStates
 pub mod Settings
+pub mod TransactionTables
+pub mod Transactions
 pub mod Turns

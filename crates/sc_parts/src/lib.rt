@@ -8,6 +8,7 @@ mod outcome;
 mod server;
 mod session;
 mod setup;
+mod transactions;
 mod waiting;
 
 pub use chosen::Chosen;
@@ -15,4 +16,5 @@ pub use outcome::{Order, Outcome};
 pub use server::Server;
 pub use session::{Received, Session};
 pub use setup::Setup;
+pub use transactions::{ClientItem, ClientOut, ServerItem, TxnState};
 pub use waiting::{Queued, Waiting};

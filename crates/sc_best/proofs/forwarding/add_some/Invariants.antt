@@ -1,0 +1,7 @@
+use Rattle.std.proofs.Common.{◌≡◌, ◌++◌, take}
+use Rattle.std.specs.Prelude.{filter}
+use Rattle.sc_model.specs.BestResponses.{is_challenge}
+use Rattle.sc_best.proofs.forwarding.add_some.Given as goal
+
+abbrev pub invariant-loop-field : goal.invariant-loop-field
+invariant-loop-field l = l.fields ≡ l.fn.fields ++ filter is_challenge (take l.field-index l.others)

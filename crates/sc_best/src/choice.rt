@@ -1,0 +1,56 @@
+//! The choice (RFC 3261 section 16.7, step 6).
+
+ghost use Rattle.std.specs.Prelude.{◌≡◌, ◌==◌, ◌<◌, length, position, IfSome, is_none};
+ghost use Rattle.sc_model.specs.BestResponses.{best_of, is_global, is_lowest, class_of};
+
+use sc_value::{List, Response};
+
+/// The place of the best response: that of the first 6xx, else of the first of the lowest class; None
+/// exactly where the list is empty.
+pub fn best(list: &List<Response>) -> Option<usize>
+    ensures best { result ≡ best_of list.now }
+    ensures none { is_none result ≡ (length list.now == 0) }
+    ensures below { IfSome result (λ place. place < length list.now) }
+{
+    best_place(list.as_slice())
+}
+
+#[tactic(auto, unfolding(sc_model::specs::BestResponses::best_of))]
+fn best_place(responses: &[Response]) -> Option<usize>
+    ensures { result ≡ best_of responses.now }
+{
+    match first_global(responses) {
+        Some(place) => Some(place),
+        None => first_lowest(responses),
+    }
+}
+
+fn first_global(responses: &[Response]) -> Option<usize>
+    ensures { result ≡ position is_global responses.now }
+{
+    responses
+        .iter()
+        .position(|response| class_of(response) == 6)
+}
+
+fn first_lowest(responses: &[Response]) -> Option<usize>
+    ensures { result ≡ position (is_lowest responses.now) responses.now }
+{
+    responses
+        .iter()
+        .position(|response| is_lowest(responses, response))
+}
+
+#[tactic(auto, unfolding(sc_model::specs::BestResponses::is_lowest))]
+fn is_lowest(responses: &[Response], response: &Response) -> bool
+    ensures { result ≡ is_lowest responses.now response.now }
+{
+    let class = class_of(response);
+    responses.iter().all(|other| class <= class_of(other))
+}
+
+fn class_of(response: &Response) -> u16
+    ensures { result ≡ class_of response.now }
+{
+    response.code / 100
+}
