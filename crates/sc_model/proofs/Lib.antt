@@ -1,1 +1,3 @@
 mod Cases
+pub mod DueLaws
+pub mod RisingKeys

@@ -10,4 +10,5 @@ pub mod Routing
 pub mod Scripts
 pub mod SessionStates
 pub mod Settings
+pub mod Timers
 pub mod Turns
