@@ -1,3 +1,4 @@
 mod Cases
 pub mod DueLaws
+pub mod Names
 pub mod RisingKeys
