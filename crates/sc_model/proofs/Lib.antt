@@ -1,4 +1,6 @@
 mod Cases
+mod DueCases
 pub mod DueLaws
+mod NameCases
 pub mod Names
 pub mod RisingKeys

@@ -6,7 +6,6 @@ ghost use Rattle.sc_model.specs.Names.{IsOf64, tag_text, branch_text, call_id_te
 /// Two equal names of one kind, drawn with one salt, are made of the same epoch, session and
 /// number, and the tag of an answer that no session gives is the tag of no session. The contract is
 /// the law, and the call does nothing.
-#[tactic(auto, using(sc_model::proofs::Names::branch_same, sc_model::proofs::Names::tag_same, sc_model::proofs::Names::call_id_same, sc_model::proofs::Names::ap_same, sc_model::proofs::Names::edge_apart, crate::proofs::OwnUriLaws::session_uri_same))]
 pub fn names_are_apart()
     ensures branches { (salt : Bytes) (e f : ℕ) (a b : AppId) (k m : ℕ) → IsOf64 e a k → IsOf64 f b m → branch_text salt e a k ≡ branch_text salt f b m → (e ≡ f) × (a ≡ b) × (k ≡ m) }
     ensures tags { (salt : Bytes) (e f : ℕ) (a b : AppId) (k m : ℕ) → IsOf64 e a k → IsOf64 f b m → tag_text salt e a k ≡ tag_text salt f b m → (e ≡ f) × (a ≡ b) × (k ≡ m) }
