@@ -2,6 +2,11 @@ pub mod BestFacts
 mod Cases
 mod ClientTables
 pub mod ClientTransactions
+mod DueCases
+pub mod DueLaws
+mod NameCases
+pub mod Names
+pub mod RisingKeys
 pub mod ServerTables
 pub mod ServerTransactionFacts
 pub mod ServerTransactions

@@ -12,6 +12,7 @@ pub mod Scripts
 pub mod ServerTransactions
 pub mod SessionStates
 pub mod Settings
+pub mod Timers
 pub mod TransactionTables
 pub mod Transactions
 pub mod Turns

@@ -1,0 +1,57 @@
+ghost use Rattle.std.proofs.Common.{rules};
+ghost use Rattle.std.specs.Cmp.{partial_order_from_own_ties};
+ghost use Rattle.std.specs.Cmp.Rules.{comparing};
+ghost use Rattle.std.specs.Ordering.{as_partial_cmp};
+ghost use Rattle.sc_model.specs.Timers.{due_order};
+
+use sc_value::AppId;
+use std::cmp::Ordering;
+use std::marker::Model;
+
+/// What an entry is known by: its due moment in milliseconds, the application session that it
+/// belongs to, and its number there, whose meaning is the caller's. Keys are ordered by the moment,
+/// then by the session's host and serial, then by the number.
+#[derive(Clone, Copy, Debug, PartialEq, Eq)]
+pub struct DueKey {
+    pub due: u64,
+    pub app: AppId,
+    pub number: u64,
+}
+
+impl Model for DueKey {
+    ghost use Rattle.sc_model.specs.Timers.{DueEntry};
+
+    ghost Value = { DueEntry };
+
+    ghost view = { λ k. record { due = k.due; app = k.app; number = k.number } };
+
+    ghost inverse = { λ e. record { due = e.due; app = e.app; number = e.number } };
+}
+
+impl Ord for DueKey {
+    ghost cmp = { due_order };
+
+    ghost total = { Prim.search (comparing, rules) depth 9 };
+
+    ghost matches_partial_cmp = { Prim.search (comparing, rules) };
+
+    ghost matches_eq = { Prim.search (comparing, rules) depth 9 };
+
+    fn cmp(&self, other: &DueKey) -> Ordering {
+        self.due
+            .cmp(&other.due)
+            .then(self.app.host.cmp(&other.app.host))
+            .then(self.app.serial.cmp(&other.app.serial))
+            .then(self.number.cmp(&other.number))
+    }
+}
+
+impl PartialOrd for DueKey {
+    ghost partial_cmp = { as_partial_cmp due_order };
+
+    ghost laws = { partial_order_from_own_ties (Prim.search (comparing, rules) depth 9) (Prim.search (comparing, rules) depth 9) };
+
+    fn partial_cmp(&self, other: &DueKey) -> Option<Ordering> {
+        Some(self.cmp(other))
+    }
+}

@@ -1,0 +1,10 @@
+//! Entries that become due at a moment, taken in the order of time.
+#![tactic(auto)]
+
+mod due;
+mod key;
+#[cfg(test)]
+mod tests;
+
+pub use due::Due;
+pub use key::DueKey;

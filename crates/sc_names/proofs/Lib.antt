@@ -1,0 +1,2 @@
+mod OwnUriLaws
+mod ReadingLaws

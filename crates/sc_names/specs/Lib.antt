@@ -1,0 +1,2 @@
+pub mod OwnUris
+pub mod Reading

@@ -1,0 +1,13 @@
+//! The names that the container draws (RFC 3261 sections 8.1.1.4, 8.1.1.7 and 19.3), with their
+//! readers.
+#![tactic(auto)]
+
+mod laws;
+mod reading;
+#[cfg(test)]
+mod tests;
+mod writing;
+
+pub use laws::names_are_apart;
+pub use reading::{read_ap, read_ar, read_branch};
+pub use writing::{ap_uri, ar_uri, branch, call_id, edge_tag, tag};
