@@ -1,4 +1,6 @@
 pub mod Charters
+pub mod DialogRequests
+pub mod Dialogs
 pub mod FixedSettings
 pub mod Histories
 pub mod Hosts
