@@ -38,6 +38,12 @@ impl Model for Dialog {
     ghost view = { λ d. record { call_id = d.call_id; local = d.local; remote = d.remote; route_set = d.route_set; target = d.target; sent = d.sent; received = d.received; begun_by = d.begun_by } };
 }
 
+impl Discard for Dialog {
+    fn discard(self) {
+        drop(self);
+    }
+}
+
 impl Dialog {
     /// The dialog of the called side: the peer's request, on which the own side puts this tag, begins
     /// it (RFC 3261 section 12.1.1). The tag is to be a token.
@@ -201,10 +207,12 @@ impl Dialog {
     }
 
     /// The ACK to a 2xx, which takes the number of its INVITE (RFC 3261 section 13.2.2.4). It has no
-    /// Via and no Contact, and the dialog stays as it is.
+    /// Via and no Contact. The dialog stays as it is.
+    #[tactic(auto, using(sc_model::proofs::DialogLaws::follows_ack))]
     pub fn ack(&self, alloc: Global, number: u32, body: &Text) -> Result<Request, NoMemory>
         requires { number ≤ 2147483647 }
-        ensures { IfOk result (λ r. r ≡ ack_request self.now number body.now) }
+        ensures made { IfOk result (λ r. r ≡ ack_request self.now number body.now) }
+        ensures stays { number ≤ self.now.sent → Follows self.now (Passed.By_self (Message.Request (ack_request self.now number body.now))) self.now }
     {
         ack_request(alloc, self, number, body)
     }

@@ -16,3 +16,6 @@ pub use dialog::Dialog;
 pub use refused::DialogRefused;
 pub use requests::is_askable;
 pub use sc_terms::Inside;
+
+#[cfg(test)]
+mod tests;

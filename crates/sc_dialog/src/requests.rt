@@ -10,7 +10,8 @@ ghost use Rattle.sc_model.specs.Turns.{ack, is_bad_field};
 use crate::Dialog;
 use sc_terms::Inside;
 use sc_value::{
-    CSeq, CloneIn, Field, Head, List, NoMemory, Request, Text, is_system_name, is_token, is_value, long_name,
+    CSeq, CloneIn, Field, Head, List, NoMemory, Request, Text, is_system_name, is_token, is_value,
+    long_name,
 };
 use std::alloc::Global;
 
@@ -54,7 +55,14 @@ pub fn next_request(alloc: Global, dialog: &Dialog, ask: &Inside) -> Result<Requ
 {
     let fields = kept_fields(alloc, ask.fields.as_slice())?;
     let number = dialog.last_sent() + 1;
-    later_request(alloc, dialog, number, ask.method.as_bytes(), fields, &ask.body)
+    later_request(
+        alloc,
+        dialog,
+        number,
+        ask.method.as_bytes(),
+        fields,
+        &ask.body,
+    )
 }
 
 /// The ACK to a 2xx, with this sequence number (RFC 3261 section 13.2.2.4).

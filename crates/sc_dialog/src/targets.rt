@@ -38,10 +38,10 @@ pub fn response_target<'a>(begun: &Option<CSeq>, response: &'a Response) -> Opti
 fn may_set_target(begun: &Option<CSeq>, response: &Response) -> bool
     ensures { result ≡ may_set_target begun.now response.now }
 {
-    (199 < response.code && response.code < 300 && sets_target(response.head.cseq.method.as_bytes()))
-        || (100 < response.code
-            && response.code < 200
-            && answers_first(begun, &response.head.cseq))
+    (199 < response.code
+        && response.code < 300
+        && sets_target(response.head.cseq.method.as_bytes()))
+        || (100 < response.code && response.code < 200 && answers_first(begun, &response.head.cseq))
 }
 
 #[tactic(auto, unfolding(sc_model::specs::Dialogs::answers_first))]

@@ -1,8 +1,8 @@
 -- What a further message makes of the state of a dialog: the new state, computed from the old one alone,
 -- is that of the list with the message as its newest.
-use Rattle.std.proofs.Common.{◌≡◌, ℕ, ◌+◌, ◌≤◌, Option, None, Some, List, [], ◌∷◌, ◌++◌, refl, ap, sym, ◌∙◌, arith, unwrap_or, slice_get, max, reverse}
+use Rattle.std.proofs.Common.{◌≡◌, ℕ, ◌+◌, ◌≤◌, Option, None, Some, List, [], ◌∷◌, refl, ap, sym, ◌∙◌, arith, unwrap_or, slice_get, max, reverse}
 use Rattle.std.proofs.Math.Nat.{max-zero}
-use Rattle.std.specs.List.{filter_map, cons_option}
+use Rattle.std.specs.List.{cons_option}
 use Rattle.sc_value.specs.declared.parts.Uri.{Uri}
 use Rattle.sc_value.specs.declared.message.Request.{Request}
 use Rattle.sc_value.specs.declared.message.Response.{Response}
@@ -55,7 +55,7 @@ unfolding Follows
 follows_request old new request le is beginning later stands =
     let number = request.head.cseq.number in
     let same : new ≡ record old { target = unwrap_or (request_target request) old.target; received = max number old.received } =
-        is ∙ ap (λ n. record old { target = unwrap_or (request_target request) old.target; received = n }) (sym (greater number old.received le)) in
+    is ∙ ap (λ n. record old { target = unwrap_or (request_target request) old.target; received = n }) (sym (greater number old.received le)) in
     same ∙ (ap (λ (d : DialogState). record d { target = unwrap_or (request_target request) d.target; received = max number d.received }) stands ∙ sym (request_passed beginning later request))
 
 -- a response of the peer
@@ -72,7 +72,7 @@ pub follows_sent : (old new : DialogState) (request : Request) → request.head.
 unfolding Follows
 follows_sent old new request number is beginning later stands =
     let same : new ≡ record old { sent = max request.head.cseq.number old.sent } =
-        is ∙ ap (λ n. record old { sent = n }) (omega (arith, number)) in
+    is ∙ ap (λ n. record old { sent = n }) (omega (arith, number)) in
     same ∙ (ap (λ (d : DialogState). record d { sent = max request.head.cseq.number d.sent }) stands ∙ sym (sent_passed beginning later request))
 
 -- the next request of the dialog, as it is sent

@@ -4,10 +4,8 @@ use Rattle.std.specs.List.{filter_map, cons_option}
 use Rattle.std.specs.Option.{option_or}
 use Rattle.std.proofs.lemmas.List.{reverse-append, take_more}
 use Rattle.std.proofs.lemmas.List.Elements.{filter_map-append}
-use Rattle.sc_value.specs.declared.parts.Address.{Address}
 use Rattle.sc_value.specs.declared.parts.Uri.{Uri}
 use Rattle.sc_value.specs.declared.parts.Contact.{Contact}
-use Rattle.sc_value.specs.declared.parts.Contact.TheVariants.{Star, At}
 use Rattle.sc_model.specs.Dialogs.{contact_uri, last_uri}
 
 pub last_uri_none : last_uri [] ≡ None

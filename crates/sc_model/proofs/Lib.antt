@@ -1,3 +1,5 @@
 mod Cases
+mod DialogCases
 pub mod DialogLaws
 pub mod DialogTargets
+pub mod GeneratedLaws

@@ -1,27 +1,21 @@
 -- Dialogs (RFC 3261 section 12): the state of a dialog, read from the list of its messages, and the
 -- requests that are made in it. A Route is always taken as loose (RFC 3261 section 16.12).
-use Rattle.std.specs.Prelude.{◌≡◌, ℕ, ◌+◌, ◌==◌, List, [], ◌∷◌, ◌++◌, Bool, false, not, ◌||◌, ◌&&◌, Option, None, Some, unwrap_or, nat_lt, if◌then◌else◌, codes, map, max, reverse}
-use Rattle.std.specs.List.{filter_map, list_any, slice_get}
+use Rattle.std.specs.Prelude.{◌≡◌, ℕ, ◌==◌, List, [], ◌∷◌, ◌++◌, Bool, false, ◌||◌, ◌&&◌, Option, None, Some, unwrap_or, nat_lt, if◌then◌else◌, codes, max, reverse}
+use Rattle.std.specs.List.{filter_map, slice_get}
 use Rattle.sc_value.specs.declared.parts.Uri.{Uri}
 use Rattle.sc_value.specs.declared.parts.Address.{Address}
 use Rattle.sc_value.specs.declared.parts.Contact.{Contact}
 use Rattle.sc_value.specs.declared.parts.Contact.TheVariants.{Star, At}
 use Rattle.sc_value.specs.declared.parts.CSeq.{CSeq}
-use Rattle.sc_value.specs.declared.parts.Field.{Field}
 use Rattle.sc_value.specs.declared.parts.Param.{Param}
-use Rattle.sc_value.specs.declared.message.Head.{Head}
 use Rattle.sc_value.specs.declared.message.Request.{Request}
 use Rattle.sc_value.specs.declared.message.Response.{Response}
 use Rattle.sc_value.specs.declared.message.Message.{Message}
 use Rattle.sc_value.specs.declared.message.Message.TheVariants as messages
-use Rattle.sc_value.specs.HeaderNames.{is_system_name}
 use Rattle.sc_value.specs.Params.{same_bytes, param_value, tag_name}
-use Rattle.sc_value.specs.Tokens.{is_token}
-use Rattle.sc_terms.specs.declared.inside.Inside.{Inside}
 use Rattle.sc_grammar.specs.Written.{Bytes}
-use Rattle.sc_model.specs.Responses.{tag_param, kept_field}
+use Rattle.sc_model.specs.Responses.{tag_param}
 use Rattle.sc_model.specs.SessionStates.{invite}
-use Rattle.sc_model.specs.Turns.{ack, is_bad_field}
 
 -- ## The messages of a dialog
 
@@ -179,6 +173,7 @@ pub record DialogState : Type 0 where
   -- the greatest numbers of the requests that were sent and received, 0 where there was none
   pub sent : ℕ
   pub received : ℕ
+  -- of the own request that began it: by it the responses to that request are known
   pub begun_by : Option CSeq
 
 -- the state of a dialog that began so, after these later messages, the newest first

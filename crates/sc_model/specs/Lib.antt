@@ -2,6 +2,7 @@ pub mod Charters
 pub mod DialogRequests
 pub mod Dialogs
 pub mod FixedSettings
+pub mod Generated
 pub mod Histories
 pub mod Hosts
 pub mod Journals
