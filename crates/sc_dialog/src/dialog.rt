@@ -1,8 +1,8 @@
-ghost use Rattle.std.specs.Prelude.{◌≡◌, ◌+◌, ◌<◌, ◌≤◌, ◌⊎◌, ◌↔◌, [], IsTrue, IfOk, IfErr, OnOk, OnErr, IsErrOf, Some, unwrap_or};
+ghost use Rattle.std.specs.Prelude.{◌≡◌, ◌<◌, ◌≤◌, ◌↔◌, [], IsTrue, IfOk, IfErr, OnOk, OnErr, IsErrOf, Some, unwrap_or};
 ghost use Rattle.std.specs.Option.{option_copied};
 ghost use Rattle.sc_value.specs.Tokens.{is_token};
 ghost use Rattle.sc_value.specs.declared.message.Message.{Message};
-ghost use Rattle.sc_model.specs.Dialogs.{Beginning, Passed, DialogState, dialog_of, Follows, request_target, response_target, local_of, remote_of, route_set_of};
+ghost use Rattle.sc_model.specs.Dialogs.{Beginning, Passed, dialog_of, Follows, request_target, response_target};
 ghost use Rattle.sc_model.specs.DialogRequests.{is_askable, next_request, ack_request};
 
 use crate::DialogRefused;

@@ -2,10 +2,8 @@
 
 ghost use Rattle.std.specs.Prelude.{◌≡◌, ◌<◌, IfOk, map};
 ghost use Rattle.std.specs.List.{list_all};
-ghost use Rattle.sc_value.specs.Params.{same_bytes};
-ghost use Rattle.sc_model.specs.DialogRequests.{later_request, later_head, next_request, ack_request, cancel, is_asked_method, is_asked_field, is_askable};
+ghost use Rattle.sc_model.specs.DialogRequests.{later_request, later_head, next_request, ack_request, is_asked_method, is_asked_field, is_askable};
 ghost use Rattle.sc_model.specs.Responses.{kept_field};
-ghost use Rattle.sc_model.specs.Turns.{ack, is_bad_field};
 
 use crate::Dialog;
 use sc_terms::Inside;

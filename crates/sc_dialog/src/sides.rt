@@ -1,8 +1,7 @@
 //! The two sides of a dialog, as later requests write them (RFC 3261 section 12.2.1.1).
 
 ghost use Rattle.std.specs.Prelude.{◌≡◌, [], ◌∷◌, None, Some, IfOk};
-ghost use Rattle.sc_value.specs.Params.{tag_name};
-ghost use Rattle.sc_model.specs.Dialogs.{bare, tag_of, tag_params};
+ghost use Rattle.sc_model.specs.Dialogs.{bare, tag_of};
 ghost use Rattle.sc_model.specs.Responses.{tag_param};
 
 use sc_value::{Address, CloneIn, List, NoMemory, Param, Text, Uri, tag};

@@ -1,13 +1,10 @@
 //! The remote target: which Contact of the peer gives it (RFC 3261 sections 12.1 and 12.2).
 
-ghost use Rattle.std.specs.Prelude.{◌≡◌, Option};
+ghost use Rattle.std.specs.Prelude.{◌≡◌};
 ghost use Rattle.std.specs.Option.{option_copied, option_or};
-ghost use Rattle.sc_value.specs.declared.parts.CSeq.{CSeq};
-ghost use Rattle.sc_model.specs.Dialogs.{sets_target, update, subscribe, notify, refer, contact_uri, last_uri, request_target, answers_first, may_set_target, response_target};
-ghost use Rattle.sc_model.specs.SessionStates.{invite};
-ghost use Rattle.sc_value.specs.Params.{same_bytes};
+ghost use Rattle.sc_model.specs.Dialogs.{sets_target, contact_uri, last_uri, request_target, answers_first, may_set_target, response_target};
 
-use sc_value::{CSeq, Contact, Request, Response, Same, Uri};
+use sc_value::{CSeq, Contact, Request, Response, Uri};
 
 /// The target that a request of the peer gives.
 #[tactic(auto, unfolding(sc_model::specs::Dialogs::request_target))]

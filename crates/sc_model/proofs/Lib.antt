@@ -2,4 +2,5 @@ mod Cases
 mod DialogCases
 pub mod DialogLaws
 pub mod DialogTargets
+mod GeneratedCases
 pub mod GeneratedLaws

@@ -1,5 +1,5 @@
--- Dialogs (RFC 3261 section 12): the state of a dialog, read from the list of its messages, and the
--- requests that are made in it. A Route is always taken as loose (RFC 3261 section 16.12).
+-- The state of a dialog, read from the list of its messages (RFC 3261 section 12). A Route is always taken
+-- as loose (RFC 3261 section 16.12).
 use Rattle.std.specs.Prelude.{◌≡◌, ℕ, ◌==◌, List, [], ◌∷◌, ◌++◌, Bool, false, ◌||◌, ◌&&◌, Option, None, Some, unwrap_or, nat_lt, if◌then◌else◌, codes, max, reverse}
 use Rattle.std.specs.List.{filter_map, slice_get}
 use Rattle.sc_value.specs.declared.parts.Uri.{Uri}
