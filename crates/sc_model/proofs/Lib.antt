@@ -2,8 +2,13 @@ pub mod BestFacts
 mod Cases
 mod ClientTables
 pub mod ClientTransactions
+mod DialogCases
+pub mod DialogLaws
+pub mod DialogTargets
 mod DueCases
 pub mod DueLaws
+mod GeneratedCases
+pub mod GeneratedLaws
 mod NameCases
 pub mod Names
 pub mod RisingKeys

@@ -1,6 +1,9 @@
 pub mod BestResponses
 pub mod Charters
+pub mod DialogRequests
+pub mod Dialogs
 pub mod FixedSettings
+pub mod Generated
 pub mod Histories
 pub mod Hosts
 pub mod Journals

@@ -1,0 +1,158 @@
+//! The requests that are made in a dialog (RFC 3261 section 12.2.1.1).
+
+ghost use Rattle.std.specs.Prelude.{◌≡◌, ◌<◌, IfOk, map};
+ghost use Rattle.std.specs.List.{list_all};
+ghost use Rattle.sc_model.specs.DialogRequests.{later_request, later_head, next_request, ack_request, is_asked_method, is_asked_field, is_askable};
+ghost use Rattle.sc_model.specs.Responses.{kept_field};
+
+use crate::Dialog;
+use sc_terms::Inside;
+use sc_value::{
+    CSeq, CloneIn, Field, Head, List, NoMemory, Request, Text, is_system_name, is_token, is_value,
+    long_name,
+};
+use std::alloc::Global;
+
+/// Whether an application may ask for this in a dialog: its method is a token other than ACK and
+/// CANCEL, and each field's name is a token and no header that the container sets itself, and each
+/// value a header value.
+#[tactic(auto, unfolding(sc_model::specs::DialogRequests::is_askable))]
+pub fn is_askable(ask: &Inside) -> bool
+    ensures { result ≡ is_askable ask.now }
+{
+    is_asked_method(ask.method.as_bytes()) && are_asked_fields(ask.fields.as_slice())
+}
+
+#[tactic(auto, unfolding(sc_model::specs::DialogRequests::is_asked_method, sc_model::specs::DialogRequests::cancel, sc_model::specs::Turns::ack))]
+fn is_asked_method(method: &[u8]) -> bool
+    ensures { result ≡ is_asked_method method.now }
+{
+    is_token(method) && method != b"ACK".as_slice() && method != b"CANCEL".as_slice()
+}
+
+fn are_asked_fields(fields: &[Field]) -> bool
+    ensures { result ≡ list_all is_asked_field fields.now }
+{
+    fields.iter().all(|field| is_asked_field(field))
+}
+
+#[tactic(auto, unfolding(sc_model::specs::DialogRequests::is_asked_field, sc_model::specs::Turns::is_bad_field))]
+fn is_asked_field(field: &Field) -> bool
+    ensures { result ≡ is_asked_field field.now }
+{
+    !is_system_name(field.name.as_bytes())
+        && is_token(field.name.as_bytes())
+        && is_value(field.value.as_bytes())
+}
+
+/// The next request of the dialog (RFC 3261 section 12.2.1.1).
+#[tactic(auto, unfolding(sc_model::specs::DialogRequests::next_request))]
+pub fn next_request(alloc: Global, dialog: &Dialog, ask: &Inside) -> Result<Request, NoMemory>
+    requires { dialog.now.sent < 2147483647 }
+    ensures { IfOk result (λ r. r ≡ next_request dialog.now ask.now) }
+{
+    let fields = kept_fields(alloc, ask.fields.as_slice())?;
+    let number = dialog.last_sent() + 1;
+    later_request(
+        alloc,
+        dialog,
+        number,
+        ask.method.as_bytes(),
+        fields,
+        &ask.body,
+    )
+}
+
+/// The ACK to a 2xx, with this sequence number (RFC 3261 section 13.2.2.4).
+#[tactic(auto, unfolding(sc_model::specs::DialogRequests::ack_request, sc_model::specs::Turns::ack))]
+pub fn ack_request(
+    alloc: Global,
+    dialog: &Dialog,
+    number: u32,
+    body: &Text,
+) -> Result<Request, NoMemory>
+    ensures { IfOk result (λ r. r ≡ ack_request dialog.now number body.now) }
+{
+    later_request(alloc, dialog, number, b"ACK", List::new(alloc), body)
+}
+
+/// A request in the dialog: it goes to the target by the route set.
+#[tactic(auto, unfolding(sc_model::specs::DialogRequests::later_request))]
+fn later_request(
+    alloc: Global,
+    dialog: &Dialog,
+    number: u32,
+    method: &[u8],
+    fields: List<Field>,
+    body: &Text,
+) -> Result<Request, NoMemory>
+    ensures { IfOk result (λ r. r ≡ later_request dialog.now number method.now fields body.now) }
+{
+    let head = later_head(alloc, dialog, number, method, fields, body)?;
+    let uri = dialog.target().clone_in(alloc)?;
+    let method = Text::from_slice(alloc, method)?;
+    Ok(Request {
+        method,
+        uri,
+        hops: 70,
+        head,
+    })
+}
+
+#[tactic(auto, unfolding(sc_model::specs::DialogRequests::later_head))]
+fn later_head(
+    alloc: Global,
+    dialog: &Dialog,
+    number: u32,
+    method: &[u8],
+    fields: List<Field>,
+    body: &Text,
+) -> Result<Head, NoMemory>
+    ensures { IfOk result (λ h. h ≡ later_head dialog.now number method.now fields body.now) }
+{
+    let cseq = cseq(alloc, number, method)?;
+    let call_id = dialog.call_id().clone_in(alloc)?;
+    let body = body.clone_in(alloc)?;
+    let from = dialog.local().clone_in(alloc)?;
+    let to = dialog.remote().clone_in(alloc)?;
+    let route = dialog.route_set().clone_in(alloc)?;
+    Ok(Head {
+        via: List::new(alloc),
+        route,
+        record_route: List::new(alloc),
+        from,
+        to,
+        call_id,
+        cseq,
+        contact: List::new(alloc),
+        others: fields,
+        body,
+    })
+}
+
+fn cseq(alloc: Global, number: u32, method: &[u8]) -> Result<CSeq, NoMemory>
+    ensures { IfOk result (λ c. c ≡ record { number = number; method = method.now }) }
+{
+    let method = Text::from_slice(alloc, method)?;
+    Ok(CSeq { number, method })
+}
+
+/// The fields, each compact name as its long one.
+pub fn kept_fields(alloc: Global, fields: &[Field]) -> Result<List<Field>, NoMemory>
+    ensures { IfOk result (λ l. l ≡ map kept_field fields.now) }
+{
+    let mut kept = List::new(alloc);
+    for field in fields {
+        kept.push(kept_field(alloc, field)?)?;
+    }
+    Ok(kept)
+}
+
+#[tactic(auto, unfolding(sc_model::specs::Responses::kept_field))]
+fn kept_field(alloc: Global, field: &Field) -> Result<Field, NoMemory>
+    ensures { IfOk result (λ f. f ≡ kept_field field.now) }
+{
+    let name = Text::from_slice(alloc, long_name(field.name.as_bytes()))?;
+    let value = field.value.clone_in(alloc)?;
+    Ok(Field { name, value })
+}

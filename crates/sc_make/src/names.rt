@@ -1,0 +1,132 @@
+//! The names and URIs in the script's messages.
+
+ghost use Rattle.std.specs.Prelude.{◌≡◌, ◌++◌, ◌∷◌, [], None, Some, IfOk, OnOk, decimal};
+ghost use Rattle.sc_value.specs.declared.parts.Uri.{Uri};
+ghost use Rattle.sc_model.specs.Generated.{local, caller, valued, session_text, user_uri, transport_param, lr_param, session_param, session_uri, mark, answer_tag, cookie, branch_of, call_of};
+
+use sc_value::{List, NoMemory, Param, SipUri, Text, Uri, write_u64};
+use std::alloc::Global;
+
+/// `name=value`.
+#[tactic(auto, unfolding(sc_model::specs::Generated::valued))]
+pub fn valued(alloc: Global, name: &[u8], value: Text) -> Result<Param, NoMemory>
+    ensures { IfOk result (λ p. p ≡ valued name.now value) }
+{
+    let name = Text::from_slice(alloc, name)?;
+    Ok(Param {
+        name,
+        value: Some(value),
+    })
+}
+
+/// `sip:user@host:port`.
+#[tactic(auto, unfolding(sc_model::specs::Generated::user_uri))]
+pub fn user_uri(alloc: Global, user: &[u8], host: &[u8], port: Option<u16>) -> Result<Uri, NoMemory>
+    ensures { IfOk result (λ u. u ≡ user_uri user.now host.now port) }
+{
+    let user = Text::from_slice(alloc, user)?;
+    let host = Text::from_slice(alloc, host)?;
+    Ok(Uri::Sip(SipUri {
+        user: Some(user),
+        host,
+        port,
+        params: List::new(alloc),
+        headers: None,
+    }))
+}
+
+/// `sip:127.0.0.1:5060;transport=tcp;lr;ap=h-i`.
+#[tactic(auto, unfolding(sc_model::specs::Generated::session_uri, sc_model::specs::Generated::local))]
+pub fn session_uri(alloc: Global, host: u64, i: u64) -> Result<Uri, NoMemory>
+    ensures { IfOk result (λ u. u ≡ session_uri host i) }
+{
+    let params = session_params(alloc, host, i)?;
+    let host = Text::from_slice(alloc, b"127.0.0.1")?;
+    Ok(Uri::Sip(SipUri {
+        user: None,
+        host,
+        port: Some(5060),
+        params,
+        headers: None,
+    }))
+}
+
+fn session_params(alloc: Global, host: u64, i: u64) -> Result<List<Param>, NoMemory>
+    ensures { IfOk result (λ l. l ≡ transport_param ∷ lr_param ∷ session_param host i ∷ []) }
+{
+    let transport = transport_param(alloc)?;
+    let lr = lr_param(alloc)?;
+    let session = session_param(alloc, host, i)?;
+    let mut params = List::new(alloc);
+    params.push(transport)?;
+    params.push(lr)?;
+    params.push(session)?;
+    Ok(params)
+}
+
+#[tactic(auto, unfolding(sc_model::specs::Generated::transport_param))]
+fn transport_param(alloc: Global) -> Result<Param, NoMemory>
+    ensures { IfOk result (λ p. p ≡ transport_param) }
+{
+    let value = Text::from_slice(alloc, b"tcp")?;
+    valued(alloc, b"transport", value)
+}
+
+#[tactic(auto, unfolding(sc_model::specs::Generated::lr_param))]
+fn lr_param(alloc: Global) -> Result<Param, NoMemory>
+    ensures { IfOk result (λ p. p ≡ lr_param) }
+{
+    let name = Text::from_slice(alloc, b"lr")?;
+    Ok(Param { name, value: None })
+}
+
+#[tactic(auto, unfolding(sc_model::specs::Generated::session_param))]
+fn session_param(alloc: Global, host: u64, i: u64) -> Result<Param, NoMemory>
+    ensures { IfOk result (λ p. p ≡ session_param host i) }
+{
+    let value = session_text(alloc, host, i)?;
+    valued(alloc, b"ap", value)
+}
+
+#[tactic(auto, unfolding(sc_model::specs::Generated::session_text))]
+fn session_text(alloc: Global, host: u64, i: u64) -> Result<Text, NoMemory>
+    ensures { IfOk result (λ t. t ≡ session_text host i) }
+{
+    let mut text = Text::new(alloc);
+    write_u64(host, &mut text)?;
+    text.append(b"-")?;
+    write_u64(i, &mut text)?;
+    Ok(text)
+}
+
+/// `s1-1-i-1`.
+#[tactic(auto, unfolding(sc_model::specs::Generated::answer_tag, sc_model::specs::Generated::mark))]
+pub fn answer_tag(alloc: Global, i: u64) -> Result<Text, NoMemory>
+    ensures { IfOk result (λ t. t ≡ answer_tag i) }
+{
+    let mut text = Text::from_slice(alloc, b"s1-1-")?;
+    write_u64(i, &mut text)?;
+    text.append(b"-1")?;
+    Ok(text)
+}
+
+/// `z9hG4bKm` and i, and the letter.
+#[tactic(auto, unfolding(sc_model::specs::Generated::branch_of, sc_model::specs::Generated::cookie))]
+pub fn branch_of(alloc: Global, i: u64, letter: &[u8]) -> Result<Text, NoMemory>
+    ensures { IfOk result (λ t. t ≡ branch_of i letter.now) }
+{
+    let mut text = Text::from_slice(alloc, b"z9hG4bKm")?;
+    write_u64(i, &mut text)?;
+    text.append(letter)?;
+    Ok(text)
+}
+
+/// `m` and i.
+#[tactic(auto, unfolding(sc_model::specs::Generated::call_of, sc_model::specs::Generated::caller))]
+pub fn call_of(alloc: Global, i: u64) -> Result<Text, NoMemory>
+    ensures { IfOk result (λ t. t ≡ call_of i) }
+{
+    let mut text = Text::from_slice(alloc, b"m")?;
+    write_u64(i, &mut text)?;
+    Ok(text)
+}
