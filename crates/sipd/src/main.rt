@@ -3,7 +3,6 @@
 
 mod endings;
 mod help;
-
 #[cfg(test)]
 mod tests;
 

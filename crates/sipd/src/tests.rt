@@ -9,9 +9,11 @@ use sc_value::{List, NoMemory, Text};
 use std::alloc::Global;
 use std::test::Fail;
 
-const REQUEST: &[u8] = b"OPTIONS sip:alice@home.test SIP/2.0\r\nVia: SIP/2.0/TCP 127.0.0.1:5090;branch=z9hG4bKa1\r\nMax-Forwards: 70\r\nFrom: <sip:bob@home.test>;tag=b1\r\nTo: <sip:alice@home.test>\r\nCall-ID: c1\r\nCSeq: 1 OPTIONS\r\nContent-Length: 0\r\n\r\n";
+const REQUEST: &[u8] =
+    b"OPTIONS sip:alice@home.test SIP/2.0\r\nVia: SIP/2.0/TCP 127.0.0.1:5090;branch=z9hG4bKa1\r\nMax-Forwards: 70\r\nFrom: <sip:bob@home.test>;tag=b1\r\nTo: <sip:alice@home.test>\r\nCall-ID: c1\r\nCSeq: 1 OPTIONS\r\nContent-Length: 0\r\n\r\n";
 
-const OUTPUT: &[u8] = b"out c1 191\nSIP/2.0 200 OK\r\nVia: SIP/2.0/TCP 127.0.0.1:5090;branch=z9hG4bKa1\r\nFrom: <sip:bob@home.test>;tag=b1\r\nTo: <sip:alice@home.test>;tag=s1-0-1-1\r\nCall-ID: c1\r\nCSeq: 1 OPTIONS\r\nContent-Length: 0\r\n\r\n\nend 3 1 0\n";
+const OUTPUT: &[u8] =
+    b"out c1 191\nSIP/2.0 200 OK\r\nVia: SIP/2.0/TCP 127.0.0.1:5090;branch=z9hG4bKa1\r\nFrom: <sip:bob@home.test>;tag=b1\r\nTo: <sip:alice@home.test>;tag=s1-0-1-1\r\nCall-ID: c1\r\nCSeq: 1 OPTIONS\r\nContent-Length: 0\r\n\r\n\nend 3 1 0\n";
 
 /// The script of the one request.
 fn script(alloc: Global) -> Result<Text, NoMemory> {
