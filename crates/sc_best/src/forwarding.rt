@@ -150,16 +150,7 @@ fn forwarded_others(
 fn head_with(alloc: Global, head: &Head, others: List<Field>) -> Result<Head, NoMemory>
     ensures { IfOk result (λ copy. copy ≡ record head.now { others = others }) }
 {
-    Ok(Head {
-        via: head.via.clone_in(alloc)?,
-        route: head.route.clone_in(alloc)?,
-        record_route: head.record_route.clone_in(alloc)?,
-        from: head.from.clone_in(alloc)?,
-        to: head.to.clone_in(alloc)?,
-        call_id: head.call_id.clone_in(alloc)?,
-        cseq: head.cseq.clone_in(alloc)?,
-        contact: head.contact.clone_in(alloc)?,
-        others,
-        body: head.body.clone_in(alloc)?,
-    })
+    let mut copy = head.clone_in(alloc)?;
+    copy.others = others;
+    Ok(copy)
 }
