@@ -6,7 +6,8 @@ ghost use Rattle.sc_model.specs.Responses.{tag_param, with_tag, kept_field, resp
 
 use sc_terms::Answer;
 use sc_value::{
-    Address, CloneIn, Field, Head, List, NoMemory, Param, Request, Response, Text, long_name, tag,
+    Address, CSeq, CloneIn, Contact, Field, Head, List, NoMemory, Param, Request, Response, Text,
+    Via, long_name, tag,
 };
 use std::alloc::Global;
 
@@ -29,6 +30,23 @@ pub fn response_to(
     })
 }
 
+/// What a response has of the names in its request.
+#[derive(Drop)]
+struct Names {
+    from: Address,
+    to: Address,
+    call_id: Text,
+    cseq: CSeq,
+}
+
+/// What a response has of its answer.
+#[derive(Drop)]
+struct Content {
+    contact: List<Contact>,
+    others: List<Field>,
+    body: Text,
+}
+
 #[tactic(auto, unfolding(sc_model::specs::Responses::response_head))]
 fn response_head(
     alloc: Global,
@@ -38,18 +56,55 @@ fn response_head(
 ) -> Result<Head, NoMemory>
     ensures { IfOk result (λ h. h ≡ response_head own_tag.now request.now answer.now) }
 {
-    Ok(Head {
-        via: request.head.via.clone_in(alloc)?,
+    let via = request.head.via.clone_in(alloc)?;
+    let content = content_of(alloc, answer)?;
+    let names = names_of(alloc, own_tag, &request.head)?;
+    Ok(head_of(alloc, via, names, content))
+}
+
+fn names_of(alloc: Global, own_tag: &[u8], head: &Head) -> Result<Names, NoMemory>
+    ensures { IfOk result (λ n. n ≡ record { from = head.now.from; to = with_tag own_tag.now head.now.to; call_id = head.now.call_id; cseq = head.now.cseq }) }
+{
+    let call_id = head.call_id.clone_in(alloc)?;
+    let cseq = head.cseq.clone_in(alloc)?;
+    let from = head.from.clone_in(alloc)?;
+    let to = with_tag(alloc, own_tag, &head.to)?;
+    Ok(Names {
+        from,
+        to,
+        call_id,
+        cseq,
+    })
+}
+
+fn content_of(alloc: Global, answer: &Answer) -> Result<Content, NoMemory>
+    ensures { IfOk result (λ c. c ≡ record { contact = answer.now.contact; others = map kept_field answer.now.fields; body = answer.now.body }) }
+{
+    let body = answer.body.clone_in(alloc)?;
+    let contact = answer.contact.clone_in(alloc)?;
+    let others = kept_fields(alloc, answer.fields.as_slice())?;
+    Ok(Content {
+        contact,
+        others,
+        body,
+    })
+}
+
+fn head_of(alloc: Global, via: List<Via>, names: Names, content: Content) -> Head
+    ensures { result ≡ record { via = via; route = []; record_route = []; from = names.from; to = names.to; call_id = names.call_id; cseq = names.cseq; contact = content.contact; others = content.others; body = content.body } }
+{
+    Head {
+        via,
         route: List::new(alloc),
         record_route: List::new(alloc),
-        from: request.head.from.clone_in(alloc)?,
-        to: with_tag(alloc, own_tag, &request.head.to)?,
-        call_id: request.head.call_id.clone_in(alloc)?,
-        cseq: request.head.cseq.clone_in(alloc)?,
-        contact: answer.contact.clone_in(alloc)?,
-        others: kept_fields(alloc, answer.fields.as_slice())?,
-        body: answer.body.clone_in(alloc)?,
-    })
+        from: names.from,
+        to: names.to,
+        call_id: names.call_id,
+        cseq: names.cseq,
+        contact: content.contact,
+        others: content.others,
+        body: content.body,
+    }
 }
 
 /// The address with this tag, where it has none.

@@ -1,22 +1,104 @@
 //! Copies and comparisons of messages.
 
-use crate::{CloneIn, Head, Message, NoMemory, Request, Response, Same};
+ghost use Rattle.std.specs.Prelude.{◌≡◌, IfOk};
+
+use crate::{
+    Address, CSeq, CloneIn, Contact, Field, Head, List, Message, NoMemory, Request, Response, Same,
+    Text, Via,
+};
 use std::alloc::Global;
 
+/// What routes a message.
+#[derive(Drop)]
+struct Routing {
+    via: List<Via>,
+    route: List<Address>,
+    record_route: List<Address>,
+}
+
+/// What names its transaction and its dialog.
+#[derive(Drop)]
+struct Names {
+    from: Address,
+    to: Address,
+    call_id: Text,
+    cseq: CSeq,
+}
+
+/// What else it has.
+#[derive(Drop)]
+struct Content {
+    contact: List<Contact>,
+    others: List<Field>,
+    body: Text,
+}
+
+// A head is copied in three groups: a literal of ten parts, each of which may want memory, takes
+// minutes to prove.
 impl CloneIn for Head {
     fn clone_in(&self, alloc: Global) -> Result<Head, NoMemory> {
-        Ok(Head {
-            via: self.via.clone_in(alloc)?,
-            route: self.route.clone_in(alloc)?,
-            record_route: self.record_route.clone_in(alloc)?,
-            from: self.from.clone_in(alloc)?,
-            to: self.to.clone_in(alloc)?,
-            call_id: self.call_id.clone_in(alloc)?,
-            cseq: self.cseq.clone_in(alloc)?,
-            contact: self.contact.clone_in(alloc)?,
-            others: self.others.clone_in(alloc)?,
-            body: self.body.clone_in(alloc)?,
-        })
+        let content = content_of(alloc, self)?;
+        let names = names_of(alloc, self)?;
+        let routing = routing_of(alloc, self)?;
+        Ok(head_of(routing, names, content))
+    }
+}
+
+fn routing_of(alloc: Global, head: &Head) -> Result<Routing, NoMemory>
+    ensures { IfOk result (λ r. r ≡ record { via = head.now.via; route = head.now.route; record_route = head.now.record_route }) }
+{
+    let via = head.via.clone_in(alloc)?;
+    let route = head.route.clone_in(alloc)?;
+    let record_route = head.record_route.clone_in(alloc)?;
+    Ok(Routing {
+        via,
+        route,
+        record_route,
+    })
+}
+
+fn names_of(alloc: Global, head: &Head) -> Result<Names, NoMemory>
+    ensures { IfOk result (λ n. n ≡ record { from = head.now.from; to = head.now.to; call_id = head.now.call_id; cseq = head.now.cseq }) }
+{
+    let call_id = head.call_id.clone_in(alloc)?;
+    let cseq = head.cseq.clone_in(alloc)?;
+    let from = head.from.clone_in(alloc)?;
+    let to = head.to.clone_in(alloc)?;
+    Ok(Names {
+        from,
+        to,
+        call_id,
+        cseq,
+    })
+}
+
+fn content_of(alloc: Global, head: &Head) -> Result<Content, NoMemory>
+    ensures { IfOk result (λ c. c ≡ record { contact = head.now.contact; others = head.now.others; body = head.now.body }) }
+{
+    let body = head.body.clone_in(alloc)?;
+    let contact = head.contact.clone_in(alloc)?;
+    let others = head.others.clone_in(alloc)?;
+    Ok(Content {
+        contact,
+        others,
+        body,
+    })
+}
+
+fn head_of(routing: Routing, names: Names, content: Content) -> Head
+    ensures { result ≡ record { via = routing.via; route = routing.route; record_route = routing.record_route; from = names.from; to = names.to; call_id = names.call_id; cseq = names.cseq; contact = content.contact; others = content.others; body = content.body } }
+{
+    Head {
+        via: routing.via,
+        route: routing.route,
+        record_route: routing.record_route,
+        from: names.from,
+        to: names.to,
+        call_id: names.call_id,
+        cseq: names.cseq,
+        contact: content.contact,
+        others: content.others,
+        body: content.body,
     }
 }
 
