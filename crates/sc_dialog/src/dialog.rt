@@ -8,7 +8,7 @@ ghost use Rattle.sc_model.specs.DialogRequests.{is_askable, next_request, ack_re
 use crate::DialogRefused;
 use crate::requests::{ack_request, next_request};
 use crate::routes::reversed;
-use crate::sides::{side_of, tagged_side};
+use crate::sides::{called_sides, calling_sides};
 use crate::targets::{request_target, response_target};
 use sc_terms::Inside;
 use sc_value::{Address, CSeq, CloneIn, Discard, List, NoMemory, Request, Response, Text, Uri};
@@ -53,14 +53,13 @@ impl Dialog {
         ensures { IfOk result (λ d. d ≡ dialog_of (Beginning.Called tag.now request.now) []) }
     {
         let call_id = request.head.call_id.clone_in(alloc)?;
-        let local = tagged_side(alloc, &request.head.to.uri, tag.as_bytes())?;
-        let remote = side_of(alloc, &request.head.from.uri, &request.head.from)?;
         let route_set = request.head.record_route.clone_in(alloc)?;
+        let sides = called_sides(alloc, &request.head, tag.as_bytes())?;
         let target = uas_target(alloc, request)?;
         Ok(Dialog {
             call_id,
-            local,
-            remote,
+            local: sides.local,
+            remote: sides.remote,
             route_set,
             target,
             sent: 0,
@@ -79,16 +78,15 @@ impl Dialog {
     ) -> Result<Dialog, NoMemory>
         ensures { IfOk result (λ d. d ≡ dialog_of (Beginning.Calling request.now response.now) []) }
     {
-        let begun_by = begun_by(alloc, &request.head.cseq)?;
         let call_id = request.head.call_id.clone_in(alloc)?;
-        let local = side_of(alloc, &request.head.from.uri, &request.head.from)?;
-        let remote = side_of(alloc, &request.head.to.uri, &response.head.to)?;
+        let begun_by = begun_by(alloc, &request.head.cseq)?;
         let route_set = reversed(alloc, &response.head.record_route)?;
+        let sides = calling_sides(alloc, &request.head, &response.head)?;
         let target = uac_target(alloc, &begun_by, request, response)?;
         Ok(Dialog {
             call_id,
-            local,
-            remote,
+            local: sides.local,
+            remote: sides.remote,
             route_set,
             target,
             sent: request.head.cseq.number,

@@ -1,6 +1,6 @@
 //! The requests that are made in a dialog (RFC 3261 section 12.2.1.1).
 
-ghost use Rattle.std.specs.Prelude.{◌≡◌, ◌<◌, IfOk, map};
+ghost use Rattle.std.specs.Prelude.{◌≡◌, ◌<◌, [], IfOk, map};
 ghost use Rattle.std.specs.List.{list_all};
 ghost use Rattle.sc_model.specs.DialogRequests.{later_request, later_head, next_request, ack_request, is_asked_method, is_asked_field, is_askable};
 ghost use Rattle.sc_model.specs.Responses.{kept_field};
@@ -8,8 +8,8 @@ ghost use Rattle.sc_model.specs.Responses.{kept_field};
 use crate::Dialog;
 use sc_terms::Inside;
 use sc_value::{
-    CSeq, CloneIn, Field, Head, List, NoMemory, Request, Text, is_system_name, is_token, is_value,
-    long_name,
+    Address, CSeq, CloneIn, Discard, Field, Head, List, NoMemory, Request, Text, is_system_name,
+    is_token, is_value, long_name,
 };
 use std::alloc::Global;
 
@@ -88,15 +88,28 @@ fn later_request(
 ) -> Result<Request, NoMemory>
     ensures { IfOk result (λ r. r ≡ later_request dialog.now number method.now fields body.now) }
 {
-    let head = later_head(alloc, dialog, number, method, fields, body)?;
+    let text = Text::from_slice(alloc, method)?;
     let uri = dialog.target().clone_in(alloc)?;
-    let method = Text::from_slice(alloc, method)?;
-    Ok(Request {
-        method,
-        uri,
-        hops: 70,
-        head,
-    })
+    match later_head(alloc, dialog, number, method, fields, body) {
+        Ok(head) => Ok(Request {
+            method: text,
+            uri,
+            hops: 70,
+            head,
+        }),
+        Err(cause) => {
+            uri.discard();
+            Err(cause)
+        }
+    }
+}
+
+/// What names the dialog in a request of it.
+#[derive(Drop)]
+struct Names {
+    from: Address,
+    to: Address,
+    call_id: Text,
 }
 
 #[tactic(auto, unfolding(sc_model::specs::DialogRequests::later_head))]
@@ -111,23 +124,44 @@ fn later_head(
     ensures { IfOk result (λ h. h ≡ later_head dialog.now number method.now fields body.now) }
 {
     let cseq = cseq(alloc, number, method)?;
-    let call_id = dialog.call_id().clone_in(alloc)?;
     let body = body.clone_in(alloc)?;
+    let route = dialog.route_set().clone_in(alloc)?;
+    let names = names_of(alloc, dialog)?;
+    Ok(head_of(alloc, route, names, cseq, fields, body))
+}
+
+fn names_of(alloc: Global, dialog: &Dialog) -> Result<Names, NoMemory>
+    ensures { IfOk result (λ n. n ≡ record { from = dialog.now.local; to = dialog.now.remote; call_id = dialog.now.call_id }) }
+{
+    let call_id = dialog.call_id().clone_in(alloc)?;
     let from = dialog.local().clone_in(alloc)?;
     let to = dialog.remote().clone_in(alloc)?;
-    let route = dialog.route_set().clone_in(alloc)?;
-    Ok(Head {
+    Ok(Names { from, to, call_id })
+}
+
+/// The head of these parts, without Via and Contact.
+fn head_of(
+    alloc: Global,
+    route: List<Address>,
+    names: Names,
+    cseq: CSeq,
+    others: List<Field>,
+    body: Text,
+) -> Head
+    ensures { result ≡ record { via = []; route = route; record_route = []; from = names.from; to = names.to; call_id = names.call_id; cseq = cseq; contact = []; others = others; body = body } }
+{
+    Head {
         via: List::new(alloc),
         route,
         record_route: List::new(alloc),
-        from,
-        to,
-        call_id,
+        from: names.from,
+        to: names.to,
+        call_id: names.call_id,
         cseq,
         contact: List::new(alloc),
-        others: fields,
+        others,
         body,
-    })
+    }
 }
 
 fn cseq(alloc: Global, number: u32, method: &[u8]) -> Result<CSeq, NoMemory>

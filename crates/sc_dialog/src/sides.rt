@@ -4,11 +4,37 @@ ghost use Rattle.std.specs.Prelude.{◌≡◌, [], ◌∷◌, None, Some, IfOk};
 ghost use Rattle.sc_model.specs.Dialogs.{bare, tag_of};
 ghost use Rattle.sc_model.specs.Responses.{tag_param};
 
-use sc_value::{Address, CloneIn, List, NoMemory, Param, Text, Uri, tag};
+use sc_value::{Address, CloneIn, Head, List, NoMemory, Param, Text, Uri, tag};
 use std::alloc::Global;
 
+/// Both sides of a dialog.
+#[derive(Drop)]
+pub struct Sides {
+    pub local: Address,
+    pub remote: Address,
+}
+
+/// The sides of a dialog that a request of the peer with this head begins, on which the own side puts
+/// the tag.
+pub fn called_sides(alloc: Global, head: &Head, tag: &[u8]) -> Result<Sides, NoMemory>
+    ensures { IfOk result (λ s. s ≡ record { local = bare head.now.to.uri (Some tag.now); remote = bare head.now.from.uri (tag_of head.now.from) }) }
+{
+    let local = tagged_side(alloc, &head.to.uri, tag)?;
+    let remote = side_of(alloc, &head.from.uri, &head.from)?;
+    Ok(Sides { local, remote })
+}
+
+/// The sides of a dialog that an own request begins, with the response that gave the peer's tag.
+pub fn calling_sides(alloc: Global, own: &Head, peer: &Head) -> Result<Sides, NoMemory>
+    ensures { IfOk result (λ s. s ≡ record { local = bare own.now.from.uri (tag_of own.now.from); remote = bare own.now.to.uri (tag_of peer.now.to) }) }
+{
+    let local = side_of(alloc, &own.from.uri, &own.from)?;
+    let remote = side_of(alloc, &own.to.uri, &peer.to)?;
+    Ok(Sides { local, remote })
+}
+
 /// `<URI>;tag=..`, with the tag of this address, without one where that has none.
-pub fn side_of(alloc: Global, uri: &Uri, tagged: &Address) -> Result<Address, NoMemory>
+fn side_of(alloc: Global, uri: &Uri, tagged: &Address) -> Result<Address, NoMemory>
     ensures { IfOk result (λ a. a ≡ bare uri.now (tag_of tagged.now)) }
 {
     match tag(tagged) {
@@ -19,7 +45,7 @@ pub fn side_of(alloc: Global, uri: &Uri, tagged: &Address) -> Result<Address, No
 
 /// `<URI>;tag=..`.
 #[tactic(auto, unfolding(sc_model::specs::Dialogs::bare, sc_model::specs::Dialogs::tag_params))]
-pub fn tagged_side(alloc: Global, uri: &Uri, tag: &[u8]) -> Result<Address, NoMemory>
+fn tagged_side(alloc: Global, uri: &Uri, tag: &[u8]) -> Result<Address, NoMemory>
     ensures { IfOk result (λ a. a ≡ bare uri.now (Some tag.now)) }
 {
     let params = tag_params(alloc, tag)?;
