@@ -7,7 +7,7 @@ use Rattle.std.proofs.lemmas.List.{at_drop_all, at_drop_more}
 use Rattle.std.proofs.lemmas.Bool.{false≢true}
 use Rattle.std.proofs.lemmas.Bool.Decides.{nat_tests}
 use Rattle.sc_syntax.specs.Bytes.{Bytes}
-use Rattle.sc_syntax.specs.Numbers.{with_digit, is_digits, number_in, number_below, number_of, port_of}
+use Rattle.sc_syntax.specs.Numbers.{with_digit, is_digits, number_in, number_below, number_of}
 use Rattle.sc_ascii.specs.Digits.{digit_after, digits_after}
 
 grows_once : (n b : ℕ) → n ≤ with_digit n b
@@ -18,9 +18,6 @@ grows_once n b = omega arith
 grows : (n : ℕ) (text : Bytes) → n ≤ fold with_digit n text
 grows n [] = omega arith
 grows n (b ∷ bs) = let once = grows_once n b in let more = grows (with_digit n b) bs in omega arith
-
-narrow : (n : ℕ) → nat_lt n (2 ^ 64) ≡ false → nat_lt n 65536 ≡ false
-narrow n h = grind (arith, nat_tests, h)
 
 taken : (d s : Bool) (w m : ℕ) → cond (d && s) (Some w) None ≡ Some m → (d ≡ true) × (w ≡ m)
 taken true true w m e = (refl, ap (λ o. unwrap_or o w) e)
@@ -88,28 +85,3 @@ not_empty n h = grind (arith, nat_tests, h)
 pub number_of_digits : (text : Bytes) → ¬ (length text ≡ 0) → number_of text ≡ digits_after 0 text
 unfolding number_below is_digits number_in digits_after
 number_of_digits text h = rw (not_empty (length text) h) refl
-
-pub port_none : (text : Bytes) → number_of text ≡ None → port_of text ≡ None
-unfolding number_below
-port_none text h = elim (is_digits text) as (λ (d : Bool). cond (d && nat_lt (number_in text) (2 ^ 64)) (Some (number_in text)) None ≡ None → cond (d && nat_lt (number_in text) 65536) (Some (number_in text)) None ≡ None) [
-  | true ↦ λ g. off true true (nat_lt (number_in text) 65536) (number_in text) (λ _. narrow (number_in text) (refused true (nat_lt (number_in text) (2 ^ 64)) (number_in text) g refl))
-  | false ↦ λ g. refl
-] h
-
-port_of_number : (text : Bytes) (n : ℕ) → number_of text ≡ Some n → port_of text ≡ cond (nat_lt n 65536) (Some n) None
-unfolding number_below
-port_of_number text n h =
-    let is = taken (is_digits text) (nat_lt (number_in text) (2 ^ 64)) (number_in text) n h in
-    rw is.0 (ap (λ k. cond (nat_lt k 65536) (Some k) None) is.1)
-
-is_port : (n : ℕ) → n < 65536 → nat_lt n 65536 ≡ true
-is_port n h = grind (arith, nat_tests, h)
-
-no_port : (n : ℕ) → ¬ (n < 65536) → nat_lt n 65536 ≡ false
-no_port n h = grind (arith, nat_tests, h)
-
-pub port_small : (text : Bytes) (n : ℕ) → number_of text ≡ Some n → n < 65536 → port_of text ≡ Some n
-port_small text n h below = port_of_number text n h ∙ ap (λ b. cond b (Some n) None) (is_port n below)
-
-pub port_large : (text : Bytes) (n : ℕ) → number_of text ≡ Some n → ¬ (n < 65536) → port_of text ≡ None
-port_large text n h above = port_of_number text n h ∙ ap (λ b. cond b (Some n) None) (no_port n above)

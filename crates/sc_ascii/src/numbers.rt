@@ -43,7 +43,7 @@ fn with_digit(number: u64, b: u8) -> Option<u64>
 
 /// The port of the text; None exactly where the text is empty, holds another byte than a digit, or
 /// has a number above 65535.
-#[tactic(auto, using(crate::proofs::DigitSteps::port_none, crate::proofs::DigitSteps::port_small, crate::proofs::DigitSteps::port_large))]
+#[tactic(auto, using(sc_syntax::proofs::NumberLaws::below_none, sc_syntax::proofs::NumberLaws::below_small, sc_syntax::proofs::NumberLaws::below_large))]
 pub fn read_port(b: &[u8]) -> Option<u16>
     ensures { result ≡ port_of b.now }
 {

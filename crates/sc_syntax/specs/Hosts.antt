@@ -1,11 +1,11 @@
 -- Hosts: names, IPv4 literals and IPv6 literals in brackets (RFC 3261 section 25.1, and RFC 3986
 -- section 3.2.2 for the literals). An IPv4 literal is a name too.
-use Rattle.std.specs.Prelude.{ℕ, suc, Bool, true, false, Option, Some, None, List, [], ◌∷◌, not, ◌||◌, ◌&&◌, ◌==◌, ◌+◌, nat_le, nat_lt, length, take, drop, slice_get, if◌then◌else◌}
+use Rattle.std.specs.Prelude.{ℕ, Bool, true, false, Option, Some, None, List, [], ◌∷◌, not, ◌||◌, ◌&&◌, ◌==◌, ◌+◌, nat_le, is_some, min, length, take, drop, slice_get, if◌then◌else◌}
 use Rattle.std.specs.List.{list_all, position_or_len}
 use Rattle.std.specs.Char.{is_ascii_hexdigit}
 use Rattle.std.specs.Option.{option_map, option_map_or}
 use Rattle.sc_syntax.specs.Bytes.{Bytes, is_host_byte}
-use Rattle.sc_syntax.specs.Numbers.{is_digits, number_in}
+use Rattle.sc_syntax.specs.Numbers.{number_below}
 use Rattle.sc_syntax.specs.Cuts.{pieces, before, after}
 
 -- one or more bytes of a host's name
@@ -20,7 +20,7 @@ begins sign text = option_map_or (λ b. b == sign) (slice_get text 0) false
 
 -- a number up to 255 without leading zero
 unfoldable pub is_octet : Bytes → Bool
-is_octet text = is_digits text && nat_lt (number_in text) 256 && (length text == 1 || not (begins 48 text))
+is_octet text = is_some (number_below 256 text) && (length text == 1 || not (begins 48 text))
 
 -- four of them with dots between
 unfoldable pub is_ipv4 : Bytes → Bool
@@ -50,10 +50,14 @@ groups_in ipv4 (piece ∷ more) = sum_of (groups_of (ipv4 && length more == 0) p
 unfoldable pub groups : Bool → Bytes → Option ℕ
 groups ipv4 text = if length text == 0 then Some 0 else groups_in ipv4 (pieces 58 text)
 
+-- two colons stand at the front
+unfoldable pub begins_gap : Bytes → Bool
+begins_gap text = begins 58 text && begins 58 (drop 1 text)
+
 -- the first place of two colons
 unfoldable pub gap_of : Bytes → Option ℕ
 gap_of [] = None
-gap_of (b ∷ bs) = if b == 58 && begins 58 bs then Some 0 else option_map suc (gap_of bs)
+gap_of (b ∷ bs) = if begins_gap (b ∷ bs) then Some 0 else option_map (λ n. 1 + n) (gap_of bs)
 
 -- the groups number at most seven: `::` stands for the others
 unfoldable pub leaves_gap : Option ℕ → Bool
@@ -83,4 +87,4 @@ is_host text = if begins 91 text then is_literal_end (drop 1 text) else is_host_
 
 -- how many bytes of a host with its port are the host's: up to the closing bracket, or else the colon
 unfoldable pub host_len : Bytes → ℕ
-host_len text = if begins 91 text then position_or_len (λ b. b == 93) text + 1 else position_or_len (λ b. b == 58) text
+host_len text = if begins 91 text then min (position_or_len (λ b. b == 93) text + 1) (length text) else position_or_len (λ b. b == 58) text

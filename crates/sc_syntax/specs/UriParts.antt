@@ -59,20 +59,15 @@ is_param_name text = not (length text == 0) && list_all is_param_byte text
 unfoldable pub is_param_value : Option Bytes → Bool
 is_param_value value = option_map_or (list_all is_param_byte) value true
 
--- `name` or `name=value`
-unfoldable pub param_of : Bytes → Option Param
-param_of text =
-    if is_param_name (before 61 text) && is_param_value (after 61 text) then Some (record { name = before 61 text; value = after 61 text }) else None
-
--- the parameter that stands at this place, and those after it
-unfoldable pub with_first : ℕ → Option Param → Result (List Param) Fault → Result (List Param) Fault
-with_first at None more = Err (param_fault at)
-with_first at (Some param) more = then_read more (λ params. Ok (param ∷ params))
+-- `name` or `name=value`, at this place
+unfoldable pub param_at : ℕ → Bytes → Result Param Fault
+param_at at text =
+    if is_param_name (before 61 text) && is_param_value (after 61 text) then Ok (record { name = before 61 text; value = after 61 text }) else Err (param_fault at)
 
 -- the parameters with semicolons between, of which the first stands at this place
 unfoldable pub params_in : ℕ → List Bytes → Result (List Param) Fault
 params_in at [] = Ok []
-params_in at (text ∷ more) = with_first at (param_of text) (params_in (at + length text + 1) more)
+params_in at (text ∷ more) = then_read (param_at at text) (λ param. then_read (params_in (at + length text + 1) more) (λ params. Ok (param ∷ params)))
 
 -- none, or those after the first semicolon
 unfoldable pub params_at : ℕ → Option Bytes → Result (List Param) Fault
