@@ -1,0 +1,13 @@
+//! Tokens, quoted strings, numbers and names within a text (RFC 3261 section 25.1). Nothing here
+//! takes memory.
+#![tactic(auto)]
+
+mod names;
+mod numbers;
+mod places;
+#[cfg(test)]
+mod tests;
+
+pub use names::same_name;
+pub use numbers::{read_port, read_u64};
+pub use places::{quoted_end, token_end};

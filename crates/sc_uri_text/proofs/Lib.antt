@@ -1,0 +1,4 @@
+pub mod Addresses
+pub mod ParamSteps
+pub mod ReadingSteps
+pub mod WrittenLaws

@@ -1,0 +1,19 @@
+//! The text of URIs, read and written (RFC 3261 section 19.1).
+#![tactic(auto)]
+
+mod classes;
+mod copies;
+mod cuts;
+mod hosts;
+mod params;
+mod pieces;
+mod reading;
+mod refused;
+mod sent;
+#[cfg(test)]
+mod tests;
+mod writing;
+
+pub use reading::read;
+pub use refused::UriRefused;
+pub use writing::write;

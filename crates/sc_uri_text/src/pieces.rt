@@ -1,0 +1,61 @@
+//! The small pieces of a URI's text: one byte, and parts that may be missing. Of want of memory
+//! the text may hold a part of the piece.
+
+ghost use Rattle.std.specs.Prelude.{◌≡◌, ◌++◌, [], ◌∷◌, OnOk};
+ghost use Rattle.sc_grammar.specs.Written.{ended_text, port_text, scheme, signed_text};
+
+use sc_value::{NoMemory, Text, write_u64};
+
+pub fn put_byte(byte: u8, out: &mut Text) -> Result<(), NoMemory>
+    ensures { OnOk result (out.new ≡ out.old ++ byte ∷ []) }
+{
+    out.append(&[byte])
+}
+
+#[tactic(auto, unfolding(sc_grammar::specs::Written::scheme))]
+pub fn put_scheme(out: &mut Text) -> Result<(), NoMemory>
+    ensures { OnOk result (out.new ≡ out.old ++ scheme) }
+{
+    out.append(b"sip:")
+}
+
+// Nothing, or the sign and the text.
+#[tactic(auto, unfolding(sc_grammar::specs::Written::signed_text))]
+pub fn put_signed(sign: u8, text: &Option<Text>, out: &mut Text) -> Result<(), NoMemory>
+    ensures { OnOk result (out.new ≡ out.old ++ signed_text sign text.now) }
+{
+    match text {
+        Some(text) => {
+            put_byte(sign, out)?;
+            out.append(text.as_bytes())
+        }
+        None => Ok(()),
+    }
+}
+
+// Nothing, or the text and the sign.
+#[tactic(auto, unfolding(sc_grammar::specs::Written::ended_text))]
+pub fn put_ended(text: &Option<Text>, sign: u8, out: &mut Text) -> Result<(), NoMemory>
+    ensures { OnOk result (out.new ≡ out.old ++ ended_text text.now sign) }
+{
+    match text {
+        Some(text) => {
+            out.append(text.as_bytes())?;
+            put_byte(sign, out)
+        }
+        None => Ok(()),
+    }
+}
+
+#[tactic(auto, unfolding(sc_grammar::specs::Written::port_text))]
+pub fn put_port(port: Option<u16>, out: &mut Text) -> Result<(), NoMemory>
+    ensures { OnOk result (out.new ≡ out.old ++ port_text port) }
+{
+    match port {
+        Some(port) => {
+            put_byte(b':', out)?;
+            write_u64(u64::from(port), out)
+        }
+        None => Ok(()),
+    }
+}

@@ -1,0 +1,138 @@
+//! URIs from text (RFC 3261 sections 19.1.1 and 25.1).
+
+ghost use Rattle.std.specs.Prelude.{◌≡◌, ◌≤◌, ◌+◌, ◌^◌, IfOk, length};
+ghost use Rattle.std.specs.Option.{option_copied};
+ghost use Rattle.sc_value.specs.declared.parts.Uri.TheVariants.{Sip};
+ghost use Rattle.sc_syntax.specs.UriParts.{headers_at};
+ghost use Rattle.sc_syntax.specs.Uris.{other_of, sip_at, sip_behind, uri_behind, uri_of};
+ghost use Rattle.sc_uri_text.specs.Answers.{IsRead, IsReadAs};
+
+use crate::UriRefused;
+use crate::classes::{is_open, is_scheme};
+use crate::copies::copy_of;
+use crate::cuts::cut;
+use crate::params::read_params;
+use crate::sent::read_sent;
+use sc_ascii::same_name;
+use sc_value::{List, NoMemory, Param, SipUri, Text, Uri};
+use std::alloc::Global;
+
+/// The URI that the text is (RFC 3261 sections 19.1.1 and 25.1). The scheme may have any case, and
+/// the port, 0 to 65535, leading zeros; percent escapes stay as they are. A text of another scheme
+/// than `sip` is kept as written. The error is the place and the kind of the first part at fault,
+/// or want of memory.
+#[tactic(auto, unfolding(sc_syntax::specs::Uris::uri_of))]
+pub fn read(alloc: Global, b: &[u8]) -> Result<Uri, UriRefused>
+    ensures { IsRead result (uri_of b.now) }
+{
+    let (scheme, rest) = cut(b, b':');
+    if !is_scheme(scheme) {
+        return Err(UriRefused::Refused { at: 0, kind: 1 });
+    }
+    match rest {
+        Some(rest) => read_by_scheme(alloc, b, scheme, rest),
+        None => Err(UriRefused::Refused { at: 0, kind: 1 }),
+    }
+}
+
+#[tactic(auto, unfolding(sc_syntax::specs::Uris::uri_behind, sc_syntax::specs::Uris::sip_scheme))]
+fn read_by_scheme(alloc: Global, text: &[u8], scheme: &[u8], rest: &[u8]) -> Result<Uri, UriRefused>
+    requires { length scheme.now + length rest.now + 1 ≤ length text.now }
+    ensures { IsRead result (uri_behind text.now scheme.now rest.now) }
+{
+    if same_name(scheme, b"sip") {
+        read_sip(alloc, rest, scheme.len() + 1)
+    } else {
+        read_other(alloc, text)
+    }
+}
+
+#[tactic(auto, unfolding(sc_syntax::specs::Uris::other_of))]
+fn read_other(alloc: Global, text: &[u8]) -> Result<Uri, UriRefused>
+    ensures { IsRead result (other_of text.now) }
+{
+    if !is_open(text) {
+        return Err(UriRefused::Refused { at: 0, kind: 1 });
+    }
+    let text = Text::from_slice(alloc, text)?;
+    Ok(Uri::Other(text))
+}
+
+// What stands after the scheme's colon, at this place.
+#[tactic(auto, using(crate::proofs::ReadingSteps::with_user, crate::proofs::ReadingSteps::closed_user, crate::proofs::ReadingSteps::no_user))]
+fn read_sip(alloc: Global, text: &[u8], at: usize) -> Result<Uri, UriRefused>
+    requires { at + length text.now ≤ 2 ^ 63 }
+    ensures { IsRead result (sip_at at text.now) }
+{
+    match cut(text, b'@') {
+        (user, Some(rest)) => {
+            if !is_open(user) {
+                return Err(UriRefused::Refused { at, kind: 2 });
+            }
+            read_behind(alloc, Some(user), rest, at + user.len() + 1)
+        }
+        (_, None) => read_behind(alloc, None, text, at),
+    }
+}
+
+// What stands behind the user, at this place: host and port, parameters, headers.
+#[tactic(auto, using(crate::proofs::ReadingSteps::has_room))]
+fn read_behind(
+    alloc: Global,
+    user: Option<&[u8]>,
+    text: &[u8],
+    at: usize,
+) -> Result<Uri, UriRefused>
+    requires { at + length text.now ≤ 2 ^ 63 }
+    ensures { IsRead result (sip_behind at (option_copied user.entry) text.now) }
+{
+    let (front, headers) = cut(text, b'?');
+    let (sent, params) = cut(front, b';');
+    let (host, port) = match read_sent(sent, at) {
+        Ok(sent) => sent,
+        Err(refused) => return Err(refused),
+    };
+    let params = match read_params(alloc, params, at + sent.len() + 1) {
+        Ok(params) => params,
+        Err(refused) => return Err(refused),
+    };
+    match judge_headers(headers, at + front.len() + 1) {
+        Ok(()) => (),
+        Err(refused) => return Err(refused),
+    }
+    let uri = build(alloc, user, host, port, params, headers)?;
+    Ok(uri)
+}
+
+// None, or all after the question mark, at this place.
+#[tactic(auto, unfolding(sc_syntax::specs::UriParts::headers_at))]
+fn judge_headers(headers: Option<&[u8]>, at: usize) -> Result<(), UriRefused>
+    ensures { IsReadAs (λ _. option_copied headers.entry) result (headers_at at (option_copied headers.entry)) }
+{
+    match headers {
+        Some(headers) if !is_open(headers) => Err(UriRefused::Refused { at, kind: 4 }),
+        _ => Ok(()),
+    }
+}
+
+fn build(
+    alloc: Global,
+    user: Option<&[u8]>,
+    host: &[u8],
+    port: Option<u16>,
+    params: List<Param>,
+    headers: Option<&[u8]>,
+) -> Result<Uri, NoMemory>
+    ensures { IfOk result (λ uri. uri ≡ Sip (record { user = option_copied user.entry; host = host.now; port = port; params = params; headers = option_copied headers.entry })) }
+{
+    let user = copy_of(alloc, user)?;
+    let host = Text::from_slice(alloc, host)?;
+    let headers = copy_of(alloc, headers)?;
+    Ok(Uri::Sip(SipUri {
+        user,
+        host,
+        port,
+        params,
+        headers,
+    }))
+}

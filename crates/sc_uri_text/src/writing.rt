@@ -1,0 +1,61 @@
+//! URIs as text.
+
+ghost use Rattle.std.specs.Prelude.{◌≡◌, ◌++◌, OnOk, OnErr};
+ghost use Rattle.std.specs.List.{flat_map};
+ghost use Rattle.sc_grammar.specs.Written.{param_text, params_text, sip_uri_text, uri_text};
+
+use crate::pieces::{put_byte, put_ended, put_port, put_scheme, put_signed};
+use sc_value::{NoMemory, Param, SipUri, Text, Uri};
+use std::alloc::Global;
+
+/// Puts the text of a URI at the end (RFC 3261 section 19.1.1). The one error is want of memory,
+/// on which `out` is as before.
+pub fn write(alloc: Global, uri: &Uri, out: &mut Text) -> Result<(), NoMemory>
+    ensures ok { OnOk result (out.new ≡ out.old ++ uri_text uri.now) }
+    ensures err { OnErr result (out.new ≡ out.old) }
+{
+    let mut text = Text::new(alloc);
+    put_uri(uri, &mut text)?;
+    out.append(text.as_bytes())
+}
+
+#[tactic(auto, unfolding(sc_grammar::specs::Written::uri_text))]
+fn put_uri(uri: &Uri, out: &mut Text) -> Result<(), NoMemory>
+    ensures { OnOk result (out.new ≡ out.old ++ uri_text uri.now) }
+{
+    match uri {
+        Uri::Sip(uri) => put_sip_uri(uri, out),
+        Uri::Other(text) => out.append(text.as_bytes()),
+    }
+}
+
+#[tactic(auto, unfolding(sc_grammar::specs::Written::sip_uri_text))]
+fn put_sip_uri(uri: &SipUri, out: &mut Text) -> Result<(), NoMemory>
+    ensures { OnOk result (out.new ≡ out.old ++ sip_uri_text uri.now) }
+{
+    put_scheme(out)?;
+    put_ended(&uri.user, b'@', out)?;
+    out.append(uri.host.as_bytes())?;
+    put_port(uri.port, out)?;
+    put_params(uri.params.as_slice(), out)?;
+    put_signed(b'?', &uri.headers, out)
+}
+
+#[tactic(auto, unfolding(sc_grammar::specs::Written::params_text))]
+fn put_params(params: &[Param], out: &mut Text) -> Result<(), NoMemory>
+    ensures { OnOk result (out.new ≡ out.old ++ params_text params.now) }
+{
+    for param in params {
+        put_param(param, out)?;
+    }
+    Ok(())
+}
+
+#[tactic(auto, unfolding(sc_grammar::specs::Written::param_text))]
+fn put_param(param: &Param, out: &mut Text) -> Result<(), NoMemory>
+    ensures { OnOk result (out.new ≡ out.old ++ param_text param.now) }
+{
+    put_byte(b';', out)?;
+    out.append(param.name.as_bytes())?;
+    put_signed(b'=', &param.value, out)
+}
