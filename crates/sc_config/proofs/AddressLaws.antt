@@ -1,5 +1,5 @@
 -- An IPv4 address is read exactly where the text writes one.
-use Rattle.std.proofs.Common.{◌≡◌, ℕ, List, [], ◌∷◌, ◌++◌, Option, Some, None, refl, ap, sym, ◌∙◌, subst, append-nil, lit≤, Bool, true, false, ◌<◌, ◌+◌, ◌^◌, ◌==◌, length, nat_le, nat_lt, arith, rules, ◌&&◌, slice_index}
+use Rattle.std.proofs.Common.{◌≡◌, ℕ, [], ◌∷◌, Option, Some, None, refl, ap, sym, ◌∙◌, subst, append-nil, lit≤, true, false, ◌<◌, ◌+◌, ◌^◌, ◌==◌, length, nat_lt, arith, rules}
 use Rattle.std.specs.List.{list_all, position_or_len, before_first, after_first}
 use Rattle.std.specs.Char.{is_ascii_digit, digit_value}
 use Rattle.std.specs.Int.{IsInRange}

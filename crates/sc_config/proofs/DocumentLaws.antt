@@ -1,17 +1,15 @@
 -- A table of the code and the document that it shows.
-use Rattle.std.proofs.Common.{◌≡◌, ℕ, suc, ◌+◌, ◌<◌, ◌++◌, take, drop, Bool, true, false, cond, Option, Some, None, List, [], ◌∷◌, map, position, get_or, length, not, ◌||◌, codes, refl, ap, sym, ◌∙◌, rules}
-use Rattle.std.specs.List.{list_all, list_any, find}
-use Rattle.std.specs.Option.{is_some, option_map, option_and_then}
+use Rattle.std.proofs.Common.{◌≡◌, ℕ, suc, Bool, true, false, cond, Option, Some, None, List, [], ◌∷◌, map, position, get_or, length, refl, ap, sym}
+use Rattle.std.specs.List.{list_all, find}
+use Rattle.std.specs.Option.{is_some, option_map}
 use Rattle.std.proofs.lemmas.List.Folds.{list_all-map}
 use Rattle.sc_value.proofs.ListFacts.{find_position, find_none}
-use Rattle.toml.specs.Data.{Data, Items, Members, as_array, as_str, as_table}
+use Rattle.toml.specs.Data.{Data, Members, as_array, as_str, as_table}
 use Rattle.toml.specs.Parse.{parse_document}
 use Rattle.std.specs.Str.{IsUtf8, is_utf8}
 use Rattle.std.proofs.lemmas.Str.{is_utf8-from_IsUtf8, IsUtf8-from_is_utf8}
 use Rattle.toml.specs.View.{view, items_of, items_view}
 use Rattle.toml.specs.declared.value.Value.{Value}
-use Rattle.sc_value.specs.Params.{same_bytes}
-use Rattle.sc_config.specs.Faults.{app_text, doubled}
 use Rattle.sc_config.specs.Documents.{Bytes, document, items_in, elements, first_given}
 use Rattle.sc_config.specs.KeyValues.{is_params}
 

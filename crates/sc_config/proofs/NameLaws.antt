@@ -1,14 +1,13 @@
 -- The first name that stands twice, as a walk finds it.
-use Rattle.std.proofs.Common.{◌≡◌, ℕ, ◌+◌, ◌<◌, ◌≤◌, Bool, true, false, cond, ◌||◌, Option, Some, None, List, [], ◌∷◌, ◌++◌, map, codes, take, drop, get_or, length, refl, ap, sym, ◌∙◌}
+use Rattle.std.proofs.Common.{◌≡◌, ℕ, ◌+◌, ◌<◌, ◌≤◌, true, false, ◌||◌, Option, Some, None, List, [], ◌∷◌, map, codes, take, drop, get_or, length, refl, ap, sym, ◌∙◌}
 use Rattle.std.specs.List.{list_any}
 use Rattle.std.specs.Option.{option_map}
 use Rattle.std.proofs.lemmas.List.{drop_more, take_more, map-append, drop_all}
 use Rattle.sc_value.specs.Params.{same_bytes}
-use Rattle.toml.specs.Data.{Data}
 use Rattle.toml.specs.View.{view}
 use Rattle.toml.specs.declared.value.Value.{Value}
 use Rattle.sc_config.specs.Documents.{Bytes}
-use Rattle.sc_config.specs.Faults.{Fault, app_text, doubled, double_name, DOUBLE_NAME}
+use Rattle.sc_config.specs.Faults.{app_text, doubled, double_name, DOUBLE_NAME}
 
 -- the name of an application
 abbrev pub name_in : Value → Bytes

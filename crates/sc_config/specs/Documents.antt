@@ -3,7 +3,7 @@ use Rattle.std.specs.Prelude.{ℕ, Bool, Option, Some, None, List, [], ◌∷◌
 use Rattle.std.specs.List.{find}
 use Rattle.std.specs.Option.{option_and_then, option_map_or}
 use Rattle.std.specs.Str.{is_utf8}
-use Rattle.toml.specs.Data.{Data, Items, no_items, item, Members, no_members, member, as_array, as_table}
+use Rattle.toml.specs.Data.{Data, Items, no_items, item, Members, no_members, member, as_array}
 use Rattle.toml.specs.Parse.{parse_document}
 
 abbrev pub Bytes : Type 0

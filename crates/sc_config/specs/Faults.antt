@@ -1,5 +1,5 @@
 -- What is refused of a configuration, in the order in which it is looked for.
-use Rattle.std.specs.Prelude.{ℕ, Bool, true, false, not, ◌||◌, ◌&&◌, ◌++◌, Option, Some, None, List, [], ◌∷◌, map, codes, length, nat_le, if◌then◌else◌, is_some}
+use Rattle.std.specs.Prelude.{ℕ, Bool, true, not, ◌||◌, ◌&&◌, ◌++◌, Option, Some, None, List, [], ◌∷◌, map, codes, length, nat_le, if◌then◌else◌, is_some}
 use Rattle.std.specs.List.{list_all, list_any, find}
 use Rattle.std.specs.Option.{option_and_then, option_map, option_map_or, is_none, option_or}
 use Rattle.toml.specs.Data.{Data, Members, get_member, as_str, as_table}

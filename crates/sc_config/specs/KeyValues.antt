@@ -1,11 +1,11 @@
 -- The value of each key: what it has to be, and what stands where it is absent.
-use Rattle.std.specs.Prelude.{ℕ, ℤ, pos, negsuc, Bool, true, false, not, ◌||◌, ◌&&◌, ◌==◌, ◌+◌, Option, Some, None, List, [], ◌∷◌, codes, length, take, drop, nat_le, nat_lt, if◌then◌else◌, is_some, slice_index, position}
+use Rattle.std.specs.Prelude.{ℕ, ℤ, pos, negsuc, Bool, true, not, ◌||◌, ◌&&◌, ◌==◌, Option, Some, None, [], ◌∷◌, length, nat_le, nat_lt, if◌then◌else◌, is_some, slice_index}
 use Rattle.std.specs.List.{list_all, before_first, after_first}
-use Rattle.std.specs.Option.{option_and_then, option_map, option_map_or}
+use Rattle.std.specs.Option.{option_and_then}
 use Rattle.std.specs.Char.{is_ascii_alphanumeric, is_ascii_digit}
 use Rattle.std.specs.Str.Parse.{digits_value}
 use Rattle.std.specs.Net.Reader.{read_ipv4}
-use Rattle.toml.specs.Data.{Data, string, integer, array, as_str, as_integer, as_array, as_table}
+use Rattle.toml.specs.Data.{Data, as_str, as_integer, as_array}
 use Rattle.sc_config.specs.Documents.{Bytes, elements}
 
 -- ## Texts

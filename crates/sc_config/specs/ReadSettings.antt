@@ -1,5 +1,5 @@
 -- The settings that a TOML text gives, or its first refusal.
-use Rattle.std.specs.Prelude.{ℕ, ℤ, pos, Bool, Option, Some, None, Result, Ok, Err, List, [], ◌∷◌, map, codes, length, nat_lt, if◌then◌else◌, position}
+use Rattle.std.specs.Prelude.{ℕ, pos, Option, Some, None, Result, Ok, Err, List, [], ◌∷◌, map, codes, length, nat_lt, if◌then◌else◌, position}
 use Rattle.std.specs.Option.{option_and_then, option_map_or, unwrap_or}
 use Rattle.toml.specs.Data.{Data, Members, no_members, member, get_member, as_str, as_table}
 use Rattle.sc_value.specs.Params.{same_bytes}
