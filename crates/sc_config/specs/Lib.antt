@@ -1,0 +1,4 @@
+pub mod Documents
+pub mod KeyValues
+pub mod Faults
+pub mod ReadSettings

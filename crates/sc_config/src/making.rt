@@ -1,0 +1,191 @@
+//! The settings of a document without fault.
+
+ghost use Rattle.std.specs.Prelude.{◌≡◌, ◌≤◌, ◌++◌, [], map, codes, position, IfOk, OnOk};
+ghost use Rattle.std.specs.Option.{option_map, option_copied, option_map_or, option_and_then, unwrap_or};
+ghost use Rattle.sc_value.specs.Params.{same_bytes};
+ghost use Rattle.toml.specs.Data.{as_str, as_table, get_member};
+ghost use Rattle.toml.specs.View.{view, table_view};
+ghost use Rattle.sc_config.specs.Faults.{app_text, apps_in};
+ghost use Rattle.sc_config.specs.Documents.{elements};
+ghost use Rattle.sc_config.specs.ReadSettings.{param_text, params_in, kind_place, app_value, app_entry, host_entry, host_entries, hosts_in, number_at, top_text, config_of};
+
+use crate::faults::{app_text, apps_in};
+use crate::values::{elements, expires_in, host_ip, listen_in, number_in, text_at, value_at};
+use sc_terms::{AppEntry, Config, HostEntry};
+use sc_value::{List, NoMemory, Text};
+use std::alloc::Global;
+use toml::{Table, Value};
+
+fn param_text(value: &Value) -> &[u8]
+    ensures { result.now ≡ param_text (view value.now) }
+{
+    match value.as_str() {
+        Some(text) => text.as_bytes(),
+        None => b"",
+    }
+}
+
+fn add_params(alloc: Global, values: &[Value], params: &mut List<Text>) -> Result<(), NoMemory>
+    ensures { OnOk result (params.new ≡ params.old ++ map (λ v. param_text (view v)) values.now) }
+{
+    for value in values {
+        params.push(Text::from_slice(alloc, param_text(value))?)?;
+    }
+    Ok(())
+}
+
+fn items_of<'a>(value: Option<&'a Value>) -> &'a [Value]
+    ensures { map view result.now ≡ option_map_or elements (option_map (λ v. view v.now) value.entry) [] }
+{
+    match value {
+        Some(value) => elements(value),
+        None => &[],
+    }
+}
+
+/// The place of a kind among the kinds.
+#[tactic(auto, unfolding(crate::specs::ReadSettings::kind_place))]
+fn kind_place(kinds: &[Text], name: &[u8]) -> usize
+    ensures { result ≡ kind_place kinds.now name.now }
+{
+    place_of(kinds, name).unwrap_or(0)
+}
+
+fn place_of(kinds: &[Text], name: &[u8]) -> Option<usize>
+    ensures { result ≡ position (λ kind. same_bytes kind name.now) kinds.now }
+{
+    kinds.iter().position(|kind| kind.as_bytes() == name)
+}
+
+#[tactic(auto, unfolding(crate::specs::ReadSettings::app_value))]
+fn app_value<'a>(app: &'a Value, key: &str) -> Option<&'a Value>
+    ensures { option_map (λ v. view v.now) result ≡ app_value key.now (view app.now) }
+{
+    match app.as_table() {
+        Some(table) => value_at(table, key),
+        None => None,
+    }
+}
+
+#[tactic(auto, unfolding(crate::specs::ReadSettings::host_entry))]
+fn host_entry(alloc: Global, name: &str, value: &Value) -> Result<HostEntry, NoMemory>
+    ensures { IfOk result (λ h. h ≡ host_entry name.now (view value.now)) }
+{
+    let name = Text::from_slice(alloc, name.as_bytes())?;
+    let ip = host_ip(value).unwrap_or([0, 0, 0, 0]);
+    Ok(HostEntry { name, ip })
+}
+
+/// The number of a key, from low to high, the standard one where the key is absent.
+#[tactic(auto, unfolding(crate::specs::ReadSettings::number_at))]
+fn number_at(low: u64, high: u64, standard: u64, key: &str, top: &Table) -> u64
+    ensures value { result ≡ number_at low high standard key.now (table_view top.now) }
+    ensures bound { standard ≤ high → result ≤ high }
+{
+    number_in(low, high, standard, value_at(top, key)).unwrap_or(standard)
+}
+
+#[tactic(auto, unfolding(crate::specs::ReadSettings::top_text))]
+fn top_text(alloc: Global, key: &str, top: &Table) -> Result<Text, NoMemory>
+    ensures { IfOk result (λ t. t ≡ top_text key.now (table_view top.now)) }
+{
+    match text_at(top, key) {
+        Some(text) => Text::from_slice(alloc, text.as_bytes()),
+        None => Ok(Text::new(alloc)),
+    }
+}
+
+/// The parameters of an application.
+#[tactic(auto, unfolding(crate::specs::ReadSettings::params_in), using(crate::proofs::DocumentLaws::map_view))]
+fn params_in(alloc: Global, value: Option<&Value>) -> Result<List<Text>, NoMemory>
+    ensures { IfOk result (λ params. params ≡ params_in (option_map (λ v. view v.now) value.entry)) }
+{
+    let mut params = List::new(alloc);
+    add_params(alloc, items_of(value), &mut params)?;
+    Ok(params)
+}
+
+#[tactic(auto, unfolding(crate::specs::ReadSettings::app_entry))]
+fn app_entry(alloc: Global, kinds: &[Text], app: &Value) -> Result<AppEntry, NoMemory>
+    ensures { IfOk result (λ e. e ≡ app_entry kinds.now (view app.now)) }
+{
+    let name = Text::from_slice(alloc, app_text(app, "name"))?;
+    let params = params_in(alloc, app_value(app, "params"))?;
+    let kind = kind_place(kinds, app_text(app, "kind"));
+    let expires = expires_in(app_value(app, "expires")).unwrap_or(3);
+    Ok(AppEntry {
+        name,
+        kind,
+        params,
+        expires,
+    })
+}
+
+fn add_apps(
+    alloc: Global,
+    kinds: &[Text],
+    apps: &[Value],
+    entries: &mut List<AppEntry>,
+) -> Result<(), NoMemory>
+    ensures { OnOk result (entries.new ≡ entries.old ++ map (λ v. app_entry kinds.now (view v)) apps.now) }
+{
+    for app in apps {
+        entries.push(app_entry(alloc, kinds, app)?)?;
+    }
+    Ok(())
+}
+
+#[tactic(auto, using(crate::proofs::DocumentLaws::map_view))]
+fn app_entries(alloc: Global, kinds: &[Text], top: &Table) -> Result<List<AppEntry>, NoMemory>
+    ensures { IfOk result (λ entries. entries ≡ map (app_entry kinds.now) (apps_in (table_view top.now))) }
+{
+    let mut entries = List::new(alloc);
+    add_apps(alloc, kinds, apps_in(top), &mut entries)?;
+    Ok(entries)
+}
+
+#[tactic(auto, unfolding(crate::specs::ReadSettings::host_entries))]
+fn add_hosts(alloc: Global, hosts: &Table, entries: &mut List<HostEntry>) -> Result<(), NoMemory>
+    ensures { OnOk result (entries.new ≡ entries.old ++ host_entries (table_view hosts.now)) }
+{
+    'hosts: for (name, value) in hosts.iter() {
+        entries.push(host_entry(alloc, name.as_str(), value)?)?;
+    }
+    Ok(())
+}
+
+#[tactic(auto, unfolding(crate::specs::ReadSettings::hosts_in))]
+fn hosts_in(alloc: Global, value: Option<&Value>) -> Result<List<HostEntry>, NoMemory>
+    ensures { IfOk result (λ hosts. hosts ≡ hosts_in (option_map (λ v. view v.now) value.entry)) }
+{
+    let mut entries = List::new(alloc);
+    if let Some(value) = value {
+        if let Some(hosts) = value.as_table() {
+            add_hosts(alloc, hosts, &mut entries)?;
+        }
+    }
+    Ok(entries)
+}
+
+/// The settings of a document without fault.
+#[tactic(auto, unfolding(crate::specs::ReadSettings::config_of))]
+pub(crate) fn config_of(alloc: Global, kinds: &[Text], top: &Table) -> Result<Config, NoMemory>
+    ensures { IfOk result (λ config. config ≡ config_of kinds.now (table_view top.now)) }
+{
+    let domain = top_text(alloc, "domain", top)?;
+    let salt = top_text(alloc, "salt", top)?;
+    let hosts = hosts_in(alloc, value_at(top, "hosts"))?;
+    let app = app_entries(alloc, kinds, top)?;
+    Ok(Config {
+        listen: listen_in(value_at(top, "listen")).unwrap_or(([0, 0, 0, 0], 0)),
+        domain,
+        salt,
+        workers: number_at(1, 32, 2, "workers", top) as u32,
+        stop_after: number_at(0, 1_000_000, 0, "stop_after", top) as u32,
+        journal_steps: number_at(1, 1_000_000, 1_000_000, "journal_steps", top),
+        journal_bytes: number_at(1, 67_108_864, 67_108_864, "journal_bytes", top),
+        epoch_steps: number_at(0, 1_000_000, 0, "epoch_steps", top),
+        hosts,
+        app,
+    })
+}

@@ -1,0 +1,150 @@
+//! The values of single keys.
+
+ghost use Rattle.std.specs.Prelude.{◌≡◌, ◌≤◌, IfSome, map, Some, is_some};
+ghost use Rattle.std.specs.Option.{option_map, option_copied, option_and_then};
+ghost use Rattle.toml.specs.Data.{as_str, as_integer, get_member};
+ghost use Rattle.toml.specs.View.{view, table_view};
+ghost use Rattle.sc_config.specs.KeyValues.{number_within, number_in, expires_in, is_expiry, expiry_of, text_in, is_host};
+ghost use Rattle.sc_config.specs.KeyValues.{host_ip, ip_of, is_params, listen_in, listen_text};
+ghost use Rattle.sc_config.specs.Documents.{elements, items_in};
+ghost use Rattle.std.specs.List.{list_all};
+ghost use Rattle.toml.specs.View.{array_view};
+
+use crate::addresses::{ip_of, listen_of};
+use toml::{Table, Value};
+
+/// The value of a key.
+pub(crate) fn value_at<'a>(table: &'a Table, key: &str) -> Option<&'a Value>
+    ensures { option_map (λ v. view v.now) result ≡ get_member key.now (table_view table.now) }
+{
+    table.get(key)
+}
+
+/// The number that the integer is, where it lies from low to high.
+#[tactic(auto, unfolding(crate::specs::KeyValues::number_within))]
+fn number_within(low: u64, high: u64, integer: i64) -> Option<u64>
+    ensures value { result ≡ number_within low high integer }
+    ensures bound { IfSome result (λ n. n ≤ high) }
+{
+    match u64::try_from(integer) {
+        Ok(n) => if low <= n && n <= high { Some(n) } else { None },
+        Err(_) => None,
+    }
+}
+
+/// The number of a key, from low to high, or the standard one where the key is absent.
+#[tactic(auto, unfolding(crate::specs::KeyValues::number_in))]
+pub(crate) fn number_in(low: u64, high: u64, standard: u64, value: Option<&Value>) -> Option<u64>
+    ensures value { result ≡ number_in low high standard (option_map (λ v. view v.now) value.entry) }
+    ensures bound { standard ≤ high → IfSome result (λ n. n ≤ high) }
+{
+    match value {
+        Some(value) => match value.as_integer() {
+            Some(integer) => number_within(low, high, integer),
+            None => None,
+        },
+        None => Some(standard),
+    }
+}
+
+/// Whether a session may expire after so many minutes: -1 to 10,080.
+#[tactic(auto, unfolding(crate::specs::KeyValues::is_expiry))]
+fn is_expiry(minutes: i32) -> bool
+    ensures { result ≡ is_expiry minutes }
+{
+    -1 <= minutes && minutes <= 10_080
+}
+
+/// The minutes after which a session expires, 3 where the key is absent.
+#[tactic(auto, unfolding(crate::specs::KeyValues::expires_in))]
+pub(crate) fn expires_in(value: Option<&Value>) -> Option<i32>
+    ensures { result ≡ expires_in (option_map (λ v. view v.now) value.entry) }
+{
+    match value {
+        Some(value) => match value.as_integer() {
+            Some(minutes) => expiry_of(minutes),
+            None => None,
+        },
+        None => Some(3),
+    }
+}
+
+#[tactic(auto, unfolding(crate::specs::KeyValues::expiry_of, crate::specs::KeyValues::is_expiry))]
+fn expiry_of(integer: i64) -> Option<i32>
+    ensures { result ≡ expiry_of integer }
+{
+    match i32::try_from(integer) {
+        Ok(minutes) => if is_expiry(minutes) {
+            Some(minutes)
+        } else {
+            None
+        },
+        Err(_) => None,
+    }
+}
+
+/// The text of a key, where it has one.
+pub(crate) fn text_at<'a>(table: &'a Table, key: &str) -> Option<&'a str>
+    ensures { option_copied result ≡ option_and_then as_str (get_member key.now (table_view table.now)) }
+{
+    match value_at(table, key) {
+        Some(value) => value.as_str(),
+        None => None,
+    }
+}
+
+/// The address and the port of `listen`.
+#[tactic(auto, unfolding(crate::specs::KeyValues::listen_in))]
+pub(crate) fn listen_in(value: Option<&Value>) -> Option<([u8; 4], u16)>
+    ensures { result ≡ listen_in (option_map (λ v. view v.now) value.entry) }
+{
+    match value {
+        Some(value) => match value.as_str() {
+            Some(text) => listen_of(text),
+            None => None,
+        },
+        None => None,
+    }
+}
+
+/// Whether the value can be the parameters of an application: an array of texts, or nothing.
+#[tactic(auto, unfolding(crate::specs::KeyValues::is_params))]
+pub(crate) fn is_params(value: Option<&Value>) -> bool
+    ensures { result ≡ is_params (option_map (λ v. view v.now) value.entry) }
+{
+    match value {
+        Some(value) => match value.as_array() {
+            Some(items) => are_texts(items.as_slice()),
+            None => false,
+        },
+        None => true,
+    }
+}
+
+fn are_texts(values: &[Value]) -> bool
+    ensures { result ≡ list_all (λ v. is_some (as_str (view v))) values.now }
+{
+    values.iter().all(|value| value.is_str())
+}
+
+/// The address of an entry of `hosts`.
+#[tactic(auto, unfolding(crate::specs::KeyValues::host_ip))]
+pub(crate) fn host_ip(value: &Value) -> Option<[u8; 4]>
+    ensures { result ≡ host_ip (view value.now) }
+{
+    match value.as_str() {
+        Some(text) => ip_of(text),
+        None => None,
+    }
+}
+
+/// The items of an array, none of what is no array.
+#[tactic(auto, using(crate::proofs::DocumentLaws::elements_view))]
+pub(crate) fn elements(value: &Value) -> &[Value]
+    ensures { map view result.now ≡ elements (view value.now) }
+{
+    match value.as_array() {
+        Some(items) => items.as_slice(),
+        None => &[],
+    }
+}
