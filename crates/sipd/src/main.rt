@@ -3,8 +3,6 @@
 
 mod endings;
 mod help;
-#[cfg(test)]
-mod tests;
 
 use endings::{exit_status, write_line};
 use sc_apps::Answers;
