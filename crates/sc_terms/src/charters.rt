@@ -3,6 +3,22 @@
 pub enum Charter {
     /// It answers each request 200.
     Answer,
+    /// It answers callers that its parameters name 403, and proxies all others.
+    Block,
+    /// It proxies each initial request, to its parameter's URI where there is one.
+    Forward,
+    /// It proxies each initial request to all its parameters' URIs at once.
+    Fork,
+    /// It proxies as `Forward` and stays on the path of later requests.
+    Recorder,
+    /// It is a back-to-back user agent.
+    B2b,
+    /// It answers, and sends a request of its own.
+    Dial,
+    /// A back-to-back user agent whose second leg goes to the other region.
+    Reverse,
+    /// It rings, and answers after a while.
+    Ringer,
     /// It makes any calls.
     Free,
 }
@@ -10,6 +26,8 @@ pub enum Charter {
 /// A listener's stated interface.
 #[derive(Clone, Copy, Debug, PartialEq, Eq)]
 pub enum ListenerCharter {
+    /// At the first expiry it extends the application session once.
+    ExtendOnce,
     /// It makes any calls.
     Free,
 }

@@ -148,6 +148,38 @@ impl CloneIn for Event {
                 popped: popped.clone_in(alloc)?,
                 request: request.clone_in(alloc)?,
             }),
+            Event::Request { req, sess, request } => Ok(Event::Request {
+                req: *req,
+                sess: *sess,
+                request: request.clone_in(alloc)?,
+            }),
+            Event::Response {
+                req,
+                sess,
+                response,
+            } => Ok(Event::Response {
+                req: *req,
+                sess: *sess,
+                response: response.clone_in(alloc)?,
+            }),
+            Event::Branch {
+                req,
+                sess,
+                response,
+            } => Ok(Event::Branch {
+                req: *req,
+                sess: *sess,
+                response: response.clone_in(alloc)?,
+            }),
+            Event::Cancelled { req, sess } => Ok(Event::Cancelled {
+                req: *req,
+                sess: *sess,
+            }),
+            Event::Timer { id, info } => Ok(Event::Timer {
+                id: *id,
+                info: info.clone_in(alloc)?,
+            }),
+            Event::Expired => Ok(Event::Expired),
             Event::Ready => Ok(Event::Ready),
         }
     }
@@ -155,16 +187,15 @@ impl CloneIn for Event {
 
 impl Same for Event {
     fn same(&self, other: &Event) -> bool {
-        match (self, other) {
-            (
-                Event::Initial {
-                    req,
-                    sess,
-                    region,
-                    subscriber,
-                    popped,
-                    request,
-                },
+        match self {
+            Event::Initial {
+                req,
+                sess,
+                region,
+                subscriber,
+                popped,
+                request,
+            } => match other {
                 Event::Initial {
                     req: other_req,
                     sess: other_sess,
@@ -172,17 +203,70 @@ impl Same for Event {
                     subscriber: other_subscriber,
                     popped: other_popped,
                     request: other_request,
-                },
-            ) => {
-                *req == *other_req
-                    && *sess == *other_sess
-                    && *region == *other_region
-                    && subscriber.same(other_subscriber)
-                    && popped.same(other_popped)
-                    && request.same(other_request)
-            }
-            (Event::Ready, Event::Ready) => true,
-            (Event::Initial { .. }, Event::Ready) | (Event::Ready, Event::Initial { .. }) => false,
+                } => {
+                    *req == *other_req
+                        && *sess == *other_sess
+                        && *region == *other_region
+                        && subscriber.same(other_subscriber)
+                        && popped.same(other_popped)
+                        && request.same(other_request)
+                }
+                _ => false,
+            },
+            Event::Request { req, sess, request } => match other {
+                Event::Request {
+                    req: other_req,
+                    sess: other_sess,
+                    request: other_request,
+                } => *req == *other_req && *sess == *other_sess && request.same(other_request),
+                _ => false,
+            },
+            Event::Response {
+                req,
+                sess,
+                response,
+            } => match other {
+                Event::Response {
+                    req: other_req,
+                    sess: other_sess,
+                    response: other_response,
+                } => *req == *other_req && *sess == *other_sess && response.same(other_response),
+                _ => false,
+            },
+            Event::Branch {
+                req,
+                sess,
+                response,
+            } => match other {
+                Event::Branch {
+                    req: other_req,
+                    sess: other_sess,
+                    response: other_response,
+                } => *req == *other_req && *sess == *other_sess && response.same(other_response),
+                _ => false,
+            },
+            Event::Cancelled { req, sess } => match other {
+                Event::Cancelled {
+                    req: other_req,
+                    sess: other_sess,
+                } => *req == *other_req && *sess == *other_sess,
+                _ => false,
+            },
+            Event::Timer { id, info } => match other {
+                Event::Timer {
+                    id: other_id,
+                    info: other_info,
+                } => *id == *other_id && info.same(other_info),
+                _ => false,
+            },
+            Event::Expired => match other {
+                Event::Expired => true,
+                _ => false,
+            },
+            Event::Ready => match other {
+                Event::Ready => true,
+                _ => false,
+            },
         }
     }
 }

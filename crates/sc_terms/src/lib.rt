@@ -11,10 +11,12 @@ mod settings;
 mod steps;
 mod views;
 
-pub use calls::{Answer, Call, CallAnswer, CallRecord, End, Refusal};
+pub use calls::{
+    Answer, Ask, Call, CallAnswer, CallRecord, End, ProxyOptions, Refusal, Target,
+};
 pub use charters::{Charter, ListenerCharter};
 pub use events::Event;
 pub use inside::Inside;
 pub use settings::{AppEntry, Config, Dar, HostEntry, MethodList, Modifier, Tuple};
-pub use steps::{Line, Step};
+pub use steps::{Answerable, Bad, Line, Step};
 pub use views::{Period, RequestView, Role, SessionView, State, TimerView, View};

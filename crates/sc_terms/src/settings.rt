@@ -73,6 +73,11 @@ pub struct Tuple {
 /// What is done with a tuple's route (JSR 289 section 15.6).
 #[derive(Clone, Copy, Debug, PartialEq, Eq)]
 pub enum Modifier {
+    /// The request goes to the route, and the application isn't called, unless the route is the
+    /// container's own.
+    Route,
+    /// The request goes to the route and comes back to the router behind this tuple.
+    RouteBack,
     /// The route isn't used.
     NoRoute,
 }

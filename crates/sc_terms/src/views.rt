@@ -14,8 +14,12 @@ pub enum State {
 /// The part that the application plays in a SipSession.
 #[derive(Clone, Copy, Debug, PartialEq, Eq)]
 pub enum Role {
+    /// It sent the request that began the session.
+    Uac,
     /// It answers the request that began the session.
     Uas,
+    /// It proxies the request that began the session.
+    Proxy,
 }
 
 /// A SipSession as it is shown.

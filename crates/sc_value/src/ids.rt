@@ -38,6 +38,17 @@ pub enum Region {
     Neutral,
 }
 
+/// How the router goes on from the place of an origin (JSR 289 section 15.2.2).
+#[derive(Clone, Copy, Debug, PartialEq, Eq)]
+pub enum Directive {
+    /// From the beginning, as for a request from outside.
+    New,
+    /// With the application after the origin's.
+    Continue,
+    /// In the opposite region.
+    Reverse,
+}
+
 impl Same for AppId {
     fn same(&self, other: &AppId) -> bool {
         *self == *other
@@ -46,6 +57,12 @@ impl Same for AppId {
 
 impl Same for SessId {
     fn same(&self, other: &SessId) -> bool {
+        *self == *other
+    }
+}
+
+impl Same for Directive {
+    fn same(&self, other: &Directive) -> bool {
         *self == *other
     }
 }

@@ -24,7 +24,7 @@ mod tokens;
 pub use boxed::Boxed;
 pub use clone_in::CloneIn;
 pub use discard::Discard;
-pub use ids::{AppId, Place, Region, ReqId, SessId, TimerId};
+pub use ids::{AppId, Directive, Place, Region, ReqId, SessId, TimerId};
 pub use list::List;
 pub use message::{Head, Message, Request, Response, Sent};
 pub use names::{is_system_name, long_name, same_name};
