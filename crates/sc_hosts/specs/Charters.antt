@@ -1,0 +1,356 @@
+-- Charters: the stated interfaces of the servlets and of the listener, as the calls that they make.
+use Rattle.std.specs.Prelude.{◌≡◌, ◌≢◌, ◌<◌, ℕ, ◌+◌, ◌==◌, ◌^◌, List, [], ◌∷◌, ◌++◌, Bool, true, false, not, ◌&&◌, ◌||◌, Option, None, Some, Ok, Err, Result, is_some, option_map, option_and_then, unwrap_or, if◌then◌else◌, codes, decimal, nat_lt, pos}
+use Rattle.std.specs.List.{find, slice_get, filter_map, list_any}
+use Rattle.std.specs.Option.{option_map_or}
+use Rattle.sc_value.specs.declared.ids.ReqId.{ReqId}
+use Rattle.sc_value.specs.declared.ids.SessId.{SessId}
+use Rattle.sc_value.specs.declared.ids.Directive.TheVariants.{New, Reverse}
+use Rattle.sc_value.specs.declared.parts.Address.{Address}
+use Rattle.sc_value.specs.declared.parts.Field.{Field}
+use Rattle.sc_value.specs.declared.parts.Uri.{Uri}
+use Rattle.sc_value.specs.declared.parts.Uri.TheVariants.{Sip, Other}
+use Rattle.sc_value.specs.declared.message.Request.{Request}
+use Rattle.sc_value.specs.declared.message.Response.{Response}
+use Rattle.sc_value.specs.Params.{same_bytes}
+use Rattle.sc_terms.specs.declared.views.View.{View}
+use Rattle.sc_terms.specs.declared.views.RequestView.{RequestView}
+use Rattle.sc_terms.specs.declared.views.Period.TheVariants.{Once}
+use Rattle.sc_terms.specs.declared.events.Event.{Event}
+use Rattle.sc_terms.specs.declared.events.Event.TheVariants as events
+use Rattle.sc_terms.specs.declared.charters.Charter.{Charter}
+use Rattle.sc_terms.specs.declared.charters.Charter.TheVariants as charters
+use Rattle.sc_terms.specs.declared.charters.ListenerCharter.{ListenerCharter}
+use Rattle.sc_terms.specs.declared.charters.ListenerCharter.TheVariants as listeners
+use Rattle.sc_terms.specs.declared.calls.Answer.{Answer}
+use Rattle.sc_terms.specs.declared.calls.Ask.{Ask}
+use Rattle.sc_terms.specs.declared.calls.Call.{Call}
+use Rattle.sc_terms.specs.declared.calls.Call.TheVariants as calls
+use Rattle.sc_terms.specs.declared.calls.CallAnswer.{CallAnswer}
+use Rattle.sc_terms.specs.declared.calls.CallAnswer.TheVariants as answers
+use Rattle.sc_terms.specs.declared.calls.CallRecord.{CallRecord}
+use Rattle.sc_terms.specs.declared.calls.ProxyOptions.{ProxyOptions}
+use Rattle.sc_terms.specs.declared.calls.Refusal.{Refusal}
+use Rattle.sc_terms.specs.declared.calls.Refusal.TheVariants as refusals
+use Rattle.sc_terms.specs.declared.calls.End.{End}
+use Rattle.sc_terms.specs.declared.calls.End.TheVariants as ends
+use Rattle.sc_terms.specs.declared.inside.Inside.{Inside}
+use Rattle.sc_state.specs.declared.working.Play.{Play}
+use Rattle.sc_grammar.specs.Written.{Bytes}
+use Rattle.sc_syntax.specs.Numbers.{number_below}
+use Rattle.sc_syntax.specs.Uris.{uri_of}
+use Rattle.sc_model.specs.SessionStates.{invite, is_final}
+use Rattle.sc_hosts.specs.Looking.{request_in, partner}
+use Rattle.sc_hosts.specs.Refusals.{MOST_CALLS, begun_by}
+use Rattle.sc_hosts.specs.Effects.{begun, answer_of, after_listed}
+use Rattle.sc_hosts.specs.Words.{ack, options, ok, ringing, forbidden, too_many_hops, server_error}
+
+-- ## Lists of calls
+
+-- from here on each call has the answer that is right there
+unfoldable pub IsAnsweredFrom : Play → List CallRecord → Type 0
+IsAnsweredFrom play [] = Unit {0}
+IsAnsweredFrom play (made ∷ later) =
+    (play.listed < MOST_CALLS) × (made.answer ≡ answer_of play made.call) × IsAnsweredFrom (after_listed play made.call) later
+
+-- a list of calls that a turn on this view takes
+abbrev pub IsAnswered : View → List CallRecord → Type 0
+IsAnswered view made = IsAnsweredFrom (begun view) made
+
+-- ## Scripts: calls, each chosen with the answers before it
+
+pub data Script : Type 0 where
+  Done : Script
+  Make : Call → (CallAnswer → Script) → Script
+
+-- the calls that the script makes, each with its answer
+unfoldable pub played_from : Play → Script → List CallRecord
+played_from play Done = []
+played_from play (Make call next) =
+    record { call = call; answer = answer_of play call } ∷ played_from (after_listed play call) (next (answer_of play call))
+
+abbrev pub played : View → Script → List CallRecord
+played view script = played_from (begun view) script
+
+-- one call, and no more
+unfoldable pub only : Call → Script
+only call = Make call (λ answer. Done)
+
+-- one call, and then these whatever it answers
+unfoldable pub then_make : Call → Script → Script
+then_make call script = Make call (λ answer. script)
+
+-- the script for the number that the call gave; none where it was refused
+unfoldable pub with_number : (ℕ → Script) → CallAnswer → Script
+with_number next answers.Fine = Done
+with_number next (answers.Number n) = next n
+with_number next (answers.Refused refused) = Done
+
+-- the script where there is something, none else
+unfoldable pub where_some : {A : Type 0} → Option A → (A → Script) → Script
+where_some None next = Done
+where_some (Some a) next = next a
+
+-- ## Parts
+
+-- `respond` with this code and reason, and nothing else
+unfoldable pub reply : ReqId → ℕ → Bytes → Call
+reply req code reason = calls.Respond req (record { code = code; reason = reason; fields = []; contact = []; body = [] })
+
+-- an answer like a response that came
+unfoldable pub same_answer : Response → Answer
+same_answer response = record { code = response.code; reason = response.reason; fields = response.head.others; contact = []; body = response.head.body }
+
+-- a decimal that fits 32 bits
+unfoldable pub small_number : Bytes → Option ℕ
+small_number text = number_below (2 ^ 32) text
+
+unfoldable pub readable : Bytes → Option Uri
+readable text = of_result (uri_of text)
+  where
+  of_result : {E : Type 0} → Result Uri E → Option Uri
+  of_result (Ok uri) = Some uri
+  of_result (Err fault) = None
+
+unfoldable pub param_at : View → ℕ → Option Bytes
+param_at view i = slice_get view.params i
+
+unfoldable pub uri_param : View → ℕ → Option Uri
+uri_param view i = option_and_then readable (param_at view i)
+
+unfoldable pub attribute : Bytes → View → Option Bytes
+attribute name view = option_map (λ field. field.value) (find (λ field. same_bytes field.name name) view.attributes)
+
+unfoldable pub is_no_hops : CallAnswer → Bool
+is_no_hops (answers.Refused refusals.NoHops) = true
+is_no_hops answer = false
+
+unfoldable pub is_bad_text : CallAnswer → Bool
+is_bad_text (answers.Refused (refusals.BadText n)) = true
+is_bad_text answer = false
+
+unfoldable pub is_refused : CallAnswer → Bool
+is_refused (answers.Refused refused) = true
+is_refused answer = false
+
+-- ## answer
+
+unfoldable pub reply_ok : ReqId → Request → Script
+reply_ok req request = if same_bytes request.method ack then Done else only (reply req 200 ok)
+
+unfoldable pub answer_script : Event → Script
+answer_script (events.Initial req sess region subscriber popped request) = only (reply req 200 ok)
+answer_script (events.Request req sess request) = reply_ok req request
+answer_script event = Done
+
+-- ## Proxies: forward, recorder, block, fork
+
+-- all targets at once, 3xx followed, the application told; 181 seconds for each branch
+unfoldable pub proxy_options : Bool → ProxyOptions
+proxy_options record_route = record { parallel = true; recurse = true; supervised = true; record_route = record_route; timeout = 181 }
+
+unfoldable pub without_hops : ReqId → CallAnswer → Script
+without_hops req answer = if is_no_hops answer then only (reply req 483 too_many_hops) else Done
+
+unfoldable pub proxy_script : ReqId → List Uri → Bool → Script
+proxy_script req targets record_route = Make (calls.ProxyTo req targets (proxy_options record_route)) (without_hops req)
+
+-- to the parameter's URI where there is a readable one, else on to the Request-URI
+unfoldable pub forward_script : Bool → View → Event → Script
+forward_script record_route view (events.Initial req sess region subscriber popped request) =
+    proxy_script req (unwrap_or (uri_param view 0) request.uri ∷ []) record_route
+forward_script record_route view event = Done
+
+unfoldable pub user_of : Uri → Option Bytes
+user_of (Sip uri) = uri.user
+user_of (Other text) = None
+
+unfoldable pub is_blocked : View → Request → Bool
+is_blocked view request = option_map_or (λ user. list_any (same_bytes user) view.params) (user_of request.head.from.uri) false
+
+unfoldable pub block_script : View → Event → Script
+block_script view (events.Initial req sess region subscriber popped request) =
+    if is_blocked view request then only (reply req 403 forbidden) else proxy_script req (request.uri ∷ []) false
+block_script view event = Done
+
+unfoldable pub without_targets : ReqId → CallAnswer → Script
+without_targets req answer = if is_bad_text answer then only (reply req 500 server_error) else without_hops req answer
+
+unfoldable pub fork_script : View → Event → Script
+fork_script view (events.Initial req sess region subscriber popped request) =
+    Make (calls.ProxyTo req (filter_map readable view.params) (proxy_options true)) (without_targets req)
+fork_script view event = Done
+
+-- ## Back-to-back user agents: b2b, reverse (JSR 289 section 12)
+
+-- where the second leg can't be made
+unfoldable pub leg_failed : ReqId → CallAnswer → Script
+leg_failed req answer = if is_no_hops answer then only (reply req 483 too_many_hops) else only (reply req 500 server_error)
+
+unfoldable pub leg_sent : ReqId → CallAnswer → Script
+leg_sent req answer = if is_refused answer then only (reply req 500 server_error) else Done
+
+-- the second leg, sent after these calls on its draft
+unfoldable pub leg_made : ReqId → (ℕ → Script → Script) → CallAnswer → Script
+leg_made req before answers.Fine = Done
+leg_made req before (answers.Number draft) = before draft (Make (calls.Send draft) (leg_sent req))
+leg_made req before (answers.Refused refused) = leg_failed req (answers.Refused refused)
+
+-- `r` and the number of a request that was sent: the attribute that names the request which it serves
+unfoldable pub served_name : ℕ → Bytes
+served_name n = 114 ∷ decimal n
+
+-- a request of the peer, sent on in the dialog of the other leg
+unfoldable pub sent_on : ReqId → Request → SessId → Script
+sent_on req request other =
+    Make (calls.CreateInDialog other (record { method = request.method; fields = request.head.others; body = request.head.body }))
+      (with_number (λ draft. Make (calls.Send draft)
+      (with_number (λ n. only (calls.SetAttribute (served_name n) (decimal req.0))))))
+
+unfoldable pub other_leg : ReqId → Request → SessId → Script
+other_leg req request other = if same_bytes request.method ack then only (calls.Ack other request.head.body) else sent_on req request other
+
+-- a response to a request that was sent on
+unfoldable pub sent_back : View → ReqId → Response → Script
+sent_back view req response =
+    where_some (option_and_then small_number (attribute (served_name req.0) view)) (λ n.
+      then_make (calls.Respond (record { 0 = n }) (same_answer response))
+        (if is_final response.code then only (calls.RemoveAttribute (served_name req.0)) else Done))
+
+-- the request began its SipSession
+unfoldable pub is_initial : View → ReqId → Bool
+is_initial view req = option_map_or (λ request. request.initial) (request_in view req) false
+
+-- the initial request that was sent in a SipSession
+unfoldable pub sent_initial : View → SessId → Option RequestView
+sent_initial view sess = find (λ request. request.initial && not request.received && request.sess.0 == sess.0) view.requests
+
+unfoldable pub leg_script : (ReqId → ℕ → Script → Script) → View → Event → Script
+leg_script before view (events.Initial req sess region subscriber popped request) = Make (calls.B2bCreate req None) (leg_made req (before req))
+leg_script before view (events.Request req sess request) = where_some (partner view sess) (other_leg req request)
+leg_script before view (events.Response req sess response) =
+    if is_initial view req then where_some (partner view sess) (λ other. only (calls.B2bRespond other (same_answer response)))
+    else sent_back view req response
+leg_script before view (events.Branch req sess response) = Done
+leg_script before view (events.Cancelled req sess) =
+    where_some (partner view sess) (λ other. where_some (sent_initial view other) (λ request. only (calls.Cancel request.id)))
+leg_script before view (events.Timer id info) = Done
+leg_script before view events.Expired = Done
+leg_script before view events.Ready = Done
+
+unfoldable pub b2b_script : View → Event → Script
+b2b_script view event = leg_script (λ req draft script. script) view event
+
+-- the router is asked for the other region
+unfoldable pub reverse_script : View → Event → Script
+reverse_script view event = leg_script (λ req draft script. then_make (calls.SetDirective draft Reverse (Some req)) script) view event
+
+-- ## dial
+
+unfoldable pub plain_address : Uri → Address
+plain_address uri = record { display = None; uri = uri; params = [] }
+
+unfoldable pub dial_ask : Uri → Uri → Ask
+dial_ask from to = record {
+  method = options;
+  uri = to;
+  from = plain_address from;
+  to = plain_address to;
+  fields = [];
+  contact = [];
+  body = [];
+  directive = New;
+  origin = None;
+}
+
+unfoldable pub dial_script : View → Event → Script
+dial_script view (events.Initial req sess region subscriber popped request) =
+    then_make (reply req 200 ok)
+      (where_some (uri_param view 0) (λ from. where_some (uri_param view 1) (λ to.
+        Make (calls.CreateRequest (dial_ask from to)) (with_number (λ draft. only (calls.Send draft))))))
+dial_script view event = Done
+
+-- ## ringer
+
+unfoldable pub drop_word : Bytes
+drop_word = codes "drop"
+
+-- for so many milliseconds it rings
+unfoldable pub ringing_time : View → ℕ
+ringing_time view = unwrap_or (option_and_then small_number (param_at view 0)) 1000
+
+unfoldable pub drops : View → Bool
+drops view = option_map_or (same_bytes drop_word) (param_at view 1) false
+
+unfoldable pub ring : View → ReqId → Script
+ring view req = then_make (reply req 180 ringing) (only (calls.StartTimer (ringing_time view) Once (decimal req.0)))
+
+unfoldable pub ringer_script : View → Event → Script
+ringer_script view (events.Initial req sess region subscriber popped request) = if same_bytes request.method invite then ring view req else only (reply req 200 ok)
+ringer_script view (events.Request req sess request) = reply_ok req request
+ringer_script view (events.Response req sess response) = Done
+ringer_script view (events.Branch req sess response) = Done
+ringer_script view (events.Cancelled req sess) = where_some (slice_get view.timers 0) (λ timer. only (calls.CancelTimer timer.id))
+ringer_script view (events.Timer id info) =
+    if drops view then only calls.InvalidateApplication else where_some (small_number info) (λ n. only (reply (record { 0 = n }) 200 ok))
+ringer_script view events.Expired = Done
+ringer_script view events.Ready = Done
+
+-- ## The listener
+
+unfoldable pub extended_name : Bytes
+extended_name = codes "ext"
+
+unfoldable pub extended_value : Bytes
+extended_value = codes "1"
+
+-- at the first expiry three minutes more
+unfoldable pub extend_script : View → Event → Script
+extend_script view events.Expired =
+    if is_some (attribute extended_name view) then Done
+    else then_make (calls.SetAttribute extended_name extended_value) (only (calls.SetExpires (pos 3)))
+extend_script view event = Done
+
+-- ## What a turn may bring
+
+-- it makes the calls of the script and ends well
+unfoldable pub Plays : View → Script → List CallRecord → End → Type 0
+Plays view script made end = (made ≡ played view script) × (end ≡ ends.Fine)
+
+-- what a servlet of this charter promises of its turn
+unfoldable pub Promises : Charter → View → Event → List CallRecord → End → Type 0
+Promises charters.Answer view event made end = Plays view (answer_script event) made end
+Promises charters.Block view event made end = Plays view (block_script view event) made end
+Promises charters.Forward view event made end = Plays view (forward_script false view event) made end
+Promises charters.Fork view event made end = Plays view (fork_script view event) made end
+Promises charters.Recorder view event made end = Plays view (forward_script true view event) made end
+Promises charters.B2b view event made end = Plays view (b2b_script view event) made end
+Promises charters.Dial view event made end = Plays view (dial_script view event) made end
+Promises charters.Reverse view event made end = Plays view (reverse_script view event) made end
+Promises charters.Ringer view event made end = Plays view (ringer_script view event) made end
+Promises charters.Free view event made end = Unit {0}
+
+-- what a listener of this charter promises of its turn
+unfoldable pub ListenerPromises : ListenerCharter → View → Event → List CallRecord → End → Type 0
+ListenerPromises listeners.ExtendOnce view event made end = Plays view (extend_script view event) made end
+ListenerPromises listeners.Free view event made end = Unit {0}
+
+-- the listener is told of the application session's own events, the servlet of all others
+unfoldable pub is_listened : Event → Bool
+is_listened events.Expired = true
+is_listened events.Ready = true
+is_listened event = false
+
+-- nobody was called
+unfoldable pub IsSilent : List CallRecord → End → Type 0
+IsSilent made end = (made ≡ []) × (end ≡ ends.Fine)
+
+-- what a servlet, or the listener where there is one, may do at an event
+unfoldable pub Called : Charter → Option ListenerCharter → View → Event → Bool → List CallRecord → End → Type 0
+Called charter listener view event false made end = IsAnswered view made × Promises charter view event made end
+Called charter None view event true made end = IsSilent made end
+Called charter (Some listener) view event true made end = IsAnswered view made × ListenerPromises listener view event made end
+
+-- what a turn may bring that showed this view and event. A turn that wants memory is never taken
+unfoldable pub Allowed : Charter → Option ListenerCharter → View → Option Event → List CallRecord → End → Type 0
+Allowed charter listener view None made end = IsSilent made end
+Allowed charter listener view (Some event) made end = (end ≢ ends.Starved) × Called charter listener view event (is_listened event) made end

@@ -1,0 +1,284 @@
+-- What an accepted call leaves of the view and the drafts of its turn.
+use Rattle.std.specs.Prelude.{ℕ, ℤ, ◌+◌, ◌-◌, ◌==◌, List, [], ◌∷◌, ◌++◌, Bool, true, false, not, ◌||◌, ◌&&◌, Option, None, Some, is_some, is_none, option_map, option_and_then, unwrap_or, nat_lt, nat_le, if◌then◌else◌, length, map, filter}
+use Rattle.std.specs.List.{find, list_any, list_all, fold}
+use Rattle.std.specs.Option.{option_map_or}
+use Rattle.sc_value.specs.declared.ids.ReqId.{ReqId}
+use Rattle.sc_value.specs.declared.ids.SessId.{SessId}
+use Rattle.sc_value.specs.declared.parts.Field.{Field}
+use Rattle.sc_value.specs.Lists.{change_first, remove_first}
+use Rattle.sc_value.specs.Params.{same_bytes}
+use Rattle.sc_terms.specs.declared.views.View.{View}
+use Rattle.sc_terms.specs.declared.views.RequestView.{RequestView}
+use Rattle.sc_terms.specs.declared.views.SessionView.{SessionView}
+use Rattle.sc_terms.specs.declared.views.Period.{Period}
+use Rattle.sc_terms.specs.declared.views.State.TheVariants.{Initial}
+use Rattle.sc_terms.specs.declared.views.Role.{Role}
+use Rattle.sc_terms.specs.declared.views.Role.TheVariants as roles
+use Rattle.sc_terms.specs.declared.calls.Ask.{Ask}
+use Rattle.sc_terms.specs.declared.calls.Call.{Call}
+use Rattle.sc_terms.specs.declared.calls.Call.TheVariants as calls
+use Rattle.sc_terms.specs.declared.calls.CallAnswer.{CallAnswer}
+use Rattle.sc_terms.specs.declared.calls.CallAnswer.TheVariants as answers
+use Rattle.sc_terms.specs.declared.calls.CallRecord.{CallRecord}
+use Rattle.sc_terms.specs.declared.calls.Refusal.{Refusal}
+use Rattle.sc_terms.specs.declared.calls.Target.{Target}
+use Rattle.sc_terms.specs.declared.calls.Target.TheVariants as targets
+use Rattle.sc_terms.specs.declared.inside.Inside.{Inside}
+use Rattle.sc_state.specs.declared.working.Draft.{Draft}
+use Rattle.sc_state.specs.declared.working.Play.{Play}
+use Rattle.sc_grammar.specs.Written.{Bytes}
+use Rattle.sc_model.specs.Names.{tag_text, call_id_text}
+use Rattle.sc_model.specs.Records.{ip_text}
+use Rattle.sc_model.specs.SessionStates.{invite, is_final}
+use Rattle.sc_model.specs.Settings.{moment_after}
+use Rattle.sc_hosts.specs.Looking.{same_session, is_request, is_session, is_timer, request_in, session_in, is_gone_in, is_proxy, change_request, change_session, linked_to, unlinked, removed}
+use Rattle.sc_hosts.specs.Refusals.{draft_in, awaits_ack, begun_by, is_set, refusal}
+use Rattle.sc_hosts.specs.States.{after_response, ends_subscription}
+
+-- ## Which requests the view shows
+
+-- the SipSessions of a list that are there
+unfoldable pub there : View → List SessId → List SessId
+there view sessions = filter (λ sess. not (is_gone_in view sess)) sessions
+
+unfoldable pub with_there : View → RequestView → RequestView
+with_there view request = record request { unacked = there view request.unacked }
+
+-- an initial request stands as long as its SipSession, or one that waits for an ACK, is there; every
+-- other until its final response, and a sent INVITE until each 2xx has its ACK
+unfoldable pub stands : View → RequestView → Bool
+stands view request =
+    if request.initial then not (is_gone_in view request.sess) || not (length request.unacked == 0)
+    else is_none request.answered || not (length request.unacked == 0)
+
+-- the view with the requests that it shows
+unfoldable pub tidy : View → View
+tidy view = record view { requests = filter (stands view) (map (with_there view) view.requests) }
+
+-- ## Answers
+
+-- the first final code stays
+unfoldable pub with_answer : ℕ → RequestView → RequestView
+with_answer code request = if is_final code && is_none request.answered then record request { answered = Some code } else request
+
+abbrev pub with_response : RequestView → Bool → ℕ → SessionView → SessionView
+with_response request tagged code session = record session { state = after_response session.role request tagged session.state code }
+
+-- the view after a response of this code to a request, sent, handled or forwarded in this SipSession
+unfoldable pub answered_in : SessId → RequestView → Bool → ℕ → View → View
+answered_in sess request tagged code view =
+    change_session sess (with_response request tagged code) (change_request request.id (with_answer code) view)
+
+-- after an answer that the application or the container gave
+unfoldable pub answered : Option RequestView → ℕ → View → View
+answered None code view = view
+answered (Some request) code view = tidy (answered_in request.sess request true code view)
+
+-- ## SipSessions that calls make
+
+-- the names that a request of one's own draws, in this order: its Call-ID and its From tag
+unfoldable pub new_call_id : View → Bytes
+new_call_id view = call_id_text view.salt view.epoch (ip_text view.ip) view.app (view.counter + 1)
+
+unfoldable pub new_tag : View → Bytes
+new_tag view = tag_text view.salt view.epoch view.app (view.counter + 2)
+
+abbrev pub new_session : View → SessId
+new_session view = record { 0 = length view.sessions + 1 }
+
+unfoldable pub own_session : View → SessionView
+own_session view = record {
+  id = new_session view;
+  state = Initial;
+  role = roles.Uac;
+  call_id = new_call_id view;
+  own_tag = new_tag view;
+  peer_tag = None;
+  linked = None;
+  ready_flag = true;
+  gone = false;
+}
+
+unfoldable pub with_own_session : View → View
+with_own_session view = record view { sessions = view.sessions ++ own_session view ∷ []; counter = view.counter + 2 }
+
+-- two SipSessions linked
+unfoldable pub linked : SessId → SessId → View → View
+linked a b view = change_session a (linked_to (Some b)) (change_session b (linked_to (Some a)) view)
+
+-- ## Drafts
+
+unfoldable pub with_draft : Bytes → ℕ → Bool → Bool → SessId → Play → Play
+with_draft method hops initial ends sess play = record play {
+  drafts = play.drafts ++ record { number = play.drafted + 1; sess = sess; initial = initial; method = method; hops = hops; ends = ends } ∷ [];
+  drafted = play.drafted + 1;
+}
+
+abbrev pub with_view : View → Play → Play
+with_view view play = record play { view = view }
+
+-- the fields say that a NOTIFY ends its subscription
+unfoldable pub created : Ask → Play → Play
+created ask play = with_draft ask.method 70 true (ends_subscription ask.method ask.fields) (new_session play.view) (with_view (with_own_session play.view) play)
+
+unfoldable pub created_later : SessId → Inside → Play → Play
+created_later sess ask play = with_draft ask.method 70 false (ends_subscription ask.method ask.fields) sess play
+
+unfoldable pub created_leg : Option RequestView → Play → Play
+created_leg None play = play
+created_leg (Some request) play =
+    with_draft request.method (request.hops - 1) true request.ends (new_session play.view)
+      (with_view (linked request.sess (new_session play.view) (with_own_session play.view)) play)
+
+-- the draft as a request that was sent
+unfoldable pub sent_view : View → Draft → RequestView
+sent_view view draft = record {
+  id = record { 0 = view.next_request };
+  sess = draft.sess;
+  method = draft.method;
+  received = false;
+  initial = draft.initial;
+  hops = draft.hops;
+  answered = None;
+  proxied = false;
+  branches = 0;
+  unacked = [];
+  ends = draft.ends;
+}
+
+abbrev pub without_draft : ℕ → Play → Play
+without_draft number play = record play { drafts = remove_first (λ draft. draft.number == number) play.drafts }
+
+-- a request is sent: it gets its number and draws its branch
+unfoldable pub sent : ℕ → Option Draft → Play → Play
+sent number None play = play
+sent number (Some draft) play = without_draft number (with_view (record play.view {
+  requests = play.view.requests ++ sent_view play.view draft ∷ [];
+  next_request = play.view.next_request + 1;
+  counter = play.view.counter + 1;
+}) play)
+
+-- an initial draft that is dropped takes its SipSession with it
+unfoldable pub discarded : ℕ → Option Draft → Play → Play
+discarded number None play = play
+discarded number (Some draft) play =
+    without_draft number (if draft.initial then with_view (tidy (removed draft.sess play.view)) play else play)
+
+-- ## ACK
+
+unfoldable pub without_session : SessId → RequestView → RequestView
+without_session sess request = record request { unacked = remove_first (same_session sess) request.unacked }
+
+-- the ACK of the sent INVITE of lowest number draws its branch
+unfoldable pub acked : SessId → View → View
+acked sess view = tidy (record view { requests = change_first (awaits_ack sess) (without_session sess) view.requests; counter = view.counter + 1 })
+
+-- ## Proxies
+
+unfoldable pub proxied_request : ℕ → RequestView → RequestView
+proxied_request count request = record request { proxied = true; branches = request.branches + count }
+
+-- the SipSession then waits for the tag of the callee
+unfoldable pub proxying : SessionView → SessionView
+proxying session = if is_proxy session.role then session else record session { role = roles.Proxy; peer_tag = None }
+
+unfoldable pub proxied : Option RequestView → ℕ → View → View
+proxied None count view = view
+proxied (Some request) count view = change_session request.sess proxying (change_request request.id (proxied_request count) view)
+
+-- ## Timers, attributes, flags
+
+unfoldable pub with_timer : ℕ → Period → Bytes → View → View
+with_timer delay period info view = record view {
+  timers = view.timers ++ record { id = record { 0 = view.next_timer }; due = view.now + delay; period = period; info = info } ∷ [];
+  next_timer = view.next_timer + 1;
+}
+
+-- an attribute that is set again keeps its place
+unfoldable pub with_attribute : Bytes → Bytes → List Field → List Field
+with_attribute name value fields =
+    if is_set name fields then change_first (λ field. same_bytes field.name name) (λ field. record field { value = value }) fields
+    else fields ++ record { name = name; value = value } ∷ []
+
+unfoldable pub flagged : Target → Bool → View → View
+flagged targets.Application flag view = record view { ready_flag = flag }
+flagged (targets.Session sess) flag view = change_session sess (λ session. record session { ready_flag = flag }) view
+
+-- ## Each call
+
+unfoldable pub after_call : Play → Call → Play
+after_call play (calls.Respond req answer) = with_view (answered (request_in play.view req) answer.code play.view) play
+after_call play (calls.CreateRequest ask) = created ask play
+after_call play (calls.CreateInDialog sess ask) = created_later sess ask play
+after_call play (calls.B2bCreate req uri) = created_leg (request_in play.view req) play
+after_call play (calls.SetDirective draft directive origin) = play
+after_call play (calls.Send draft) = sent draft (draft_in play draft) play
+after_call play (calls.Discard draft) = discarded draft (draft_in play draft) play
+after_call play (calls.Ack sess body) = with_view (acked sess play.view) play
+after_call play (calls.Cancel req) = play
+after_call play (calls.ProxyTo req uris how) = with_view (proxied (request_in play.view req) (length uris) play.view) play
+after_call play (calls.ProxyCancel req) = play
+after_call play (calls.B2bRespond sess answer) = with_view (answered (begun_by play.view sess) answer.code play.view) play
+after_call play (calls.Link a b) = with_view (linked a b play.view) play
+after_call play (calls.Unlink a) = with_view (unlinked a play.view) play
+after_call play (calls.StartTimer delay period info) = with_view (with_timer delay period info play.view) play
+after_call play (calls.CancelTimer id) = with_view (record play.view { timers = remove_first (is_timer id) play.view.timers }) play
+after_call play (calls.SetAttribute name value) = with_view (record play.view { attributes = with_attribute name value play.view.attributes }) play
+after_call play (calls.RemoveAttribute name) =
+    with_view (record play.view { attributes = remove_first (λ field. same_bytes field.name name) play.view.attributes }) play
+after_call play (calls.SetExpires minutes) = with_view (record play.view { expires = moment_after play.view.now minutes }) play
+after_call play (calls.SetReadyFlag target flag) = with_view (flagged target flag play.view) play
+after_call play (calls.InvalidateSession sess) = with_view (tidy (removed sess play.view)) play
+after_call play calls.InvalidateApplication = record play { ended = true }
+
+-- ## What a call answers
+
+-- the number of what the call made
+unfoldable pub accepted : Play → Call → CallAnswer
+accepted play (calls.Respond req answer) = answers.Fine
+accepted play (calls.CreateRequest ask) = answers.Number (play.drafted + 1)
+accepted play (calls.CreateInDialog sess ask) = answers.Number (play.drafted + 1)
+accepted play (calls.B2bCreate req uri) = answers.Number (play.drafted + 1)
+accepted play (calls.SetDirective draft directive origin) = answers.Fine
+accepted play (calls.Send draft) = answers.Number play.view.next_request
+accepted play (calls.Discard draft) = answers.Fine
+accepted play (calls.Ack sess body) = answers.Fine
+accepted play (calls.Cancel req) = answers.Fine
+accepted play (calls.ProxyTo req uris how) = answers.Fine
+accepted play (calls.ProxyCancel req) = answers.Fine
+accepted play (calls.B2bRespond sess answer) = answers.Fine
+accepted play (calls.Link a b) = answers.Fine
+accepted play (calls.Unlink a) = answers.Fine
+accepted play (calls.StartTimer delay period info) = answers.Number play.view.next_timer
+accepted play (calls.CancelTimer id) = answers.Fine
+accepted play (calls.SetAttribute name value) = answers.Fine
+accepted play (calls.RemoveAttribute name) = answers.Fine
+accepted play (calls.SetExpires minutes) = answers.Fine
+accepted play (calls.SetReadyFlag target flag) = answers.Fine
+accepted play (calls.InvalidateSession sess) = answers.Fine
+accepted play calls.InvalidateApplication = answers.Fine
+
+unfoldable pub answer_by : Play → Call → Option Refusal → CallAnswer
+answer_by play call None = accepted play call
+answer_by play call (Some refused) = answers.Refused refused
+
+-- the answer that a call lists
+unfoldable pub answer_of : Play → Call → CallAnswer
+answer_of play call = answer_by play call (refusal play call)
+
+-- a refused call changes nothing
+unfoldable pub played_by : Play → Call → Option Refusal → Play
+played_by play call None = after_call play call
+played_by play call (Some refused) = play
+
+-- the play after a call, accepted or refused: it is listed
+unfoldable pub after_listed : Play → Call → Play
+after_listed play call = let after = played_by play call (refusal play call) in record after { listed = after.listed + 1 }
+
+-- as a turn begins
+unfoldable pub begun : View → Play
+begun view = record { view = view; drafts = []; drafted = 0; listed = 0; ended = false }
+
+-- the play after all calls of a list, in their order
+unfoldable pub after_calls : View → List CallRecord → Play
+after_calls view made = fold (λ play made. after_listed play made.call) (begun view) made

@@ -1,0 +1,126 @@
+-- Looking up in the view of an application session, and changing one thing of it.
+use Rattle.std.specs.Prelude.{ℕ, ◌+◌, ◌==◌, List, Bool, true, false, not, ◌&&◌, ◌||◌, Option, None, Some, is_some, option_and_then, option_map, nat_lt, length, filter, map}
+use Rattle.std.specs.List.{find, list_any}
+use Rattle.std.specs.Option.{option_map_or}
+use Rattle.sc_value.specs.declared.ids.ReqId.{ReqId}
+use Rattle.sc_value.specs.declared.ids.SessId.{SessId}
+use Rattle.sc_value.specs.declared.ids.TimerId.{TimerId}
+use Rattle.sc_value.specs.Lists.{change_first}
+use Rattle.sc_terms.specs.declared.views.View.{View}
+use Rattle.sc_terms.specs.declared.views.RequestView.{RequestView}
+use Rattle.sc_terms.specs.declared.views.SessionView.{SessionView}
+use Rattle.sc_terms.specs.declared.views.TimerView.{TimerView}
+use Rattle.sc_terms.specs.declared.views.State.{State}
+use Rattle.sc_terms.specs.declared.views.State.TheVariants.{Initial, Early, Confirmed, Terminated}
+use Rattle.sc_terms.specs.declared.views.Role.{Role}
+use Rattle.sc_terms.specs.declared.views.Role.TheVariants.{Uac, Uas, Proxy}
+
+-- ## By number
+
+abbrev pub same_request : ReqId → ReqId → Bool
+same_request a b = a.0 == b.0
+
+abbrev pub same_session : SessId → SessId → Bool
+same_session a b = a.0 == b.0
+
+abbrev pub is_request : ReqId → RequestView → Bool
+is_request req request = same_request request.id req
+
+abbrev pub is_session : SessId → SessionView → Bool
+is_session sess session = same_session session.id sess
+
+abbrev pub is_timer : TimerId → TimerView → Bool
+is_timer id timer = timer.id.0 == id.0
+
+abbrev pub request_in : View → ReqId → Option RequestView
+request_in view req = find (is_request req) view.requests
+
+abbrev pub session_in : View → SessId → Option SessionView
+session_in view sess = find (is_session sess) view.sessions
+
+abbrev pub timer_in : View → TimerId → Option TimerView
+timer_in view id = find (is_timer id) view.timers
+
+-- ## States and roles
+
+unfoldable pub is_initial_state : State → Bool
+is_initial_state Initial = true
+is_initial_state Early = false
+is_initial_state Confirmed = false
+is_initial_state Terminated = false
+
+unfoldable pub is_early : State → Bool
+is_early Initial = false
+is_early Early = true
+is_early Confirmed = false
+is_early Terminated = false
+
+unfoldable pub is_confirmed : State → Bool
+is_confirmed Initial = false
+is_confirmed Early = false
+is_confirmed Confirmed = true
+is_confirmed Terminated = false
+
+unfoldable pub is_terminated : State → Bool
+is_terminated Initial = false
+is_terminated Early = false
+is_terminated Confirmed = false
+is_terminated Terminated = true
+
+-- the state is that of a dialog
+abbrev pub is_open_state : State → Bool
+is_open_state state = is_early state || is_confirmed state
+
+unfoldable pub is_uac : Role → Bool
+is_uac Uac = true
+is_uac Uas = false
+is_uac Proxy = false
+
+unfoldable pub is_proxy : Role → Bool
+is_proxy Uac = false
+is_proxy Uas = false
+is_proxy Proxy = true
+
+-- ## What is gone
+
+-- the SipSession is there no more
+unfoldable pub is_gone : Option SessionView → Bool
+is_gone None = true
+is_gone (Some session) = session.gone
+
+abbrev pub is_gone_in : View → SessId → Bool
+is_gone_in view sess = is_gone (session_in view sess)
+
+-- how many SipSessions there are
+unfoldable pub session_count : View → ℕ
+session_count view = length (filter (λ session. not session.gone) view.sessions)
+
+-- ## Changes of one thing
+
+abbrev pub change_request : ReqId → (RequestView → RequestView) → View → View
+change_request req change view = record view { requests = change_first (is_request req) change view.requests }
+
+abbrev pub change_session : SessId → (SessionView → SessionView) → View → View
+change_session sess change view = record view { sessions = change_first (is_session sess) change view.sessions }
+
+abbrev pub in_state : State → SessionView → SessionView
+in_state state session = record session { state = state }
+
+abbrev pub linked_to : Option SessId → SessionView → SessionView
+linked_to other session = record session { linked = other }
+
+-- the SipSession to which this one is linked
+unfoldable pub partner : View → SessId → Option SessId
+partner view sess = option_and_then (λ session. session.linked) (session_in view sess)
+
+unfoldable pub unlinked_from : Option SessId → View → View
+unlinked_from None view = view
+unlinked_from (Some other) view = change_session other (linked_to None) view
+
+-- the link of a SipSession taken away, on both sides
+unfoldable pub unlinked : SessId → View → View
+unlinked sess view = change_session sess (linked_to None) (unlinked_from (partner view sess) view)
+
+-- the SipSession gone, with its link
+unfoldable pub removed : SessId → View → View
+removed sess view = change_session sess (λ session. record session { gone = true }) (unlinked sess view)

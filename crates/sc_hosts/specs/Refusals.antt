@@ -1,0 +1,318 @@
+-- Which refusal each call of a turn gets: the first that holds, in the order written. A call is judged
+-- by the view, by the drafts of its turn, and by how many calls were made.
+use Rattle.std.specs.Prelude.{ℕ, ◌+◌, ◌==◌, ◌*◌, List, [], ◌∷◌, ◌++◌, Bool, true, false, not, ◌||◌, ◌&&◌, Option, None, Some, is_some, is_none, option_map, option_and_then, nat_lt, nat_le, if◌then◌else◌, length, map, filter, min, position, sum_by}
+use Rattle.std.specs.List.{find, list_any, list_all}
+use Rattle.std.specs.Option.{option_or, option_map_or}
+use Rattle.sc_value.specs.declared.ids.ReqId.{ReqId}
+use Rattle.sc_value.specs.declared.ids.SessId.{SessId}
+use Rattle.sc_value.specs.declared.ids.Directive.{Directive}
+use Rattle.sc_value.specs.declared.ids.Directive.TheVariants.{New, Continue, Reverse}
+use Rattle.sc_value.specs.declared.parts.Contact.{Contact}
+use Rattle.sc_value.specs.declared.parts.Field.{Field}
+use Rattle.sc_value.specs.HeaderNames.{is_system_name}
+use Rattle.sc_value.specs.Params.{same_bytes}
+use Rattle.sc_value.specs.Tokens.{is_token, is_value, is_one_line}
+use Rattle.sc_terms.specs.declared.views.View.{View}
+use Rattle.sc_terms.specs.declared.views.RequestView.{RequestView}
+use Rattle.sc_terms.specs.declared.views.SessionView.{SessionView}
+use Rattle.sc_terms.specs.declared.views.Period.{Period}
+use Rattle.sc_terms.specs.declared.views.Period.TheVariants.{Once, Rate, Delay}
+use Rattle.sc_terms.specs.declared.views.State.{State}
+use Rattle.sc_terms.specs.declared.views.State.TheVariants.{Terminated}
+use Rattle.sc_terms.specs.declared.calls.Answer.{Answer}
+use Rattle.sc_terms.specs.declared.calls.Ask.{Ask}
+use Rattle.sc_terms.specs.declared.calls.Call.{Call}
+use Rattle.sc_terms.specs.declared.calls.Call.TheVariants as calls
+use Rattle.sc_terms.specs.declared.calls.ProxyOptions.{ProxyOptions}
+use Rattle.sc_terms.specs.declared.calls.Target.TheVariants as targets
+use Rattle.sc_terms.specs.declared.calls.Refusal.{Refusal}
+use Rattle.sc_terms.specs.declared.calls.Refusal.TheVariants.{NotYours, AlreadyAnswered, NotInitial, WrongState, AlreadyProxy, AlreadyLinked, NotLinked, Invalidated, Limit, SystemHeader, BadText, NoHops, NotSent}
+use Rattle.sc_terms.specs.declared.inside.Inside.{Inside}
+use Rattle.sc_state.specs.declared.working.Draft.{Draft}
+use Rattle.sc_state.specs.declared.working.Play.{Play}
+use Rattle.sc_grammar.specs.Written.{Bytes}
+use Rattle.sc_model.specs.SessionStates.{invite}
+use Rattle.sc_hosts.specs.Looking.{same_session, is_session, request_in, session_in, timer_in, is_gone, is_gone_in, is_initial_state, is_open_state, is_terminated, is_proxy, session_count, partner}
+use Rattle.sc_hosts.specs.Words.{ack, cancel, register, options}
+
+-- ## Limits
+
+abbrev pub MOST_CALLS : ℕ
+MOST_CALLS = 256
+
+abbrev pub MOST_SESSIONS : ℕ
+MOST_SESSIONS = 64
+
+abbrev pub MOST_BRANCHES : ℕ
+MOST_BRANCHES = 32
+
+abbrev pub MOST_TIMERS : ℕ
+MOST_TIMERS = 64
+
+abbrev pub MOST_ATTRIBUTE_BYTES : ℕ
+MOST_ATTRIBUTE_BYTES = 4096
+
+-- the first test that holds gives the refusal
+unfoldable pub first_of : List (Bool × Refusal) → Option Refusal
+first_of [] = None
+first_of ((test, refusal) ∷ rest) = if test then Some refusal else first_of rest
+
+-- ## What a call names
+
+abbrev pub draft_in : Play → ℕ → Option Draft
+draft_in play number = find (λ draft. draft.number == number) play.drafts
+
+-- the SipSession of a request or a draft, none where nothing has the number
+unfoldable pub session_of_request : Play → ReqId → Option SessId
+session_of_request play req = option_map (λ request. request.sess) (request_in play.view req)
+
+unfoldable pub session_of_draft : Play → ℕ → Option SessId
+session_of_draft play number = option_map (λ draft. draft.sess) (draft_in play number)
+
+unfoldable pub known_session : Play → SessId → Option SessId
+known_session play sess = option_map (λ session. session.id) (session_in play.view sess)
+
+unfoldable pub of_origin : Play → Option ReqId → List (Option SessId)
+of_origin play None = []
+of_origin play (Some req) = session_of_request play req ∷ []
+
+-- the SipSessions that the call names by themselves, by a request or by a draft
+unfoldable pub named : Play → Call → List (Option SessId)
+named play (calls.Respond req answer) = session_of_request play req ∷ []
+named play (calls.CreateRequest ask) = of_origin play ask.origin
+named play (calls.CreateInDialog sess ask) = known_session play sess ∷ []
+named play (calls.B2bCreate req uri) = session_of_request play req ∷ []
+named play (calls.SetDirective draft directive origin) = session_of_draft play draft ∷ of_origin play origin
+named play (calls.Send draft) = session_of_draft play draft ∷ []
+named play (calls.Discard draft) = session_of_draft play draft ∷ []
+named play (calls.Ack sess body) = known_session play sess ∷ []
+named play (calls.Cancel req) = session_of_request play req ∷ []
+named play (calls.ProxyTo req uris how) = session_of_request play req ∷ []
+named play (calls.ProxyCancel req) = session_of_request play req ∷ []
+named play (calls.B2bRespond sess answer) = known_session play sess ∷ []
+named play (calls.Link a b) = known_session play a ∷ known_session play b ∷ []
+named play (calls.Unlink a) = known_session play a ∷ []
+named play (calls.StartTimer delay period info) = []
+named play (calls.CancelTimer id) = []
+named play (calls.SetAttribute name value) = []
+named play (calls.RemoveAttribute name) = []
+named play (calls.SetExpires minutes) = []
+named play (calls.SetReadyFlag (targets.Session sess) flag) = known_session play sess ∷ []
+named play (calls.SetReadyFlag targets.Application flag) = []
+named play (calls.InvalidateSession sess) = known_session play sess ∷ []
+named play calls.InvalidateApplication = []
+
+-- some number names nothing, and then some SipSession that is named is gone
+unfoldable pub name_refusal : View → List (Option SessId) → Option Refusal
+name_refusal view names =
+    if list_any is_none names then Some NotYours
+    else (if list_any (λ name. option_map_or (is_gone_in view) name true) names then Some Invalidated
+    else None)
+
+-- ## Texts (RFC 3261 sections 7.3 and 25.1)
+
+-- the field's name is no token, or its value no header value
+unfoldable pub is_bad_field : Field → Bool
+is_bad_field field = not (is_token field.name) || not (is_value field.value)
+
+-- the number of the first field out of form: 2 and more by its place
+unfoldable pub bad_field : List Field → Option Refusal
+bad_field fields = option_map (λ i. BadText (min (i + 2) 4294967295)) (position is_bad_field fields)
+
+unfoldable pub has_system_name : List Field → Bool
+has_system_name fields = list_any (λ field. is_system_name field.name) fields
+
+-- a code outside 101 to 699, then a reason of more than one line, then a field
+unfoldable pub answer_text : Answer → Option Refusal
+answer_text answer =
+    option_or (first_of ((nat_lt answer.code 101 || nat_lt 699 answer.code, BadText 0) ∷ (not (is_one_line answer.reason), BadText 1) ∷ [])) (bad_field answer.fields)
+
+-- a method that is no token, or is ACK or CANCEL
+unfoldable pub is_bad_method : Bytes → Bool
+is_bad_method method = not (is_token method) || same_bytes method ack || same_bytes method cancel
+
+unfoldable pub asked_text : Bytes → List Field → Option Refusal
+asked_text method fields = option_or (first_of ((is_bad_method method, BadText 0) ∷ [])) (bad_field fields)
+
+-- an answer may carry a Contact of its own where it is a 3xx, a 485, a 200 to OPTIONS, or answers a
+-- REGISTER (RFC 3261 sections 10.3, 11.2 and 21)
+unfoldable pub may_have_contact : Bytes → ℕ → Bool
+may_have_contact method code =
+    (nat_le 300 code && nat_lt code 400) || code == 485 || (code == 200 && same_bytes method options) || same_bytes method register
+
+unfoldable pub has_system_answer : Bytes → Answer → Bool
+has_system_answer method answer = has_system_name answer.fields || (not (length answer.contact == 0) && not (may_have_contact method answer.code))
+
+unfoldable pub has_system_ask : Ask → Bool
+has_system_ask ask = has_system_name ask.fields || (not (length ask.contact == 0) && not (same_bytes ask.method register))
+
+-- ## Each call
+
+-- what `respond` refuses of a request
+unfoldable pub respond_refusal : RequestView → Answer → Option Refusal
+respond_refusal request answer =
+    option_or (first_of (
+      (not request.received || same_bytes request.method ack, NotYours)
+      ∷ (request.proxied, AlreadyProxy)
+      ∷ (is_some request.answered, AlreadyAnswered)
+      ∷ (has_system_answer request.method answer, SystemHeader)
+      ∷ [])) (answer_text answer)
+
+unfoldable pub is_new : Directive → Bool
+is_new New = true
+is_new Continue = false
+is_new Reverse = false
+
+-- the origin is a request that came and began its SipSession
+unfoldable pub is_origin : Play → Option ReqId → Bool
+is_origin play origin = option_map_or (λ req. option_map_or (λ request. request.received && request.initial) (request_in play.view req) false) origin false
+
+unfoldable pub is_sent_origin : Play → Option ReqId → Bool
+is_sent_origin play origin = option_map_or (λ req. option_map_or (λ request. not request.received) (request_in play.view req) false) origin false
+
+unfoldable pub create_refusal : Play → Ask → Option Refusal
+create_refusal play ask =
+    option_or (first_of (
+      (nat_le MOST_SESSIONS (session_count play.view), Limit MOST_SESSIONS)
+      ∷ (is_sent_origin play ask.origin, NotYours)
+      ∷ (not (is_new ask.directive) && not (is_origin play ask.origin), NotInitial)
+      ∷ (has_system_ask ask, SystemHeader)
+      ∷ [])) (asked_text ask.method ask.fields)
+
+unfoldable pub dialog_refusal : Option SessionView → Inside → Option Refusal
+dialog_refusal None ask = Some NotYours
+dialog_refusal (Some session) ask =
+    option_or (first_of (
+      (not (is_open_state session.state) || is_proxy session.role, WrongState session.state)
+      ∷ (has_system_name ask.fields, SystemHeader)
+      ∷ [])) (asked_text ask.method ask.fields)
+
+unfoldable pub linked_refusal : Option SessId → Option Refusal
+linked_refusal other = option_map (λ sess. AlreadyLinked sess) other
+
+unfoldable pub b2b_refusal : Play → Option RequestView → Option Refusal
+b2b_refusal play None = Some NotYours
+b2b_refusal play (Some request) =
+    option_or (first_of (
+      (not request.received, NotYours)
+      ∷ (not request.initial, NotInitial)
+      ∷ (request.proxied, AlreadyProxy)
+      ∷ (is_some request.answered, AlreadyAnswered)
+      ∷ [])) (option_or (linked_refusal (partner play.view request.sess)) (first_of (
+      (request.hops == 0, NoHops)
+      ∷ (nat_le MOST_SESSIONS (session_count play.view), Limit MOST_SESSIONS)
+      ∷ [])))
+
+unfoldable pub directive_refusal : Play → Option Draft → Directive → Option ReqId → Option Refusal
+directive_refusal play None directive origin = Some NotYours
+directive_refusal play (Some draft) directive origin =
+    first_of ((not draft.initial || (not (is_new directive) && not (is_origin play origin)), NotInitial) ∷ [])
+
+unfoldable pub is_ended_session : Option SessionView → Bool
+is_ended_session session = option_map_or (λ s. is_terminated s.state) session false
+
+unfoldable pub send_refusal : Play → Option Draft → Option Refusal
+send_refusal play None = Some NotYours
+send_refusal play (Some draft) =
+    first_of ((not draft.initial && is_ended_session (session_in play.view draft.sess), WrongState Terminated) ∷ [])
+
+-- the sent INVITE whose 2xx in this SipSession has no ACK
+abbrev pub awaits_ack : SessId → RequestView → Bool
+awaits_ack sess request = list_any (same_session sess) request.unacked
+
+unfoldable pub cancel_refusal : View → Option RequestView → Option Refusal
+cancel_refusal view None = Some NotYours
+cancel_refusal view (Some request) =
+    option_or (first_of ((request.received || not (same_bytes request.method invite), NotSent) ∷ []))
+              (if is_some request.answered then option_map (λ session. WrongState session.state) (session_in view request.sess) else None)
+
+unfoldable pub is_begun : Option SessionView → Bool
+is_begun session = option_map_or (λ s. not (is_initial_state s.state)) session false
+
+unfoldable pub state_refusal : Option SessionView → Option Refusal
+state_refusal session = option_map (λ s. WrongState s.state) session
+
+-- the branches that the application session has had
+unfoldable pub branch_count : View → ℕ
+branch_count view = sum_by (λ request. request.branches) view.requests
+
+unfoldable pub proxy_refusal : Play → Option RequestView → ℕ → ProxyOptions → Option Refusal
+proxy_refusal play None count how = Some NotYours
+proxy_refusal play (Some request) count how =
+    option_or (first_of (
+      (not request.received, NotYours)
+      ∷ (not request.initial, NotInitial)
+      ∷ (is_some request.answered && not request.proxied, AlreadyAnswered)
+      ∷ (is_some request.answered, AlreadyProxy)
+      ∷ [])) (option_or (if not request.proxied && is_begun (session_in play.view request.sess) then state_refusal (session_in play.view request.sess) else None)
+      (first_of (
+      (request.hops == 0, NoHops)
+      ∷ (count == 0, BadText 0)
+      ∷ (how.timeout == 0 || nat_lt 3600 how.timeout, BadText 1)
+      ∷ (nat_lt MOST_BRANCHES (branch_count play.view + count), Limit MOST_BRANCHES)
+      ∷ [])))
+
+unfoldable pub proxy_cancel_refusal : Option RequestView → Option Refusal
+proxy_cancel_refusal None = Some NotYours
+proxy_cancel_refusal (Some request) = first_of ((not request.proxied, NotSent) ∷ (is_some request.answered, AlreadyAnswered) ∷ [])
+
+-- the received request that began the SipSession
+unfoldable pub begun_by : View → SessId → Option RequestView
+begun_by view sess = find (λ request. request.received && request.initial && same_session request.sess sess) view.requests
+
+unfoldable pub b2b_respond_refusal : View → SessId → Answer → Option Refusal
+b2b_respond_refusal view sess answer =
+    if is_none (partner view sess) then Some NotLinked
+    else option_map_or (λ request. respond_refusal request answer) (begun_by view sess) (Some NotYours)
+
+unfoldable pub link_refusal : View → SessId → SessId → Option Refusal
+link_refusal view a b =
+    option_or (first_of (
+      (same_session a b, AlreadyLinked a)
+      ∷ (is_ended_session (session_in view a) || is_ended_session (session_in view b), WrongState Terminated)
+      ∷ [])) (option_or (linked_refusal (partner view a)) (linked_refusal (partner view b)))
+
+unfoldable pub is_zero_period : Period → Bool
+is_zero_period Once = false
+is_zero_period (Rate n) = n == 0
+is_zero_period (Delay n) = n == 0
+
+-- the bytes of the attributes, without one of this name
+unfoldable pub attribute_bytes : Bytes → List Field → ℕ
+attribute_bytes name fields = sum_by (λ field. length field.name + length field.value) (filter (λ field. not (same_bytes field.name name)) fields)
+
+unfoldable pub is_set : Bytes → List Field → Bool
+is_set name fields = list_any (λ field. same_bytes field.name name) fields
+
+-- the call's own refusal
+unfoldable pub own_refusal : Play → Call → Option Refusal
+own_refusal play (calls.Respond req answer) = option_map_or (λ request. respond_refusal request answer) (request_in play.view req) (Some NotYours)
+own_refusal play (calls.CreateRequest ask) = create_refusal play ask
+own_refusal play (calls.CreateInDialog sess ask) = dialog_refusal (session_in play.view sess) ask
+own_refusal play (calls.B2bCreate req uri) = b2b_refusal play (request_in play.view req)
+own_refusal play (calls.SetDirective draft directive origin) = directive_refusal play (draft_in play draft) directive origin
+own_refusal play (calls.Send draft) = send_refusal play (draft_in play draft)
+own_refusal play (calls.Discard draft) = None
+own_refusal play (calls.Ack sess body) = first_of ((not (list_any (awaits_ack sess) play.view.requests), NotSent) ∷ [])
+own_refusal play (calls.Cancel req) = cancel_refusal play.view (request_in play.view req)
+own_refusal play (calls.ProxyTo req uris how) = proxy_refusal play (request_in play.view req) (length uris) how
+own_refusal play (calls.ProxyCancel req) = proxy_cancel_refusal (request_in play.view req)
+own_refusal play (calls.B2bRespond sess answer) = b2b_respond_refusal play.view sess answer
+own_refusal play (calls.Link a b) = link_refusal play.view a b
+own_refusal play (calls.Unlink a) = first_of ((is_none (partner play.view a), NotLinked) ∷ [])
+own_refusal play (calls.StartTimer delay period info) =
+    first_of ((is_zero_period period, BadText 1) ∷ (nat_le MOST_TIMERS (length play.view.timers), Limit MOST_TIMERS) ∷ [])
+own_refusal play (calls.CancelTimer id) = first_of ((is_none (timer_in play.view id), NotYours) ∷ [])
+own_refusal play (calls.SetAttribute name value) =
+    first_of ((nat_lt MOST_ATTRIBUTE_BYTES (attribute_bytes name play.view.attributes + length name + length value), Limit MOST_ATTRIBUTE_BYTES) ∷ [])
+own_refusal play (calls.RemoveAttribute name) = first_of ((not (is_set name play.view.attributes), NotYours) ∷ [])
+own_refusal play (calls.SetExpires minutes) = None
+own_refusal play (calls.SetReadyFlag target flag) = None
+own_refusal play (calls.InvalidateSession sess) = None
+own_refusal play calls.InvalidateApplication = None
+
+-- the refusal of a call, none where it is accepted
+unfoldable pub refusal : Play → Call → Option Refusal
+refusal play call =
+    option_or (first_of ((nat_le MOST_CALLS play.listed, Limit MOST_CALLS) ∷ (play.ended, Invalidated) ∷ []))
+              (option_or (name_refusal play.view (named play call)) (own_refusal play call))

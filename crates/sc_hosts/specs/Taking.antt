@@ -1,0 +1,285 @@
+-- What a host takes from outside or from another host, and what it answers at once (RFC 3261 sections
+-- 8.2, 9.2, 12.2.2 and 17). The limits are this project's own.
+use Rattle.std.specs.Prelude.{ℕ, ◌+◌, ◌==◌, List, [], ◌∷◌, ◌++◌, Bool, true, false, not, ◌&&◌, ◌||◌, Option, None, Some, is_some, is_none, option_map, option_and_then, nat_lt, nat_le, if◌then◌else◌, length, map, slice_get, drop}
+use Rattle.std.specs.List.{find, list_any}
+use Rattle.std.specs.Option.{option_map_or}
+use Rattle.sc_value.specs.declared.ids.AppId.{AppId}
+use Rattle.sc_value.specs.declared.parts.Uri.{Uri}
+use Rattle.sc_value.specs.declared.parts.Uri.TheVariants.{Sip, Other}
+use Rattle.sc_value.specs.declared.message.Message.{Message}
+use Rattle.sc_value.specs.declared.message.Message.TheVariants as messages
+use Rattle.sc_value.specs.declared.message.Request.{Request}
+use Rattle.sc_value.specs.declared.message.Response.{Response}
+use Rattle.sc_value.specs.Lists.{change_first}
+use Rattle.sc_value.specs.Params.{same_bytes, param_value}
+use Rattle.sc_terms.specs.declared.settings.Config.{Config}
+use Rattle.sc_parts.specs.declared.transactions.ClientItem.TheVariants as client_items
+use Rattle.sc_parts.specs.declared.transactions.ClientOut.{ClientOut}
+use Rattle.sc_parts.specs.declared.transactions.ServerItem.TheVariants as server_items
+use Rattle.sc_state.specs.declared.host.Client.{Client}
+use Rattle.sc_state.specs.declared.host.Host.{Host}
+use Rattle.sc_state.specs.declared.host.Live.{Live}
+use Rattle.sc_state.specs.declared.host.Peer.{Peer}
+use Rattle.sc_state.specs.declared.host.Reply.{Reply}
+use Rattle.sc_state.specs.declared.host.Server.{Server}
+use Rattle.sc_state.specs.declared.host.Taken.{Taken}
+use Rattle.sc_state.specs.declared.net.Note.{Note}
+use Rattle.sc_state.specs.declared.queue.Queued.{Queued}
+use Rattle.sc_state.specs.declared.queue.Queued.TheVariants as queued
+use Rattle.sc_state.specs.declared.queue.Waiting.{Waiting}
+use Rattle.sc_grammar.specs.Written.{Bytes}
+use Rattle.sc_model.specs.Dialogs.{tag_of, update}
+use Rattle.sc_model.specs.Names.{ap_name, ap_value, edge_tag, tag_text}
+use Rattle.sc_model.specs.OwnHosts.{is_own}
+use Rattle.sc_model.specs.ServerTransactions.{is_sent_again}
+use Rattle.sc_model.specs.SessionStates.{invite, bye, is_final}
+use Rattle.sc_hosts.specs.Messages.{ack_of, cancel_of, own_response, trying_response, without_via}
+use Rattle.sc_hosts.specs.Sessions.{Form}
+use Rattle.sc_hosts.specs.Transacting.{method_of, client_for, out_of_client, pass_client, with_client, is_cancel_client, is_cancelled_by, is_acked_by, is_repeated_by, has_final, is_server, pass_server}
+use Rattle.sc_hosts.specs.Words.{ack, cancel, prack, ok, trying, does_not_exist, unavailable}
+
+-- ## Limits
+
+abbrev pub MOST_LIVE : ℕ
+MOST_LIVE = 4096
+
+abbrev pub MOST_WAITING : ℕ
+MOST_WAITING = 64
+
+-- ## Sessions and their inboxes
+
+abbrev pub is_live : {S : Type 0} → ℕ → Live S → Bool
+is_live serial live = live.serial == serial
+
+abbrev pub live_in : {S : Type 0} → ℕ → Host S → Option (Live S)
+live_in serial host = find (is_live serial) host.sessions
+
+-- an event more, under this number; the first that waits became first at this moment
+unfoldable pub with_event : {S : Type 0} → ℕ → ℕ → Queued → Live S → Live S
+with_event number now event live = record live {
+  inbox = live.inbox ++ record { number = number; event = event } ∷ [];
+  since = if length live.inbox == 0 then now else live.since;
+}
+
+unfoldable pub quiet : {S : Type 0} → Host S → ℕ → Taken S
+quiet host count = record { host = host; reply = None; count = count }
+
+-- an event is queued where its session lives; else it is dropped
+unfoldable pub queue : {S : Type 0} → ℕ → ℕ → Queued → ℕ → Host S → Taken S
+queue serial now event count host =
+    if is_some (live_in serial host)
+    then quiet (record host { sessions = change_first (is_live serial) (with_event (count + 1) now event) host.sessions }) (count + 1)
+    else quiet host count
+
+-- as many events wait as may
+unfoldable pub is_full : {S : Type 0} → Live S → Bool
+is_full live = nat_le MOST_WAITING (length live.inbox)
+
+unfoldable pub is_full_at : {S : Type 0} → ℕ → Host S → Bool
+is_full_at serial host = option_map_or is_full (live_in serial host) false
+
+abbrev pub replying : {S : Type 0} → Peer → Message → Taken S → Taken S
+replying peer message taken = record taken { reply = Some (record { peer = peer; message = message }) }
+
+-- ## Responses
+
+-- a provisional response finds no room in a full inbox
+unfoldable pub told : {S : Type 0} → ℕ → Client → Response → ℕ → Host S → Taken S
+told now client response count host =
+    if is_cancel_client client || (not (is_final response.code) && is_full_at client.app.serial host) then quiet host count
+    else queue client.app.serial now (queued.Response client.branch (without_via response)) count host
+
+unfoldable pub told_by : {S : Type 0} → Option ℕ → ℕ → Client → Response → ℕ → Host S → Taken S
+told_by None now client response count host = quiet host count
+told_by (Some code) now client response count host = told now client response count host
+
+-- the client transaction of a CANCEL
+unfoldable pub cancelling : ℕ → Client → Client
+cancelling now client = record client { request = cancel_of client.request; sent = now; passed = [] }
+
+-- an ACK to a final response other than 2xx, or a CANCEL that waited
+unfoldable pub with_reply : {S : Type 0} → ClientOut → ℕ → Client → Response → Taken S → Taken S
+with_reply out now client response taken =
+    if out.ack then replying client.peer (messages.Request (ack_of client.request response)) taken
+    else (if out.cancel then replying client.peer (messages.Request (cancel_of client.request)) (record taken { host = with_client (cancelling now client) taken.host })
+    else taken)
+
+unfoldable pub response_for : {S : Type 0} → ℕ → Client → Response → ℕ → Host S → Taken S
+response_for now client response count host =
+    let item = client_items.ResponseCame response.code now in
+    with_reply (out_of_client client item) now client response
+      (told_by (out_of_client client item).tell now client response count (pass_client client.app client.branch (is_cancel_client client) item host))
+
+unfoldable pub response_to : {S : Type 0} → ℕ → Option Client → Response → ℕ → Host S → Taken S
+response_to now None response count host = quiet host count
+response_to now (Some client) response count host = response_for now client response count host
+
+-- a response that belongs to no client transaction is dropped
+unfoldable pub take_response : {S : Type 0} → Config → ℕ → Peer → ℕ → Response → ℕ → Host S → Taken S
+take_response config epoch from now response count host = response_to now (client_for config.salt epoch from response host) response count host
+
+-- ## CANCEL, ACK and repeated requests
+
+-- 200, and the session is told where its INVITE has no final response
+unfoldable pub cancelled : {S : Type 0} → Peer → ℕ → Server → Request → ℕ → Host S → Taken S
+cancelled from now server request count host =
+    replying from (messages.Response (own_response server.tag 200 ok request))
+      (if has_final server then quiet host count else queue server.app.serial now (queued.Cancelled server.event) count host)
+
+unfoldable pub last_again : {S : Type 0} → Server → Option Response → Taken S → Taken S
+last_again server None taken = taken
+last_again server (Some response) taken = replying server.peer (messages.Response response) taken
+
+unfoldable pub again_if : {S : Type 0} → Bool → Server → Taken S → Taken S
+again_if true server taken = last_again server server.last taken
+again_if false server taken = taken
+
+unfoldable pub repeated : {S : Type 0} → Server → ℕ → Host S → Taken S
+repeated server count host =
+    again_if (is_sent_again (same_bytes (method_of server.request) invite) server.passed) server (quiet (pass_server server.event server_items.RequestAgain host) count)
+
+-- which live transaction a request belongs to
+pub data Claim : Type 0 where
+  Cancels : Server → Claim
+  Acks : Server → Claim
+  Repeats : Server → Claim
+  Unclaimed : Claim
+
+unfoldable pub claim_by : (Server → Claim) → Option Server → Claim → Claim
+claim_by make None other = other
+claim_by make (Some server) other = make server
+
+unfoldable pub claim_of : {S : Type 0} → Peer → Request → Host S → Claim
+claim_of from request host =
+    if same_bytes (method_of request) cancel then claim_by Cancels (find (is_cancelled_by from request) host.servers) Unclaimed
+    else (if same_bytes (method_of request) ack then claim_by Acks (find (is_acked_by from request) host.servers) Unclaimed
+    else claim_by Repeats (find (is_repeated_by from request) host.servers) Unclaimed)
+
+unfoldable pub is_claimed : Claim → Bool
+is_claimed (Cancels server) = true
+is_claimed (Acks server) = true
+is_claimed (Repeats server) = true
+is_claimed Unclaimed = false
+
+-- ## Answers without a transaction; an ACK gets none
+
+unfoldable pub refuse : {S : Type 0} → Config → Peer → ℕ → Bytes → Request → ℕ → Host S → Taken S
+refuse config from code reason request count host =
+    if same_bytes (method_of request) ack then quiet host count
+    else replying from (messages.Response (own_response (edge_tag config.salt) code reason request)) (quiet host count)
+
+-- ## Requests with a To tag
+
+unfoldable pub ap_of : Uri → Option Bytes
+ap_of (Sip uri) = param_value ap_name uri.params
+ap_of (Other text) = None
+
+-- the own URI by which the request comes here: its top Route, or its Request-URI
+unfoldable pub own_uri : Config → Request → Option Uri
+own_uri config request =
+    if option_map_or (λ route. is_own config route.uri) (slice_get request.head.route 0) false then option_map (λ route. route.uri) (slice_get request.head.route 0)
+    else (if is_own config request.uri then Some request.uri else None)
+
+-- the own top Route is taken off
+unfoldable pub unrouted : Config → Request → Request
+unrouted config request =
+    if option_map_or (λ route. is_own config route.uri) (slice_get request.head.route 0) false
+    then record request { head = record request.head { route = drop 1 request.head.route } } else request
+
+-- the URI names this session
+unfoldable pub names : ℕ → AppId → Uri → Bool
+names epoch app uri = option_map_or (same_bytes (ap_value epoch app)) (ap_of uri) false
+
+unfoldable pub is_named_live : {S : Type 0} → ℕ → ℕ → Uri → Live S → Bool
+is_named_live epoch host uri live = names epoch (record { host = host; serial = live.serial }) uri
+
+-- the live session of this host that the URI names
+unfoldable pub named_live : {S : Type 0} → ℕ → ℕ → Uri → Host S → Option (Live S)
+named_live epoch number uri host = find (is_named_live epoch number uri) host.sessions
+
+-- the server transaction of a request that was queued; an ACK has none
+unfoldable pub with_server : {S : Type 0} → AppId → ℕ → Peer → Bytes → Request → Host S → Host S
+with_server app event peer tag request host =
+    if same_bytes (method_of request) ack then host
+    else record host { servers = host.servers ++ record { app = app; event = event; peer = peer; tag = tag; request = request; passed = []; last = None } ∷ [] }
+
+unfoldable pub tried : Request → ℕ → Server → Server
+tried request now server = record server { passed = server_items.AnswerGiven 100 now ∷ server.passed; last = Some (trying_response trying request) }
+
+-- an INVITE is answered 100 at once
+unfoldable pub with_trying : {S : Type 0} → Peer → ℕ → Request → Taken S → Taken S
+with_trying from now request taken =
+    if same_bytes (method_of request) invite
+    then replying from (messages.Response (trying_response trying request)) (record taken {
+      host = record taken.host { servers = change_first (is_server taken.count) (tried request now) taken.host.servers };
+    }) else taken
+
+unfoldable pub queue_later : {S : Type 0} → Config → ℕ → Peer → ℕ → Request → ℕ → Live S → Host S → Taken S
+queue_later config number from now request count live host =
+    if is_full live then refuse config from 503 unavailable request count host
+    else with_trying from now request
+      (queue live.serial now (queued.Request (unrouted config request)) count
+        (with_server (record { host = number; serial = live.serial }) (count + 1) from [] (unrouted config request) host))
+
+unfoldable pub later_by : {S : Type 0} → Config → ℕ → Peer → ℕ → Request → ℕ → Option (Live S) → Host S → Taken S
+later_by config number from now request count None host = refuse config from 481 does_not_exist request count host
+later_by config number from now request count (Some live) host = queue_later config number from now request count live host
+
+unfoldable pub take_later : {S : Type 0} → Config → ℕ → ℕ → Peer → ℕ → Request → ℕ → Host S → Taken S
+take_later config epoch number from now request count host =
+    later_by config number from now request count (option_and_then (λ uri. named_live epoch number uri host) (own_uri config request)) host
+
+-- ## Requests that begin a session
+
+unfoldable pub begun_live : {S : Type 0} → Form S → Config → ℕ → AppId → ℕ → Note → Request → ℕ → Live S
+begun_live form config epoch app now noted request number = record {
+  serial = app.serial;
+  session = form.begin config app epoch now noted request;
+  inbox = record { number = number; event = queued.Initial noted.region noted.subscriber noted.popped request } ∷ [];
+  since = now;
+  fired = [];
+}
+
+unfoldable pub begun : {S : Type 0} → Form S → Config → ℕ → ℕ → Peer → ℕ → Note → Request → ℕ → Host S → Taken S
+begun form config epoch number from now noted request count host =
+    let app : AppId = record { host = number; serial = host.last + 1 } in
+    with_trying from now request (quiet (with_server app (count + 1) from (tag_text config.salt epoch app 1) request (record host {
+      sessions = host.sessions ++ begun_live form config epoch app now noted request (count + 1) ∷ [];
+      last = host.last + 1;
+    })) (count + 1))
+
+unfoldable pub take_initial : {S : Type 0} → Form S → Config → ℕ → ℕ → Peer → ℕ → Note → Request → ℕ → Host S → Taken S
+take_initial form config epoch number from now noted request count host =
+    if nat_le MOST_LIVE (length host.sessions) then refuse config from 503 unavailable request count host
+    else begun form config epoch number from now noted request count host
+
+-- a request of these methods begins nothing
+unfoldable pub is_never_initial : Request → Bool
+is_never_initial request = same_bytes (method_of request) bye || same_bytes (method_of request) prack || same_bytes (method_of request) update
+
+-- a request without To tag that begins a session where it has its note
+unfoldable pub take_begun : {S : Type 0} → Form S → Config → ℕ → ℕ → Peer → ℕ → Option Note → Request → ℕ → Host S → Taken S
+take_begun form config epoch number from now None request count host = refuse config from 481 does_not_exist request count host
+take_begun form config epoch number from now (Some noted) request count host =
+    if is_never_initial request then refuse config from 481 does_not_exist request count host
+    else take_initial form config epoch number from now noted request count host
+
+-- ## Every request that comes to a host
+
+unfoldable pub take_claimed : {S : Type 0} → Form S → Config → ℕ → ℕ → Peer → ℕ → Option Note → Request → Claim → ℕ → Host S → Taken S
+take_claimed form config epoch number from now noted request (Cancels server) count host = cancelled from now server request count host
+take_claimed form config epoch number from now noted request (Acks server) count host = quiet (pass_server server.event server_items.AckCame host) count
+take_claimed form config epoch number from now noted request (Repeats server) count host = repeated server count host
+take_claimed form config epoch number from now noted request Unclaimed count host =
+    if same_bytes (method_of request) cancel then refuse config from 481 does_not_exist request count host
+    else (if is_some (tag_of request.head.to) then take_later config epoch number from now request count host
+    else take_begun form config epoch number from now noted request count host)
+
+unfoldable pub take_request : {S : Type 0} → Form S → Config → ℕ → ℕ → Peer → ℕ → Option Note → Request → ℕ → Host S → Taken S
+take_request form config epoch number from now noted request count host =
+    take_claimed form config epoch number from now noted request (claim_of from request host) count host
+
+-- what a host takes
+unfoldable pub takes : {S : Type 0} → Form S → Config → ℕ → ℕ → Peer → ℕ → Option Note → Message → ℕ → Host S → Taken S
+takes form config epoch number from now noted (messages.Request request) count host = take_request form config epoch number from now noted request count host
+takes form config epoch number from now noted (messages.Response response) count host = take_response config epoch from now response count host

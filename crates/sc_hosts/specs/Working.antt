@@ -1,0 +1,279 @@
+-- What the accepted calls of a turn do beside what they leave of the view: what is sent, and what the
+-- application session knows of it.
+use Rattle.std.specs.Prelude.{ℕ, ◌+◌, ◌-◌, ◌==◌, List, [], ◌∷◌, ◌++◌, Bool, true, false, not, ◌&&◌, ◌||◌, Option, None, Some, is_some, is_none, option_map, option_and_then, nat_lt, nat_le, if◌then◌else◌, length, map, filter}
+use Rattle.std.specs.List.{find, list_any, filter_map, flat_map, fold}
+use Rattle.std.specs.Option.{option_or, option_map_or}
+use Rattle.sc_value.specs.declared.ids.Directive.{Directive}
+use Rattle.sc_value.specs.declared.ids.Directive.TheVariants.{New, Continue, Reverse}
+use Rattle.sc_value.specs.declared.ids.ReqId.{ReqId}
+use Rattle.sc_value.specs.declared.ids.SessId.{SessId}
+use Rattle.sc_value.specs.declared.message.Message.TheVariants as messages
+use Rattle.sc_value.specs.declared.message.Request.{Request}
+use Rattle.sc_value.specs.declared.parts.Uri.{Uri}
+use Rattle.sc_value.specs.Lists.{change_first, remove_first}
+use Rattle.sc_value.specs.Params.{same_bytes}
+use Rattle.sc_terms.specs.declared.settings.Config.{Config}
+use Rattle.sc_terms.specs.declared.views.View.{View}
+use Rattle.sc_terms.specs.declared.views.RequestView.{RequestView}
+use Rattle.sc_terms.specs.declared.calls.Answer.{Answer}
+use Rattle.sc_terms.specs.declared.calls.Ask.{Ask}
+use Rattle.sc_terms.specs.declared.calls.Call.{Call}
+use Rattle.sc_terms.specs.declared.calls.Call.TheVariants as calls
+use Rattle.sc_terms.specs.declared.calls.CallRecord.{CallRecord}
+use Rattle.sc_terms.specs.declared.calls.ProxyOptions.{ProxyOptions}
+use Rattle.sc_terms.specs.declared.calls.Refusal.{Refusal}
+use Rattle.sc_terms.specs.declared.inside.Inside.{Inside}
+use Rattle.sc_state.specs.declared.orders.Order.{Order}
+use Rattle.sc_state.specs.declared.orders.Order.TheVariants as orders
+use Rattle.sc_state.specs.declared.proxy.Proxy.{Proxy}
+use Rattle.sc_state.specs.declared.session.Kept.{Kept}
+use Rattle.sc_state.specs.declared.session.Known.{Known}
+use Rattle.sc_state.specs.declared.session.Leg.{Leg}
+use Rattle.sc_state.specs.declared.session.Way.{Way}
+use Rattle.sc_state.specs.declared.session.Way.TheVariants.{Received, Sent}
+use Rattle.sc_state.specs.declared.working.Asked.{Asked}
+use Rattle.sc_state.specs.declared.working.Asked.TheVariants as asked
+use Rattle.sc_state.specs.declared.working.Draft.{Draft}
+use Rattle.sc_state.specs.declared.working.Prepared.{Prepared}
+use Rattle.sc_state.specs.declared.working.Working.{Working}
+use Rattle.sc_state.specs.declared.working.Written.{Written}
+use Rattle.sc_grammar.specs.Written.{Bytes}
+use Rattle.sc_model.specs.DialogRequests.{next_request, ack_request}
+use Rattle.sc_model.specs.Dialogs.{DialogState, By_self}
+use Rattle.sc_model.specs.SessionStates.{invite}
+use Rattle.sc_hosts.specs.Branches.{new_proxy, with_targets, stopped, is_invite}
+use Rattle.sc_hosts.specs.Effects.{new_call_id, new_tag, begun, after_listed}
+use Rattle.sc_hosts.specs.Legs.{leg_of, change_leg, new_leg, in_dialog}
+use Rattle.sc_hosts.specs.Looking.{same_request, same_session, request_in}
+use Rattle.sc_hosts.specs.Messages.{asked_request, leg_request, from_here, given_response, own_response, on_branch}
+use Rattle.sc_hosts.specs.Preparing.{kept_of, own_tag_of, proxy_of, change_proxy}
+use Rattle.sc_hosts.specs.Refusals.{awaits_ack, begun_by, draft_in, refusal}
+use Rattle.sc_hosts.specs.Words.{ack, server_error}
+
+-- as the calls begin
+unfoldable pub starts : Prepared → Working
+starts shown = record { play = begun shown.view; known = shown.known; written = []; orders = shown.orders }
+
+abbrev pub giving : List Order → Working → Working
+giving given working = record working { orders = working.orders ++ given }
+
+-- ## Answers
+
+unfoldable pub answer_order : Config → View → Bool → Answer → Kept → Way → List Order
+answer_order config view initial answer kept (Received event) =
+    orders.Respond event (given_response config view (own_tag_of view kept.sess) initial kept.request answer) ∷ []
+answer_order config view initial answer kept (Sent branch) = []
+
+unfoldable pub answers : Config → Answer → View → Option Kept → Bool → List Order
+answers config answer view None initial = []
+answers config answer view (Some kept) initial = answer_order config view initial answer kept kept.way
+
+-- the answer to a received request that is shown
+unfoldable pub answering : Config → Option RequestView → Answer → Working → Working
+answering config None answer working = working
+answering config (Some request) answer working =
+    giving (answers config answer working.play.view (kept_of working.known request.id) request.initial) working
+
+-- ## Drafts
+
+unfoldable pub writes : Written → Working → Working
+writes draft working = record working { written = working.written ++ draft ∷ [] }
+
+abbrev pub with_leg : Working → Working
+with_leg working = record working { known = record working.known { legs = working.known.legs ++ new_leg None ∷ [] } }
+
+unfoldable pub drafts_own : Ask → Working → Working
+drafts_own ask working = with_leg (writes (record {
+  number = working.play.drafted + 1;
+  directive = ask.directive;
+  origin = ask.origin;
+  asked = asked.Initial (asked_request (new_call_id working.play.view) (new_tag working.play.view) ask);
+}) working)
+
+unfoldable pub drafts_later : Inside → Working → Working
+drafts_later ask working = writes (record { number = working.play.drafted + 1; directive = Continue; origin = None; asked = asked.Later ask }) working
+
+-- the second leg of a received request
+unfoldable pub drafts_leg : ReqId → Option Uri → Option Kept → Working → Working
+drafts_leg req uri None working = working
+drafts_leg req uri (Some kept) working = with_leg (writes (record {
+  number = working.play.drafted + 1;
+  directive = Continue;
+  origin = Some req;
+  asked = asked.Initial (leg_request (new_call_id working.play.view) (new_tag working.play.view) uri kept.request);
+}) working)
+
+abbrev pub is_written : ℕ → Written → Bool
+is_written number draft = draft.number == number
+
+unfoldable pub directs : ℕ → Directive → Option ReqId → Working → Working
+directs number directive origin working = record working {
+  written = change_first (is_written number) (λ draft. record draft { directive = directive; origin = origin }) working.written;
+}
+
+unfoldable pub forgets : ℕ → Working → Working
+forgets number working = record working { written = remove_first (is_written number) working.written }
+
+-- ## Sending
+
+-- the place in the router's list at which it goes on: behind that of the application session
+unfoldable pub router_state : Directive → Known → Option ℕ
+router_state New known = None
+router_state Continue known = Some (known.order + 1)
+router_state Reverse known = None
+
+-- the branch that the next request draws
+abbrev pub next_branch : Working → ℕ
+next_branch working = working.play.view.counter + 1
+
+-- the request that was sent is kept under its number
+unfoldable pub keeps_sent : SessId → Request → Working → Working
+keeps_sent sess request working = record working { known = record working.known {
+  kept = working.known.kept ++ record { id = record { 0 = working.play.view.next_request }; sess = sess; way = Sent (next_branch working); request = request } ∷ [];
+} }
+
+unfoldable pub sends_initial : Config → Written → SessId → Request → Working → Working
+sends_initial config draft sess request working =
+    giving (orders.Begin (next_branch working) draft.directive working.known.region (router_state draft.directive working.known) (on_branch config working.play.view (next_branch working) request) ∷ [])
+      (keeps_sent sess request (record working {
+        known = change_leg sess (λ leg. record leg { first = Some (record { 0 = working.play.view.next_request }) }) working.known;
+      }))
+
+unfoldable pub sends_later : Config → SessId → Request → Working → Working
+sends_later config sess request working =
+    giving (orders.Send (next_branch working) (on_branch config working.play.view (next_branch working) request) ∷ [])
+      (keeps_sent sess request (record working { known = change_leg sess (in_dialog (By_self (messages.Request request))) working.known }))
+
+unfoldable pub dialog_in : Known → SessId → Option DialogState
+dialog_in known sess = option_and_then (λ leg. leg.dialog) (leg_of known sess)
+
+unfoldable pub sends_in : Config → SessId → Inside → Option DialogState → Working → Working
+sends_in config sess ask None working = working
+sends_in config sess ask (Some dialog) working = sends_later config sess (from_here config working.play.view (next_request dialog ask)) working
+
+unfoldable pub sends_written : Config → Written → SessId → Asked → Working → Working
+sends_written config draft sess (asked.Initial request) working = sends_initial config draft sess (from_here config working.play.view request) working
+sends_written config draft sess (asked.Later ask) working = sends_in config sess ask (dialog_in working.known sess) working
+
+unfoldable pub sends : Config → ℕ → Option Written → Option Draft → Working → Working
+sends config number (Some written) (Some draft) working = forgets number (sends_written config written draft.sess written.asked working)
+sends config number (Some written) None working = working
+sends config number None draft working = working
+
+-- ## ACK and CANCEL
+
+unfoldable pub ack_with : Config → Bytes → Option DialogState → Option Kept → Working → Working
+ack_with config body (Some dialog) (Some kept) working =
+    giving (orders.Acknowledge (on_branch config working.play.view (next_branch working) (ack_request dialog kept.request.head.cseq.number body)) ∷ []) working
+ack_with config body (Some dialog) None working = working
+ack_with config body None kept working = working
+
+-- the INVITE of lowest number whose 2xx in this SipSession waits for its ACK
+unfoldable pub acknowledges : Config → SessId → Bytes → Option RequestView → Working → Working
+acknowledges config sess body None working = working
+acknowledges config sess body (Some request) working = ack_with config body (dialog_in working.known sess) (kept_of working.known request.id) working
+
+unfoldable pub branch_of : Way → List ℕ
+branch_of (Received event) = []
+branch_of (Sent branch) = branch ∷ []
+
+unfoldable pub sent_branch : Option Kept → List ℕ
+sent_branch None = []
+sent_branch (Some kept) = branch_of kept.way
+
+unfoldable pub cancels : Option Kept → Working → Working
+cancels kept working = giving (map (λ branch. orders.Cancel branch) (sent_branch kept)) working
+
+-- ## Proxies
+
+unfoldable pub event_of : Way → ℕ
+event_of (Received event) = event
+event_of (Sent branch) = 0
+
+unfoldable pub proxies_first : ReqId → List Uri → ProxyOptions → Option Kept → Known → Known
+proxies_first req uris how None known = known
+proxies_first req uris how (Some kept) known = record known {
+  proxies = known.proxies ++ with_targets uris (new_proxy req kept.sess (event_of kept.way) kept.request (Some how)) ∷ [];
+}
+
+-- the options count where the request wasn't proxied before
+unfoldable pub proxies : ReqId → List Uri → ProxyOptions → Known → Known
+proxies req uris how known =
+    if is_some (proxy_of known req) then change_proxy req (with_targets uris) known else proxies_first req uris how (kept_of known req) known
+
+-- ## Invalidation of a SipSession
+
+-- the request was received and waits for its final response; an ACK has none
+unfoldable pub is_owed : RequestView → Bool
+is_owed request = request.received && is_none request.answered && not (same_bytes request.method ack)
+
+unfoldable pub owed_answer : Config → View → Known → RequestView → List Order
+owed_answer config view known request =
+    answers config (record { code = 500; reason = server_error; fields = []; contact = []; body = [] }) view (kept_of known request.id) request.initial
+
+-- numbers in their order
+unfoldable pub insert_number : ℕ → List ℕ → List ℕ
+insert_number n [] = n ∷ []
+insert_number n (m ∷ ms) = if nat_le n m then n ∷ m ∷ ms else (m ∷ insert_number n ms)
+
+unfoldable pub in_order : List ℕ → List ℕ
+in_order [] = []
+in_order (n ∷ ns) = insert_number n (in_order ns)
+
+-- the branches of the INVITEs that were sent in such SipSessions
+unfoldable pub invite_branches : (SessId → Bool) → Known → List ℕ
+invite_branches test known =
+    flat_map (λ kept. if test kept.sess && same_bytes kept.request.method invite then branch_of kept.way else []) known.kept
+    ++ flat_map (λ proxy. if test proxy.sess && is_invite proxy then map (λ branch. branch.number) proxy.branches else []) known.proxies
+
+-- 500 to what was received, in order of number, and a CANCEL to each INVITE that was sent, in order of
+-- their branches
+unfoldable pub goodbyes : Config → View → Known → (SessId → Bool) → List Order
+goodbyes config view known test =
+    flat_map (owed_answer config view known) (filter (λ request. test request.sess && is_owed request) view.requests)
+    ++ map (λ branch. orders.CancelNow branch) (in_order (invite_branches test known))
+
+unfoldable pub invalidates : Config → SessId → Working → Working
+invalidates config sess working =
+    giving (goodbyes config working.play.view working.known (same_session sess)) (record working {
+      known = change_leg sess (λ leg. record leg { invalidated = true }) working.known;
+    })
+
+-- ## Each call
+
+unfoldable pub does : Config → Working → Call → Working
+does config working (calls.Respond req answer) = answering config (request_in working.play.view req) answer working
+does config working (calls.CreateRequest ask) = drafts_own ask working
+does config working (calls.CreateInDialog sess ask) = drafts_later ask working
+does config working (calls.B2bCreate req uri) = drafts_leg req uri (kept_of working.known req) working
+does config working (calls.SetDirective draft directive origin) = directs draft directive origin working
+does config working (calls.Send draft) = sends config draft (find (is_written draft) working.written) (draft_in working.play draft) working
+does config working (calls.Discard draft) = forgets draft working
+does config working (calls.Ack sess body) = acknowledges config sess body (find (awaits_ack sess) working.play.view.requests) working
+does config working (calls.Cancel req) = cancels (kept_of working.known req) working
+does config working (calls.ProxyTo req uris how) = record working { known = proxies req uris how working.known }
+does config working (calls.ProxyCancel req) = record working { known = change_proxy req stopped working.known }
+does config working (calls.B2bRespond sess answer) = answering config (begun_by working.play.view sess) answer working
+does config working (calls.Link a b) = working
+does config working (calls.Unlink a) = working
+does config working (calls.StartTimer delay period info) = working
+does config working (calls.CancelTimer id) = working
+does config working (calls.SetAttribute name value) = working
+does config working (calls.RemoveAttribute name) = working
+does config working (calls.SetExpires minutes) = working
+does config working (calls.SetReadyFlag target flag) = working
+does config working (calls.InvalidateSession sess) = invalidates config sess working
+does config working calls.InvalidateApplication = working
+
+-- a refused call does nothing
+unfoldable pub does_by : Config → Working → Call → Option Refusal → Working
+does_by config working call None = does config working call
+does_by config working call (Some refused) = working
+
+-- after one call more
+unfoldable pub worked : Config → Working → Call → Working
+worked config working call = record (does_by config working call (refusal working.play call)) { play = after_listed working.play call }
+
+-- after all calls of a turn, in their order
+unfoldable pub worked_all : Config → Prepared → List CallRecord → Working
+worked_all config shown made = fold (λ working made. worked config working made.call) (starts shown) made

@@ -1,0 +1,90 @@
+use crate::Waiting;
+use sc_parts::{ClientItem, ServerItem};
+use sc_value::{AppId, Boxed, List, Message, Place, Request, Response, Text};
+
+/// The other end of a transaction.
+#[derive(Clone, Copy, Debug, PartialEq, Eq)]
+pub enum Peer {
+    /// Outside of the container.
+    Outside(Place),
+    /// The host of this number.
+    Inside(u32),
+    /// None: the request could not go.
+    Nowhere,
+}
+
+/// A client transaction (RFC 3261 section 17.1).
+#[derive(Drop)]
+pub struct Client {
+    pub app: AppId,
+    /// The number of its branch.
+    pub branch: u64,
+    pub peer: Peer,
+    /// The request as it was sent.
+    pub request: Boxed<Request>,
+    /// The moment at which it was sent, in milliseconds.
+    pub sent: u64,
+    /// What has passed it, the newest first.
+    pub passed: List<ClientItem>,
+}
+
+/// A server transaction (RFC 3261 section 17.2).
+#[derive(Drop)]
+pub struct Server {
+    pub app: AppId,
+    /// The number of the event under which its request was queued.
+    pub event: u64,
+    pub peer: Peer,
+    /// The own tag of its SipSession.
+    pub tag: Text,
+    pub request: Boxed<Request>,
+    /// What has passed it, the newest first.
+    pub passed: List<ServerItem>,
+    /// The response that was sent last.
+    pub last: Option<Boxed<Response>>,
+}
+
+/// A due entry whose event was queued.
+#[derive(Clone, Copy, Debug, PartialEq, Eq)]
+pub struct Fired {
+    pub due: u64,
+    pub number: u64,
+}
+
+/// An application session that lives, in one form or another.
+#[derive(Drop)]
+pub struct Live<S> {
+    pub serial: u64,
+    pub session: S,
+    /// The events that wait, in order.
+    pub inbox: List<Waiting>,
+    /// The moment at which the first of them became first.
+    pub since: u64,
+    pub fired: List<Fired>,
+}
+
+/// A host: it knows its own transactions and sessions alone.
+#[derive(Drop)]
+pub struct Host<S> {
+    pub clients: List<Client>,
+    pub servers: List<Server>,
+    pub sessions: List<Live<S>>,
+    /// The serial of its last session.
+    pub last: u64,
+}
+
+/// A message that goes to the other end of a transaction.
+#[derive(Drop)]
+pub struct Reply {
+    pub peer: Peer,
+    pub message: Boxed<Message>,
+}
+
+/// A host that took a message, with what it answers at once.
+#[derive(Drop)]
+pub struct Taken<S> {
+    pub host: Host<S>,
+    pub reply: Option<Reply>,
+    /// How many events were queued since the container began.
+    pub count: u64,
+}
