@@ -17,6 +17,7 @@ pub fn take_effect(view: &mut View, call: &Call)
 {
     match call {
         Call::Respond { req, answer } => note_answer(view, *req, answer.code),
+        _ => {}
     }
 }
 
@@ -35,7 +36,7 @@ fn take_record(view: &mut View, made: &CallRecord)
     ensures { view.new ≡ after_record view.old made.now }
 {
     match made.answer {
-        CallAnswer::Fine => take_effect(view, &made.call),
+        CallAnswer::Fine | CallAnswer::Number(_) => take_effect(view, &made.call),
         CallAnswer::Refused(_) => {}
     }
 }

@@ -4,7 +4,7 @@ ghost use Rattle.std.specs.Prelude.{◌≡◌, ◌++◌, ◌∷◌, [], Some, If
 ghost use Rattle.std.specs.List.{find, filter_map};
 ghost use Rattle.std.specs.Option.{option_copied};
 ghost use Rattle.sc_model.specs.Turns.{is_session, session_in};
-ghost use Rattle.sc_model.specs.Histories.{own_tag, is_received, answer_order, call_order, record_order, orders_of};
+ghost use Rattle.sc_model.specs.Histories.{own_tag, is_received, answer_order, accepted_order, call_order, record_order, orders_of};
 
 use crate::finding::session_place;
 use crate::responses::response_to;
@@ -48,18 +48,27 @@ fn add_order(
 
 /// What one listed call sends: a refused one nothing.
 #[tactic(auto, unfolding(sc_model::specs::Histories::record_order, sc_model::specs::Histories::call_order))]
-pub fn record_order(
+fn record_order(
     alloc: Global,
     session: &Session,
     made: &CallRecord,
 ) -> Result<Option<Order>, NoMemory>
     ensures { IfOk result (λ o. o ≡ record_order session.now made.now) }
 {
-    match (&made.call, made.answer) {
-        (Call::Respond { req, answer }, CallAnswer::Fine) => answer_order(
-            alloc, session, *req, answer,
-        ),
-        (Call::Respond { .. }, CallAnswer::Refused(_)) => Ok(None),
+    match made.answer {
+        CallAnswer::Fine | CallAnswer::Number(_) => accepted_order(alloc, session, &made.call),
+        CallAnswer::Refused(_) => Ok(None),
+    }
+}
+
+/// What an accepted call sends.
+#[tactic(auto, unfolding(sc_model::specs::Histories::accepted_order))]
+fn accepted_order(alloc: Global, session: &Session, call: &Call) -> Result<Option<Order>, NoMemory>
+    ensures { IfOk result (λ o. o ≡ accepted_order session.now call.now) }
+{
+    match call {
+        Call::Respond { req, answer } => answer_order(alloc, session, *req, answer),
+        _ => Ok(None),
     }
 }
 

@@ -176,7 +176,7 @@ fn push_order(orders: &mut List<Order>, order: Option<Order>) -> Result<(), NoMe
 }
 
 /// What the container's own answer 500 to a request sends.
-#[tactic(auto, unfolding(sc_model::specs::Histories::record_order, sc_model::specs::Histories::call_order, sc_model::specs::Charters::reply, sc_model::specs::Histories::fault_record))]
+#[tactic(auto, unfolding(sc_model::specs::Histories::record_order, sc_model::specs::Histories::call_order, sc_model::specs::Histories::accepted_order, sc_model::specs::Charters::reply, sc_model::specs::Histories::fault_record))]
 fn fault_order(alloc: Global, session: &Session, req: ReqId) -> Result<Option<Order>, NoMemory>
     ensures { IfOk result (λ o. o ≡ record_order session.now (fault_record req)) }
 {

@@ -117,7 +117,7 @@ pub fn shown_event(alloc: Global, view: &View, event: &Queued) -> Result<Event, 
         } => {
             let subscriber = subscriber.clone_in(alloc)?;
             let popped = popped.clone_in(alloc)?;
-            let request = request.get().clone_in(alloc)?;
+            let request = request.clone_in(alloc)?;
             Ok(Event::Initial {
                 req: ReqId(view.next_request),
                 sess: SessId(1),

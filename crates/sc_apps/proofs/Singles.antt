@@ -1,10 +1,11 @@
 -- A turn that makes one call, and the promise that it keeps so.
-use Rattle.std.proofs.Common.{◌≡◌, ℕ, List, [], Option, Some, None, length, refl}
+use Rattle.std.proofs.Common.{◌≡◌, ℕ, List, [], Bool, true, false, if◌then◌else◌, Option, Some, None, length, refl}
 use Rattle.sc_value.specs.declared.ids.ReqId.{ReqId}
 use Rattle.sc_value.specs.declared.ids.SessId.{SessId}
 use Rattle.sc_value.specs.declared.ids.Region.{Region}
 use Rattle.sc_value.specs.declared.message.Request.{Request}
 use Rattle.sc_value.specs.declared.parts.Address.{Address}
+use Rattle.sc_value.specs.Params.{same_bytes}
 use Rattle.sc_terms.specs.declared.views.View.{View}
 use Rattle.sc_terms.specs.declared.events.Event.{Event}
 use Rattle.sc_terms.specs.declared.events.Event.TheVariants as events
@@ -14,10 +15,10 @@ use Rattle.sc_terms.specs.declared.calls.CallRecord.{CallRecord}
 use Rattle.sc_terms.specs.declared.calls.End.{End}
 use Rattle.sc_terms.specs.declared.calls.End.TheVariants as ends
 use Rattle.sc_terms.specs.declared.calls.Refusal.{Refusal}
-use Rattle.sc_model.specs.Turns.{refusal, answer_of, after_calls}
-use Rattle.sc_model.specs.Charters.{answer_script, played, played_from, reply, ok_reason, Promises, Meets}
+use Rattle.sc_model.specs.Turns.{refusal, answer_of, after_calls, ack}
+use Rattle.sc_model.specs.Charters.{Script, Done, answer_script, ok_script, played, played_from, reply, ok_reason, Promises, Meets}
 use Rattle.sc_calls.specs.Working.{Working, after_accepted, after_refused}
-use Rattle.sc_apps.specs.Single.{single}
+use Rattle.sc_apps.specs.Single.{single, later}
 
 -- a turn with no call has the view that it was shown
 pub no_call : (shown view : View) (calls : List CallRecord) → view ≡ after_calls shown calls → calls ≡ [] → view ≡ shown
@@ -36,10 +37,24 @@ single-refused old new call refused none same is_refused is = rw is (rw none (rw
 
 -- what the charter plays at an initial request is the one answer
 pub played-initial : (view : View) (req : ReqId) (sess : SessId) (region : Region) (subscriber : List ℕ) (popped : Option Address) (request : Request) → played view (answer_script (events.Initial req sess region subscriber popped request)) ≡ single view (reply req 200 ok_reason)
-unfolding answer_script played_from single
+unfolding answer_script ok_script played_from single
 played-initial view req sess region subscriber popped request = refl
+
+played-unless : (view : View) (req : ReqId) (none : Bool) → played view (if none then Done else ok_script req) ≡ (if none then [] else single view (reply req 200 ok_reason))
+unfolding ok_script played_from single
+played-unless view req true = refl
+played-unless view req false = refl
+
+-- and at a later request
+played-later : (view : View) (req : ReqId) (sess : SessId) (request : Request) → played view (answer_script (events.Request req sess request)) ≡ later view req request
+unfolding answer_script later
+played-later view req sess request = played-unless view req (same_bytes request.method ack)
 
 -- so the one answer keeps the charter's promise
 pub promised_initial : (view : View) (event : Event) (req : ReqId) (sess : SessId) (region : Region) (subscriber : List ℕ) (popped : Option Address) (request : Request) (calls : List CallRecord) (end : End) → event ≡ events.Initial req sess region subscriber popped request → Meets end ((calls ≡ single view (reply req 200 ok_reason)) × (end ≡ ends.Fine)) → Meets end (Promises charters.Answer view event calls end)
 unfolding Promises
 promised_initial view event req sess region subscriber popped request calls end event_is kept = rw event_is (rw (played-initial view req sess region subscriber popped request) kept)
+
+pub promised_later : (view : View) (event : Event) (req : ReqId) (sess : SessId) (request : Request) (calls : List CallRecord) (end : End) → event ≡ events.Request req sess request → Meets end ((calls ≡ later view req request) × (end ≡ ends.Fine)) → Meets end (Promises charters.Answer view event calls end)
+unfolding Promises
+promised_later view event req sess request calls end event_is kept = rw event_is (rw (played-later view req sess request) kept)

@@ -2,13 +2,15 @@ ghost use Rattle.std.specs.Prelude.{◌≡◌, [], IfOk};
 ghost use Rattle.sc_value.specs.declared.ids.ReqId.{ReqId};
 ghost use Rattle.sc_terms.specs.declared.charters.Charter.{Charter};
 ghost use Rattle.sc_model.specs.Charters.{Meets, Promises, reply, ok_reason};
-ghost use Rattle.sc_apps.specs.Single.{single};
+ghost use Rattle.sc_model.specs.Turns.{ack};
+ghost use Rattle.sc_value.specs.Params.{same_bytes};
+ghost use Rattle.sc_apps.specs.Single.{single, later};
 
 use sc_calls::{Answer, Call, Charter, End, Event, Refusal, SipServlet, Turn};
-use sc_value::{List, NoMemory, ReqId, Text};
+use sc_value::{List, NoMemory, ReqId, Request, Text};
 use std::alloc::Global;
 
-/// A servlet that answers each initial request 200 `OK`, without fields, Contact or body, and makes
+/// A servlet that answers each request but an ACK 200 `OK`, without fields, Contact or body, and makes
 /// no other call. It passes over a refusal: the answer is then listed with it and changes nothing.
 #[derive(Clone, Copy, Debug)]
 pub struct Answers;
@@ -20,15 +22,37 @@ impl SipServlet for Answers {
         Charter::Answer
     }
 
-    /// Answers the request that began the application session. At `Ready` it makes no call. For want
-    /// of memory it ends as `Starved`.
+    /// Answers the request of the event, the one that began the application session or a later one. At
+    /// every other event, and at an ACK, it makes no call. For want of memory it ends as `Starved`.
     #[tactic(auto, unfolding(sc_model::specs::Charters::Meets, sc_model::specs::Charters::Promises, sc_model::specs::Charters::answer_script, sc_model::specs::Charters::played_from))]
     fn turn(&self, t: &mut Turn, e: &Event) -> End {
         match e {
             Event::Initial { req, .. } => answer_ok(t, *req),
-            Event::Ready => End::Fine,
+            Event::Request { req, request, .. } => answer_later(t, *req, request.get()),
+            _ => End::Fine,
         }
     }
+}
+
+/// Answers a later request, unless it is an ACK.
+#[tactic(auto, unfolding(sc_model::specs::Charters::Meets, crate::specs::Single::later))]
+fn answer_later(t: &mut Turn, req: ReqId, request: &Request) -> End
+    requires { t.old.calls ≡ [] }
+    ensures same { t.new.shown ≡ t.old.shown }
+    ensures answered { Meets result ((t.new.calls ≡ later t.old.shown req request.now) × (result ≡ End.Fine)) }
+{
+    if is_ack(request.method.as_bytes()) {
+        return End::Fine;
+    }
+    answer_ok(t, req)
+}
+
+/// Whether a method is ACK.
+#[tactic(auto, unfolding(sc_model::specs::Turns::ack))]
+fn is_ack(method: &[u8]) -> bool
+    ensures { result ≡ same_bytes method.now ack }
+{
+    method == b"ACK".as_slice()
 }
 
 /// Answers a request 200 `OK`, as the first call of the turn.

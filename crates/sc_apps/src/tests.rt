@@ -7,7 +7,8 @@ use crate::Answers;
 use sc_calls::{Answer, Call, CallAnswer, CallRecord, Catalogue, Done, End, Event, Lease, View};
 use sc_terms::{RequestView, Role, SessionView, State};
 use sc_value::{
-    Address, AppId, CSeq, Discard, Head, List, NoMemory, Region, ReqId, Request, SessId, Text, Uri,
+    Address, AppId, Boxed, CSeq, Discard, Head, List, NoMemory, Region, ReqId, Request, SessId,
+    Text, Uri,
 };
 use std::alloc::Global;
 use std::test::Fail;
@@ -86,18 +87,22 @@ fn head(alloc: Global, method: Text) -> Head {
 fn event(alloc: Global) -> Result<Event, NoMemory> {
     let method = Text::from_slice(alloc, b"OPTIONS")?;
     let method_again = Text::from_slice(alloc, b"OPTIONS")?;
+    let request = Boxed::new(
+        alloc,
+        Request {
+            method,
+            uri: Uri::Other(Text::new(alloc)),
+            hops: 70,
+            head: head(alloc, method_again),
+        },
+    )?;
     Ok(Event::Initial {
         req: ReqId(1),
         sess: SessId(1),
         region: Region::Neutral,
         subscriber: Text::new(alloc),
         popped: None,
-        request: Request {
-            method,
-            uri: Uri::Other(Text::new(alloc)),
-            hops: 70,
-            head: head(alloc, method_again),
-        },
+        request,
     })
 }
 
@@ -162,6 +167,7 @@ fn was_answered(calls: &[CallRecord]) -> bool {
             Call::Respond { req, answer } => {
                 req.0 == 1 && is_ok(answer) && made.answer == CallAnswer::Fine
             }
+            _ => false,
         },
         _ => false,
     }

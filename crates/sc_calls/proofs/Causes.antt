@@ -7,7 +7,7 @@ use Rattle.sc_terms.specs.declared.calls.Call.{Call}
 use Rattle.sc_terms.specs.declared.calls.Call.TheVariants.{Respond}
 use Rattle.sc_terms.specs.declared.calls.Refusal.{Refusal}
 use Rattle.sc_terms.specs.declared.calls.Refusal.TheVariants.{NotYours, AlreadyAnswered, AlreadyProxy, Invalidated, Limit, SystemHeader, NoMemory}
-use Rattle.sc_model.specs.Turns.{MOST_CALLS, refusal, request_refusal, request_in, respond_refusal, text_refusal, bad_text}
+use Rattle.sc_model.specs.Turns.{MOST_CALLS, refusal, call_refusal, request_refusal, request_in, respond_refusal, text_refusal, bad_text}
 
 first_of : (test : Bool) (refused : Refusal) (later : Option Refusal) → (refused ≡ NoMemory → ⊥) → (later ≡ Some NoMemory → ⊥) → (if test then Some refused else later) ≡ Some NoMemory → ⊥
 first_of true refused later other next e = other cc
@@ -28,9 +28,14 @@ unfolding request_refusal
 request_cause view None answer e = cc
 request_cause view (Some request) answer e = first_of _ Invalidated _ (λ (e : Invalidated ≡ NoMemory). cc) (respond_cause request answer) e
 
+call_cause : (view : View) (call : Call) → call_refusal view call ≡ Some NoMemory → ⊥
+unfolding call_refusal
+call_cause view (Respond req answer) e = request_cause view (request_in view req) answer e
+call_cause view call e = cc
+
 pub never_memory : (view : View) (listed : ℕ) (call : Call) → refusal view listed call ≡ Some NoMemory → ⊥
 unfolding refusal
-never_memory view listed (Respond req answer) e = first_of _ (Limit MOST_CALLS) _ (λ (e : Limit MOST_CALLS ≡ NoMemory). cc) (request_cause view (request_in view req) answer) e
+never_memory view listed call e = first_of _ (Limit MOST_CALLS) _ (λ (e : Limit MOST_CALLS ≡ NoMemory). cc) (call_cause view call) e
 
 -- the form that code asks for
 pub no_memory : {P : Type 0} (view : View) (listed : ℕ) (call : Call) (refused : Refusal) → refusal view listed call ≡ Some refused → refused ≡ NoMemory → P

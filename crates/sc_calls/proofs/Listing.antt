@@ -3,7 +3,6 @@ use Rattle.std.proofs.Common.{◌≡◌, ℕ, suc, ◌+◌, ◌<◌, List, [], �
 use Rattle.std.specs.List.{fold}
 use Rattle.sc_terms.specs.declared.views.View.{View}
 use Rattle.sc_terms.specs.declared.calls.Call.{Call}
-use Rattle.sc_terms.specs.declared.calls.Call.TheVariants.{Respond}
 use Rattle.sc_terms.specs.declared.calls.CallRecord.{CallRecord}
 use Rattle.sc_terms.specs.declared.calls.Refusal.{Refusal}
 use Rattle.sc_terms.specs.declared.calls.Refusal.TheVariants.{Limit}
@@ -54,4 +53,4 @@ room_left listed later false test e = grind (arith, nat_tests)
 
 pub accepted_below : (view : View) (listed : ℕ) (call : Call) → refusal view listed call ≡ None → listed < MOST_CALLS
 unfolding refusal
-accepted_below view listed (Respond req answer) e = room_left listed _ _ refl e
+accepted_below view listed call e = room_left listed _ _ refl e

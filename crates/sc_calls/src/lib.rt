@@ -16,6 +16,7 @@ mod turn;
 pub use catalogue::{AddRefused, Catalogue, Kind};
 pub use done::Done;
 pub use lease::Lease;
+pub use react::is_told;
 pub use sc_terms::{
     Answer, Call, CallAnswer, CallRecord, Charter, End, Event, ListenerCharter, Refusal, View,
 };

@@ -3,7 +3,7 @@
 ghost use Rattle.std.specs.Prelude.{◌≡◌, ◌<◌, [], map, length, Option, None, Some, option_map};
 ghost use Rattle.std.specs.List.{slice_get};
 ghost use Rattle.sc_calls.specs.Stated.{both_charters, servlet_at, listener_at};
-ghost use Rattle.sc_model.specs.Charters.{Meets, Allowed, ListenerAllowed, Promises, ListenerPromises, IsBrought, called_servlet, called_listener};
+ghost use Rattle.sc_model.specs.Charters.{Meets, Allowed, ListenerAllowed, Promises, ListenerPromises, IsBrought, is_told, called_servlet, called_listener};
 
 use crate::turn::{Called, Turn};
 use crate::{Catalogue, Done, Kind, Lease, Listener};
@@ -20,10 +20,11 @@ struct Made {
 }
 
 impl Catalogue {
-    /// Makes the turn of a lease. At the event `Initial` the kind's servlet is called. At `Ready` its
-    /// listener is told that the application session is ready, where there is one (JSR 289 section
-    /// 6.1.2.2). Else nobody is called: no calls, and the end is `Fine`. For want of memory the end is
-    /// `Starved`, whatever the servlet or listener answered.
+    /// Makes the turn of a lease. At `Expired` and `Ready` the kind's listener is told, where there is
+    /// one, that the application session expires or is ready to go away (JSR 289 sections 6.1.2.1 and
+    /// 6.1.2.2). At every other event the kind's servlet is called. Else nobody is called: no calls,
+    /// and the end is `Fine`. For want of memory the end is `Starved`, whatever the servlet or listener
+    /// answered.
     pub fn react(&self, alloc: Global, lease: Lease) -> Done
         requires { lease.kind < length self.now.kinds }
         ensures lease { result.lease ≡ lease }
@@ -78,29 +79,47 @@ fn made_of(alloc: Global, kind: &Kind, shown: View, event: &Option<Event>) -> Ma
 {
     match event {
         None => nobody(alloc, shown),
-        Some(event) => match event {
-            Event::Initial { .. } => Made {
+        Some(event) => {
+            if is_told(event) {
+                return made_told(alloc, &kind.listener, shown, event);
+            }
+            Made {
                 charter: Some(kind.servlet.charter()),
                 listener: None,
                 called: call_servlet(alloc, kind, shown, event),
-            },
-            Event::Ready => made_ready(alloc, &kind.listener, shown),
-        },
+            }
+        }
+    }
+}
+
+/// Whether the listener is told of the event, which is `Expired` or `Ready`, and not the servlet.
+#[tactic(auto, unfolding(sc_model::specs::Charters::is_told))]
+pub fn is_told(event: &Event) -> bool
+    ensures { result ≡ is_told event.now }
+{
+    match event {
+        Event::Expired | Event::Ready => true,
+        _ => false,
     }
 }
 
 #[tactic(auto, unfolding(sc_model::specs::Charters::IsBrought, sc_model::specs::Charters::CalledAllowed))]
-fn made_ready(alloc: Global, listener: &Option<Box<dyn Listener>>, shown: View) -> Made
+fn made_told(
+    alloc: Global,
+    listener: &Option<Box<dyn Listener>>,
+    shown: View,
+    event: &Event,
+) -> Made
     ensures shown { result.called.shown ≡ shown }
     ensures charter { result.charter ≡ None }
     ensures listener { result.listener ≡ option_map (λ l. listens l) listener.now }
-    ensures brought { IsBrought shown (Some Event.Ready) None result.listener result.called.calls result.called.end }
+    ensures brought { IsBrought shown (Some event.now) None result.listener result.called.calls result.called.end }
 {
     match listener {
         Some(listener) => Made {
             charter: None,
             listener: Some(listener.charter()),
-            called: call_listener(alloc, listener, shown),
+            called: call_listener(alloc, listener, shown, event),
         },
         None => nobody(alloc, shown),
     }
@@ -152,13 +171,13 @@ fn call_servlet(alloc: Global, kind: &Kind, shown: View, event: &Event) -> Calle
 }
 
 #[tactic(auto, unfolding(sc_model::specs::Charters::Meets))]
-fn call_listener(alloc: Global, listener: &Box<dyn Listener>, shown: View) -> Called
+fn call_listener(alloc: Global, listener: &Box<dyn Listener>, shown: View, event: &Event) -> Called
     ensures shown { result.shown ≡ shown }
     ensures allowed { Meets result.end (ListenerAllowed (listens listener.now) shown result.calls result.end) }
 {
     match Turn::begin(alloc, shown) {
         Ok(mut turn) => {
-            let end = ready_turn(listener, &mut turn);
+            let end = listener_turn(listener, &mut turn, event);
             turn.finish(end)
         }
         Err(shown) => starved(alloc, shown),
@@ -174,11 +193,14 @@ fn servlet_turn(kind: &Kind, turn: &mut Turn, event: &Event) -> End
     kind.servlet.turn(turn, event)
 }
 
-/// The listener's turn at `Ready`, as its trait promises it.
-fn ready_turn(listener: &Box<dyn Listener>, turn: &mut Turn) -> End
+/// The listener's turn at `Expired` or at `Ready`, as its trait promises it.
+fn listener_turn(listener: &Box<dyn Listener>, turn: &mut Turn, event: &Event) -> End
     requires { turn.old.calls ≡ [] }
     ensures same { turn.new.shown ≡ turn.old.shown }
     ensures promised { Meets result (ListenerPromises (listens listener.now) turn.old.shown turn.new.calls result) }
 {
-    listener.ready(turn)
+    match event {
+        Event::Expired => listener.expired(turn),
+        _ => listener.ready(turn),
+    }
 }

@@ -1,7 +1,7 @@
 //! Which call is refused, and why.
 
 ghost use Rattle.std.specs.Prelude.{◌≡◌};
-ghost use Rattle.sc_model.specs.Turns.{refusal, request_refusal, request_in, respond_refusal, text_refusal, bad_text};
+ghost use Rattle.sc_model.specs.Turns.{refusal, call_refusal, request_refusal, request_in, respond_refusal, text_refusal, bad_text};
 
 use crate::texts::{bad_text, has_system_header, is_ack};
 use sc_app_session::{is_gone_in, request_in};
@@ -16,13 +16,20 @@ pub const MOST_CALLS: usize = 256;
 pub fn refusal(view: &View, listed: usize, call: &Call) -> Option<Refusal>
     ensures { result ≡ refusal view.entry.now listed call.now }
 {
+    if MOST_CALLS <= listed {
+        return Some(Refusal::Limit(256));
+    }
+    call_refusal(view, call)
+}
+
+/// The refusal of a call that the turn has room for. No other call than `respond` can be made yet.
+#[tactic(auto, unfolding(sc_model::specs::Turns::call_refusal))]
+fn call_refusal(view: &View, call: &Call) -> Option<Refusal>
+    ensures { result ≡ call_refusal view.entry.now call.now }
+{
     match call {
-        Call::Respond { req, answer } => {
-            if MOST_CALLS <= listed {
-                return Some(Refusal::Limit(256));
-            }
-            request_refusal(view, *req, answer)
-        }
+        Call::Respond { req, answer } => request_refusal(view, *req, answer),
+        _ => Some(Refusal::NotYours),
     }
 }
 

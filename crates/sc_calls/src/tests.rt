@@ -10,9 +10,7 @@ use crate::{
     Refusal, SipServlet, Turn, View,
 };
 use sc_terms::{RequestView, Role, SessionView, State};
-use sc_value::{
-    Address, AppId, CSeq, Discard, Head, List, NoMemory, Region, ReqId, Request, SessId, Text, Uri,
-};
+use sc_value::{AppId, Discard, List, NoMemory, ReqId, SessId, Text};
 use std::alloc::Global;
 use std::test::Fail;
 
@@ -143,48 +141,6 @@ fn requests(alloc: Global) -> Result<List<RequestView>, NoMemory> {
     Ok(requests)
 }
 
-fn address(alloc: Global) -> Address {
-    Address {
-        display: None,
-        uri: Uri::Other(Text::new(alloc)),
-        params: List::new(alloc),
-    }
-}
-
-fn head(alloc: Global) -> Head {
-    Head {
-        via: List::new(alloc),
-        route: List::new(alloc),
-        record_route: List::new(alloc),
-        from: address(alloc),
-        to: address(alloc),
-        call_id: Text::new(alloc),
-        cseq: CSeq {
-            number: 1,
-            method: Text::new(alloc),
-        },
-        contact: List::new(alloc),
-        others: List::new(alloc),
-        body: Text::new(alloc),
-    }
-}
-
-fn event(alloc: Global) -> Event {
-    Event::Initial {
-        req: ReqId(1),
-        sess: SessId(1),
-        region: Region::Neutral,
-        subscriber: Text::new(alloc),
-        popped: None,
-        request: Request {
-            method: Text::new(alloc),
-            uri: Uri::Other(Text::new(alloc)),
-            hops: 70,
-            head: head(alloc),
-        },
-    }
-}
-
 fn lease(alloc: Global, sessions: List<SessionView>, requests: List<RequestView>) -> Lease
     requires { is_numbered_below (2 ^ 31) sessions ≡ true }
     ensures { result.kind ≡ 0 }
@@ -212,7 +168,10 @@ fn lease(alloc: Global, sessions: List<SessionView>, requests: List<RequestView>
             requests,
             timers: List::new(alloc),
         },
-        event: Some(event(alloc)),
+        event: Some(Event::Cancelled {
+            req: ReqId(1),
+            sess: SessId(1),
+        }),
     }
 }
 

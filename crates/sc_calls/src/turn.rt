@@ -233,7 +233,7 @@ fn note_call(view: &mut View, made: &CallRecord)
     ensures { view.new ≡ after_record view.old made.now }
 {
     match made.answer {
-        CallAnswer::Fine => take_effect(view, &made.call),
+        CallAnswer::Fine | CallAnswer::Number(_) => take_effect(view, &made.call),
         CallAnswer::Refused(_) => {}
     }
 }

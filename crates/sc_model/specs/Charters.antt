@@ -1,6 +1,7 @@
 -- Charters: the stated interfaces of servlets and listeners.
-use Rattle.std.specs.Prelude.{◌≡◌, ◌<◌, ℕ, ◌+◌, List, [], ◌∷◌, Option, None, Some, codes}
+use Rattle.std.specs.Prelude.{◌≡◌, ◌<◌, ℕ, ◌+◌, List, [], ◌∷◌, Bool, true, false, Option, None, Some, if◌then◌else◌, codes}
 use Rattle.sc_value.specs.declared.ids.ReqId.{ReqId}
+use Rattle.sc_value.specs.Params.{same_bytes}
 use Rattle.sc_terms.specs.declared.views.View.{View}
 use Rattle.sc_terms.specs.declared.events.Event.{Event}
 use Rattle.sc_terms.specs.declared.events.Event.TheVariants as events
@@ -15,7 +16,7 @@ use Rattle.sc_terms.specs.declared.calls.CallRecord.{CallRecord}
 use Rattle.sc_terms.specs.declared.calls.End.{End}
 use Rattle.sc_terms.specs.declared.calls.End.TheVariants as ends
 use Rattle.sc_grammar.specs.Written.{Bytes}
-use Rattle.sc_model.specs.Turns.{refusal, answer_of, after_answer, MOST_CALLS}
+use Rattle.sc_model.specs.Turns.{refusal, answer_of, after_answer, MOST_CALLS, ack}
 
 -- ## Lists of calls
 
@@ -54,19 +55,28 @@ ok_reason = codes "OK"
 
 -- ## The charters
 
--- answer: each request is answered 200
+-- one answer 200, whatever becomes of it
+unfoldable pub ok_script : ReqId → Script
+ok_script req = Make (reply req 200 ok_reason) (λ answer. Done)
+
+-- answer: each request is answered 200, but an ACK, which has no answer
 unfoldable pub answer_script : Event → Script
-answer_script (events.Initial req sess region subscriber popped request) = Make (reply req 200 ok_reason) (λ answer. Done)
-answer_script events.Ready = Done
+answer_script (events.Initial req sess region subscriber popped request) = ok_script req
+answer_script (events.Request req sess request) = if same_bytes request.method ack then Done else ok_script req
+answer_script event = Done
 
 -- what a servlet of this charter promises of its turn
 unfoldable pub Promises : Charter → View → Event → List CallRecord → End → Type 0
 Promises charters.Answer view event calls end = (calls ≡ played view (answer_script event)) × (end ≡ ends.Fine)
 Promises charters.Free view event calls end = Unit {0}
+-- no servlet may state another charter yet
+Promises charter view event calls end = ⊥
 
 -- what a listener of this charter promises of its turn
 unfoldable pub ListenerPromises : ListenerCharter → View → List CallRecord → End → Type 0
 ListenerPromises listeners.Free view calls end = Unit {0}
+-- no listener may state it yet
+ListenerPromises listeners.ExtendOnce view calls end = ⊥
 
 -- what a servlet of this charter may do at an event
 unfoldable pub Allowed : Charter → View → Event → List CallRecord → End → Type 0
@@ -98,14 +108,19 @@ CalledAllowed view None None (Some charter) calls end = ⊥
 unfoldable pub IsBrought : View → Option Event → Option Charter → Option ListenerCharter → List CallRecord → End → Type 0
 IsBrought view event charter listener calls end = Meets end (CalledAllowed view event charter listener calls end)
 
+-- the listener is told of the event: the application session expires, or is ready to go away (JSR 289
+-- section 6.1.2); every other event is the servlet's
+unfoldable pub is_told : Event → Bool
+is_told events.Expired = true
+is_told events.Ready = true
+is_told event = false
+
 -- the servlet's charter where it is called at the event
 unfoldable pub called_servlet : Option Event → Charter → Option Charter
 called_servlet None charter = None
-called_servlet (Some (events.Initial req sess region subscriber popped request)) charter = Some charter
-called_servlet (Some events.Ready) charter = None
+called_servlet (Some event) charter = if is_told event then None else Some charter
 
 -- the listener's charter where it is called at the event
 unfoldable pub called_listener : Option Event → Option ListenerCharter → Option ListenerCharter
 called_listener None charter = None
-called_listener (Some (events.Initial req sess region subscriber popped request)) charter = None
-called_listener (Some events.Ready) charter = charter
+called_listener (Some event) charter = if is_told event then charter else None

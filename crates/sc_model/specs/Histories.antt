@@ -185,10 +185,16 @@ answer_order view (Some received) answer = Some (record {
 abbrev pub is_received : ReqId → Received → Bool
 is_received req received = received.id.0 == req.0
 
+-- what an accepted call sends
+unfoldable pub accepted_order : Session → Call → Option Order
+accepted_order session (Respond req answer) = answer_order session.view (find (is_received req) session.received) answer
+accepted_order session call = None
+
 -- what one listed call sends
 unfoldable pub call_order : Session → Call → CallAnswer → Option Order
-call_order session (Respond req answer) answers.Fine = answer_order session.view (find (is_received req) session.received) answer
-call_order session (Respond req answer) (answers.Refused refused) = None
+call_order session call answers.Fine = accepted_order session call
+call_order session call (answers.Number number) = accepted_order session call
+call_order session call (answers.Refused refused) = None
 
 unfoldable pub record_order : Session → CallRecord → Option Order
 record_order session made = call_order session made.call made.answer

@@ -194,12 +194,14 @@ first_of (Some live) = slice_get live.inbox 0
 unfoldable pub stepped : Setup → Net → Step → Net
 stepped setup net (steps.In place message) = arrived setup net place message
 stepped setup net (steps.Turn app event now calls end) = turned setup net app (live_at app net) now calls end
+stepped setup net step = net
 
 -- what a step sends outside
 unfoldable pub sent_by : Setup → Net → Step → List Sent
 sent_by setup net (steps.In place message) = []
 sent_by setup net (steps.Turn app event now calls end) =
     filter_map (sent_order (servers_of (slice_get net.hosts app.host))) (orders_by setup (live_at app net) (first_of (live_at app net)) now calls end)
+sent_by setup net step = []
 
 -- no session lives and no transaction is open anywhere
 unfoldable pub IsUntouched : Net → Type 0
@@ -251,6 +253,8 @@ pub record MayTurn (setup : Setup) (net : Net) (app : AppId) (event now : ℕ) (
 unfoldable pub IsAllowed : Setup → Net → Step → Type 0
 IsAllowed setup net (steps.In place message) = MayArrive setup net message
 IsAllowed setup net (steps.Turn app event now calls end) = MayTurn setup net app event now calls end
+-- no other step is taken yet
+IsAllowed setup net step = ⊥
 
 -- ## What waits
 

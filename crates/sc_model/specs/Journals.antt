@@ -5,13 +5,16 @@ use Rattle.sc_value.specs.declared.parts.Param.{Param}
 use Rattle.sc_value.specs.declared.parts.SipUri.{SipUri}
 use Rattle.sc_value.specs.declared.parts.Uri.{Uri}
 use Rattle.sc_value.specs.declared.parts.Uri.TheVariants.{Sip, Other}
+use Rattle.sc_value.specs.declared.parts.Address.{Address}
 use Rattle.sc_value.specs.declared.parts.Contact.{Contact}
 use Rattle.sc_value.specs.declared.parts.Contact.TheVariants.{Star, At}
 use Rattle.sc_value.specs.declared.parts.Field.{Field}
 use Rattle.sc_value.specs.declared.message.Sent.{Sent}
 use Rattle.sc_terms.specs.declared.calls.Answer.{Answer}
+use Rattle.sc_terms.specs.declared.calls.Ask.{Ask}
+use Rattle.sc_terms.specs.declared.inside.Inside.{Inside}
 use Rattle.sc_terms.specs.declared.calls.Call.{Call}
-use Rattle.sc_terms.specs.declared.calls.Call.TheVariants.{Respond}
+use Rattle.sc_terms.specs.declared.calls.Call.TheVariants as calls
 use Rattle.sc_terms.specs.declared.calls.CallRecord.{CallRecord}
 use Rattle.sc_terms.specs.declared.steps.Step.{Step}
 use Rattle.sc_terms.specs.declared.steps.Step.TheVariants as steps
@@ -69,9 +72,12 @@ unfoldable pub uri_size : Uri → ℕ
 uri_size (Sip uri) = sip_uri_size uri
 uri_size (Other text) = length text
 
+unfoldable pub address_size : Address → ℕ
+address_size address = option_size address.display + uri_size address.uri + sum_by param_size address.params
+
 unfoldable pub contact_size : Contact → ℕ
 contact_size Star = 0
-contact_size (At address) = option_size address.display + uri_size address.uri + sum_by param_size address.params
+contact_size (At address) = address_size address
 
 unfoldable pub field_size : Field → ℕ
 field_size field = length field.name + length field.value
@@ -80,16 +86,41 @@ field_size field = length field.name + length field.value
 unfoldable pub answer_size : Answer → ℕ
 answer_size answer = length answer.reason + sum_by field_size answer.fields + sum_by contact_size answer.contact + length answer.body
 
+-- the lengths of all texts of an initial request of one's own
+unfoldable pub ask_size : Ask → ℕ
+ask_size ask =
+    length ask.method + uri_size ask.uri + address_size ask.from + address_size ask.to + sum_by field_size ask.fields + sum_by contact_size ask.contact + length ask.body
+
+-- the lengths of all texts of a request in a dialog
+unfoldable pub inside_size : Inside → ℕ
+inside_size ask = length ask.method + sum_by field_size ask.fields + length ask.body
+
+unfoldable pub option_uri_size : Option Uri → ℕ
+option_uri_size None = 0
+option_uri_size (Some uri) = uri_size uri
+
+-- the lengths of all texts among the arguments of a call, at any depth
 unfoldable pub call_size : Call → ℕ
-call_size (Respond req answer) = answer_size answer
+call_size (calls.Respond req answer) = answer_size answer
+call_size (calls.CreateRequest ask) = ask_size ask
+call_size (calls.CreateInDialog sess ask) = inside_size ask
+call_size (calls.B2bCreate req uri) = option_uri_size uri
+call_size (calls.Ack sess body) = length body
+call_size (calls.ProxyTo req targets options) = sum_by uri_size targets
+call_size (calls.B2bRespond sess answer) = answer_size answer
+call_size (calls.StartTimer delay period info) = length info
+call_size (calls.SetAttribute name value) = length name + length value
+call_size (calls.RemoveAttribute name) = length name
+call_size call = 0
 
 unfoldable pub record_size : CallRecord → ℕ
 record_size made = call_size made.call
 
--- the bytes of a step: of a message its written text, of a turn all texts in its calls
+-- the bytes of a step: of a message its written text, of a turn all texts in its calls, of others none
 unfoldable pub step_size : Step → ℕ
 step_size (steps.In place message) = length (written message)
 step_size (steps.Turn app event now calls end) = sum_by record_size calls
+step_size step = 0
 
 unfoldable pub journal_size : List Step → ℕ
 journal_size journal = sum_by step_size journal

@@ -32,9 +32,9 @@ IsScript bytes lines = (message : Message) × IsSpelledBy message (written messa
 -- the steps are turns, each of the lowest event that waits, at the last moment
 unfoldable pub IsPartRun : Setup → Run → List Step → Type 0
 IsPartRun setup run [] = Unit {0}
-IsPartRun setup run (steps.In place message ∷ later) = ⊥
 IsPartRun setup run (steps.Turn app event now calls end ∷ later) =
     (next_event run.net ≡ Some (record { app = app; number = event })) × (now ≡ run.net.now) × IsPartRun setup (advanced setup run (steps.Turn app event now calls end)) later
+IsPartRun setup run (step ∷ later) = ⊥
 
 -- and none waits after the last
 unfoldable pub IsWholeRun : Setup → Run → List Step → Type 0
@@ -48,6 +48,8 @@ FollowsFrom setup run (lines.In place text ∷ later) taken =
 FollowsFrom setup run (lines.Run ∷ later) taken =
     (turns : List Step) × (rest : List Step) × (taken ≡ turns ++ rest) × IsWholeRun setup run turns × FollowsFrom setup (chained_from setup run turns) later rest
 FollowsFrom setup run (lines.End ∷ later) taken = taken ≡ []
+-- no other line is followed yet
+FollowsFrom setup run (line ∷ later) taken = ⊥
 
 -- the steps are a beginning of that
 unfoldable pub UptoFrom : Setup → Run → List Line → List Step → Type 0
@@ -58,6 +60,7 @@ UptoFrom setup run (lines.In place text ∷ later) (step ∷ rest) =
 UptoFrom setup run (lines.Run ∷ later) taken =
     IsPartRun setup run taken ⊎ ((turns : List Step) × (rest : List Step) × (taken ≡ turns ++ rest) × IsWholeRun setup run turns × UptoFrom setup (chained_from setup run turns) later rest)
 UptoFrom setup run (lines.End ∷ later) taken = taken ≡ []
+UptoFrom setup run (line ∷ later) taken = ⊥
 
 -- a journal of epoch 0, begun at 0, follows the script's lines
 unfoldable pub Follows : Setup → List Line → List Step → Type 0

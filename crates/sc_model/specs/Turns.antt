@@ -102,10 +102,14 @@ request_refusal view (Some request) answer =
 abbrev pub MOST_CALLS : ℕ
 MOST_CALLS = 256
 
+-- the refusal of a call that the turn has room for; no other call than `respond` can be made yet
+unfoldable pub call_refusal : View → Call → Option Refusal
+call_refusal view (Respond req answer) = request_refusal view (request_in view req) answer
+call_refusal view call = Some NotYours
+
 -- the refusal of a call after so many listed ones, none where it is accepted
 unfoldable pub refusal : View → ℕ → Call → Option Refusal
-refusal view listed (Respond req answer) =
-    if nat_le MOST_CALLS listed then Some (Limit MOST_CALLS) else request_refusal view (request_in view req) answer
+refusal view listed call = if nat_le MOST_CALLS listed then Some (Limit MOST_CALLS) else call_refusal view call
 
 -- ## What an accepted call leaves
 
@@ -132,6 +136,7 @@ answered_view view (Some request) code = record view {
 -- the view after an accepted call
 unfoldable pub after_call : View → Call → View
 after_call view (Respond req answer) = answered_view view (request_in view req) answer.code
+after_call view call = view
 
 -- the answer that a call lists
 unfoldable pub answer_of : Option Refusal → CallAnswer
@@ -146,6 +151,7 @@ after_answer view (Some refused) call = view
 -- the view after a listed call: a refused one changes nothing
 unfoldable pub after_listed : View → Call → CallAnswer → View
 after_listed view call answers.Fine = after_call view call
+after_listed view call (answers.Number number) = after_call view call
 after_listed view call (answers.Refused refused) = view
 
 unfoldable pub after_record : View → CallRecord → View

@@ -27,6 +27,7 @@ upto_from setup run (lines.In place text ∷ later) taken (message, rest, spelle
 upto_from setup run (lines.Run ∷ later) taken (turns, rest, taken_is, whole, follows) =
     inr (turns, rest, taken_is, whole, upto_from setup (chained_from setup run turns) later rest follows)
 upto_from setup run (lines.End ∷ later) taken follows = follows
+upto_from setup run (line ∷ later) taken follows = absurd follows
 
 upto_whole : (setup : Setup) (said : List Line) (journal : List Step) → Follows setup said journal → Upto setup said journal
 unfolding Follows Upto

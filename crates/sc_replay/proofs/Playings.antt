@@ -213,9 +213,9 @@ pub part_more : (setup : Setup) (run : Run) (turns : List Step) (next : Next) (n
     → next_event (chained_from setup run turns).net ≡ Some next → now ≡ (chained_from setup run turns).net.now → IsPartRun setup run (turns ++ steps.Turn next.app next.number now calls end ∷ [])
 unfolding IsPartRun chained_from
 part_more setup run [] next now calls end part next_is now_is = (next_is, now_is, tt)
-part_more setup run (steps.In place message ∷ later) next now calls end part next_is now_is = absurd part
 part_more setup run (steps.Turn app event at made ending ∷ later) next now calls end part next_is now_is =
     (part.0, part.1, part_more setup (advanced setup run (steps.Turn app event at made ending)) later next now calls end part.2 next_is now_is)
+part_more setup run (step ∷ later) next now calls end part next_is now_is = absurd part
 
 -- the run of all turns from where they began
 pub run_played : (old new : Known) (turns : List Step) → new.setup ≡ old.setup → new.journal ≡ old.journal ++ turns → run_of new ≡ chained_from old.setup (run_of old) turns

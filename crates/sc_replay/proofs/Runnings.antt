@@ -188,13 +188,11 @@ script_begins said script none = none-some _ (sym none ∙ (script_head said scr
 
 place_in : Line → Place
 place_in (lines.In place text) = place
-place_in lines.Run = Back 0
-place_in lines.End = Back 0
+place_in line = Back 0
 
 text_in : Line → Bytes
 text_in (lines.In place text) = text
-text_in lines.Run = []
-text_in lines.End = []
+text_in line = []
 
 -- what a script with this first line is
 pub script_is : (said : List Line) (from : Place) (text : Bytes) → IsSomeScript said → slice_get said 0 ≡ Some (lines.In from text) → (said ≡ script_lines text) × (from ≡ Back 1) × IsSomeMessage text

@@ -40,8 +40,7 @@ pub record IsArrived (known : Known) : Type 0 where
 -- the line brings a message
 unfoldable pub IsArrival : Line → Type 0
 IsArrival (lines.In place text) = Unit {0}
-IsArrival lines.Run = ⊥
-IsArrival lines.End = ⊥
+IsArrival line = ⊥
 
 -- the lines are those of a script
 abbrev pub IsSomeScript : List Line → Type 0

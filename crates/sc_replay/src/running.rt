@@ -128,8 +128,7 @@ fn arrival_in(line: &Line) -> (Place, &[u8])
 {
     match line {
         Line::In(from, text) => (*from, text.as_bytes()),
-        Line::Run => unreachable!(),
-        Line::End => unreachable!(),
+        _ => unreachable!(),
     }
 }
 

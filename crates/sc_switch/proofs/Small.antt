@@ -61,9 +61,15 @@ small_answered most view (Some request) code is = record {
   sessions = numbered_changed (2 ^ 31) code request.sess request.initial request.method view.sessions ∙ is.sessions;
 }
 
+small_accepted : (most : ℕ) (view : View) (call : Call) → IsSmall most view → IsSmall most (after_call view call)
+unfolding after_call
+small_accepted most view (Respond req answer) is = small_answered most view (request_in view req) answer.code is
+small_accepted most view call is = is
+
 small_listed : (most : ℕ) (view : View) (call : Call) (answer : CallAnswer) → IsSmall most view → IsSmall most (after_listed view call answer)
-unfolding after_listed after_call
-small_listed most view (Respond req answer) answers.Fine is = small_answered most view (request_in view req) answer.code is
+unfolding after_listed
+small_listed most view call answers.Fine is = small_accepted most view call is
+small_listed most view call (answers.Number number) is = small_accepted most view call is
 small_listed most view call (answers.Refused refused) is = is
 
 small_calls : (most : ℕ) (made : List CallRecord) (view : View) → IsSmall most view → IsSmall most (fold after_record view made)

@@ -8,7 +8,7 @@ ghost use Rattle.sc_model.specs.Hosts.{servlet_at, listener_at};
 ghost use Rattle.sc_switch.specs.Standing.{servlet_of, listener_of, is_live_lease, Fits};
 ghost use Rattle.sc_switch.specs.Judging.{Judges};
 
-use sc_calls::{Done, Lease};
+use sc_calls::{Done, Lease, is_told};
 use sc_parts::Setup;
 use sc_terms::{AppEntry, Charter, Event, ListenerCharter};
 use sc_value::Same;
@@ -57,29 +57,49 @@ fn calls_right(setup: &Setup, done: &Done) -> bool
 }
 
 /// The charter of the servlet that an event of a host calls.
-#[tactic(auto, unfolding(crate::specs::Standing::servlet_of, sc_model::specs::Hosts::servlet_at, sc_model::specs::Charters::called_servlet))]
+#[tactic(auto, unfolding(crate::specs::Standing::servlet_of))]
 fn servlet_of(setup: &Setup, host: u32, event: &Option<Event>) -> Option<Charter>
     ensures { result ≡ servlet_of setup.now host event.now }
 {
-    match (event, charters_of(setup, host)) {
-        (Some(Event::Initial { .. }), Some(charters)) => Some(charters.0),
-        (Some(Event::Initial { .. }), None) => None,
-        (Some(Event::Ready), _) => None,
-        (None, _) => None,
+    match event {
+        Some(event) => servlet_at(charters_of(setup, host), event),
+        None => None,
     }
 }
 
 /// The charter of the listener that an event of a host calls.
-#[tactic(auto, unfolding(crate::specs::Standing::listener_of, sc_model::specs::Hosts::listener_at, sc_model::specs::Charters::called_listener))]
+#[tactic(auto, unfolding(crate::specs::Standing::listener_of))]
 fn listener_of(setup: &Setup, host: u32, event: &Option<Event>) -> Option<ListenerCharter>
     ensures { result ≡ listener_of setup.now host event.now }
 {
-    match (event, charters_of(setup, host)) {
-        (Some(Event::Ready), Some(charters)) => charters.1,
-        (Some(Event::Ready), None) => None,
-        (Some(Event::Initial { .. }), _) => None,
-        (None, _) => None,
+    match event {
+        Some(event) => listener_at(charters_of(setup, host), event),
+        None => None,
     }
+}
+
+/// Of an application's charters the servlet's, where the event calls it.
+#[tactic(auto, unfolding(sc_model::specs::Hosts::servlet_at, sc_model::specs::Charters::called_servlet))]
+fn servlet_at(
+    charters: Option<(Charter, Option<ListenerCharter>)>,
+    event: &Event,
+) -> Option<Charter>
+    ensures { result ≡ servlet_at charters event.now }
+{
+    let (servlet, _) = charters?;
+    if is_told(event) { None } else { Some(servlet) }
+}
+
+/// Of an application's charters the listener's, where the event calls it.
+#[tactic(auto, unfolding(sc_model::specs::Hosts::listener_at, sc_model::specs::Charters::called_listener))]
+fn listener_at(
+    charters: Option<(Charter, Option<ListenerCharter>)>,
+    event: &Event,
+) -> Option<ListenerCharter>
+    ensures { result ≡ listener_at charters event.now }
+{
+    let (_, listener) = charters?;
+    if is_told(event) { listener } else { None }
 }
 
 /// The charters of a host's application.
@@ -88,9 +108,19 @@ fn charters_of(setup: &Setup, host: u32) -> Option<(Charter, Option<ListenerChar
     ensures { result ≡ charters_of setup.now host }
 {
     match app_of(setup, host) {
-        Some(app) => setup.kinds.as_slice().get(app.kind).copied(),
+        Some(app) => kind_at(setup.kinds.as_slice(), app.kind).copied(),
         None => None,
     }
+}
+
+/// The charters of the kind at this place.
+fn kind_at(
+    kinds: &[(Charter, Option<ListenerCharter>)],
+    kind: usize,
+) -> Option<&(Charter, Option<ListenerCharter>)>
+    ensures { option_copied result ≡ slice_get kinds.now kind }
+{
+    kinds.get(kind)
 }
 
 /// The application of a host.

@@ -2,10 +2,10 @@
 
 ghost use Rattle.std.specs.Prelude.{◌≡◌, ℕ, ◌+◌, min, length, sum_by, Option};
 ghost use Rattle.std.specs.Option.{option_copied};
-ghost use Rattle.sc_model.specs.Journals.{option_size, param_size, sip_uri_size, uri_size, contact_size, field_size, answer_size, call_size, record_size};
+ghost use Rattle.sc_model.specs.Journals.{option_size, param_size, sip_uri_size, uri_size, address_size, contact_size, field_size, answer_size, ask_size, inside_size, option_uri_size, call_size, record_size};
 
-use sc_terms::{Answer, Call, CallRecord};
-use sc_value::{Contact, Field, Param, SipUri, Text, Uri};
+use sc_terms::{Answer, Ask, Call, CallRecord, Inside};
+use sc_value::{Address, Contact, Field, Param, SipUri, Text, Uri};
 
 /// A value whose texts have a size.
 pub trait Measured {
@@ -63,14 +63,25 @@ fn sip_uri_size(uri: &SipUri) -> u64
         .saturating_add(option_size(&uri.headers))
 }
 
-#[tactic(auto, unfolding(sc_model::specs::Journals::uri_size))]
-fn uri_size(uri: &Uri) -> u64
-    ensures { result ≡ min (uri_size uri.now) u64.MAX }
-{
-    match uri {
-        Uri::Sip(uri) => sip_uri_size(uri),
-        Uri::Other(text) => length_of(text),
+impl Measured for Uri {
+    ghost size = { uri_size };
+
+    #[tactic(auto, unfolding(sc_model::specs::Journals::uri_size))]
+    fn size(&self) -> u64 {
+        match self {
+            Uri::Sip(uri) => sip_uri_size(uri),
+            Uri::Other(text) => length_of(text),
+        }
     }
+}
+
+#[tactic(auto, unfolding(sc_model::specs::Journals::address_size))]
+fn address_size(address: &Address) -> u64
+    ensures { result ≡ min (address_size address.now) u64.MAX }
+{
+    option_size(&address.display)
+        .saturating_add(address.uri.size())
+        .saturating_add(total(address.params.as_slice()))
 }
 
 impl Measured for Contact {
@@ -80,9 +91,7 @@ impl Measured for Contact {
     fn size(&self) -> u64 {
         match self {
             Contact::Star => 0,
-            Contact::At(address) => option_size(&address.display)
-                .saturating_add(uri_size(&address.uri))
-                .saturating_add(total(address.params.as_slice())),
+            Contact::At(address) => address_size(address),
         }
     }
 }
@@ -109,13 +118,67 @@ fn answer_size(answer: &Answer) -> u64
         .saturating_add(length_of(&answer.body))
 }
 
+#[tactic(auto, unfolding(sc_model::specs::Journals::ask_size))]
+fn ask_size(ask: &Ask) -> u64
+    ensures { result ≡ min (ask_size ask.now) u64.MAX }
+{
+    length_of(&ask.method)
+        .saturating_add(ask.uri.size())
+        .saturating_add(address_size(&ask.from))
+        .saturating_add(address_size(&ask.to))
+        .saturating_add(total(ask.fields.as_slice()))
+        .saturating_add(total(ask.contact.as_slice()))
+        .saturating_add(length_of(&ask.body))
+}
+
+#[tactic(auto, unfolding(sc_model::specs::Journals::inside_size))]
+fn inside_size(ask: &Inside) -> u64
+    ensures { result ≡ min (inside_size ask.now) u64.MAX }
+{
+    length_of(&ask.method)
+        .saturating_add(total(ask.fields.as_slice()))
+        .saturating_add(length_of(&ask.body))
+}
+
+#[tactic(auto, unfolding(sc_model::specs::Journals::option_uri_size))]
+fn option_uri_size(uri: &Option<Uri>) -> u64
+    ensures { result ≡ min (option_uri_size uri.now) u64.MAX }
+{
+    match uri {
+        Some(uri) => uri.size(),
+        None => 0,
+    }
+}
+
+fn attribute_size(name: &Text, value: &Text) -> u64
+    ensures { result ≡ min (length name.now + length value.now) u64.MAX }
+{
+    length_of(name).saturating_add(length_of(value))
+}
+
+#[tactic(auto, unfolding(sc_model::specs::Journals::call_size))]
+fn call_size(call: &Call) -> u64
+    ensures { result ≡ min (call_size call.now) u64.MAX }
+{
+    match call {
+        Call::Respond { answer, .. } | Call::B2bRespond { answer, .. } => answer_size(answer),
+        Call::CreateRequest { ask } => ask_size(ask),
+        Call::CreateInDialog { ask, .. } => inside_size(ask),
+        Call::B2bCreate { uri, .. } => option_uri_size(uri),
+        Call::Ack { body, .. } => length_of(body),
+        Call::ProxyTo { targets, .. } => total(targets.as_slice()),
+        Call::StartTimer { info, .. } => length_of(info),
+        Call::SetAttribute { name, value } => attribute_size(name, value),
+        Call::RemoveAttribute { name } => length_of(name),
+        _ => 0,
+    }
+}
+
 impl Measured for CallRecord {
     ghost size = { record_size };
 
-    #[tactic(auto, unfolding(sc_model::specs::Journals::record_size, sc_model::specs::Journals::call_size))]
+    #[tactic(auto, unfolding(sc_model::specs::Journals::record_size))]
     fn size(&self) -> u64 {
-        match &self.call {
-            Call::Respond { answer, .. } => answer_size(answer),
-        }
+        call_size(&self.call)
     }
 }

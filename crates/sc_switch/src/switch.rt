@@ -155,19 +155,23 @@ impl Switch {
         ensures fits { OnErr result (Fits self.old.setup self.old.kept done) }
         ensures back { IfErr result (λ refused. refused.done ≡ done) }
     {
-        let number = done.lease.number;
         match judge(&self.setup, &self.kept, &done) {
-            Judged::Gone => {
-                done.discard();
-                return Ok(Committed::Gone(number));
-            }
-            Judged::Other => {
-                done.discard();
-                set_lease(&mut self.kept, None);
-                return Ok(Committed::Other(number));
-            }
-            Judged::Fits => {}
+            Judged::Fits => self.take(alloc, done),
+            Judged::Gone => Ok(gone(done)),
+            Judged::Other => Ok(end_lease(&mut self.kept, done)),
         }
+    }
+
+    /// Takes the turn of the live lease, as `commit`.
+    #[tactic(auto, unfolding(crate::specs::Answers::Received))]
+    fn take(&mut self, alloc: Global, done: Done) -> Result<Committed, CommitRefused>
+        requires { Fits self.old.setup self.old.kept done }
+        ensures ok { IfOk result (λ answer. Received self.old self.new done answer) }
+        ensures room { OnOk result (¬ (IsFullFor self.old (step_size (step_of done)))) }
+        ensures err { OnErr result (self.new ≡ self.old) }
+        ensures refused { IfErr result (λ refused. RefusesRight self.old (step_size (step_of done)) refused.cause) }
+        ensures back { IfErr result (λ refused. refused.done ≡ done) }
+    {
         match plan_commit(alloc, &mut self.journal, &mut self.left, &self.phase, &done) {
             Ok(plan) => {
                 self.journal.put(step_of(done), plan.bytes);
@@ -264,6 +268,26 @@ impl Switch {
         drop(kept);
         journal
     }
+}
+
+/// Lets a turn go whose lease isn't live.
+fn gone(done: Done) -> Committed
+    ensures { result ≡ Committed.Gone done.lease.number }
+{
+    let number = done.lease.number;
+    done.discard();
+    Committed::Gone(number)
+}
+
+/// Lets a turn go that isn't that of the live lease of its number, and ends that lease.
+fn end_lease(kept: &mut Option<Lease>, done: Done) -> Committed
+    ensures kept { kept.new ≡ None }
+    ensures answer { result ≡ Committed.Other done.lease.number }
+{
+    let number = done.lease.number;
+    done.discard();
+    set_lease(kept, None);
+    Committed::Other(number)
 }
 
 fn set_lease(kept: &mut Option<Lease>, lease: Option<Lease>)
