@@ -73,6 +73,11 @@ pub struct Tuple {
 /// What is done with a tuple's route (JSR 289 section 15.6).
 #[derive(Clone, Copy, Debug, PartialEq, Eq)]
 pub enum Modifier {
+    /// A route that isn't the container's own takes the request out; an own one leads to the tuple's
+    /// application.
+    Route,
+    /// The route takes the request out, and behind it stands the way back to the next tuple.
+    RouteBack,
     /// The route isn't used.
     NoRoute,
 }
