@@ -1,5 +1,6 @@
 pub mod BestResponses
 pub mod Charters
+pub mod Choices
 pub mod DialogRequests
 pub mod Dialogs
 pub mod FixedSettings
@@ -8,6 +9,7 @@ pub mod Histories
 pub mod Hosts
 pub mod Journals
 pub mod Names
+pub mod OwnHosts
 pub mod Records
 pub mod Responses
 pub mod Routing

@@ -2,6 +2,7 @@
 //! Plain data, no logic.
 #![tactic(auto)]
 
+mod choice;
 mod chosen;
 mod copies;
 mod outcome;
@@ -11,6 +12,7 @@ mod setup;
 mod transactions;
 mod waiting;
 
+pub use choice::Choice;
 pub use chosen::Chosen;
 pub use outcome::{Order, Outcome};
 pub use server::Server;

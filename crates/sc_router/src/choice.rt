@@ -32,7 +32,7 @@ fn first_tuple(list: Option<&MethodList>) -> Option<&Tuple>
 }
 
 #[tactic(auto, unfolding(sc_model::specs::Routing::list_of))]
-fn list_of<'a>(dar: &'a Dar, method: &[u8]) -> Option<&'a MethodList>
+pub fn list_of<'a>(dar: &'a Dar, method: &[u8]) -> Option<&'a MethodList>
     ensures { option_copied result ≡ list_of method.now dar.now }
 {
     list_in(dar.lists.as_slice(), method)

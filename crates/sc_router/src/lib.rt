@@ -1,8 +1,14 @@
-//! The Default Application Router (JSR 289 appendix C): which application a request goes to.
+//! The Default Application Router (JSR 289 appendix C): which application a request goes to, or by
+//! which route it leaves.
 #![tactic(auto)]
 
 mod choice;
+mod own;
+mod returning;
+mod routing;
 mod subscriber;
 
 pub use choice::next_choice;
-pub use sc_parts::Chosen;
+pub use routing::next;
+pub use sc_parts::{Choice, Chosen};
+pub use sc_value::Directive;

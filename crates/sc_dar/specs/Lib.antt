@@ -1,0 +1,5 @@
+pub mod Lines
+pub mod Tuples
+pub mod Tables
+pub mod Answers
+pub mod WrittenTables

@@ -1,0 +1,65 @@
+-- The lines of a routing table's text. A backslash at the end of a line joins the next one to it.
+use Rattle.std.specs.Prelude.{ℕ, Bool, true, false, List, [], ◌∷◌, ◌++◌, ◌||◌, ◌==◌, ◌+◌, ◌-◌, length, take, slice_get, if◌then◌else◌}
+use Rattle.std.specs.List.{list_all}
+use Rattle.std.specs.Option.{option_map_or}
+use Rattle.sc_value.specs.Tokens.{is_blank}
+use Rattle.sc_syntax.specs.Bytes.{Bytes}
+use Rattle.sc_syntax.specs.Cuts.{pieces}
+use Rattle.sc_syntax.specs.Hosts.{begins}
+
+-- what stands after the blanks at the front: spaces and tabs
+unfoldable pub drop_blanks : Bytes → Bytes
+drop_blanks [] = []
+drop_blanks (b ∷ bs) = if is_blank b then drop_blanks bs else b ∷ bs
+
+-- all bytes are blanks
+unfoldable pub is_blank_text : Bytes → Bool
+is_blank_text text = list_all is_blank text
+
+-- the text ends with this byte
+unfoldable pub ends : ℕ → Bytes → Bool
+ends sign text = option_map_or (λ b. b == sign) (slice_get text (length text - 1)) false
+
+unfoldable pub without_last : Bytes → Bytes
+without_last text = take (length text - 1) text
+
+-- the line without a CR at its end
+unfoldable pub without_cr : Bytes → Bytes
+without_cr line = if ends 13 line then without_last line else line
+
+-- the lines of a text that is cut at each LF. What follows the last LF is a line too, unless it's empty
+unfoldable pub ended : List Bytes → List Bytes
+ended [] = []
+ended (last ∷ []) = if length last == 0 then [] else last ∷ []
+ended (line ∷ next ∷ more) = without_cr line ∷ ended (next ∷ more)
+
+unfoldable pub rows : Bytes → List Bytes
+rows text = ended (pieces 10 text)
+
+-- a line that may be joined from several rows of the text
+pub record Line : Type 0 where
+  pub text : Bytes
+  -- how many rows they are
+  pub height : ℕ
+
+-- the row that ends with a backslash, with the line after it; the backslash of the last row stays
+unfoldable pub onto_next : Bytes → List Line → List Line
+onto_next row [] = record { text = row; height = 1 } ∷ []
+onto_next row (next ∷ more) = record { text = without_last row ++ next.text; height = 1 + next.height } ∷ more
+
+-- the row is the front of the lines that go on after it, or a line before the fresh ones
+unfoldable pub before_lines : Bytes → List Line → List Line → List Line
+before_lines row joined fresh = if ends 92 row then onto_next row joined else (record { text = row; height = 1 } ∷ fresh)
+
+-- the lines of these rows, of which the first may go on a row before it, and loses its blanks then
+unfoldable pub joined : Bool → List Bytes → List Line
+joined goes_on [] = []
+joined goes_on (row ∷ more) = before_lines (if goes_on then drop_blanks row else row) (joined true more) (joined false more)
+
+-- the lines of the text
+unfoldable pub lines : Bytes → List Line
+lines text = joined false (rows text)
+
+-- the line says nothing: it is blank, or its first byte past blanks is # or !
+unfoldable pub is_comment : Bytes → Bool
+is_comment line = length (drop_blanks line) == 0 || begins 35 (drop_blanks line) || begins 33 (drop_blanks line)

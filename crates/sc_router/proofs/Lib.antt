@@ -1,0 +1,2 @@
+pub mod FirstTuples
+mod Cases

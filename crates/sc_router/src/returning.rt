@@ -1,0 +1,111 @@
+//! The own route by which a request comes back to the router.
+
+ghost use Rattle.std.specs.Prelude.{◌≡◌, ◌++◌, ◌∷◌, [], Some, None, IfOk, OnOk};
+ghost use Rattle.sc_value.specs.declared.parts.Param.{Param};
+ghost use Rattle.sc_model.specs.Names.{region_letter, ar_value, ar_name, tcp_param, loose_param, own_uri, return_uri};
+ghost use Rattle.sc_model.specs.Records.{ip_text};
+ghost use Rattle.sc_model.specs.Choices.{way_back};
+
+use crate::own::ip_text;
+use sc_terms::Config;
+use sc_value::{Address, List, NoMemory, Param, Region, SipUri, Text, Uri, write_u64};
+use std::alloc::Global;
+
+fn region_letter(region: Region) -> &'static [u8]
+    ensures { result.now ≡ region_letter region ∷ [] }
+{
+    match region {
+        Region::Originating => b"O",
+        Region::Terminating => b"T",
+        Region::Neutral => b"N",
+    }
+}
+
+// `n-R`
+#[tactic(auto, unfolding(sc_model::specs::Names::ar_value))]
+fn ar_value(alloc: Global, order: u32, region: Region) -> Result<Text, NoMemory>
+    ensures { IfOk result (λ t. t ≡ ar_value order region) }
+{
+    let mut value = Text::new(alloc);
+    write_u64(u64::from(order), &mut value)?;
+    value.append(b"-")?;
+    value.append(region_letter(region))?;
+    Ok(value)
+}
+
+#[tactic(auto, unfolding(sc_model::specs::Names::tcp_param))]
+fn tcp_param(alloc: Global) -> Result<Param, NoMemory>
+    ensures { IfOk result (λ p. p ≡ tcp_param) }
+{
+    let name = Text::from_slice(alloc, b"transport")?;
+    let value = Text::from_slice(alloc, b"tcp")?;
+    Ok(Param {
+        name,
+        value: Some(value),
+    })
+}
+
+#[tactic(auto, unfolding(sc_model::specs::Names::loose_param))]
+fn loose_param(alloc: Global) -> Result<Param, NoMemory>
+    ensures { IfOk result (λ p. p ≡ loose_param) }
+{
+    let name = Text::from_slice(alloc, b"lr")?;
+    Ok(Param { name, value: None })
+}
+
+#[tactic(auto, unfolding(sc_model::specs::Names::ar_name))]
+fn ar_param(alloc: Global, order: u32, region: Region) -> Result<Param, NoMemory>
+    ensures { IfOk result (λ p. p ≡ record { name = ar_name; value = Some (ar_value order region) }) }
+{
+    let name = Text::from_slice(alloc, b"ar")?;
+    let value = ar_value(alloc, order, region)?;
+    Ok(Param {
+        name,
+        value: Some(value),
+    })
+}
+
+fn put_param(params: &mut List<Param>, param: Param) -> Result<(), NoMemory>
+    ensures { OnOk result (params.new ≡ params.old ++ param ∷ []) }
+{
+    match params.push(param) {
+        Ok(()) => Ok(()),
+        Err(_) => Err(NoMemory),
+    }
+}
+
+// `transport=tcp;lr;ar=n-R`
+fn return_params(alloc: Global, order: u32, region: Region) -> Result<List<Param>, NoMemory>
+    ensures { IfOk result (λ ps. ps ≡ tcp_param ∷ loose_param ∷ record { name = ar_name; value = Some (ar_value order region) } ∷ []) }
+{
+    let mut params = List::new(alloc);
+    put_param(&mut params, tcp_param(alloc)?)?;
+    put_param(&mut params, loose_param(alloc)?)?;
+    put_param(&mut params, ar_param(alloc, order, region)?)?;
+    Ok(params)
+}
+
+// The own route that leads to this order of the router's list.
+#[tactic(auto, unfolding(sc_model::specs::Choices::way_back, sc_model::specs::Names::return_uri, sc_model::specs::Names::own_uri))]
+pub fn way_back(
+    alloc: Global,
+    config: &Config,
+    order: u32,
+    region: Region,
+) -> Result<Address, NoMemory>
+    ensures { IfOk result (λ a. a ≡ way_back config.now order region) }
+{
+    let host = ip_text(alloc, config.listen.0)?;
+    let params = return_params(alloc, order, region)?;
+    Ok(Address {
+        display: None,
+        uri: Uri::Sip(SipUri {
+            user: None,
+            host,
+            port: Some(config.listen.1),
+            params,
+            headers: None,
+        }),
+        params: List::new(alloc),
+    })
+}
