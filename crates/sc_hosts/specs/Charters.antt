@@ -312,27 +312,28 @@ extend_script view event = Done
 
 -- ## What a turn may bring
 
--- it makes the calls of the script and ends well
-unfoldable pub Plays : View → Script → List CallRecord → End → Type 0
-Plays view script made end = (made ≡ played view script) × (end ≡ ends.Fine)
+-- the script of a servlet of this charter; none where it makes any calls
+unfoldable pub servlet_script : Charter → View → Event → Option Script
+servlet_script charters.Answer view event = Some (answer_script event)
+servlet_script charters.Block view event = Some (block_script view event)
+servlet_script charters.Forward view event = Some (forward_script false view event)
+servlet_script charters.Fork view event = Some (fork_script view event)
+servlet_script charters.Recorder view event = Some (forward_script true view event)
+servlet_script charters.B2b view event = Some (b2b_script view event)
+servlet_script charters.Dial view event = Some (dial_script view event)
+servlet_script charters.Reverse view event = Some (reverse_script view event)
+servlet_script charters.Ringer view event = Some (ringer_script view event)
+servlet_script charters.Free view event = None
 
--- what a servlet of this charter promises of its turn
-unfoldable pub Promises : Charter → View → Event → List CallRecord → End → Type 0
-Promises charters.Answer view event made end = Plays view (answer_script event) made end
-Promises charters.Block view event made end = Plays view (block_script view event) made end
-Promises charters.Forward view event made end = Plays view (forward_script false view event) made end
-Promises charters.Fork view event made end = Plays view (fork_script view event) made end
-Promises charters.Recorder view event made end = Plays view (forward_script true view event) made end
-Promises charters.B2b view event made end = Plays view (b2b_script view event) made end
-Promises charters.Dial view event made end = Plays view (dial_script view event) made end
-Promises charters.Reverse view event made end = Plays view (reverse_script view event) made end
-Promises charters.Ringer view event made end = Plays view (ringer_script view event) made end
-Promises charters.Free view event made end = Unit {0}
+-- the script of a listener of this charter
+unfoldable pub listener_script : ListenerCharter → View → Event → Option Script
+listener_script listeners.ExtendOnce view event = Some (extend_script view event)
+listener_script listeners.Free view event = None
 
--- what a listener of this charter promises of its turn
-unfoldable pub ListenerPromises : ListenerCharter → View → Event → List CallRecord → End → Type 0
-ListenerPromises listeners.ExtendOnce view event made end = Plays view (extend_script view event) made end
-ListenerPromises listeners.Free view event made end = Unit {0}
+-- the calls are those of the script, and the turn ends well; without a script any will do
+unfoldable pub Plays : View → Option Script → List CallRecord → End → Type 0
+Plays view None made end = Unit {0}
+Plays view (Some script) made end = (made ≡ played view script) × (end ≡ ends.Fine)
 
 -- the listener is told of the application session's own events, the servlet of all others
 unfoldable pub is_listened : Event → Bool
@@ -346,9 +347,9 @@ IsSilent made end = (made ≡ []) × (end ≡ ends.Fine)
 
 -- what a servlet, or the listener where there is one, may do at an event
 unfoldable pub Called : Charter → Option ListenerCharter → View → Event → Bool → List CallRecord → End → Type 0
-Called charter listener view event false made end = IsAnswered view made × Promises charter view event made end
+Called charter listener view event false made end = IsAnswered view made × Plays view (servlet_script charter view event) made end
 Called charter None view event true made end = IsSilent made end
-Called charter (Some listener) view event true made end = IsAnswered view made × ListenerPromises listener view event made end
+Called charter (Some listener) view event true made end = IsAnswered view made × Plays view (listener_script listener view event) made end
 
 -- what a turn may bring that showed this view and event. A turn that wants memory is never taken
 unfoldable pub Allowed : Charter → Option ListenerCharter → View → Option Event → List CallRecord → End → Type 0

@@ -38,12 +38,13 @@ use Rattle.sc_state.specs.declared.working.Prepared.{Prepared}
 use Rattle.sc_state.specs.declared.working.Working.{Working}
 use Rattle.sc_grammar.specs.Written.{Bytes}
 use Rattle.sc_model.specs.BestResponses.{best_response}
-use Rattle.sc_model.specs.Dialogs.{tag_of}
+use Rattle.sc_model.specs.Dialogs.{tag_of, subscribe}
+use Rattle.sc_model.specs.Transactions.{is_success}
 use Rattle.sc_model.specs.SessionStates.{invite, is_final}
 use Rattle.sc_hosts.specs.Branches.{starting, new_branch, new_proxy, records_route, can_pass, can_choose, cancelled_now, is_exhausted}
 use Rattle.sc_hosts.specs.Effects.{answered, answered_in, tidy}
 use Rattle.sc_hosts.specs.Legs.{leg_of, is_of, FIRST_SESSION}
-use Rattle.sc_hosts.specs.Looking.{same_request, same_session, request_in, session_in, is_gone, is_early, is_confirmed, is_initial_state, is_terminated, is_proxy, is_uac, in_state, removed}
+use Rattle.sc_hosts.specs.Looking.{change_session, same_request, same_session, request_in, session_in, is_gone, is_early, is_confirmed, is_initial_state, is_terminated, is_proxy, is_uac, in_state, removed}
 use Rattle.sc_hosts.specs.Messages.{bare_answer, on_branch, own_response, proxied_request, passed_request}
 use Rattle.sc_hosts.specs.Preparing.{kept_of, own_tag_of, proxy_of, change_proxy, is_invalid, has_expired, prepared}
 use Rattle.sc_hosts.specs.Working.{answering, giving, is_owed, goodbyes, next_branch, event_of, worked_all}
@@ -98,11 +99,20 @@ unfoldable pub forwarded_view : SessId → Option RequestView → Response → V
 forwarded_view sess None response view = view
 forwarded_view sess (Some request) response view = tidy (answered_in sess request (is_some (tag_of response.head.to)) response.code view)
 
+-- the 2xx to a SUBSCRIBE that is forwarded gives the SipSession its tag
+unfoldable pub subscribed_tag : Option Bytes → SessionView → SessionView
+subscribed_tag tag session = if is_none session.peer_tag then record session { peer_tag = tag } else session
+
+unfoldable pub with_subscribed : Proxy → SessId → Response → View → View
+with_subscribed proxy sess response view =
+    if is_some proxy.options && same_bytes proxy.request.method subscribe && is_success response.code
+    then change_session sess (subscribed_tag (tag_of response.head.to)) view else view
+
 -- a response goes back to where the request came from, and moves the SipSession
 unfoldable pub forwards : Proxy → SessId → Response → Working → Working
 forwards proxy sess response working =
     in_proxy proxy.req (with_forwarded response.code)
-      (in_view (forwarded_view sess (request_in working.play.view proxy.req) response working.play.view)
+      (in_view (forwarded_view sess (request_in working.play.view proxy.req) response (with_subscribed proxy sess response working.play.view))
       (giving (orders.Respond proxy.event response ∷ []) working))
 
 unfoldable pub passes : Proxy → Option Passing → Working → Working

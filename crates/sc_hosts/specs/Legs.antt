@@ -228,11 +228,20 @@ unfoldable pub handling_by : Session → ReqId → SessionView → Option Bytes 
 handling_by session req original None = In original.id
 handling_by session req original (Some tag) = handling_of session original tag (find (claims session.known tag) (sessions_of session req))
 
--- only a 101 to 299 to the initial INVITE has a SipSession by its tag
+unfoldable pub takes_tag : SessionView → Option Bytes → Handling
+takes_tag original None = In original.id
+takes_tag original (Some tag) = if is_none original.peer_tag then Takes tag else In original.id
+
+-- a 2xx to SUBSCRIBE that its UAC gets
+unfoldable pub is_subscribed : SessionView → Request → Response → Bool
+is_subscribed original request response = same_bytes request.method subscribe && is_success response.code && is_uac original.role
+
+-- only a 101 to 299 to the initial INVITE has a SipSession by its tag; the 2xx to a SUBSCRIBE gives its
+-- SipSession the tag
 unfoldable pub handling : Session → ReqId → SessionView → Request → Response → Handling
 handling session req original request response =
-    if same_bytes request.method invite && makes_dialog response.code
-    then handling_by session req original (tag_of response.head.to) else In original.id
+    if same_bytes request.method invite && makes_dialog response.code then handling_by session req original (tag_of response.head.to)
+    else (if is_subscribed original request response then takes_tag original (tag_of response.head.to) else In original.id)
 
 unfoldable pub derived_session : View → SessionView → Bytes → SessionView
 derived_session view original tag = record original {

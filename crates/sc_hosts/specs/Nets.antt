@@ -47,7 +47,7 @@ use Rattle.sc_hosts.specs.Destinations.{destination, next_uri}
 use Rattle.sc_hosts.specs.Messages.{cancel_of, own_response, without_via}
 use Rattle.sc_hosts.specs.Sessions.{Form}
 use Rattle.sc_hosts.specs.Taking.{cancelling, queue, is_named_live, names, named_live, takes}
-use Rattle.sc_hosts.specs.Transacting.{method_of, is_client, is_invite_client, is_server, is_invite_server, is_proceeding, out_of_client, pass_client, with_client, state_of_client}
+use Rattle.sc_hosts.specs.Transacting.{tidied, method_of, is_client, is_invite_client, is_server, is_invite_server, is_proceeding, out_of_client, pass_client, with_client, state_of_client}
 use Rattle.sc_hosts.specs.Words.{ack, cancel, does_not_exist, not_found, unavailable}
 
 -- ## Hosts of a net
@@ -179,7 +179,7 @@ respond_by number event response None net = net
 respond_by number event response (Some server) net =
     if is_sent (is_invite_server server) server.passed response.code
     then put number server.peer (messages.Response response) None
-      (change_host number (λ host. record host { servers = change_first (is_server event) (answered_server response.code net.moment response) host.servers }) net)
+      (change_host number (λ host. tidied (record host { servers = change_first (is_server event) (answered_server response.code net.moment response) host.servers })) net)
     else net
 
 unfoldable pub server_at : {S : Type 0} → ℕ → Option (Host S) → Option Server

@@ -55,7 +55,7 @@ use Rattle.sc_hosts.specs.Routes.{Position, position_of, unrouted_initial, poppe
 use Rattle.sc_hosts.specs.Sessions.{Form, Turn, entries_of}
 use Rattle.sc_hosts.specs.Finishing.{goodbye, is_ready, outcome}
 use Rattle.sc_hosts.specs.Taking.{Claim, claim_of, is_claimed, is_live, is_never_initial, live_in, own_uri, takes, refuse}
-use Rattle.sc_hosts.specs.Transacting.{method_of, due_of_client, due_of_server, goes_to, is_cancel_client, is_client, is_same_app, client_for, out_of_client, pass_client, pass_server, ringing_branches}
+use Rattle.sc_hosts.specs.Transacting.{tidied, method_of, due_of_client, due_of_server, goes_to, is_cancel_client, is_client, is_same_app, client_for, out_of_client, pass_client, pass_server, ringing_branches}
 use Rattle.sc_hosts.specs.Words.{ack, cancel, does_not_exist, not_found, request_timeout, unavailable}
 
 -- ## A message comes from outside
@@ -260,7 +260,7 @@ turned_live form config now turn done live = record live {
 }
 
 unfoldable pub without_live : {S : Type 0} → AppId → Net S → Net S
-without_live app net = change_host app.host (λ host. record host { sessions = remove_first (is_live app.serial) host.sessions }) net
+without_live app net = change_host app.host (λ host. tidied (record host { sessions = remove_first (is_live app.serial) host.sessions })) net
 
 -- `Ready` is queued where the session is ready, its flag is set and no event waits
 unfoldable pub with_ready : {S : Type 0} → AppId → Outcome → Option (Live S) → Net S → Net S

@@ -25,7 +25,7 @@ use Rattle.sc_grammar.specs.Written.{Bytes}
 use Rattle.sc_model.specs.Names.{branch_text}
 use Rattle.sc_model.specs.ServerTransactions.{server_state, server_due, final_answer}
 use Rattle.sc_model.specs.SessionStates.{invite}
-use Rattle.sc_model.specs.Transactions.{client_state, client_due, client_out}
+use Rattle.sc_model.specs.Transactions.{client_state, client_due, client_out, has_provisional}
 use Rattle.sc_hosts.specs.Words.{cancel}
 
 -- ## Ends of a transaction
@@ -79,17 +79,40 @@ branch_of via = unwrap_or (param_value branch_name via.params) []
 abbrev pub method_of : Request → Bytes
 method_of request = request.head.cseq.method
 
--- ## Client transactions
+-- ## The state of a transaction
 
 abbrev pub is_invite_client : Client → Bool
 is_invite_client client = same_bytes (method_of client.request) invite
 
+unfoldable pub state_of_client : Client → TxnState
+state_of_client client = client_state (is_invite_client client) client.sent client.passed
+
+abbrev pub is_invite_server : Server → Bool
+is_invite_server server = same_bytes (method_of server.request) invite
+
+unfoldable pub state_of_server : Server → TxnState
+state_of_server server = server_state (is_invite_server server) server.passed
+
+-- the session lives here
+unfoldable pub lives_here : {S : Type 0} → AppId → Host S → Bool
+lives_here app host = list_any (λ live. live.serial == app.serial) host.sessions
+
+-- a transaction is kept until it is over, and one of an INVITE as long as its session lives: a timer
+-- may still ask what came, and a further 2xx may still go
+unfoldable pub is_kept_client : {S : Type 0} → Host S → Client → Bool
+is_kept_client host client = not (is_over (state_of_client client)) || (is_invite_client client && lives_here client.app host)
+
+unfoldable pub is_kept_server : {S : Type 0} → Host S → Server → Bool
+is_kept_server host server = not (is_over (state_of_server server)) || (is_invite_server server && lives_here server.app host)
+
+unfoldable pub tidied : {S : Type 0} → Host S → Host S
+tidied host = record host { clients = filter (is_kept_client host) host.clients; servers = filter (is_kept_server host) host.servers }
+
+-- ## Client transactions
+
 -- the transaction of a CANCEL tells nobody anything
 abbrev pub is_cancel_client : Client → Bool
 is_cancel_client client = same_bytes (method_of client.request) cancel
-
-unfoldable pub state_of_client : Client → TxnState
-state_of_client client = client_state (is_invite_client client) client.sent client.passed
 
 unfoldable pub due_of_client : Client → Option ℕ
 due_of_client client = client_due (is_invite_client client) client.sent client.passed
@@ -121,30 +144,20 @@ client_for salt epoch from response host = find (is_answered_by salt epoch from 
 abbrev pub client_passed : ClientItem → Client → Client
 client_passed item client = record client { passed = item ∷ client.passed }
 
--- the client transactions that aren't over
-unfoldable pub running_clients : List Client → List Client
-running_clients clients = filter (λ client. not (is_over (state_of_client client))) clients
-
 -- an item passes a client transaction
 unfoldable pub pass_client : {S : Type 0} → AppId → ℕ → Bool → ClientItem → Host S → Host S
 pass_client app branch cancelling item host =
-    record host { clients = running_clients (change_first (is_client app branch cancelling) (client_passed item) host.clients) }
+    tidied (record host { clients = change_first (is_client app branch cancelling) (client_passed item) host.clients })
 
 abbrev pub with_client : {S : Type 0} → Client → Host S → Host S
 with_client client host = record host { clients = host.clients ++ client ∷ [] }
 
--- the branches of a session whose INVITE has had a provisional response and no final one
+-- the branches of a session whose INVITE has had a provisional response
 unfoldable pub ringing_branches : {S : Type 0} → AppId → Host S → List ℕ
 ringing_branches app host =
-    map (λ client. client.branch) (filter (λ client. is_same_app client.app app && is_invite_client client && is_proceeding (state_of_client client)) host.clients)
+    map (λ client. client.branch) (filter (λ client. is_same_app client.app app && is_invite_client client && has_provisional client.passed) host.clients)
 
 -- ## Server transactions
-
-abbrev pub is_invite_server : Server → Bool
-is_invite_server server = same_bytes (method_of server.request) invite
-
-unfoldable pub state_of_server : Server → TxnState
-state_of_server server = server_state (is_invite_server server) server.passed
 
 unfoldable pub due_of_server : Server → Option ℕ
 due_of_server server = server_due (is_invite_server server) server.passed
@@ -184,5 +197,5 @@ is_server event server = server.event == event
 abbrev pub server_passed : ServerItem → Server → Server
 server_passed item server = record server { passed = item ∷ server.passed }
 
-abbrev pub pass_server : {S : Type 0} → ℕ → ServerItem → Host S → Host S
-pass_server event item host = record host { servers = change_first (is_server event) (server_passed item) host.servers }
+unfoldable pub pass_server : {S : Type 0} → ℕ → ServerItem → Host S → Host S
+pass_server event item host = tidied (record host { servers = change_first (is_server event) (server_passed item) host.servers })
