@@ -14,7 +14,7 @@ unfolding steps
 steps-busy busy step k s at_work = rw (at_work, steps) refl
 
 -- each step lowers the weight
-pub Falls : {S : Type 0} → (S → Bool) → (S → S) → (S → ℕ) → Type 0
+unfoldable pub Falls : {S : Type 0} → (S → Bool) → (S → S) → (S → ℕ) → Type 0
 Falls {S = S} busy step weight = (s : S) → busy s ≡ true → weight (step s) < weight s
 
 -- with as many steps as the weight, whatever more

@@ -266,14 +266,22 @@ take_begun form config epoch number from now (Some noted) request count host =
 
 -- ## Every request that comes to a host
 
+-- a request that belongs to no transaction, and is no CANCEL
+unfoldable pub take_new : {S : Type 0} → Form S → Config → ℕ → ℕ → Peer → ℕ → Option Note → Request → ℕ → Host S → Taken S
+take_new form config epoch number from now noted request count host =
+    if is_some (tag_of request.head.to) then take_later config epoch number from now request count host
+    else take_begun form config epoch number from now noted request count host
+
+unfoldable pub take_unclaimed : {S : Type 0} → Form S → Config → ℕ → ℕ → Peer → ℕ → Option Note → Request → ℕ → Host S → Taken S
+take_unclaimed form config epoch number from now noted request count host =
+    if same_bytes (method_of request) cancel then refuse config from 481 does_not_exist request count host
+    else take_new form config epoch number from now noted request count host
+
 unfoldable pub take_claimed : {S : Type 0} → Form S → Config → ℕ → ℕ → Peer → ℕ → Option Note → Request → Claim → ℕ → Host S → Taken S
 take_claimed form config epoch number from now noted request (Cancels server) count host = cancelled from now server request count host
 take_claimed form config epoch number from now noted request (Acks server) count host = quiet (pass_server server.event server_items.AckCame host) count
 take_claimed form config epoch number from now noted request (Repeats server) count host = repeated server count host
-take_claimed form config epoch number from now noted request Unclaimed count host =
-    if same_bytes (method_of request) cancel then refuse config from 481 does_not_exist request count host
-    else (if is_some (tag_of request.head.to) then take_later config epoch number from now request count host
-    else take_begun form config epoch number from now noted request count host)
+take_claimed form config epoch number from now noted request Unclaimed count host = take_unclaimed form config epoch number from now noted request count host
 
 unfoldable pub take_request : {S : Type 0} → Form S → Config → ℕ → ℕ → Peer → ℕ → Option Note → Request → ℕ → Host S → Taken S
 take_request form config epoch number from now noted request count host =
