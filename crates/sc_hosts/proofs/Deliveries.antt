@@ -1,11 +1,10 @@
 -- A delivery lowers the weight of the wire: each message causes at most one other, of a lower rank.
-use Rattle.std.proofs.Common.{◌≡◌, ℕ, zero, suc, Bool, true, false, List, [], ◌∷◌, Option, None, Some, refl, ◌<◌, ◌≤◌, ◌+◌, arith}
-use Rattle.std.specs.Prelude.{◌==◌, ◌&&◌, ◌||◌, not, cond, nat_eq, nat_lt, nat_le, is_some, is_none}
+use Rattle.std.proofs.Common.{◌≡◌, ℕ, Bool, true, false, List, [], ◌∷◌, Option, None, Some, refl, ◌<◌, ◌≤◌, ◌+◌, arith}
+use Rattle.std.specs.Prelude.{◌&&◌, ◌||◌, not, cond, is_some, is_none}
 use Rattle.std.proofs.lemmas.Bool.Decides.{nat_tests}
 use Rattle.std.specs.List.{find}
 use Rattle.std.proofs.lemmas.Slice.Eq.{slice_eq-Decides}
 use Rattle.std.proofs.lemmas.Bool.Decides.{Decides-eqb}
-use Rattle.sc_value.specs.declared.ids.AppId.{AppId}
 use Rattle.sc_value.specs.declared.message.Message.{Message}
 use Rattle.sc_value.specs.declared.message.Message.TheVariants as messages
 use Rattle.sc_value.specs.declared.message.Request.{Request}
@@ -38,8 +37,8 @@ use Rattle.sc_hosts.proofs.SettleLaws.{Falls, settle-ends, settle-next, settle-i
 use Rattle.sc_hosts.specs.Runs.{delivered}
 use Rattle.sc_hosts.specs.Nets.{put, put_reply, placed, host_at, is_busy, deliver_at, deliver_entry, deliver_first, weight, rank, rank_of_request, rank_of_response}
 use Rattle.sc_hosts.specs.Sessions.{Form}
-use Rattle.sc_hosts.specs.Taking.{quiet, queue, replying, refuse, cancelled, repeated, again_if, last_again, with_trying, queue_later, later_by, take_later, begun, take_initial, take_begun, take_new, take_unclaimed, take_claimed, take_request, told, told_by, with_reply, cancelling, response_for, response_to as answer_to, take_response, takes, Claim, Cancels, Acks, Repeats, Unclaimed, claim_by, claim_of}
-use Rattle.sc_hosts.specs.Transacting.{method_of, takes_from, is_over, state_of_client, is_answered_by, client_for, out_of_client, is_cancel_client, is_invite_client}
+use Rattle.sc_hosts.specs.Taking.{quiet, queue, replying, refuse, cancelled, repeated, again_if, last_again, with_trying, queue_later, later_by, take_later, begun, take_initial, take_begun, take_new, take_unclaimed, take_claimed, take_request, told, told_by, with_reply, response_for, response_to as answer_to, take_response, takes, Cancels, Acks, Repeats, Unclaimed, claim_by, claim_of}
+use Rattle.sc_hosts.specs.Transacting.{method_of, takes_from, is_over, state_of_client, is_answered_by, client_for, out_of_client, is_invite_client}
 use Rattle.sc_hosts.specs.Words.{ack, cancel}
 
 -- texts with the same bytes are equal
@@ -324,7 +323,7 @@ reply-below n false true out now client response taken a c p q r =
     rw (a, c) (below-replying n client.peer _ taken (rw (cancel-of-rank client.request) (q refl)))
 reply-below n false false out now client response taken a c p q r = rw (a, c) r
 
-both : (a b : Bool) → (a && b) ≡ true → (a ≡ true) × (b ≡ true)
+pub both : (a b : Bool) → (a && b) ≡ true → (a ≡ true) × (b ≡ true)
 both true true e = (refl, refl)
 both true false e = cc
 both false b e = cc
@@ -367,7 +366,7 @@ found-here : {A : Type 0} (test : A → Bool) (x y : A) (rest : Option A) (t : B
 found-here test x y rest true p later e = rw (← some-equal y x e) p
 found-here test x y rest false p later e = later e
 
-found-passes : {A : Type 0} (xs : List A) (test : A → Bool) (x : A) → find test xs ≡ Some x → test x ≡ true
+pub found-passes : {A : Type 0} (xs : List A) (test : A → Bool) (x : A) → find test xs ≡ Some x → test x ≡ true
 found-passes [] test x e = cc
 found-passes (y ∷ ys) test x e = found-here test x y (find test ys) (test y) refl (found-passes ys test x) e
 

@@ -1,3 +1,5 @@
 pub mod Playing
 pub mod SettleLaws
 pub mod Deliveries
+pub mod InnerReplies
+pub mod RunLaws

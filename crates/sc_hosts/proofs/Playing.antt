@@ -1,12 +1,9 @@
 -- A run of servlets and listeners that keep to their scripts, step by step: with it worked cases are
 -- computed. The journal is that which the run makes.
-use Rattle.std.specs.Prelude.{ℕ, zero, suc, ◌+◌, ◌==◌, List, [], ◌∷◌, ◌++◌, Bool, true, false, Option, None, Some, option_map, nat_lt, if◌then◌else◌, length}
+use Rattle.std.specs.Prelude.{ℕ, zero, suc, ◌+◌, List, [], ◌∷◌, ◌++◌, Bool, true, false, Option, None, Some, option_map, nat_lt, if◌then◌else◌, length}
 use Rattle.std.specs.List.{slice_get, fold, flat_map, filter_map}
 use Rattle.sc_value.specs.declared.ids.AppId.{AppId}
-use Rattle.sc_value.specs.declared.ids.Place.{Place}
-use Rattle.sc_value.specs.declared.message.Message.{Message}
 use Rattle.sc_value.specs.declared.message.Sent.{Sent}
-use Rattle.sc_terms.specs.declared.calls.CallRecord.{CallRecord}
 use Rattle.sc_terms.specs.declared.calls.End.TheVariants as ends
 use Rattle.sc_terms.specs.declared.events.Event.{Event}
 use Rattle.sc_terms.specs.declared.charters.ListenerCharter.{ListenerCharter}

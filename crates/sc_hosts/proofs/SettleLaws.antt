@@ -65,3 +65,20 @@ settle-next busy step weight falls s at_work = next
   three = steps-same (weight s) (weight (step s)) busy step weight falls (step s) (busy (step s)) refl (falls-under busy step weight falls s at_work) (omega arith)
   next : steps busy step (weight s) s ≡ steps busy step (weight (step s)) (step s)
   next = rw (one, two) three
+
+no-steps : {S : Type 0} (busy : S → Bool) (step : S → S) (s : S) → steps busy step zero s ≡ s
+unfolding steps
+no-steps busy step s = refl
+
+steps-keep : {S A : Type 0} (k : ℕ) (busy : S → Bool) (step : S → S) (kept : S → A) → ((s : S) → kept (step s) ≡ kept s)
+    → (s : S) (b : Bool) → busy s ≡ b → kept (steps busy step k s) ≡ kept s
+steps-keep k busy step kept keeps s false idle = rw (steps-idle busy step k s idle) refl
+steps-keep zero busy step kept keeps s true at_work = rw (no-steps busy step s) refl
+steps-keep (suc k) busy step kept keeps s true at_work =
+    rw (steps-busy busy step k s at_work, steps-keep k busy step kept keeps (step s) (busy (step s)) refl) (keeps s)
+
+-- what each step keeps is kept in the end
+pub settle-keeps : {S A : Type 0} (busy : S → Bool) (step : S → S) (weight : S → ℕ) (kept : S → A) → ((s : S) → kept (step s) ≡ kept s)
+    → (s : S) → kept (settle busy step weight s) ≡ kept s
+unfolding settle
+settle-keeps busy step weight kept keeps s = steps-keep (weight s) busy step kept keeps s (busy s) refl

@@ -1,12 +1,11 @@
 -- A proxied request: its targets and branches, and what a response, a timer or a CANCEL makes of them
 -- (RFC 3261 section 16). How targets follow each other and which responses the application is told is
 -- this project's profile.
-use Rattle.std.specs.Prelude.{ℕ, ◌+◌, ◌-◌, ◌*◌, ◌==◌, List, [], ◌∷◌, ◌++◌, Bool, true, false, not, ◌&&◌, ◌||◌, Option, None, Some, is_some, is_none, option_map, option_and_then, nat_lt, nat_le, if◌then◌else◌, length, map, filter, take}
-use Rattle.std.specs.List.{find, list_any, filter_map, flat_map}
-use Rattle.std.specs.Option.{option_or, option_map_or}
+use Rattle.std.specs.Prelude.{ℕ, ◌+◌, ◌-◌, ◌*◌, ◌==◌, List, [], ◌∷◌, ◌++◌, Bool, true, false, not, ◌&&◌, ◌||◌, Option, None, Some, is_none, option_map, option_and_then, nat_lt, nat_le, if◌then◌else◌, length, map, filter, take}
+use Rattle.std.specs.List.{find, list_any, filter_map}
+use Rattle.std.specs.Option.{option_map_or}
 use Rattle.sc_value.specs.declared.ids.ReqId.{ReqId}
 use Rattle.sc_value.specs.declared.ids.SessId.{SessId}
-use Rattle.sc_value.specs.declared.parts.Contact.{Contact}
 use Rattle.sc_value.specs.declared.parts.Uri.{Uri}
 use Rattle.sc_value.specs.declared.parts.Uri.TheVariants.{Sip, Other}
 use Rattle.sc_value.specs.declared.message.Request.{Request}
@@ -15,14 +14,12 @@ use Rattle.sc_value.specs.Lists.{change_first}
 use Rattle.sc_value.specs.Params.{same_bytes}
 use Rattle.sc_terms.specs.declared.calls.ProxyOptions.{ProxyOptions}
 use Rattle.sc_state.specs.declared.proxy.Branch.{Branch}
-use Rattle.sc_state.specs.declared.proxy.Passing.{Passing}
 use Rattle.sc_state.specs.declared.proxy.Proxy.{Proxy}
-use Rattle.sc_grammar.specs.Written.{Bytes, uri_text}
+use Rattle.sc_grammar.specs.Written.{uri_text}
 use Rattle.sc_model.specs.Dialogs.{contact_uri}
 use Rattle.sc_model.specs.SessionStates.{invite, is_final}
 use Rattle.sc_model.specs.Transactions.{is_success}
 use Rattle.sc_hosts.specs.Refusals.{MOST_BRANCHES}
-use Rattle.sc_hosts.specs.States.{is_ringing}
 
 -- ## Tests
 

@@ -1,12 +1,11 @@
 -- Charters: the stated interfaces of the servlets and of the listener, as the calls that they make.
-use Rattle.std.specs.Prelude.{◌≡◌, ◌≢◌, ◌<◌, ℕ, ◌+◌, ◌==◌, ◌^◌, List, [], ◌∷◌, ◌++◌, Bool, true, false, not, ◌&&◌, ◌||◌, Option, None, Some, Ok, Err, Result, is_some, option_map, option_and_then, unwrap_or, if◌then◌else◌, codes, decimal, nat_lt, pos}
+use Rattle.std.specs.Prelude.{◌≡◌, ◌≢◌, ◌<◌, ℕ, ◌==◌, ◌^◌, List, [], ◌∷◌, Bool, true, false, not, ◌&&◌, Option, None, Some, Ok, Err, Result, is_some, option_map, option_and_then, unwrap_or, if◌then◌else◌, codes, decimal, pos}
 use Rattle.std.specs.List.{find, slice_get, filter_map, list_any}
 use Rattle.std.specs.Option.{option_map_or}
 use Rattle.sc_value.specs.declared.ids.ReqId.{ReqId}
 use Rattle.sc_value.specs.declared.ids.SessId.{SessId}
 use Rattle.sc_value.specs.declared.ids.Directive.TheVariants.{New, Reverse}
 use Rattle.sc_value.specs.declared.parts.Address.{Address}
-use Rattle.sc_value.specs.declared.parts.Field.{Field}
 use Rattle.sc_value.specs.declared.parts.Uri.{Uri}
 use Rattle.sc_value.specs.declared.parts.Uri.TheVariants.{Sip, Other}
 use Rattle.sc_value.specs.declared.message.Request.{Request}
@@ -29,18 +28,16 @@ use Rattle.sc_terms.specs.declared.calls.CallAnswer.{CallAnswer}
 use Rattle.sc_terms.specs.declared.calls.CallAnswer.TheVariants as answers
 use Rattle.sc_terms.specs.declared.calls.CallRecord.{CallRecord}
 use Rattle.sc_terms.specs.declared.calls.ProxyOptions.{ProxyOptions}
-use Rattle.sc_terms.specs.declared.calls.Refusal.{Refusal}
 use Rattle.sc_terms.specs.declared.calls.Refusal.TheVariants as refusals
 use Rattle.sc_terms.specs.declared.calls.End.{End}
 use Rattle.sc_terms.specs.declared.calls.End.TheVariants as ends
-use Rattle.sc_terms.specs.declared.inside.Inside.{Inside}
 use Rattle.sc_state.specs.declared.working.Play.{Play}
 use Rattle.sc_grammar.specs.Written.{Bytes}
 use Rattle.sc_syntax.specs.Numbers.{number_below}
 use Rattle.sc_syntax.specs.Uris.{uri_of}
 use Rattle.sc_model.specs.SessionStates.{invite, is_final}
 use Rattle.sc_hosts.specs.Looking.{request_in, partner}
-use Rattle.sc_hosts.specs.Refusals.{MOST_CALLS, begun_by}
+use Rattle.sc_hosts.specs.Refusals.{MOST_CALLS}
 use Rattle.sc_hosts.specs.Effects.{begun, answer_of, after_listed}
 use Rattle.sc_hosts.specs.Words.{ack, options, ok, ringing, forbidden, too_many_hops, server_error}
 

@@ -1,12 +1,11 @@
 -- Where a request goes that leaves the container: an IPv4 literal, `localhost`, or a name of the
 -- settings; no DNS (RFC 3263) is asked.
-use Rattle.std.specs.Prelude.{ℕ, ◌==◌, List, [], ◌∷◌, Option, None, Some, option_map, unwrap_or, if◌then◌else◌, codes, is_some, slice_get}
+use Rattle.std.specs.Prelude.{[], ◌∷◌, Option, None, Some, option_map, unwrap_or, if◌then◌else◌, codes, slice_get}
 use Rattle.std.specs.List.{find}
 use Rattle.std.specs.Option.{option_or}
 use Rattle.std.specs.Net.Reader.{read_ipv4}
 use Rattle.sc_value.specs.declared.ids.Place.{Place}
 use Rattle.sc_value.specs.declared.ids.Place.TheVariants.{To}
-use Rattle.sc_value.specs.declared.parts.SipUri.{SipUri}
 use Rattle.sc_value.specs.declared.parts.Uri.{Uri}
 use Rattle.sc_value.specs.declared.parts.Uri.TheVariants.{Sip, Other}
 use Rattle.sc_value.specs.declared.message.Request.{Request}

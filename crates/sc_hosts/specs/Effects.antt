@@ -1,8 +1,6 @@
 -- What an accepted call leaves of the view and the drafts of its turn.
-use Rattle.std.specs.Prelude.{ℕ, ℤ, ◌+◌, ◌-◌, ◌==◌, List, [], ◌∷◌, ◌++◌, Bool, true, false, not, ◌||◌, ◌&&◌, Option, None, Some, is_some, is_none, option_map, option_and_then, unwrap_or, nat_lt, nat_le, if◌then◌else◌, length, map, filter}
-use Rattle.std.specs.List.{find, list_any, list_all, fold}
-use Rattle.std.specs.Option.{option_map_or}
-use Rattle.sc_value.specs.declared.ids.ReqId.{ReqId}
+use Rattle.std.specs.Prelude.{ℕ, ◌+◌, ◌-◌, ◌==◌, List, [], ◌∷◌, ◌++◌, Bool, true, false, not, ◌||◌, ◌&&◌, Option, None, Some, is_none, if◌then◌else◌, length, map, filter}
+use Rattle.std.specs.List.{fold}
 use Rattle.sc_value.specs.declared.ids.SessId.{SessId}
 use Rattle.sc_value.specs.declared.parts.Field.{Field}
 use Rattle.sc_value.specs.Lists.{change_first, remove_first}
@@ -12,7 +10,6 @@ use Rattle.sc_terms.specs.declared.views.RequestView.{RequestView}
 use Rattle.sc_terms.specs.declared.views.SessionView.{SessionView}
 use Rattle.sc_terms.specs.declared.views.Period.{Period}
 use Rattle.sc_terms.specs.declared.views.State.TheVariants.{Initial}
-use Rattle.sc_terms.specs.declared.views.Role.{Role}
 use Rattle.sc_terms.specs.declared.views.Role.TheVariants as roles
 use Rattle.sc_terms.specs.declared.calls.Ask.{Ask}
 use Rattle.sc_terms.specs.declared.calls.Call.{Call}
@@ -29,9 +26,9 @@ use Rattle.sc_state.specs.declared.working.Play.{Play}
 use Rattle.sc_grammar.specs.Written.{Bytes}
 use Rattle.sc_model.specs.Names.{tag_text, call_id_text}
 use Rattle.sc_model.specs.Records.{ip_text}
-use Rattle.sc_model.specs.SessionStates.{invite, is_final}
+use Rattle.sc_model.specs.SessionStates.{is_final}
 use Rattle.sc_model.specs.Settings.{moment_after}
-use Rattle.sc_hosts.specs.Looking.{same_session, is_request, is_session, is_timer, request_in, session_in, is_gone_in, is_proxy, change_request, change_session, linked_to, unlinked, removed}
+use Rattle.sc_hosts.specs.Looking.{same_session, is_timer, request_in, is_gone_in, is_proxy, change_request, change_session, linked_to, unlinked, removed}
 use Rattle.sc_hosts.specs.Refusals.{draft_in, awaits_ack, begun_by, is_set, refusal}
 use Rattle.sc_hosts.specs.States.{after_response, ends_subscription}
 

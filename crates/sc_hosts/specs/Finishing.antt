@@ -1,9 +1,9 @@
 -- A turn ends: what the container does after its calls, in this order: drafts that were left, the answer
 -- to a fault, proxies, a later request that is passed on, and the end of what is ready (JSR 289 sections
 -- 6.1.2 and 6.2.4, RFC 3261 section 16).
-use Rattle.std.specs.Prelude.{ℕ, ◌+◌, ◌-◌, ◌==◌, List, [], ◌∷◌, ◌++◌, Bool, true, false, not, ◌&&◌, ◌||◌, Option, None, Some, is_some, is_none, option_map, option_and_then, unwrap_or, nat_lt, nat_le, if◌then◌else◌, length, map, filter, drop}
-use Rattle.std.specs.List.{find, list_any, list_all, flat_map, fold}
-use Rattle.std.specs.Option.{option_or, option_map_or}
+use Rattle.std.specs.Prelude.{ℕ, ◌+◌, ◌==◌, List, [], ◌∷◌, ◌++◌, Bool, true, false, not, ◌&&◌, ◌||◌, Option, None, Some, is_some, is_none, option_and_then, unwrap_or, if◌then◌else◌, length, map, filter, drop}
+use Rattle.std.specs.List.{list_any, list_all, flat_map, fold}
+use Rattle.std.specs.Option.{option_map_or}
 use Rattle.sc_value.specs.declared.ids.Directive.TheVariants.{Continue}
 use Rattle.sc_value.specs.declared.ids.ReqId.{ReqId}
 use Rattle.sc_value.specs.declared.ids.SessId.{SessId}
@@ -44,7 +44,7 @@ use Rattle.sc_model.specs.SessionStates.{invite, is_final}
 use Rattle.sc_hosts.specs.Branches.{starting, new_branch, new_proxy, records_route, can_pass, can_choose, cancelled_now, is_exhausted}
 use Rattle.sc_hosts.specs.Effects.{answered, answered_in, tidy}
 use Rattle.sc_hosts.specs.Legs.{leg_of, is_of, FIRST_SESSION}
-use Rattle.sc_hosts.specs.Looking.{change_session, same_request, same_session, request_in, session_in, is_gone, is_early, is_confirmed, is_initial_state, is_terminated, is_proxy, is_uac, in_state, removed}
+use Rattle.sc_hosts.specs.Looking.{change_session, same_session, request_in, session_in, is_gone, is_early, is_confirmed, is_initial_state, is_terminated, is_proxy, is_uac, in_state, removed}
 use Rattle.sc_hosts.specs.Messages.{bare_answer, on_branch, own_response, proxied_request, passed_request}
 use Rattle.sc_hosts.specs.Preparing.{kept_of, own_tag_of, proxy_of, change_proxy, is_invalid, has_expired, prepared}
 use Rattle.sc_hosts.specs.Working.{answering, giving, is_owed, goodbyes, next_branch, event_of, worked_all}

@@ -1,23 +1,20 @@
 -- What an application session knows beside its view: how it begins, in which SipSession a message is
 -- handled, and what a message makes of the SipSession (RFC 3261 sections 12 and 13, JSR 289 section 6).
-use Rattle.std.specs.Prelude.{ℕ, ◌+◌, ◌-◌, ◌==◌, List, [], ◌∷◌, ◌++◌, Bool, true, false, not, ◌&&◌, ◌||◌, Option, None, Some, is_some, is_none, option_map, option_and_then, unwrap_or, nat_lt, nat_le, max, if◌then◌else◌, length, map, filter, slice_get, position}
-use Rattle.std.specs.List.{find, list_any, list_all}
-use Rattle.std.specs.Option.{option_or, option_map_or}
+use Rattle.std.specs.Prelude.{ℕ, ◌+◌, ◌-◌, List, [], ◌∷◌, ◌++◌, Bool, true, false, not, ◌&&◌, ◌||◌, Option, None, Some, is_some, is_none, option_map, option_and_then, unwrap_or, nat_lt, max, if◌then◌else◌, length, map, filter, slice_get}
+use Rattle.std.specs.List.{find, list_any}
+use Rattle.std.specs.Option.{option_map_or}
 use Rattle.sc_value.specs.declared.ids.AppId.{AppId}
-use Rattle.sc_value.specs.declared.ids.Region.{Region}
 use Rattle.sc_value.specs.declared.ids.ReqId.{ReqId}
 use Rattle.sc_value.specs.declared.ids.SessId.{SessId}
 use Rattle.sc_value.specs.declared.message.Message.TheVariants as messages
 use Rattle.sc_value.specs.declared.message.Request.{Request}
 use Rattle.sc_value.specs.declared.message.Response.{Response}
 use Rattle.sc_value.specs.Lists.{change_first, change_nth}
-use Rattle.sc_value.specs.Params.{same_bytes, param_value, tag_name}
+use Rattle.sc_value.specs.Params.{same_bytes}
 use Rattle.sc_terms.specs.declared.settings.Config.{Config}
 use Rattle.sc_terms.specs.declared.views.View.{View}
-use Rattle.sc_terms.specs.declared.views.RequestView.{RequestView}
 use Rattle.sc_terms.specs.declared.views.SessionView.{SessionView}
 use Rattle.sc_terms.specs.declared.views.State.TheVariants.{Initial, Terminated}
-use Rattle.sc_terms.specs.declared.views.Role.{Role}
 use Rattle.sc_terms.specs.declared.views.Role.TheVariants as roles
 use Rattle.sc_state.specs.declared.net.Note.{Note}
 use Rattle.sc_state.specs.declared.session.Got.{Got}
@@ -25,13 +22,13 @@ use Rattle.sc_state.specs.declared.session.Known.{Known}
 use Rattle.sc_state.specs.declared.session.Leg.{Leg}
 use Rattle.sc_state.specs.declared.session.Session.{Session}
 use Rattle.sc_grammar.specs.Written.{Bytes}
-use Rattle.sc_model.specs.Dialogs.{Beginning, Called, Calling, Passed, By_peer, By_self, DialogState, dialog_of, tag_of, request_target, response_target, subscribe}
+use Rattle.sc_model.specs.Dialogs.{Called, Calling, Passed, By_peer, By_self, DialogState, dialog_of, tag_of, request_target, response_target, subscribe}
 use Rattle.sc_model.specs.Names.{tag_text}
-use Rattle.sc_model.specs.SessionStates.{invite, is_final}
+use Rattle.sc_model.specs.SessionStates.{invite}
 use Rattle.sc_model.specs.Settings.{app_of, params_in, expiry_in}
 use Rattle.sc_model.specs.Transactions.{is_success}
-use Rattle.sc_hosts.specs.Looking.{same_request, same_session, is_session, session_in, is_gone_in, is_early, is_open_state, is_proxy, is_uac, change_session, in_state, session_count}
-use Rattle.sc_hosts.specs.Messages.{makes_dialog, begins_dialog}
+use Rattle.sc_hosts.specs.Looking.{same_request, same_session, is_early, is_open_state, is_proxy, is_uac, change_session, in_state, session_count}
+use Rattle.sc_hosts.specs.Messages.{makes_dialog}
 use Rattle.sc_hosts.specs.Refusals.{MOST_SESSIONS}
 use Rattle.sc_hosts.specs.Words.{ack}
 

@@ -1,7 +1,6 @@
 -- Looking up in the view of an application session, and changing one thing of it.
-use Rattle.std.specs.Prelude.{ℕ, ◌+◌, ◌==◌, List, Bool, true, false, not, ◌&&◌, ◌||◌, Option, None, Some, is_some, option_and_then, option_map, nat_lt, length, filter, map}
-use Rattle.std.specs.List.{find, list_any}
-use Rattle.std.specs.Option.{option_map_or}
+use Rattle.std.specs.Prelude.{ℕ, ◌==◌, Bool, true, false, not, ◌||◌, Option, None, Some, option_and_then, length, filter}
+use Rattle.std.specs.List.{find}
 use Rattle.sc_value.specs.declared.ids.ReqId.{ReqId}
 use Rattle.sc_value.specs.declared.ids.SessId.{SessId}
 use Rattle.sc_value.specs.declared.ids.TimerId.{TimerId}

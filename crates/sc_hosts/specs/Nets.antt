@@ -1,13 +1,9 @@
 -- The net of hosts: how what a session gives to send is sent, and how messages between hosts are
 -- delivered. A link between two hosts loses nothing, keeps order, and has no limit.
-use Rattle.std.specs.Prelude.{ℕ, ◌+◌, ◌==◌, List, [], ◌∷◌, ◌++◌, Bool, true, false, not, ◌&&◌, ◌||◌, Option, None, Some, is_some, is_none, option_map, option_and_then, nat_lt, nat_le, if◌then◌else◌, length, map, slice_get, drop, position, sum_by}
-use Rattle.std.specs.List.{find, list_any, fold}
-use Rattle.std.specs.Option.{option_map_or}
+use Rattle.std.specs.Prelude.{ℕ, ◌+◌, ◌==◌, List, [], ◌∷◌, ◌++◌, Bool, true, false, not, ◌&&◌, ◌||◌, Option, None, Some, is_some, if◌then◌else◌, length, slice_get, drop, sum_by}
+use Rattle.std.specs.List.{find, fold}
 use Rattle.sc_value.specs.declared.ids.AppId.{AppId}
-use Rattle.sc_value.specs.declared.ids.Directive.{Directive}
-use Rattle.sc_value.specs.declared.ids.Directive.TheVariants.{New}
 use Rattle.sc_value.specs.declared.ids.Place.{Place}
-use Rattle.sc_value.specs.declared.ids.Region.{Region}
 use Rattle.sc_value.specs.declared.parts.Address.{Address}
 use Rattle.sc_value.specs.declared.parts.Uri.{Uri}
 use Rattle.sc_value.specs.declared.message.Message.{Message}
@@ -24,7 +20,6 @@ use Rattle.sc_parts.specs.declared.transactions.ClientItem.TheVariants as client
 use Rattle.sc_parts.specs.declared.transactions.ServerItem.TheVariants as server_items
 use Rattle.sc_state.specs.declared.host.Client.{Client}
 use Rattle.sc_state.specs.declared.host.Host.{Host}
-use Rattle.sc_state.specs.declared.host.Live.{Live}
 use Rattle.sc_state.specs.declared.host.Peer.{Peer}
 use Rattle.sc_state.specs.declared.host.Peer.TheVariants as peers
 use Rattle.sc_state.specs.declared.host.Reply.{Reply}
@@ -46,7 +41,7 @@ use Rattle.sc_model.specs.SessionStates.{is_final}
 use Rattle.sc_hosts.specs.Destinations.{destination, next_uri}
 use Rattle.sc_hosts.specs.Messages.{cancel_of, own_response, without_via}
 use Rattle.sc_hosts.specs.Sessions.{Form}
-use Rattle.sc_hosts.specs.Taking.{cancelling, queue, is_named_live, names, named_live, takes}
+use Rattle.sc_hosts.specs.Taking.{cancelling, queue, named_live, takes}
 use Rattle.sc_hosts.specs.Transacting.{tidied, method_of, is_client, is_invite_client, is_server, is_invite_server, is_proceeding, out_of_client, pass_client, with_client, state_of_client}
 use Rattle.sc_hosts.specs.Words.{ack, cancel, does_not_exist, not_found, unavailable}
 

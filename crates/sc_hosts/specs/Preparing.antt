@@ -1,11 +1,10 @@
 -- A turn begins: what its event makes of the application session, what the container answers by itself,
 -- and what is shown (JSR 289 section 6, RFC 3261 sections 12.2.2 and 9.2).
-use Rattle.std.specs.Prelude.{ℕ, ◌+◌, ◌-◌, ◌==◌, List, [], ◌∷◌, ◌++◌, Bool, true, false, not, ◌&&◌, ◌||◌, Option, None, Some, is_some, is_none, option_map, option_and_then, unwrap_or, nat_lt, nat_le, if◌then◌else◌, length, map, filter, position}
+use Rattle.std.specs.Prelude.{ℕ, ◌+◌, ◌==◌, List, [], ◌∷◌, ◌++◌, Bool, true, false, not, ◌&&◌, Option, None, Some, is_some, is_none, nat_lt, nat_le, if◌then◌else◌, length}
 use Rattle.std.specs.List.{find, list_any}
-use Rattle.std.specs.Option.{option_or, option_map_or}
+use Rattle.std.specs.Option.{option_map_or}
 use Rattle.sc_value.specs.declared.ids.ReqId.{ReqId}
 use Rattle.sc_value.specs.declared.ids.SessId.{SessId}
-use Rattle.sc_value.specs.declared.ids.TimerId.{TimerId}
 use Rattle.sc_value.specs.declared.message.Request.{Request}
 use Rattle.sc_value.specs.declared.message.Response.{Response}
 use Rattle.sc_value.specs.Lists.{change_first, remove_first}
@@ -35,12 +34,12 @@ use Rattle.sc_state.specs.declared.working.Prepared.{Prepared}
 use Rattle.sc_grammar.specs.Written.{Bytes}
 use Rattle.sc_model.specs.Dialogs.{tag_of}
 use Rattle.sc_model.specs.Names.{edge_tag}
-use Rattle.sc_model.specs.SessionStates.{invite, is_final}
+use Rattle.sc_model.specs.SessionStates.{invite}
 use Rattle.sc_model.specs.Transactions.{is_success, is_failure}
 use Rattle.sc_hosts.specs.Branches.{is_supervised, has_branch, is_told_whole, heard, added_targets, stopped, is_timed_out, to_cancel, ended_by, is_invite}
-use Rattle.sc_hosts.specs.Effects.{answered, answered_in, tidy, with_there}
+use Rattle.sc_hosts.specs.Effects.{answered, answered_in, tidy}
 use Rattle.sc_hosts.specs.Legs.{FIRST_SESSION, change_leg, leg_of, session_for, is_low, with_request, with_answer, handling, handled_in, overtaken, without_derived}
-use Rattle.sc_hosts.specs.Looking.{same_request, same_session, is_request, is_timer, request_in, session_in, timer_in, is_gone_in, is_proxy, is_uac, change_request}
+use Rattle.sc_hosts.specs.Looking.{same_request, is_timer, request_in, session_in, timer_in, is_gone_in, is_proxy, change_request}
 use Rattle.sc_hosts.specs.Messages.{own_response}
 use Rattle.sc_hosts.specs.States.{ends_subscription}
 use Rattle.sc_hosts.specs.Words.{ack, does_not_exist, request_terminated, request_timeout, server_error}

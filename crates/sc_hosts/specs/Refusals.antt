@@ -1,13 +1,12 @@
 -- Which refusal each call of a turn gets: the first that holds, in the order written. A call is judged
 -- by the view, by the drafts of its turn, and by how many calls were made.
-use Rattle.std.specs.Prelude.{ℕ, ◌+◌, ◌==◌, ◌*◌, List, [], ◌∷◌, ◌++◌, Bool, true, false, not, ◌||◌, ◌&&◌, Option, None, Some, is_some, is_none, option_map, option_and_then, nat_lt, nat_le, if◌then◌else◌, length, map, filter, min, position, sum_by}
-use Rattle.std.specs.List.{find, list_any, list_all}
+use Rattle.std.specs.Prelude.{ℕ, ◌+◌, ◌==◌, List, [], ◌∷◌, Bool, true, false, not, ◌||◌, ◌&&◌, Option, None, Some, is_some, is_none, option_map, nat_lt, nat_le, if◌then◌else◌, length, filter, min, position, sum_by}
+use Rattle.std.specs.List.{find, list_any}
 use Rattle.std.specs.Option.{option_or, option_map_or}
 use Rattle.sc_value.specs.declared.ids.ReqId.{ReqId}
 use Rattle.sc_value.specs.declared.ids.SessId.{SessId}
 use Rattle.sc_value.specs.declared.ids.Directive.{Directive}
 use Rattle.sc_value.specs.declared.ids.Directive.TheVariants.{New, Continue, Reverse}
-use Rattle.sc_value.specs.declared.parts.Contact.{Contact}
 use Rattle.sc_value.specs.declared.parts.Field.{Field}
 use Rattle.sc_value.specs.HeaderNames.{is_system_name}
 use Rattle.sc_value.specs.Params.{same_bytes}
@@ -17,7 +16,6 @@ use Rattle.sc_terms.specs.declared.views.RequestView.{RequestView}
 use Rattle.sc_terms.specs.declared.views.SessionView.{SessionView}
 use Rattle.sc_terms.specs.declared.views.Period.{Period}
 use Rattle.sc_terms.specs.declared.views.Period.TheVariants.{Once, Rate, Delay}
-use Rattle.sc_terms.specs.declared.views.State.{State}
 use Rattle.sc_terms.specs.declared.views.State.TheVariants.{Terminated}
 use Rattle.sc_terms.specs.declared.calls.Answer.{Answer}
 use Rattle.sc_terms.specs.declared.calls.Ask.{Ask}
@@ -32,7 +30,7 @@ use Rattle.sc_state.specs.declared.working.Draft.{Draft}
 use Rattle.sc_state.specs.declared.working.Play.{Play}
 use Rattle.sc_grammar.specs.Written.{Bytes}
 use Rattle.sc_model.specs.SessionStates.{invite}
-use Rattle.sc_hosts.specs.Looking.{same_session, is_session, request_in, session_in, timer_in, is_gone, is_gone_in, is_initial_state, is_open_state, is_terminated, is_proxy, session_count, partner}
+use Rattle.sc_hosts.specs.Looking.{same_session, request_in, session_in, timer_in, is_gone_in, is_initial_state, is_open_state, is_terminated, is_proxy, session_count, partner}
 use Rattle.sc_hosts.specs.Words.{ack, cancel, register, options}
 
 -- ## Limits

@@ -1,6 +1,6 @@
 -- With what an initial request from outside asks the router: an own top Route is taken off, and its `ar`
 -- gives the place in the list at which the router goes on and the region.
-use Rattle.std.specs.Prelude.{ℕ, ◌==◌, ◌^◌, List, [], ◌∷◌, Bool, false, ◌&&◌, Option, None, Some, option_map, option_and_then, if◌then◌else◌, drop, slice_get, length}
+use Rattle.std.specs.Prelude.{ℕ, ◌^◌, List, [], ◌∷◌, Option, None, Some, option_map, option_and_then, if◌then◌else◌, drop, slice_get}
 use Rattle.std.specs.Option.{option_map_or}
 use Rattle.sc_value.specs.declared.ids.Directive.{Directive}
 use Rattle.sc_value.specs.declared.ids.Directive.TheVariants.{New, Continue}
@@ -13,7 +13,7 @@ use Rattle.sc_value.specs.declared.parts.Uri.TheVariants.{Sip, Other}
 use Rattle.sc_value.specs.Params.{same_bytes, param_value}
 use Rattle.sc_terms.specs.declared.settings.Config.{Config}
 use Rattle.sc_grammar.specs.Written.{Bytes}
-use Rattle.sc_syntax.specs.Cuts.{before, after}
+use Rattle.sc_syntax.specs.Cuts.{before}
 use Rattle.sc_syntax.specs.Numbers.{number_below}
 use Rattle.sc_model.specs.Names.{ar_name, ar_value}
 use Rattle.sc_model.specs.OwnHosts.{is_own}

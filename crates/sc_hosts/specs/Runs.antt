@@ -1,7 +1,7 @@
 -- The run of a journal: what its steps make of hosts without sessions, from a first moment on; where its
 -- steps are allowed; and what it sends.
-use Rattle.std.specs.Prelude.{◌≡◌, ◌≢◌, ◌≤◌, ◌<◌, ℕ, ◌+◌, ◌==◌, ◌^◌, List, [], ◌∷◌, ◌++◌, Bool, true, false, not, ◌&&◌, Option, None, Some, is_some, option_map, if◌then◌else◌, length, map, filter, slice_get, sum_by}
-use Rattle.std.specs.List.{list_all, filter_map, flat_map, fold}
+use Rattle.std.specs.Prelude.{◌≡◌, ◌≤◌, ◌<◌, ℕ, ◌+◌, ◌==◌, ◌^◌, List, [], ◌∷◌, ◌++◌, Bool, true, ◌&&◌, Option, None, Some, is_some, length, map, filter, slice_get, sum_by}
+use Rattle.std.specs.List.{list_all, flat_map, fold}
 use Rattle.sc_value.specs.declared.ids.AppId.{AppId}
 use Rattle.sc_value.specs.declared.ids.Place.{Place}
 use Rattle.sc_value.specs.declared.message.Message.{Message}
@@ -9,12 +9,8 @@ use Rattle.sc_value.specs.declared.message.Message.TheVariants as messages
 use Rattle.sc_value.specs.declared.message.Sent.{Sent}
 use Rattle.sc_terms.specs.declared.calls.CallRecord.{CallRecord}
 use Rattle.sc_terms.specs.declared.calls.End.{End}
-use Rattle.sc_terms.specs.declared.charters.Charter.{Charter}
-use Rattle.sc_terms.specs.declared.charters.ListenerCharter.{ListenerCharter}
-use Rattle.sc_terms.specs.declared.events.Event.{Event}
 use Rattle.sc_terms.specs.declared.steps.Step.{Step}
 use Rattle.sc_terms.specs.declared.steps.Step.TheVariants as steps
-use Rattle.sc_terms.specs.declared.views.View.{View}
 use Rattle.sc_parts.specs.declared.setup.Setup.{Setup}
 use Rattle.sc_state.specs.declared.host.Host.{Host}
 use Rattle.sc_state.specs.declared.host.Live.{Live}

@@ -9,7 +9,6 @@ use Rattle.sc_value.specs.declared.ids.AppId.{AppId}
 use Rattle.sc_value.specs.declared.message.Request.{Request}
 use Rattle.sc_state.specs.declared.net.Note.{Note}
 use Rattle.sc_state.specs.declared.proxy.Branch.{Branch}
-use Rattle.sc_state.specs.declared.proxy.Proxy.{Proxy}
 use Rattle.sc_state.specs.declared.queue.Queued.{Queued}
 use Rattle.sc_state.specs.declared.queue.Queued.TheVariants as queued
 use Rattle.sc_state.specs.declared.queue.Waiting.{Waiting}

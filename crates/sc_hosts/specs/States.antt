@@ -1,8 +1,8 @@
 -- The states of a SipSession (JSR 289 section 6.2.1, RFC 3261 section 12, RFC 6665). INVITE and SUBSCRIBE
 -- begin dialogs. What a UAC does after a failure, and when a session of another initial request ends, is
 -- this project's profile.
-use Rattle.std.specs.Prelude.{ℕ, List, ◌∷◌, [], ◌==◌, Bool, true, false, not, ◌&&◌, ◌||◌, Option, None, Some, nat_lt, if◌then◌else◌, codes}
-use Rattle.std.specs.List.{find, list_all, take_while}
+use Rattle.std.specs.Prelude.{ℕ, List, Bool, false, not, ◌&&◌, nat_lt, if◌then◌else◌, codes}
+use Rattle.std.specs.List.{find, take_while}
 use Rattle.std.specs.Option.{option_map_or}
 use Rattle.sc_value.specs.declared.parts.Field.{Field}
 use Rattle.sc_value.specs.Params.{same_bytes, same_name}

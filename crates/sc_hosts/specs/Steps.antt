@@ -1,25 +1,19 @@
 -- The steps of the container: what each makes of the net, and where it may be taken.
-use Rattle.std.specs.Prelude.{◌≡◌, ◌≢◌, ◌≤◌, ◌<◌, ℕ, ◌+◌, ◌*◌, ◌/◌, ◌%◌, ◌==◌, ◌^◌, List, [], ◌∷◌, ◌++◌, Bool, true, false, not, ◌&&◌, ◌||◌, Option, None, Some, is_some, is_none, option_map, option_and_then, nat_lt, nat_le, if◌then◌else◌, length, map, filter, slice_get, drop}
+use Rattle.std.specs.Prelude.{ℕ, ◌+◌, ◌*◌, ◌==◌, List, [], ◌∷◌, ◌++◌, Bool, true, false, ◌&&◌, Option, None, Some, is_some, option_and_then, if◌then◌else◌, length, map, filter, slice_get, drop}
 use Rattle.std.specs.List.{find, list_any, filter_map, flat_map, fold}
-use Rattle.std.specs.Option.{option_map_or}
 use Rattle.sc_value.specs.declared.ids.AppId.{AppId}
-use Rattle.sc_value.specs.declared.ids.Directive.TheVariants.{New, Continue}
 use Rattle.sc_value.specs.declared.ids.Place.{Place}
-use Rattle.sc_value.specs.declared.ids.Region.{Region}
-use Rattle.sc_value.specs.declared.ids.Region.TheVariants.{Neutral}
 use Rattle.sc_value.specs.declared.message.Message.{Message}
 use Rattle.sc_value.specs.declared.message.Message.TheVariants as messages
 use Rattle.sc_value.specs.declared.message.Request.{Request}
 use Rattle.sc_value.specs.declared.message.Response.{Response}
 use Rattle.sc_value.specs.declared.parts.Address.{Address}
-use Rattle.sc_value.specs.declared.parts.Via.{Via}
 use Rattle.sc_value.specs.Lists.{change_first, remove_first}
 use Rattle.sc_value.specs.Params.{same_bytes}
 use Rattle.sc_terms.specs.declared.calls.CallRecord.{CallRecord}
 use Rattle.sc_terms.specs.declared.calls.End.{End}
 use Rattle.sc_terms.specs.declared.settings.Config.{Config}
 use Rattle.sc_terms.specs.declared.steps.Answerable.{Answerable}
-use Rattle.sc_terms.specs.declared.steps.Bad.{Bad}
 use Rattle.sc_terms.specs.declared.steps.Step.{Step}
 use Rattle.sc_terms.specs.declared.steps.Step.TheVariants as steps
 use Rattle.sc_parts.specs.declared.choice.Choice.{Choice}
@@ -32,7 +26,6 @@ use Rattle.sc_state.specs.declared.host.Client.{Client}
 use Rattle.sc_state.specs.declared.host.Fired.{Fired}
 use Rattle.sc_state.specs.declared.host.Host.{Host}
 use Rattle.sc_state.specs.declared.host.Live.{Live}
-use Rattle.sc_state.specs.declared.host.Peer.{Peer}
 use Rattle.sc_state.specs.declared.host.Peer.TheVariants as peers
 use Rattle.sc_state.specs.declared.host.Server.{Server}
 use Rattle.sc_state.specs.declared.net.Net.{Net}
@@ -45,17 +38,15 @@ use Rattle.sc_state.specs.declared.session.Session.{Session}
 use Rattle.sc_grammar.specs.Written.{Bytes}
 use Rattle.sc_model.specs.Choices.{choice_of}
 use Rattle.sc_model.specs.Dialogs.{tag_of}
-use Rattle.sc_model.specs.Names.{ar_name, ar_value, edge_tag}
-use Rattle.sc_model.specs.OwnHosts.{is_own}
-use Rattle.sc_model.specs.SessionStates.{is_final}
+use Rattle.sc_model.specs.Names.{edge_tag}
 use Rattle.sc_model.specs.Timers.{DueEntry, in_order, is_due}
 use Rattle.sc_hosts.specs.Messages.{bad_response, own_response, without_via}
 use Rattle.sc_hosts.specs.Nets.{host_at, change_host, placed, put, queue_for, obeyed, named_host}
-use Rattle.sc_hosts.specs.Routes.{Position, position_of, unrouted_initial, popped_route}
+use Rattle.sc_hosts.specs.Routes.{position_of, unrouted_initial, popped_route}
 use Rattle.sc_hosts.specs.Sessions.{Form, Turn, entries_of}
 use Rattle.sc_hosts.specs.Finishing.{goodbye, is_ready, outcome}
-use Rattle.sc_hosts.specs.Taking.{Claim, claim_of, is_claimed, is_live, is_never_initial, live_in, own_uri, takes, refuse}
-use Rattle.sc_hosts.specs.Transacting.{tidied, method_of, due_of_client, due_of_server, goes_to, is_cancel_client, is_client, is_same_app, client_for, out_of_client, pass_client, pass_server, ringing_branches}
+use Rattle.sc_hosts.specs.Taking.{claim_of, is_claimed, is_live, is_never_initial, live_in, own_uri, takes}
+use Rattle.sc_hosts.specs.Transacting.{tidied, method_of, due_of_client, due_of_server, goes_to, is_cancel_client, is_same_app, client_for, out_of_client, pass_client, pass_server, ringing_branches}
 use Rattle.sc_hosts.specs.Words.{ack, cancel, does_not_exist, not_found, request_timeout, unavailable}
 
 -- ## A message comes from outside

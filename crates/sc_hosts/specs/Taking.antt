@@ -1,7 +1,7 @@
 -- What a host takes from outside or from another host, and what it answers at once (RFC 3261 sections
 -- 8.2, 9.2, 12.2.2 and 17). The limits are this project's own.
-use Rattle.std.specs.Prelude.{ℕ, ◌+◌, ◌==◌, List, [], ◌∷◌, ◌++◌, Bool, true, false, not, ◌&&◌, ◌||◌, Option, None, Some, is_some, is_none, option_map, option_and_then, nat_lt, nat_le, if◌then◌else◌, length, map, slice_get, drop}
-use Rattle.std.specs.List.{find, list_any}
+use Rattle.std.specs.Prelude.{ℕ, ◌+◌, ◌==◌, [], ◌∷◌, ◌++◌, Bool, true, false, not, ◌&&◌, ◌||◌, Option, None, Some, is_some, option_map, option_and_then, nat_le, if◌then◌else◌, length, slice_get, drop}
+use Rattle.std.specs.List.{find}
 use Rattle.std.specs.Option.{option_map_or}
 use Rattle.sc_value.specs.declared.ids.AppId.{AppId}
 use Rattle.sc_value.specs.declared.parts.Uri.{Uri}
@@ -20,13 +20,11 @@ use Rattle.sc_state.specs.declared.host.Client.{Client}
 use Rattle.sc_state.specs.declared.host.Host.{Host}
 use Rattle.sc_state.specs.declared.host.Live.{Live}
 use Rattle.sc_state.specs.declared.host.Peer.{Peer}
-use Rattle.sc_state.specs.declared.host.Reply.{Reply}
 use Rattle.sc_state.specs.declared.host.Server.{Server}
 use Rattle.sc_state.specs.declared.host.Taken.{Taken}
 use Rattle.sc_state.specs.declared.net.Note.{Note}
 use Rattle.sc_state.specs.declared.queue.Queued.{Queued}
 use Rattle.sc_state.specs.declared.queue.Queued.TheVariants as queued
-use Rattle.sc_state.specs.declared.queue.Waiting.{Waiting}
 use Rattle.sc_grammar.specs.Written.{Bytes}
 use Rattle.sc_model.specs.Dialogs.{tag_of, update}
 use Rattle.sc_model.specs.Names.{ap_name, ap_value, edge_tag, tag_text}

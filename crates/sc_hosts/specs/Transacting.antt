@@ -1,7 +1,7 @@
 -- The transactions of a host: which one a message belongs to, found by the texts of the message alone,
 -- and what an item that passes it makes of it (RFC 3261 sections 17.1.3 and 17.2.3).
-use Rattle.std.specs.Prelude.{ℕ, ◌+◌, ◌*◌, ◌==◌, List, [], ◌∷◌, ◌++◌, Bool, true, false, not, ◌&&◌, ◌||◌, Option, None, Some, is_some, is_none, option_map, option_and_then, unwrap_or, nat_lt, if◌then◌else◌, map, filter, slice_get, length}
-use Rattle.std.specs.List.{find, list_any, list_all, filter_map}
+use Rattle.std.specs.Prelude.{ℕ, ◌==◌, List, [], ◌∷◌, ◌++◌, Bool, true, false, not, ◌&&◌, ◌||◌, Option, is_some, unwrap_or, map, filter, slice_get}
+use Rattle.std.specs.List.{find, list_any}
 use Rattle.std.specs.Option.{option_map_or}
 use Rattle.sc_value.specs.declared.ids.AppId.{AppId}
 use Rattle.sc_value.specs.declared.ids.Place.{Place}

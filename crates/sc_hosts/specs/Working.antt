@@ -1,8 +1,7 @@
 -- What the accepted calls of a turn do beside what they leave of the view: what is sent, and what the
 -- application session knows of it.
-use Rattle.std.specs.Prelude.{ℕ, ◌+◌, ◌-◌, ◌==◌, List, [], ◌∷◌, ◌++◌, Bool, true, false, not, ◌&&◌, ◌||◌, Option, None, Some, is_some, is_none, option_map, option_and_then, nat_lt, nat_le, if◌then◌else◌, length, map, filter}
-use Rattle.std.specs.List.{find, list_any, filter_map, flat_map, fold}
-use Rattle.std.specs.Option.{option_or, option_map_or}
+use Rattle.std.specs.Prelude.{ℕ, ◌+◌, ◌==◌, List, [], ◌∷◌, ◌++◌, Bool, true, not, ◌&&◌, Option, None, Some, is_some, is_none, option_and_then, nat_le, if◌then◌else◌, map, filter}
+use Rattle.std.specs.List.{find, flat_map, fold}
 use Rattle.sc_value.specs.declared.ids.Directive.{Directive}
 use Rattle.sc_value.specs.declared.ids.Directive.TheVariants.{New, Continue, Reverse}
 use Rattle.sc_value.specs.declared.ids.ReqId.{ReqId}
@@ -25,10 +24,8 @@ use Rattle.sc_terms.specs.declared.calls.Refusal.{Refusal}
 use Rattle.sc_terms.specs.declared.inside.Inside.{Inside}
 use Rattle.sc_state.specs.declared.orders.Order.{Order}
 use Rattle.sc_state.specs.declared.orders.Order.TheVariants as orders
-use Rattle.sc_state.specs.declared.proxy.Proxy.{Proxy}
 use Rattle.sc_state.specs.declared.session.Kept.{Kept}
 use Rattle.sc_state.specs.declared.session.Known.{Known}
-use Rattle.sc_state.specs.declared.session.Leg.{Leg}
 use Rattle.sc_state.specs.declared.session.Way.{Way}
 use Rattle.sc_state.specs.declared.session.Way.TheVariants.{Received, Sent}
 use Rattle.sc_state.specs.declared.working.Asked.{Asked}
@@ -44,8 +41,8 @@ use Rattle.sc_model.specs.SessionStates.{invite}
 use Rattle.sc_hosts.specs.Branches.{new_proxy, with_targets, stopped, is_invite}
 use Rattle.sc_hosts.specs.Effects.{new_call_id, new_tag, begun, after_listed}
 use Rattle.sc_hosts.specs.Legs.{leg_of, change_leg, new_leg, in_dialog}
-use Rattle.sc_hosts.specs.Looking.{same_request, same_session, request_in}
-use Rattle.sc_hosts.specs.Messages.{asked_request, leg_request, from_here, given_response, own_response, on_branch}
+use Rattle.sc_hosts.specs.Looking.{same_session, request_in}
+use Rattle.sc_hosts.specs.Messages.{asked_request, leg_request, from_here, given_response, on_branch}
 use Rattle.sc_hosts.specs.Preparing.{kept_of, own_tag_of, proxy_of, change_proxy}
 use Rattle.sc_hosts.specs.Refusals.{awaits_ack, begun_by, draft_in, refusal}
 use Rattle.sc_hosts.specs.Words.{ack, server_error}
