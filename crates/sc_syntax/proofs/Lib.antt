@@ -4,3 +4,4 @@ pub mod UriCases
 pub mod DecimalLaws
 pub mod PartLaws
 pub mod UriLaws
+pub mod HeaderCases
