@@ -1,6 +1,6 @@
 -- Header parameters: `name`, `name=value` or `name="a string"` (RFC 3261 section 25.1: generic-param).
--- Blanks may stand round a semicolon and not round `=`. A value is kept as written, a string with
--- its quotes and escapes; an empty value isn't the same as none.
+-- Blanks may stand round a semicolon and not round `=`, where the RFC allows them. A value is kept as
+-- written, a string with its quotes and escapes; it may be empty, which isn't the same as none.
 use Rattle.std.specs.Prelude.{ℕ, Bool, true, false, List, Option, Some, None, ◌||◌, ◌&&◌, ◌==◌, length, if◌then◌else◌}
 use Rattle.std.specs.List.{list_all}
 use Rattle.std.specs.Option.{option_map_or}

@@ -32,14 +32,22 @@ past_word b = if b == 60 then Bracketed else if b == 59 then Params else Word
 unfoldable pub in_string : Scan → Scan → Scan → ℕ → Scan
 in_string inside escaped outside b = if b == 92 then escaped else if b == 34 then outside else inside
 
+-- the URI's brackets end
+unfoldable pub past_bracketed : ℕ → Scan
+past_bracketed b = if b == 62 then Params else Bracketed
+
+-- a quoted string begins
+unfoldable pub past_params : ℕ → Scan
+past_params b = if b == 34 then Quoted else Params
+
 -- where the scan stands behind the byte
 unfoldable pub past : Scan → ℕ → Scan
 past Front b = past_front b
 past Word b = past_word b
 past Display b = in_string Display DisplayEscaped Word b
 past DisplayEscaped b = Display
-past Bracketed b = if b == 62 then Params else Bracketed
-past Params b = if b == 34 then Quoted else Params
+past Bracketed b = past_bracketed b
+past Params b = past_params b
 past Quoted b = in_string Quoted Escaped Params b
 past Escaped b = Quoted
 

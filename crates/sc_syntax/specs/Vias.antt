@@ -1,5 +1,6 @@
 -- Vias: `SIP/2.0/transport host:port;params` (RFC 3261 sections 20.42 and 25.1). Blanks may stand
--- round the slashes, and one at least stands before the host.
+-- round the slashes, and one at least stands before the host; none stands round the port's colon, where
+-- the RFC allows them.
 use Rattle.std.specs.Prelude.{List, [], ◌∷◌, Option, None, codes, if◌then◌else◌}
 use Rattle.std.specs.Option.{option_map, option_and_then}
 use Rattle.std.specs.Result.{result_ok}
