@@ -5,3 +5,6 @@ pub mod DecimalLaws
 pub mod PartLaws
 pub mod UriLaws
 pub mod HeaderCases
+pub mod BlankLaws
+pub mod ListedLaws
+pub mod ViaLaws

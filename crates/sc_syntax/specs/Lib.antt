@@ -12,3 +12,6 @@ pub mod Parameters
 pub mod Vias
 pub mod Addresses
 pub mod Sequences
+pub mod SpelledParts
+pub mod SpelledVias
+pub mod SpelledAddresses
