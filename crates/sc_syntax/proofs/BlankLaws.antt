@@ -1,5 +1,5 @@
 -- Laws of blanks: a text is its trimmed text between blanks, and blanks at its ends don't count.
-use Rattle.std.proofs.Common.{◌≡◌, ℕ, suc, Bool, true, false, cond, [], ◌∷◌, ◌++◌, ◌+◌, ◌-◌, ◌&&◌, length, take, drop, reverse, refl, sym, ap, subst, ◌∙◌, append-nil, length-drop, arith}
+use Rattle.std.proofs.Common.{◌≡◌, ℕ, suc, Bool, true, false, cond, [], ◌∷◌, ◌++◌, ◌+◌, ◌-◌, ◌&&◌, length, take, drop, reverse, refl, sym, ap, subst, ◌∙◌, append_assoc, append-nil, length-drop, arith}
 use Rattle.std.specs.List.{prefix_len, suffix_len, list_all}
 use Rattle.std.proofs.lemmas.Bool.{false≢true}
 use Rattle.std.proofs.Math.Bool.{and_comm}
@@ -26,6 +26,9 @@ reverse_more : (b : ℕ) (bs : Bytes) → reverse (b ∷ bs) ≡ reverse bs ++ b
 reverse_more b bs = reverse-append (b ∷ []) bs
 
 -- ## Runs of blanks
+
+pub blanks_append : (a b : Bytes) → IsBlanks a → IsBlanks b → IsBlanks (a ++ b)
+blanks_append a b g h = list_all-append is_blank a b ∙ and_true (list_all is_blank a) (list_all is_blank b) g h
 
 front_blanks : (text : Bytes) → IsBlanks (take (prefix_len is_blank text) text)
 front_blanks [] = refl
@@ -105,6 +108,19 @@ trimmed_is_padded text =
     let rest = drop (prefix_len is_blank text) text in
     let back = reverse (take (last_of rest) (reverse rest)) in
     (front, back, front_blanks text, reverse_all is_blank (take (last_of rest) (reverse rest)) ∙ front_blanks (reverse rest), sym (take-append-drop (prefix_len is_blank text) text) ∙ ap (λ l. front ++ l) (back_parts rest))
+
+-- without its blanks at the front, a text is its trimmed text before blanks
+pub trimmed_behind : (text : Bytes) → (back : Bytes) × IsBlanks back × (trimmed_front text ≡ trimmed text ++ back)
+unfolding trimmed
+trimmed_behind text =
+    let rest = trimmed_front text in
+    (reverse (take (last_of rest) (reverse rest)), reverse_all is_blank (take (last_of rest) (reverse rest)) ∙ front_blanks (reverse rest), back_parts rest)
+
+-- blanks round a padded text make it padded again
+pub padded_twice : (inner text outer : Bytes) → Padded inner text → Padded text outer → Padded inner outer
+padded_twice inner text outer (f, b, fb, bb, is) (g, c, gb, cb, whole) =
+    let regroup = ap (λ l. l ++ c) is ∙ append_assoc f (inner ++ b) c ∙ ap (λ l. f ++ l) (append_assoc inner b c) in
+    (g ++ f, b ++ c, blanks_append g f gb fb, blanks_append b c bb cb, whole ∙ ap (λ l. g ++ l) regroup ∙ sym (append_assoc g f (inner ++ (b ++ c))))
 
 back_none : trimmed_back [] ≡ []
 unfolding trimmed_back

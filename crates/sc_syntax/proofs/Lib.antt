@@ -8,3 +8,5 @@ pub mod HeaderCases
 pub mod BlankLaws
 pub mod ListedLaws
 pub mod ViaLaws
+pub mod DisplayLaws
+pub mod AddressLaws

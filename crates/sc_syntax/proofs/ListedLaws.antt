@@ -12,7 +12,7 @@ use Rattle.sc_syntax.specs.Cuts.{onto_first}
 use Rattle.sc_syntax.specs.Scanning.{is_outside, past, is_part_end, parts, with_first, all_read}
 use Rattle.sc_syntax.specs.SpelledParts.{AreLed, AreListed}
 use Rattle.sc_syntax.proofs.CutLaws.{some_same, none_some}
-use Rattle.sc_syntax.proofs.BlankLaws.{both}
+use Rattle.sc_syntax.proofs.BlankLaws.{both, and_true}
 
 -- ## Answers
 
@@ -112,6 +112,14 @@ all_unparted text start sign = sym (same_start sign start (parts start sign star
 pub first_unparted : (text first : Bytes) (more : List Bytes) (restart at : Scan) (sign : ℕ) → parts restart sign at text ≡ first ∷ more → (unparted sign at first ≡ true) × (list_all (unparted sign restart) more ≡ true)
 first_unparted text first more restart at sign h =
     both (unparted sign at first) (list_all (unparted sign restart) more) (sym (ap (are_unparted sign restart at) h) ∙ unparted_parts text restart at sign)
+
+-- what doesn't part a text doesn't part what stands at its front
+pub unparted_front : (front back : Bytes) (sign : ℕ) (at : Scan) → unparted sign at (front ++ back) ≡ true → unparted sign at front ≡ true
+unfolding unparted
+unparted_front [] back sign at h = refl
+unparted_front (b ∷ bs) back sign at h =
+    let is = both (not (is_part_end at sign b)) (unparted sign (past at b) (bs ++ back)) h in
+    and_true (not (is_part_end at sign b)) (unparted sign (past at b) bs) is.0 (unparted_front bs back sign (past at b) is.1)
 
 -- ## Parts that are read
 

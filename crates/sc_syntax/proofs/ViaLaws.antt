@@ -7,7 +7,6 @@ use Rattle.std.specs.Result.{result_ok}
 use Rattle.std.proofs.lemmas.Bool.{false≢true}
 use Rattle.std.proofs.lemmas.Bool.Decides.{nat_tests}
 use Rattle.std.proofs.lemmas.List.{take-append-drop}
-use Rattle.std.proofs.lemmas.List.Folds.{list_all-append}
 use Rattle.sc_value.specs.Params.{same_bytes}
 use Rattle.sc_value.specs.Tokens.{is_blank, is_token}
 use Rattle.sc_value.specs.declared.parts.Param.{Param}
@@ -25,7 +24,7 @@ use Rattle.sc_syntax.specs.SpelledParts.{IsBlanks, Padded, header_param, IsHeade
 use Rattle.sc_syntax.specs.SpelledVias.{IsHopSpelled, IsViaSpelled, AreViasSpelled}
 use Rattle.sc_syntax.proofs.CutLaws.{some_same, none_some}
 use Rattle.sc_syntax.proofs.PartLaws.{led_text, sent_spelled}
-use Rattle.sc_syntax.proofs.BlankLaws.{both, and_true, front_more, trimmed_is_padded}
+use Rattle.sc_syntax.proofs.BlankLaws.{both, and_true, blanks_append, front_more, trimmed_is_padded}
 use Rattle.sc_syntax.proofs.ListedLaws.{if_some, map_some, then_some, same_text, glued, unparted, first_unparted, parts_text, some_part, led_is_spelled, listed_is_spelled}
 
 -- ## Parameters
@@ -116,9 +115,6 @@ version_text text rest h =
     let one = slash_text (codes "SIP") text is.0 is.1 in
     let two = slash_text (codes "2.0") is.0 rest is.2 in
     (one.0, two.0, one.1, two.1, one.2 ∙ ap (λ l. one.0 ++ 47 ∷ l) two.2)
-
-pub blanks_append : (a b : Bytes) → IsBlanks a → IsBlanks b → IsBlanks (a ++ b)
-blanks_append a b g h = list_all-append is_blank a b ∙ and_true (list_all is_blank a) (list_all is_blank b) g h
 
 -- a text that spells transport, host and port, before blanks
 abbrev IsHop : Bytes → List Param → Via → Type 0
