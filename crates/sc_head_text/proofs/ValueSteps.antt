@@ -1,5 +1,6 @@
 -- Values and their parts.
-use Rattle.std.proofs.Common.{◌≡◌, Some, Result, List, ◌∷◌, ap, ◌∙◌}
+use Rattle.std.proofs.Common.{Option, Ok, Err, ◌≡◌, Some, Result, List, ◌∷◌, ap, ◌∙◌}
+use Rattle.std.specs.Prelude.{IfOk}
 use Rattle.std.specs.Option.{option_and_then}
 use Rattle.std.specs.Result.{result_ok}
 use Rattle.sc_value.specs.declared.parts.Param.{Param}
@@ -14,7 +15,7 @@ use Rattle.sc_syntax.specs.Vias.{via_with, via_in, via_of}
 use Rattle.sc_syntax.specs.Addresses.{address_with, address_in, address_of}
 use Rattle.sc_head_text.specs.declared.unread.Unread.{Unread}
 use Rattle.sc_head_text.specs.declared.unread.Unread.TheVariants as answers
-use Rattle.sc_head_text.specs.Answers.{Fails, unread_of}
+use Rattle.sc_head_text.specs.Answers.{Fails, Gives, unread_of}
 
 via_cut : (text first : Bytes) (rest : List Bytes) → via_parts text ≡ first ∷ rest → via_of text ≡ option_and_then (via_with first) (params_of rest)
 unfolding via_of via_in
@@ -42,3 +43,8 @@ address_unread text first rest answers.NoMemory is h = tt
 pub unread_uri : {Y : Type 0} (refused : UriRefused) (read : Result Y Fault) → IsFault refused read → Fails (unread_of refused) (result_ok read)
 unread_uri (Refused at kind) read h = ap result_ok h
 unread_uri NoMemory read h = tt
+
+-- what holds of each value that is read holds of the value given
+pub holds_of_given : {X : Type 0} (result : Result X Unread) (read : Option X) (P : X → Type 0) → Gives result read → ((x : X) → read ≡ Some x → P x) → IfOk result P
+holds_of_given (Ok x) read P h all = all x h
+holds_of_given (Err unread) read P h all = tt

@@ -1,7 +1,8 @@
 //! Addresses and items of Contact (RFC 3261 sections 20.10, 20.20, 20.30, 20.34 and 20.39).
 
-ghost use Rattle.std.specs.Prelude.{◌≡◌};
+ghost use Rattle.std.specs.Prelude.{◌≡◌, IfOk};
 ghost use Rattle.sc_syntax.specs.Addresses.{address_of, address_with, addresses_of, contact_of, contacts_of, with_uri};
+ghost use Rattle.sc_syntax.specs.SpelledAddresses.{AreAddressesSpelled, AreContactsSpelled, IsAddressSpelled};
 ghost use Rattle.sc_head_text.specs.Answers.{Gives};
 ghost use Rattle.sc_head_text.specs.Seen.{seen};
 
@@ -20,7 +21,8 @@ use std::alloc::Global;
 /// or tokens with blanks between. `Fault` exactly where the value is outside the grammar; `NoMemory`
 /// says nothing of it.
 pub fn read_address(alloc: Global, b: &[u8]) -> Result<Address, Unread>
-    ensures { Gives result (address_of b.now) }
+    ensures exact { Gives result (address_of b.now) }
+    ensures spelled { IfOk result (λ address. IsAddressSpelled b.now address) }
 {
     Address::read(alloc, b)
 }
@@ -30,7 +32,8 @@ pub fn read_address(alloc: Global, b: &[u8]) -> Result<Address, Unread>
 /// grammar; `NoMemory` says nothing of the value.
 #[tactic(auto, unfolding(sc_syntax::specs::Addresses::addresses_of, crate::specs::Parts::parts_behind))]
 pub fn read_addresses(alloc: Global, b: &[u8]) -> Result<List<Address>, Unread>
-    ensures { Gives result (addresses_of b.now) }
+    ensures exact { Gives result (addresses_of b.now) }
+    ensures spelled { IfOk result (λ addresses. AreAddressesSpelled b.now addresses) }
 {
     read_parts(alloc, Some(b), b',', Scan::Front)
 }
@@ -40,7 +43,8 @@ pub fn read_addresses(alloc: Global, b: &[u8]) -> Result<List<Address>, Unread>
 /// the grammar; `NoMemory` says nothing of the value.
 #[tactic(auto, unfolding(sc_syntax::specs::Addresses::contacts_of, crate::specs::Parts::parts_behind))]
 pub fn read_contacts(alloc: Global, b: &[u8]) -> Result<List<Contact>, Unread>
-    ensures { Gives result (contacts_of b.now) }
+    ensures exact { Gives result (contacts_of b.now) }
+    ensures spelled { IfOk result (λ contacts. AreContactsSpelled b.now contacts) }
 {
     read_parts(alloc, Some(b), b',', Scan::Front)
 }

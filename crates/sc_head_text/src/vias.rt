@@ -4,6 +4,7 @@ ghost use Rattle.std.specs.Prelude.{◌≡◌, IfOk};
 ghost use Rattle.std.specs.Option.{option_copied};
 ghost use Rattle.std.specs.Result.{result_ok};
 ghost use Rattle.sc_syntax.specs.UriParts.{sent_at};
+ghost use Rattle.sc_syntax.specs.SpelledVias.{AreViasSpelled};
 ghost use Rattle.sc_syntax.specs.Vias.{behind_slash, behind_version, hop_in, via_of, vias_of, via_with};
 ghost use Rattle.sc_head_text.specs.Answers.{Gives, GivesAs};
 
@@ -22,7 +23,8 @@ use std::alloc::Global;
 /// outside the grammar; `NoMemory` says nothing of the value.
 #[tactic(auto, unfolding(sc_syntax::specs::Vias::vias_of, crate::specs::Parts::parts_behind))]
 pub fn read_vias(alloc: Global, b: &[u8]) -> Result<List<Via>, Unread>
-    ensures { Gives result (vias_of b.now) }
+    ensures exact { Gives result (vias_of b.now) }
+    ensures spelled { IfOk result (λ vias. AreViasSpelled b.now vias) }
 {
     read_parts(alloc, Some(b), b',', Scan::Params)
 }
