@@ -158,7 +158,7 @@ inner_lacks sign inner text (f, b, fb, bb, is) h =
     (neither (has sign inner) (has sign b) (sym (has_append sign inner b) ∙ outer.1)).0
 
 -- and the other way round
-outer_lacks : (sign : ℕ) (inner text : Bytes) → is_blank sign ≡ false → Padded inner text → has sign inner ≡ false → has sign text ≡ false
+pub outer_lacks : (sign : ℕ) (inner text : Bytes) → is_blank sign ≡ false → Padded inner text → has sign inner ≡ false → has sign text ≡ false
 outer_lacks sign inner text blank (f, b, fb, bb, is) h =
     ap (has sign) is ∙ has_append sign f (inner ++ b) ∙ both_false (has sign f) (has sign (inner ++ b)) (blanks_lack f sign blank fb)
     (has_append sign inner b ∙ both_false (has sign inner) (has sign b) h (blanks_lack b sign blank bb))

@@ -23,22 +23,22 @@ use Rattle.sc_syntax.proofs.ListedLaws.{if_some, map_some, then_some}
 
 -- ## Quoted strings
 
-quote_first : (b : ℕ) (bs : Bytes) → (b == 34) ≡ true → closing (b ∷ bs) ≡ Some 1
+pub quote_first : (b : ℕ) (bs : Bytes) → (b == 34) ≡ true → closing (b ∷ bs) ≡ Some 1
 unfolding closing
 quote_first b [] h = rw h refl
 quote_first b (c ∷ bs) h = rw h refl
 
-backslash_first : (b : ℕ) (bs : Bytes) → (b == 34) ≡ false → (b == 92) ≡ true → closing (b ∷ bs) ≡ option_map (λ n. 2 + n) (closing (drop 1 bs))
+pub backslash_first : (b : ℕ) (bs : Bytes) → (b == 34) ≡ false → (b == 92) ≡ true → closing (b ∷ bs) ≡ option_map (λ n. 2 + n) (closing (drop 1 bs))
 unfolding closing
 backslash_first b [] g h = rw g refl
 backslash_first b (c ∷ bs) g h = rw (g, h) refl
 
-other_first : (b : ℕ) (bs : Bytes) → (b == 34) ≡ false → (b == 92) ≡ false → closing (b ∷ bs) ≡ option_map (λ n. 1 + n) (closing bs)
+pub other_first : (b : ℕ) (bs : Bytes) → (b == 34) ≡ false → (b == 92) ≡ false → closing (b ∷ bs) ≡ option_map (λ n. 1 + n) (closing bs)
 unfolding closing
 other_first b [] g h = rw g refl
 other_first b (c ∷ bs) g h = rw (g, h) refl
 
-nothing_closes : closing [] ≡ None
+pub nothing_closes : closing [] ≡ None
 unfolding closing
 nothing_closes = refl
 
@@ -77,15 +77,15 @@ closes (b ∷ (c ∷ bs)) n h = elim (b == 34) as (λ (t : Bool). (b == 34) ≡ 
   ] refl
 ] refl
 
-quoted_is : (b : ℕ) (bs : Bytes) → (b == 34) ≡ true → quoted_end 0 (b ∷ bs) ≡ option_map (λ n. 1 + n) (closing bs)
+pub quoted_is : (b : ℕ) (bs : Bytes) → (b == 34) ≡ true → quoted_end 0 (b ∷ bs) ≡ option_map (λ n. 1 + n) (closing bs)
 unfolding quoted_end is_quote_at
 quoted_is b bs h = rw h refl
 
-unquoted : (b : ℕ) (bs : Bytes) → (b == 34) ≡ false → quoted_end 0 (b ∷ bs) ≡ None
+pub unquoted : (b : ℕ) (bs : Bytes) → (b == 34) ≡ false → quoted_end 0 (b ∷ bs) ≡ None
 unfolding quoted_end is_quote_at
 unquoted b bs h = rw h refl
 
-no_quote : quoted_end 0 [] ≡ None
+pub no_quote : quoted_end 0 [] ≡ None
 unfolding quoted_end is_quote_at
 no_quote = refl
 

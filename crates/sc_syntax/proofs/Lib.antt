@@ -10,3 +10,8 @@ pub mod ListedLaws
 pub mod ViaLaws
 pub mod DisplayLaws
 pub mod AddressLaws
+pub mod ClassLaws
+pub mod RunLaws
+pub mod ParameterLaws
+pub mod HostLaws
+pub mod SpelledViaLaws
