@@ -15,3 +15,4 @@ pub mod RunLaws
 pub mod ParameterLaws
 pub mod HostLaws
 pub mod SpelledViaLaws
+pub mod SpelledUriLaws
