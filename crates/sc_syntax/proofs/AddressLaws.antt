@@ -74,15 +74,15 @@ has_none : (sign : ℕ) → has sign [] ≡ false
 unfolding has
 has_none sign = refl
 
-word_step : (b : ℕ) → (b == 60) ≡ false → (b == 59) ≡ false → past Word b ≡ Word
+pub word_step : (b : ℕ) → (b == 60) ≡ false → (b == 59) ≡ false → past Word b ≡ Word
 unfolding past past_word
 word_step b g h = rw (g, h) refl
 
-front_blank : (b : ℕ) → (b == 34) ≡ false → (b == 60) ≡ false → is_blank b ≡ true → past Front b ≡ Front
+pub front_blank : (b : ℕ) → (b == 34) ≡ false → (b == 60) ≡ false → is_blank b ≡ true → past Front b ≡ Front
 unfolding past past_front
 front_blank b f g h = rw (f, g, h) refl
 
-front_word : (b : ℕ) → (b == 34) ≡ false → (b == 60) ≡ false → is_blank b ≡ false → past Front b ≡ Word
+pub front_word : (b : ℕ) → (b == 34) ≡ false → (b == 60) ≡ false → is_blank b ≡ false → past Front b ≡ Word
 unfolding past past_front
 front_word b f g h = rw (f, g, h) refl
 
@@ -90,7 +90,7 @@ unparted_step : (b sign : ℕ) (bs : Bytes) (at : Scan) → is_outside at ≡ tr
 unfolding unparted is_part_end
 unparted_step b sign bs at o h = not_both (b == sign) (unparted sign (past at b) bs) (ap (λ t. not (t && (b == sign)) && unparted sign (past at b) bs) (sym o) ∙ h)
 
-outside_word : is_outside Word ≡ true
+pub outside_word : is_outside Word ≡ true
 unfolding is_outside
 outside_word = refl
 
@@ -134,7 +134,7 @@ front_clean (b ∷ bs) sign u q l f =
 
 -- ## Blanks hold no sign
 
-blank_differs : (b sign : ℕ) → is_blank sign ≡ false → is_blank b ≡ true → (b == sign) ≡ false
+pub blank_differs : (b sign : ℕ) → is_blank sign ≡ false → is_blank b ≡ true → (b == sign) ≡ false
 blank_differs b sign h g = elim (b == sign) as (λ (t : Bool). (b == sign) ≡ t → t ≡ false) [
   | true ↦ λ e. sym (sym h ∙ ap is_blank (sym (same b sign e)) ∙ g)
   | false ↦ λ e. refl
@@ -143,7 +143,7 @@ blank_differs b sign h g = elim (b == sign) as (λ (t : Bool). (b == sign) ≡ t
     same : (x y : ℕ) → (x == y) ≡ true → x ≡ y
     same x y h = grind (arith, nat_tests, h)
 
-blanks_lack : (text : Bytes) (sign : ℕ) → is_blank sign ≡ false → IsBlanks text → has sign text ≡ false
+pub blanks_lack : (text : Bytes) (sign : ℕ) → is_blank sign ≡ false → IsBlanks text → has sign text ≡ false
 blanks_lack [] sign h g = has_none sign
 blanks_lack (b ∷ bs) sign h g = let is = both (is_blank b) (list_all is_blank bs) g in has_more sign b bs ∙ both_false (b == sign) (has sign bs) (blank_differs b sign h is.0) (blanks_lack bs sign h is.1)
 

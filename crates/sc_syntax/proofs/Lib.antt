@@ -16,3 +16,4 @@ pub mod ParameterLaws
 pub mod HostLaws
 pub mod SpelledViaLaws
 pub mod SpelledUriLaws
+pub mod SpelledAddressLaws

@@ -5,7 +5,7 @@ use Rattle.std.specs.Option.{option_map_or}
 use Rattle.std.proofs.lemmas.Bool.{false≢true}
 use Rattle.sc_value.specs.Tokens.{is_blank}
 use Rattle.sc_syntax.specs.declared.scan.Scan.{Scan}
-use Rattle.sc_syntax.specs.declared.scan.Scan.TheVariants.{Params, Quoted, Escaped}
+use Rattle.sc_syntax.specs.declared.scan.Scan.TheVariants.{Word, Display, DisplayEscaped, Params, Quoted, Escaped}
 use Rattle.sc_syntax.specs.Bytes.{Bytes}
 use Rattle.sc_syntax.specs.Cuts.{onto_first}
 use Rattle.sc_syntax.specs.Quoted.{closing, quoted_end}
@@ -100,7 +100,7 @@ plain_quote : is_plain 34 ≡ false
 unfolding is_plain
 plain_quote = refl
 
-goes_on : (at : Scan) (sign b : ℕ) → (b == sign) ≡ false → is_part_end at sign b ≡ false
+pub goes_on : (at : Scan) (sign b : ℕ) → (b == sign) ≡ false → is_part_end at sign b ≡ false
 unfolding is_part_end
 goes_on at sign b h = second (is_outside at) (b == sign) h
   where
@@ -122,79 +122,85 @@ passes_plain sign (b ∷ bs) s h =
     let is = both (is_plain b) (list_all is_plain bs) h in
     passes_more sign b Params Params Params bs (goes_on Params sign b (differs is_plain b sign s.0 is.0)) (stays_params b (differs is_plain b 34 plain_quote is.0)) (passes_plain sign bs s is.1)
 
+none_closes : (n : ℕ) → ¬ (closing [] ≡ Some n)
+none_closes n h = none_some n (sym nothing_closes ∙ h)
+
 -- ## Quoted strings
 
-inside_goes_on : (sign b : ℕ) → is_part_end Quoted sign b ≡ false
-unfolding is_part_end is_outside
-inside_goes_on sign b = refl
+-- how a string is scanned: inside it, behind a backslash, and behind it
+pub record Scans (sign : ℕ) (inside slashed outside : Scan) : Type 0 where
+  pub goes : (b : ℕ) → is_part_end inside sign b ≡ false
+  pub escape_goes : (b : ℕ) → is_part_end slashed sign b ≡ false
+  pub closes : (b : ℕ) → (b == 34) ≡ true → past inside b ≡ outside
+  pub escapes : (b : ℕ) → (b == 92) ≡ true → past inside b ≡ slashed
+  pub stays : (b : ℕ) → (b == 34) ≡ false → (b == 92) ≡ false → past inside b ≡ inside
+  pub ends : (b : ℕ) → past slashed b ≡ inside
 
-escaped_goes_on : (sign b : ℕ) → is_part_end Escaped sign b ≡ false
-unfolding is_part_end is_outside
-escaped_goes_on sign b = refl
+closes_by : (inside slashed outside : Scan) (b : ℕ) → (b == 34) ≡ true → in_string inside slashed outside b ≡ outside
+unfolding in_string
+closes_by inside slashed outside b h = let is = same_number b 34 h in rw is refl
 
-quote_closes : (b : ℕ) → (b == 34) ≡ true → past Quoted b ≡ Params
-unfolding past in_string
-quote_closes b h = let is = same_number b 34 h in rw is refl
+escapes_by : (inside slashed outside : Scan) (b : ℕ) → (b == 92) ≡ true → in_string inside slashed outside b ≡ slashed
+unfolding in_string
+escapes_by inside slashed outside b h = rw h refl
 
-backslash_escapes : (b : ℕ) → (b == 92) ≡ true → past Quoted b ≡ Escaped
-unfolding past in_string
-backslash_escapes b h = rw h refl
+stays_by : (inside slashed outside : Scan) (b : ℕ) → (b == 34) ≡ false → (b == 92) ≡ false → in_string inside slashed outside b ≡ inside
+unfolding in_string
+stays_by inside slashed outside b g h = rw (h, g) refl
 
-stays_quoted : (b : ℕ) → (b == 34) ≡ false → (b == 92) ≡ false → past Quoted b ≡ Quoted
-unfolding past in_string
-stays_quoted b g h = rw (h, g) refl
+pub scans_quoted : (sign : ℕ) → Scans sign Quoted Escaped Params
+unfolding past is_part_end is_outside
+scans_quoted sign = record { goes = λ b. refl; escape_goes = λ b. refl; closes = closes_by Quoted Escaped Params; escapes = escapes_by Quoted Escaped Params; stays = stays_by Quoted Escaped Params; ends = λ b. refl }
 
-ends_escape : (b : ℕ) → past Escaped b ≡ Quoted
-unfolding past
-ends_escape b = refl
-
--- behind an opening quote: up to the closing one, which ends the text
-abbrev IsRest : ℕ → Bytes → Type 0
-IsRest sign text = Passes sign Quoted text Params × EndsSolid text
+pub scans_display : (sign : ℕ) → Scans sign Display DisplayEscaped Word
+unfolding past is_part_end is_outside
+scans_display sign = record { goes = λ b. refl; escape_goes = λ b. refl; closes = closes_by Display DisplayEscaped Word; escapes = escapes_by Display DisplayEscaped Word; stays = stays_by Display DisplayEscaped Word; ends = λ b. refl }
 
 quote_is_solid : (b : ℕ) → (b == 34) ≡ true → is_blank b ≡ false
 unfolding is_blank
 quote_is_solid b h = let is = same_number b 34 h in rw is refl
 
-rest_last : (sign b : ℕ) → (b == 34) ≡ true → IsRest sign (b ∷ [])
-rest_last sign b h = (passes_more sign b Quoted Params Params [] (inside_goes_on sign b) (quote_closes b h) (passes_none sign Params), ([], b, quote_is_solid b h, refl))
+module _ (sign : ℕ) (inside slashed outside : Scan) (scans : Scans sign inside slashed outside) where
+  -- behind an opening quote: up to the closing one, which ends the text
+  abbrev IsRest : Bytes → Type 0
+  IsRest text = Passes sign inside text outside × EndsSolid text
 
-rest_escape : (sign b c : ℕ) (bs : Bytes) → (b == 92) ≡ true → IsRest sign bs → IsRest sign (b ∷ (c ∷ bs))
-rest_escape sign b c bs h r = (
-  passes_more sign b Quoted Escaped Params (c ∷ bs) (inside_goes_on sign b) (backslash_escapes b h) (passes_more sign c Escaped Quoted Params bs (escaped_goes_on sign c) (ends_escape c) r.0),
-  ends_joined (b ∷ (c ∷ [])) bs r.1,
-)
+  rest_last : (b : ℕ) → (b == 34) ≡ true → IsRest (b ∷ [])
+  rest_last b h = (passes_more sign b inside outside outside [] (scans.goes b) (scans.closes b h) (passes_none sign outside), ([], b, quote_is_solid b h, refl))
 
-rest_more : (sign b : ℕ) (bs : Bytes) → (b == 34) ≡ false → (b == 92) ≡ false → IsRest sign bs → IsRest sign (b ∷ bs)
-rest_more sign b bs g h r = (passes_more sign b Quoted Quoted Params bs (inside_goes_on sign b) (stays_quoted b g h) r.0, ends_joined (b ∷ []) bs r.1)
+  rest_escape : (b c : ℕ) (bs : Bytes) → (b == 92) ≡ true → IsRest bs → IsRest (b ∷ (c ∷ bs))
+  rest_escape b c bs h r = (
+    passes_more sign b inside slashed outside (c ∷ bs) (scans.goes b) (scans.escapes b h) (passes_more sign c slashed inside outside bs (scans.escape_goes c) (scans.ends c) r.0),
+    ends_joined (b ∷ (c ∷ [])) bs r.1,
+  )
 
-none_closes : (n : ℕ) → ¬ (closing [] ≡ Some n)
-none_closes n h = none_some n (sym nothing_closes ∙ h)
+  rest_more : (b : ℕ) (bs : Bytes) → (b == 34) ≡ false → (b == 92) ≡ false → IsRest bs → IsRest (b ∷ bs)
+  rest_more b bs g h r = (passes_more sign b inside inside outside bs (scans.goes b) (scans.stays b g h) r.0, ends_joined (b ∷ []) bs r.1)
 
-rest_is : (sign : ℕ) (text : Bytes) → closing text ≡ Some (length text) → IsRest sign text
-rest_is sign [] h = absurd (none_closes 0 h)
-rest_is sign (b ∷ []) h = elim (b == 34) as (λ (t : Bool). (b == 34) ≡ t → IsRest sign (b ∷ [])) [
-  | true ↦ λ e. rest_last sign b e
-  | false ↦ λ e. elim (b == 92) as (λ (t : Bool). (b == 92) ≡ t → IsRest sign (b ∷ [])) [
-    | true ↦ λ f. let is = map_some (λ k. 2 + k) (closing []) 1 (sym (backslash_first b [] e f) ∙ h) in absurd (none_closes is.0 is.1)
-    | false ↦ λ f. let is = map_some (λ k. 1 + k) (closing []) 1 (sym (other_first b [] e f) ∙ h) in absurd (none_closes is.0 is.1)
+  pub rest_is : (text : Bytes) → closing text ≡ Some (length text) → IsRest text
+  rest_is [] h = absurd (none_closes 0 h)
+  rest_is (b ∷ []) h = elim (b == 34) as (λ (t : Bool). (b == 34) ≡ t → IsRest (b ∷ [])) [
+    | true ↦ λ e. rest_last b e
+    | false ↦ λ e. elim (b == 92) as (λ (t : Bool). (b == 92) ≡ t → IsRest (b ∷ [])) [
+      | true ↦ λ f. let is = map_some (λ k. 2 + k) (closing []) 1 (sym (backslash_first b [] e f) ∙ h) in absurd (none_closes is.0 is.1)
+      | false ↦ λ f. let is = map_some (λ k. 1 + k) (closing []) 1 (sym (other_first b [] e f) ∙ h) in absurd (none_closes is.0 is.1)
+    ] refl
   ] refl
-] refl
-rest_is sign (b ∷ (c ∷ bs)) h = elim (b == 34) as (λ (t : Bool). (b == 34) ≡ t → IsRest sign (b ∷ (c ∷ bs))) [
-  | true ↦ λ e. absurd (let one : 1 ≡ suc (suc (length bs)) = some_same 1 (suc (suc (length bs))) (sym (quote_first b (c ∷ bs) e) ∙ h) in omega (arith, one))
-  | false ↦ λ e. elim (b == 92) as (λ (t : Bool). (b == 92) ≡ t → IsRest sign (b ∷ (c ∷ bs))) [
-    | true ↦ λ f.
-        let is = map_some (λ k. 2 + k) (closing bs) (suc (suc (length bs))) (sym (backslash_first b (c ∷ bs) e f) ∙ h) in
-        let len : ◌≡◌ {A = ℕ} is.0 (length bs) = (let two = is.2 in omega (arith, two)) in
-        rest_escape sign b c bs f (rest_is sign bs (is.1 ∙ ap Some len))
-    | false ↦ λ f.
-        let is = map_some (λ k. 1 + k) (closing (c ∷ bs)) (suc (suc (length bs))) (sym (other_first b (c ∷ bs) e f) ∙ h) in
-        let len : ◌≡◌ {A = ℕ} is.0 (suc (length bs)) = (let one = is.2 in omega (arith, one)) in
-        rest_more sign b (c ∷ bs) e f (rest_is sign (c ∷ bs) (is.1 ∙ ap Some len))
+  rest_is (b ∷ (c ∷ bs)) h = elim (b == 34) as (λ (t : Bool). (b == 34) ≡ t → IsRest (b ∷ (c ∷ bs))) [
+    | true ↦ λ e. absurd (let one : 1 ≡ suc (suc (length bs)) = some_same 1 (suc (suc (length bs))) (sym (quote_first b (c ∷ bs) e) ∙ h) in omega (arith, one))
+    | false ↦ λ e. elim (b == 92) as (λ (t : Bool). (b == 92) ≡ t → IsRest (b ∷ (c ∷ bs))) [
+      | true ↦ λ f.
+          let is = map_some (λ k. 2 + k) (closing bs) (suc (suc (length bs))) (sym (backslash_first b (c ∷ bs) e f) ∙ h) in
+          let len : ◌≡◌ {A = ℕ} is.0 (length bs) = (let two = is.2 in omega (arith, two)) in
+          rest_escape b c bs f (rest_is bs (is.1 ∙ ap Some len))
+      | false ↦ λ f.
+          let is = map_some (λ k. 1 + k) (closing (c ∷ bs)) (suc (suc (length bs))) (sym (other_first b (c ∷ bs) e f) ∙ h) in
+          let len : ◌≡◌ {A = ℕ} is.0 (suc (length bs)) = (let one = is.2 in omega (arith, one)) in
+          rest_more b (c ∷ bs) e f (rest_is (c ∷ bs) (is.1 ∙ ap Some len))
+    ] refl
   ] refl
-] refl
 
-string_end : (text : Bytes) → is_string text ≡ true → quoted_end 0 text ≡ Some (length text)
+pub string_end : (text : Bytes) → is_string text ≡ true → quoted_end 0 text ≡ Some (length text)
 unfolding is_string
 string_end text h = by_end (quoted_end 0 text) h
   where
@@ -213,7 +219,7 @@ string_is_closed sign (b ∷ bs) s h = elim (b == 34) as (λ (t : Bool). (b == 3
   | true ↦ λ e.
       let is = map_some (λ k. 1 + k) (closing bs) (suc (length bs)) (sym (quoted_is b bs e) ∙ string_end (b ∷ bs) h) in
       let len : ◌≡◌ {A = ℕ} is.0 (length bs) = (let one = is.2 in omega (arith, one)) in
-      let rest = rest_is sign bs (is.1 ∙ ap Some len) in
+      let rest = rest_is sign Quoted Escaped Params (scans_quoted sign) bs (is.1 ∙ ap Some len) in
       let same = same_number b 34 e in
       let no_sign = ap (λ c. c == sign) same ∙ s.1 in
       (passes_more sign b Params Quoted Params bs (goes_on Params sign b no_sign) (opens_string b e) rest.0, ends_joined (b ∷ []) bs rest.1, bs, ap (λ c. c ∷ bs) same)

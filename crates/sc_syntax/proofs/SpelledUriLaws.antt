@@ -294,7 +294,7 @@ sent_opens : (b : ℕ) → is_sent_byte b ≡ true → is_closed b ≡ false
 unfolding is_sent_byte
 sent_opens b h = opens is_sent_byte refl refl refl refl refl refl refl b h
 
-letter_opens : (b : ℕ) → is_ascii_alphabetic b ≡ true → is_closed b ≡ false
+pub letter_opens : (b : ℕ) → is_ascii_alphabetic b ≡ true → is_closed b ≡ false
 letter_opens b h = opens is_ascii_alphabetic refl refl refl refl refl refl refl b h
 
 param_opens : (b : ℕ) → is_param_byte b ≡ true → is_closed b ≡ false

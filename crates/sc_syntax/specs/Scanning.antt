@@ -30,7 +30,7 @@ past_word b = if b == 60 then Bracketed else if b == 59 then Params else Word
 
 -- in a string: a backslash takes the next byte with it, a quote closes
 unfoldable pub in_string : Scan → Scan → Scan → ℕ → Scan
-in_string inside escaped outside b = if b == 92 then escaped else if b == 34 then outside else inside
+in_string inside slashed outside b = if b == 92 then slashed else if b == 34 then outside else inside
 
 -- the URI's brackets end
 unfoldable pub past_bracketed : ℕ → Scan
