@@ -1,6 +1,5 @@
 -- Values and their parts.
-use Rattle.std.proofs.Common.{Option, Ok, Err, ◌≡◌, Some, Result, List, ◌∷◌, ap, ◌∙◌}
-use Rattle.std.specs.Prelude.{IfOk}
+use Rattle.std.proofs.Common.{sym, Option, Ok, Err, ◌≡◌, Some, Result, List, ◌∷◌, ap, ◌∙◌}
 use Rattle.std.specs.Option.{option_and_then}
 use Rattle.std.specs.Result.{result_ok}
 use Rattle.sc_value.specs.declared.parts.Param.{Param}
@@ -13,9 +12,10 @@ use Rattle.sc_syntax.specs.Scanning.{address_parts, via_parts}
 use Rattle.sc_syntax.specs.Parameters.{params_of}
 use Rattle.sc_syntax.specs.Vias.{via_with, via_in, via_of}
 use Rattle.sc_syntax.specs.Addresses.{address_with, address_in, address_of}
+use Rattle.sc_syntax.proofs.CutLaws.{some_same, none_some}
 use Rattle.sc_head_text.specs.declared.unread.Unread.{Unread}
 use Rattle.sc_head_text.specs.declared.unread.Unread.TheVariants as answers
-use Rattle.sc_head_text.specs.Answers.{Fails, Gives, unread_of}
+use Rattle.sc_head_text.specs.Answers.{Fails, Gives, GivesSpelled, unread_of}
 
 via_cut : (text first : Bytes) (rest : List Bytes) → via_parts text ≡ first ∷ rest → via_of text ≡ option_and_then (via_with first) (params_of rest)
 unfolding via_of via_in
@@ -44,7 +44,8 @@ pub unread_uri : {Y : Type 0} (refused : UriRefused) (read : Result Y Fault) →
 unread_uri (Refused at kind) read h = ap result_ok h
 unread_uri NoMemory read h = tt
 
--- what holds of each value that is read holds of the value given
-pub holds_of_given : {X : Type 0} (result : Result X Unread) (read : Option X) (P : X → Type 0) → Gives result read → ((x : X) → read ≡ Some x → P x) → IfOk result P
-holds_of_given (Ok x) read P h all = all x h
-holds_of_given (Err unread) read P h all = tt
+-- where a reading function and what is spelled agree, what is given is what is spelled
+pub given_is_spelled : {X : Type 0} (result : Result X Unread) (read : Option X) (Spelled : X → Type 0) → Gives result read → ((x : X) → read ≡ Some x → Spelled x) → ((x : X) → Spelled x → read ≡ Some x) → GivesSpelled result Spelled
+given_is_spelled (Ok x) read Spelled h to from = (to x h, λ other spelled. some_same other x (sym (from other spelled) ∙ h))
+given_is_spelled (Err answers.Fault) read Spelled h to from = λ x spelled. none_some x (sym h ∙ from x spelled)
+given_is_spelled (Err answers.NoMemory) read Spelled h to from = tt

@@ -18,6 +18,16 @@ GivesAs view (Err unread) read = Fails unread read
 abbrev pub Gives : {X : Type 0} → Result X Unread → Option X → Type 0
 Gives result read = GivesAs (λ x. x) result read
 
+-- a fault only where nothing is spelled
+abbrev pub SpellsNone : {X : Type 0} → Unread → (X → Type 0) → Type 0
+SpellsNone {X} Fault Spelled = (x : X) → Spelled x → ⊥
+SpellsNone NoMemory Spelled = ⊤
+
+-- the one value that is spelled, or a fault where none is
+abbrev pub GivesSpelled : {X : Type 0} → Result X Unread → (X → Type 0) → Type 0
+GivesSpelled {X} (Ok x) Spelled = Spelled x × ((other : X) → Spelled other → other ≡ x)
+GivesSpelled (Err unread) Spelled = SpellsNone unread Spelled
+
 -- a URI's refusal, as one of the value that it stands in
 abbrev pub unread_of : UriRefused → Unread
 unread_of (uri.Refused at kind) = Fault

@@ -1,9 +1,9 @@
 //! Addresses and items of Contact (RFC 3261 sections 20.10, 20.20, 20.30, 20.34 and 20.39).
 
-ghost use Rattle.std.specs.Prelude.{◌≡◌, IfOk};
+ghost use Rattle.std.specs.Prelude.{◌≡◌};
 ghost use Rattle.sc_syntax.specs.Addresses.{address_of, address_with, addresses_of, contact_of, contacts_of, with_uri};
 ghost use Rattle.sc_syntax.specs.SpelledAddresses.{AreAddressesSpelled, AreContactsSpelled, IsAddressSpelled};
-ghost use Rattle.sc_head_text.specs.Answers.{Gives};
+ghost use Rattle.sc_head_text.specs.Answers.{Gives, GivesSpelled};
 ghost use Rattle.sc_head_text.specs.Seen.{seen};
 
 use crate::Unread;
@@ -22,7 +22,7 @@ use std::alloc::Global;
 /// says nothing of it.
 pub fn read_address(alloc: Global, b: &[u8]) -> Result<Address, Unread>
     ensures exact { Gives result (address_of b.now) }
-    ensures spelled { IfOk result (λ address. IsAddressSpelled b.now address) }
+    ensures spelled { GivesSpelled result (λ address. IsAddressSpelled b.now address) }
 {
     Address::read(alloc, b)
 }
@@ -33,7 +33,7 @@ pub fn read_address(alloc: Global, b: &[u8]) -> Result<Address, Unread>
 #[tactic(auto, unfolding(sc_syntax::specs::Addresses::addresses_of, crate::specs::Parts::parts_behind))]
 pub fn read_addresses(alloc: Global, b: &[u8]) -> Result<List<Address>, Unread>
     ensures exact { Gives result (addresses_of b.now) }
-    ensures spelled { IfOk result (λ addresses. AreAddressesSpelled b.now addresses) }
+    ensures spelled { GivesSpelled result (λ addresses. AreAddressesSpelled b.now addresses) }
 {
     read_parts(alloc, Some(b), b',', Scan::Front)
 }
@@ -44,7 +44,7 @@ pub fn read_addresses(alloc: Global, b: &[u8]) -> Result<List<Address>, Unread>
 #[tactic(auto, unfolding(sc_syntax::specs::Addresses::contacts_of, crate::specs::Parts::parts_behind))]
 pub fn read_contacts(alloc: Global, b: &[u8]) -> Result<List<Contact>, Unread>
     ensures exact { Gives result (contacts_of b.now) }
-    ensures spelled { IfOk result (λ contacts. AreContactsSpelled b.now contacts) }
+    ensures spelled { GivesSpelled result (λ contacts. AreContactsSpelled b.now contacts) }
 {
     read_parts(alloc, Some(b), b',', Scan::Front)
 }

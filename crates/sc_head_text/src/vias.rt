@@ -6,7 +6,7 @@ ghost use Rattle.std.specs.Result.{result_ok};
 ghost use Rattle.sc_syntax.specs.UriParts.{sent_at};
 ghost use Rattle.sc_syntax.specs.SpelledVias.{AreViasSpelled};
 ghost use Rattle.sc_syntax.specs.Vias.{behind_slash, behind_version, hop_in, via_of, vias_of, via_with};
-ghost use Rattle.sc_head_text.specs.Answers.{Gives, GivesAs};
+ghost use Rattle.sc_head_text.specs.Answers.{Gives, GivesAs, GivesSpelled};
 
 use crate::Unread;
 use crate::blanks::{split_word, trim};
@@ -24,7 +24,7 @@ use std::alloc::Global;
 #[tactic(auto, unfolding(sc_syntax::specs::Vias::vias_of, crate::specs::Parts::parts_behind))]
 pub fn read_vias(alloc: Global, b: &[u8]) -> Result<List<Via>, Unread>
     ensures exact { Gives result (vias_of b.now) }
-    ensures spelled { IfOk result (λ vias. AreViasSpelled b.now vias) }
+    ensures spelled { GivesSpelled result (λ vias. AreViasSpelled b.now vias) }
 {
     read_parts(alloc, Some(b), b',', Scan::Params)
 }
