@@ -1,3 +1,4 @@
 pub mod PartSteps
 pub mod BlankSteps
 pub mod ValueSteps
+pub mod WrittenValues

@@ -5,6 +5,7 @@
 
 mod addresses;
 mod blanks;
+mod laws;
 mod named;
 mod params;
 mod parts;
@@ -16,6 +17,7 @@ mod unread;
 mod vias;
 
 pub use addresses::{read_address, read_addresses, read_contacts};
+pub use laws::written_is_read;
 pub use sequences::{read_cseq, read_hops, read_length};
 pub use unread::Unread;
 pub use vias::read_vias;

@@ -3,7 +3,8 @@
 ghost use Rattle.std.specs.Prelude.{◌≡◌, ◌^◌, ◌<◌, IfSome};
 ghost use Rattle.sc_syntax.specs.Numbers.{number_below, number_of};
 ghost use Rattle.sc_syntax.specs.Sequences.{cseq_in, cseq_of, hops_of};
-ghost use Rattle.sc_head_text.specs.Answers.{Gives};
+ghost use Rattle.sc_syntax.specs.SpelledSequences.{IsCSeqSpelled};
+ghost use Rattle.sc_head_text.specs.Answers.{Gives, GivesSpelled};
 
 use crate::Unread;
 use crate::blanks::{split_word, trim};
@@ -16,7 +17,8 @@ use std::alloc::Global;
 /// says nothing of it.
 #[tactic(auto, unfolding(sc_syntax::specs::Sequences::cseq_of))]
 pub fn read_cseq(alloc: Global, b: &[u8]) -> Result<CSeq, Unread>
-    ensures { Gives result (cseq_of b.now) }
+    ensures exact { Gives result (cseq_of b.now) }
+    ensures spelled { GivesSpelled result (λ cseq. IsCSeqSpelled b.now cseq) }
 {
     read_trimmed(alloc, trim(b))
 }

@@ -74,7 +74,7 @@ all_each p q each (text ∷ texts) h = let is = both (p text) (list_all p texts)
 
 -- ## Bytes of literals
 
-number_digits : (limit : ℕ) (text : Bytes) → is_some (number_below limit text) ≡ true → is_digits text ≡ true
+pub number_digits : (limit : ℕ) (text : Bytes) → is_some (number_below limit text) ≡ true → is_digits text ≡ true
 unfolding number_below
 number_digits limit text h = by_test (is_digits text) (nat_lt (number_in text) limit) h
   where

@@ -17,3 +17,4 @@ pub mod HostLaws
 pub mod SpelledViaLaws
 pub mod SpelledUriLaws
 pub mod SpelledAddressLaws
+pub mod SequenceLaws

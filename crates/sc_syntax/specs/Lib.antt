@@ -15,3 +15,4 @@ pub mod Sequences
 pub mod SpelledParts
 pub mod SpelledVias
 pub mod SpelledAddresses
+pub mod SpelledSequences
