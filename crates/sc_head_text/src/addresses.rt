@@ -1,9 +1,11 @@
 //! Addresses and items of Contact (RFC 3261 sections 20.10, 20.20, 20.30, 20.34 and 20.39).
 
-ghost use Rattle.std.specs.Prelude.{◌≡◌};
+ghost use Rattle.std.specs.Prelude.{◌≡◌, IfOk};
+ghost use Rattle.std.specs.List.{All};
 ghost use Rattle.sc_syntax.specs.Addresses.{address_of, address_with, addresses_of, contact_of, contacts_of, with_uri};
 ghost use Rattle.sc_syntax.specs.SpelledAddresses.{AreAddressesSpelled, AreContactsSpelled, IsAddressSpelled};
 ghost use Rattle.sc_head_text.specs.Answers.{Gives, GivesSpelled};
+ghost use Rattle.sc_head_text.specs.Kept.{IsAddress, IsContact};
 ghost use Rattle.sc_head_text.specs.Seen.{seen};
 
 use crate::Unread;
@@ -23,6 +25,7 @@ use std::alloc::Global;
 pub fn read_address(alloc: Global, b: &[u8]) -> Result<Address, Unread>
     ensures exact { Gives result (address_of b.now) }
     ensures spelled { GivesSpelled result (λ address. IsAddressSpelled b.now address) }
+    ensures kept { IfOk result (λ address. IsAddress address) }
 {
     Address::read(alloc, b)
 }
@@ -34,6 +37,7 @@ pub fn read_address(alloc: Global, b: &[u8]) -> Result<Address, Unread>
 pub fn read_addresses(alloc: Global, b: &[u8]) -> Result<List<Address>, Unread>
     ensures exact { Gives result (addresses_of b.now) }
     ensures spelled { GivesSpelled result (λ addresses. AreAddressesSpelled b.now addresses) }
+    ensures kept { IfOk result (λ addresses. All IsAddress addresses) }
 {
     read_parts(alloc, Some(b), b',', Scan::Front)
 }
@@ -45,6 +49,7 @@ pub fn read_addresses(alloc: Global, b: &[u8]) -> Result<List<Address>, Unread>
 pub fn read_contacts(alloc: Global, b: &[u8]) -> Result<List<Contact>, Unread>
     ensures exact { Gives result (contacts_of b.now) }
     ensures spelled { GivesSpelled result (λ contacts. AreContactsSpelled b.now contacts) }
+    ensures kept { IfOk result (λ contacts. All IsContact contacts) }
 {
     read_parts(alloc, Some(b), b',', Scan::Front)
 }

@@ -1,10 +1,11 @@
 //! Values that begin with a number (RFC 3261 sections 20.14, 20.16 and 20.22).
 
-ghost use Rattle.std.specs.Prelude.{◌≡◌, ◌^◌, ◌<◌, IfSome};
+ghost use Rattle.std.specs.Prelude.{◌≡◌, ◌^◌, ◌<◌, IfOk, IfSome};
 ghost use Rattle.sc_syntax.specs.Numbers.{number_below, number_of};
 ghost use Rattle.sc_syntax.specs.Sequences.{cseq_in, cseq_of, hops_of};
 ghost use Rattle.sc_syntax.specs.SpelledSequences.{IsCSeqSpelled};
 ghost use Rattle.sc_head_text.specs.Answers.{Gives, GivesSpelled};
+ghost use Rattle.sc_head_text.specs.Kept.{IsCSeq};
 
 use crate::Unread;
 use crate::blanks::{split_word, trim};
@@ -19,6 +20,7 @@ use std::alloc::Global;
 pub fn read_cseq(alloc: Global, b: &[u8]) -> Result<CSeq, Unread>
     ensures exact { Gives result (cseq_of b.now) }
     ensures spelled { GivesSpelled result (λ cseq. IsCSeqSpelled b.now cseq) }
+    ensures kept { IfOk result (λ cseq. IsCSeq cseq) }
 {
     read_trimmed(alloc, trim(b))
 }

@@ -1,12 +1,14 @@
 //! Vias (RFC 3261 section 20.42).
 
 ghost use Rattle.std.specs.Prelude.{◌≡◌, IfOk};
+ghost use Rattle.std.specs.List.{All};
 ghost use Rattle.std.specs.Option.{option_copied};
 ghost use Rattle.std.specs.Result.{result_ok};
 ghost use Rattle.sc_syntax.specs.UriParts.{sent_at};
 ghost use Rattle.sc_syntax.specs.SpelledVias.{AreViasSpelled};
 ghost use Rattle.sc_syntax.specs.Vias.{behind_slash, behind_version, hop_in, via_of, vias_of, via_with};
 ghost use Rattle.sc_head_text.specs.Answers.{Gives, GivesAs, GivesSpelled};
+ghost use Rattle.sc_head_text.specs.Kept.{IsVia};
 
 use crate::Unread;
 use crate::blanks::{split_word, trim};
@@ -25,6 +27,7 @@ use std::alloc::Global;
 pub fn read_vias(alloc: Global, b: &[u8]) -> Result<List<Via>, Unread>
     ensures exact { Gives result (vias_of b.now) }
     ensures spelled { GivesSpelled result (λ vias. AreViasSpelled b.now vias) }
+    ensures kept { IfOk result (λ vias. All IsVia vias) }
 {
     read_parts(alloc, Some(b), b',', Scan::Params)
 }

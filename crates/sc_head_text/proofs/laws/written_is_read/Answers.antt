@@ -1,5 +1,7 @@
-use Rattle.std.proofs.Common.{true, false, [], ◌∷◌}
+use Rattle.std.proofs.Common.{◌^◌, arith, true, false, [], ◌∷◌}
 use Rattle.sc_grammar.specs.Written.{address_text, contact_text, cseq_text, via_text}
+use Rattle.sc_syntax.specs.Sequences.{hops_of}
+use Rattle.sc_syntax.proofs.DecimalLaws.{decimal_is_read}
 use Rattle.sc_syntax.specs.SpelledVias.{IsViaSpelled}
 use Rattle.sc_syntax.specs.SpelledAddresses.{IsAddressIn, IsContactSpelled}
 use Rattle.sc_syntax.proofs.SpelledViaLaws.{vias_are_read}
@@ -22,3 +24,10 @@ returns-clause-contacts c = λ contact kept. contacts_are_read (contact_text con
 
 pub returns-clause-cseq : goal.returns-clause-cseq
 returns-clause-cseq c = λ cseq kept. cseq_is_read (cseq_text cseq) cseq (cseq_spelled cseq kept)
+
+pub returns-clause-hops : goal.returns-clause-hops
+unfolding hops_of
+returns-clause-hops c = λ hops below. decimal_is_read hops 256 (omega arith) below
+
+pub returns-clause-len : goal.returns-clause-len
+returns-clause-len c = λ len below. decimal_is_read len (2 ^ 64) (omega arith) below
