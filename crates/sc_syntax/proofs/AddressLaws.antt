@@ -5,7 +5,6 @@ use Rattle.std.specs.Option.{option_map}
 use Rattle.std.specs.Result.{result_ok}
 use Rattle.std.proofs.lemmas.Bool.{false≢true}
 use Rattle.std.proofs.lemmas.Bool.Decides.{nat_tests}
-use Rattle.std.proofs.lemmas.List.Folds.{list_any-append}
 use Rattle.sc_value.specs.Params.{same_bytes}
 use Rattle.sc_value.specs.Tokens.{is_blank}
 use Rattle.sc_value.specs.declared.parts.Param.{Param}
@@ -32,20 +31,13 @@ use Rattle.sc_syntax.proofs.BlankLaws.{both, front_more, front_here, trimmed_is_
 use Rattle.sc_syntax.proofs.ListedLaws.{map_some, then_some, same_text, glued, parts_text, some_part, unparted, first_unparted, unparted_front, listed_is_spelled}
 use Rattle.sc_syntax.proofs.ViaLaws.{result_is, params_are_spelled}
 use Rattle.sc_syntax.proofs.DisplayLaws.{IsUnnamed, named_is}
+use Rattle.sc_syntax.proofs.ClassLaws.{neither, both_false, has_more, has_append, differs}
 
 -- ## Bare URIs have no separator
 
 not_both : (a b : Bool) → (not a && b) ≡ true → (a ≡ false) × (b ≡ true)
 not_both true b h = absurd (false≢true h)
 not_both false b h = (refl, h)
-
-neither : (a b : Bool) → (a || b) ≡ false → (a ≡ false) × (b ≡ false)
-neither true b h = absurd (false≢true (sym h))
-neither false b h = (refl, h)
-
-both_false : (a b : Bool) → a ≡ false → b ≡ false → (a || b) ≡ false
-both_false true b g h = g
-both_false false b g h = h
 
 -- a semicolon parts the text, or none stands in it
 abbrev semicolon_free : ℕ → Bytes → Bool
@@ -65,10 +57,6 @@ free_by b sign rest false h g f = let is = not_or (b == 59) rest f in (is.0, is.
 free_step : (b sign : ℕ) (bs : Bytes) → (b == sign) ≡ false → semicolon_free sign (b ∷ bs) ≡ true → ((b == 59) ≡ false) × (semicolon_free sign bs ≡ true)
 unfolding has
 free_step b sign bs g f = free_by b sign (has 59 bs) (sign == 59) refl g f
-
-has_more : (sign b : ℕ) (bs : Bytes) → has sign (b ∷ bs) ≡ ((b == sign) || has sign bs)
-unfolding has
-has_more sign b bs = refl
 
 has_none : (sign : ℕ) → has sign [] ≡ false
 unfolding has
@@ -106,7 +94,7 @@ word_clean (b ∷ bs) sign u l f =
     let fr = free_step b sign bs un.0 f in
     has_more sign b bs ∙ both_false (b == sign) (has sign bs) un.0 (word_clean bs sign (ap (λ s. unparted sign s bs) (sym (word_step b br.0 fr.0)) ∙ un.1) br.1 fr.1)
 
-begins_more : (sign b : ℕ) (bs : Bytes) → begins sign (b ∷ bs) ≡ (b == sign)
+pub begins_more : (sign b : ℕ) (bs : Bytes) → begins sign (b ∷ bs) ≡ (b == sign)
 unfolding begins
 begins_more sign b bs = refl
 
@@ -135,21 +123,11 @@ front_clean (b ∷ bs) sign u q l f =
 -- ## Blanks hold no sign
 
 pub blank_differs : (b sign : ℕ) → is_blank sign ≡ false → is_blank b ≡ true → (b == sign) ≡ false
-blank_differs b sign h g = elim (b == sign) as (λ (t : Bool). (b == sign) ≡ t → t ≡ false) [
-  | true ↦ λ e. sym (sym h ∙ ap is_blank (sym (same b sign e)) ∙ g)
-  | false ↦ λ e. refl
-] refl
-  where
-    same : (x y : ℕ) → (x == y) ≡ true → x ≡ y
-    same x y h = grind (arith, nat_tests, h)
+blank_differs b sign h g = differs is_blank b sign h g
 
 pub blanks_lack : (text : Bytes) (sign : ℕ) → is_blank sign ≡ false → IsBlanks text → has sign text ≡ false
 blanks_lack [] sign h g = has_none sign
 blanks_lack (b ∷ bs) sign h g = let is = both (is_blank b) (list_all is_blank bs) g in has_more sign b bs ∙ both_false (b == sign) (has sign bs) (blank_differs b sign h is.0) (blanks_lack bs sign h is.1)
-
-has_append : (sign : ℕ) (a b : Bytes) → has sign (a ++ b) ≡ (has sign a || has sign b)
-unfolding has
-has_append sign a b = list_any-append (λ c. c == sign) a b
 
 -- what a text lacks, the text between its blanks lacks
 inner_lacks : (sign : ℕ) (inner text : Bytes) → Padded inner text → has sign text ≡ false → has sign inner ≡ false

@@ -1,9 +1,10 @@
 -- Laws of texts by the class of their bytes: cuts and trims of texts that are put together.
-use Rattle.std.proofs.Common.{◌≡◌, ℕ, suc, Bool, true, false, Some, None, [], ◌∷◌, ◌++◌, ◌&&◌, ◌||◌, ◌==◌, length, reverse, refl, sym, ap, ◌∙◌, append_assoc, arith}
+use Rattle.std.proofs.Common.{not, ◌≡◌, ℕ, suc, Bool, true, false, Some, None, [], ◌∷◌, ◌++◌, ◌&&◌, ◌||◌, ◌==◌, length, reverse, refl, sym, ap, ◌∙◌, append_assoc, arith}
 use Rattle.std.specs.List.{list_all}
 use Rattle.std.proofs.lemmas.Bool.{false≢true}
 use Rattle.std.proofs.lemmas.Bool.Decides.{nat_tests}
 use Rattle.std.proofs.lemmas.List.{reverse-reverse, reverse-append}
+use Rattle.std.proofs.lemmas.List.Folds.{list_any-append}
 use Rattle.sc_value.specs.Tokens.{is_blank}
 use Rattle.sc_syntax.specs.Bytes.{Bytes}
 use Rattle.sc_syntax.specs.Cuts.{has, before, after}
@@ -27,6 +28,10 @@ neither false b h = (refl, h)
 pub both_false : (a b : Bool) → a ≡ false → b ≡ false → (a || b) ≡ false
 both_false true b g h = g
 both_false false b g h = h
+
+pub not_true : (t : Bool) → not t ≡ true → t ≡ false
+not_true true h = absurd (false≢true h)
+not_true false h = refl
 
 -- ## Classes
 
@@ -56,12 +61,16 @@ after_nothing : (sign : ℕ) → after sign [] ≡ None
 unfolding after
 after_nothing sign = refl
 
-has_more : (sign b : ℕ) (bs : Bytes) → has sign (b ∷ bs) ≡ ((b == sign) || has sign bs)
+pub has_more : (sign b : ℕ) (bs : Bytes) → has sign (b ∷ bs) ≡ ((b == sign) || has sign bs)
 unfolding has
 has_more sign b bs = refl
 
-lacks_more : (sign b : ℕ) (bs : Bytes) → has sign (b ∷ bs) ≡ false → ((b == sign) ≡ false) × (has sign bs ≡ false)
+pub lacks_more : (sign b : ℕ) (bs : Bytes) → has sign (b ∷ bs) ≡ false → ((b == sign) ≡ false) × (has sign bs ≡ false)
 lacks_more sign b bs h = neither (b == sign) (has sign bs) (sym (has_more sign b bs) ∙ h)
+
+pub has_append : (sign : ℕ) (a b : Bytes) → has sign (a ++ b) ≡ (has sign a || has sign b)
+unfolding has
+has_append sign a b = list_any-append (λ c. c == sign) a b
 
 pub before_joined : (sign : ℕ) (text rest : Bytes) → has sign text ≡ false → before sign (text ++ sign ∷ rest) ≡ text
 before_joined sign [] rest h = before_here sign sign rest (itself sign)

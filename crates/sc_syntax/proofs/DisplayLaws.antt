@@ -20,6 +20,7 @@ use Rattle.sc_syntax.proofs.CutLaws.{some_same, none_some}
 use Rattle.sc_syntax.proofs.PartLaws.{led_text}
 use Rattle.sc_syntax.proofs.BlankLaws.{trimmed_is_padded, trimmed_padded}
 use Rattle.sc_syntax.proofs.ListedLaws.{if_some, map_some, then_some}
+use Rattle.sc_syntax.proofs.ClassLaws.{same_number}
 
 -- ## Quoted strings
 
@@ -111,7 +112,7 @@ string_taken (b ∷ bs) n h = elim (b == 34) as (λ (t : Bool). (b == 34) ≡ t 
 
 -- ## Brackets
 
-none_left : (o : Option Bytes) → is_none_left o ≡ true → o ≡ Some []
+pub none_left : (o : Option Bytes) → is_none_left o ≡ true → o ≡ Some []
 unfolding is_none_left
 none_left None h = absurd (false≢true h)
 none_left (Some []) h = refl
@@ -126,10 +127,7 @@ enclosed_text text uri h =
     let is = if_some (is_none_left (after 62 text)) (Some (before 62 text)) uri h in
     sym (led_text 62 text) ∙ ap (λ o. before 62 text ++ led 62 o) (none_left (after 62 text) is.0) ∙ ap (λ u. u ++ 62 ∷ []) (some_same (before 62 text) uri is.1)
 
-same_number : (x y : ℕ) → (x == y) ≡ true → x ≡ y
-same_number x y h = grind (arith, nat_tests, h)
-
-begins_text : (sign : ℕ) (text : Bytes) → begins sign text ≡ true → text ≡ sign ∷ drop 1 text
+pub begins_text : (sign : ℕ) (text : Bytes) → begins sign text ≡ true → text ≡ sign ∷ drop 1 text
 unfolding begins
 begins_text sign [] h = absurd (false≢true h)
 begins_text sign (b ∷ bs) h = ap (λ c. c ∷ bs) (same_number b sign h)

@@ -17,7 +17,8 @@ use Rattle.sc_syntax.specs.SpelledUris.{led, IsPortSpelled}
 use Rattle.sc_syntax.proofs.CutLaws.{some_same, none_some}
 use Rattle.sc_syntax.proofs.PartLaws.{led_text, lacks_before}
 use Rattle.sc_syntax.proofs.BlankLaws.{both, and_true}
-use Rattle.sc_syntax.proofs.ClassLaws.{same_number, itself, positive, neither, all_weaker, class_lacks}
+use Rattle.sc_syntax.proofs.ClassLaws.{same_number, itself, positive, neither, all_weaker, class_lacks, not_true}
+use Rattle.sc_syntax.proofs.DisplayLaws.{begins_text, none_left}
 
 -- ## Bytes of hosts
 
@@ -82,10 +83,6 @@ number_digits limit text h = by_test (is_digits text) (nat_lt (number_in text) l
     by_test true y e = refl
     by_test false y e = absurd (false≢true e)
 
-not_true : (t : Bool) → not t ≡ true → t ≡ false
-not_true true h = absurd (false≢true h)
-not_true false h = refl
-
 pub digits_are : (text : Bytes) → is_digits text ≡ true → ((length text == 0) ≡ false) × (list_all is_ascii_digit text ≡ true)
 unfolding is_digits
 digits_are text h = let is = both (not (length text == 0)) (list_all is_ascii_digit text) h in (not_true (length text == 0) is.0, is.1)
@@ -147,11 +144,6 @@ unfolding groups
 groups_sent ipv4 [] h = refl
 groups_sent ipv4 (b ∷ bs) h = all_pieces is_sent_byte 58 (b ∷ bs) colon_sent (groups_in_sent ipv4 (pieces 58 (b ∷ bs)) (ap (λ t. is_some {T = ℕ} (cond t (Some 0) (groups_in ipv4 (pieces 58 (b ∷ bs))))) (sym (positive (length bs))) ∙ h))
 
-begins_text : (sign : ℕ) (text : Bytes) → begins sign text ≡ true → text ≡ sign ∷ drop 1 text
-unfolding begins
-begins_text sign [] h = absurd (false≢true h)
-begins_text sign (b ∷ bs) h = ap (λ c. c ∷ bs) (same_number b sign h)
-
 gap_first : (text : Bytes) → begins_gap text ≡ true → AreSent (drop 2 text) → AreSent text
 unfolding begins_gap
 gap_first [] h g = refl
@@ -202,12 +194,6 @@ ipv6_sent text h = by_gap (gap_of text) refl h
     by_gap (Some gap) e k =
         let is = sum_some (groups false (take gap text)) (groups true (drop (gap + 2) text)) (gap_or_full (sum_of (groups false (take gap text)) (groups true (drop (gap + 2) text))) k) in
         gap_sent text gap e (groups_sent false (take gap text) is.0) (groups_sent true (drop (gap + 2) text) is.1)
-
-none_left : (o : Option Bytes) → is_none_left o ≡ true → o ≡ Some []
-unfolding is_none_left
-none_left None h = absurd (false≢true h)
-none_left (Some []) h = refl
-none_left (Some (b ∷ bs)) h = absurd (false≢true (sym (positive (length bs)) ∙ h))
 
 -- a host is a name without colon and opening bracket, or a literal up to its closing bracket
 pub data IsHostForm (host : Bytes) : Type 0 where

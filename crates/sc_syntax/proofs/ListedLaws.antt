@@ -1,10 +1,9 @@
 -- Parts that are read are spelled: a text is its parts with the separators between.
-use Rattle.std.proofs.Common.{◌≡◌, ℕ, Bool, true, false, cond, not, Option, Some, None, List, [], ◌∷◌, ◌++◌, ◌&&◌, ◌==◌, drop, refl, sym, ap, subst, ◌∙◌, arith}
+use Rattle.std.proofs.Common.{◌≡◌, ℕ, Bool, true, false, cond, not, Option, Some, None, List, [], ◌∷◌, ◌++◌, ◌&&◌, ◌==◌, drop, refl, sym, ap, subst, ◌∙◌}
 use Rattle.std.specs.Prelude.{nat_eq}
 use Rattle.std.specs.List.{list_any, list_all}
 use Rattle.std.specs.Option.{option_map, option_and_then}
 use Rattle.std.proofs.lemmas.Bool.{false≢true}
-use Rattle.std.proofs.lemmas.Bool.Decides.{nat_tests}
 use Rattle.sc_value.specs.Params.{same_bytes}
 use Rattle.sc_syntax.specs.declared.scan.Scan.{Scan}
 use Rattle.sc_syntax.specs.Bytes.{Bytes}
@@ -13,6 +12,7 @@ use Rattle.sc_syntax.specs.Scanning.{is_outside, past, is_part_end, parts, with_
 use Rattle.sc_syntax.specs.SpelledParts.{AreLed, AreListed}
 use Rattle.sc_syntax.proofs.CutLaws.{some_same, none_some}
 use Rattle.sc_syntax.proofs.BlankLaws.{both, and_true}
+use Rattle.sc_syntax.proofs.ClassLaws.{same_number}
 
 -- ## Answers
 
@@ -27,9 +27,6 @@ map_some f (Some x) y h = (x, refl, some_same (f x) y h)
 pub then_some : {X Y : Type 0} (f : X → Option Y) (o : Option X) (y : Y) → option_and_then f o ≡ Some y → (x : X) × (o ≡ Some x) × (f x ≡ Some y)
 then_some f None y h = absurd (none_some y h)
 then_some f (Some x) y h = (x, refl, h)
-
-same_number : (x y : ℕ) → (x == y) ≡ true → x ≡ y
-same_number x y h = grind (arith, nat_tests, h)
 
 pub same_text : (a b : Bytes) → same_bytes a b ≡ true → a ≡ b
 same_text [] [] h = refl

@@ -2,7 +2,6 @@
 use Rattle.std.proofs.Common.{◌≡◌, ℕ, Bool, true, false, cond, not, Option, Some, None, List, [], ◌∷◌, ◌++◌, ◌&&◌, ◌||◌, ◌==◌, ◌⊎◌, inl, inr, length, refl, sym, ap, subst, ◌∙◌, append-nil}
 use Rattle.std.specs.List.{list_all}
 use Rattle.std.specs.Option.{option_map_or}
-use Rattle.std.proofs.lemmas.Bool.{false≢true}
 use Rattle.sc_value.specs.Tokens.{is_blank, is_token, is_token_byte}
 use Rattle.sc_value.specs.declared.parts.Param.{Param}
 use Rattle.sc_syntax.specs.declared.scan.Scan.{Scan}
@@ -15,7 +14,7 @@ use Rattle.sc_syntax.specs.Parameters.{is_value_byte, is_string, is_param_text, 
 use Rattle.sc_syntax.specs.SpelledUris.{led}
 use Rattle.sc_syntax.specs.SpelledParts.{IsBlanks, Padded, header_param, IsParamSpelled, AreLed, AreParamsSpelled}
 use Rattle.sc_syntax.proofs.BlankLaws.{both, and_true, padded_is_trimmed}
-use Rattle.sc_syntax.proofs.ClassLaws.{positive, differs, all_weaker, class_lacks, before_joined, after_joined, before_all, after_none, EndsSolid, begins_joined, ends_joined, class_begins, class_ends, solid_is_trimmed}
+use Rattle.sc_syntax.proofs.ClassLaws.{positive, differs, all_weaker, class_lacks, before_joined, after_joined, before_all, after_none, EndsSolid, begins_joined, ends_joined, class_begins, class_ends, solid_is_trimmed, not_true}
 use Rattle.sc_syntax.proofs.ListedLaws.{unparted}
 use Rattle.sc_syntax.proofs.RunLaws.{through, is_plain, IsSign, comma_sign, semicolon_sign, Passes, passes_none, passes_joined, passes_plain, string_is_closed, led_is_read}
 
@@ -65,10 +64,6 @@ equals_plain = refl
 equals_solid : is_blank 61 ≡ false
 unfolding is_blank
 equals_solid = refl
-
-not_true : (t : Bool) → not t ≡ true → t ≡ false
-not_true true h = absurd (false≢true h)
-not_true false h = refl
 
 -- a token has a byte, and all of its class
 pub token_is : (text : Bytes) → is_token text ≡ true → ((length text == 0) ≡ false) × (list_all is_token_byte text ≡ true)

@@ -15,7 +15,7 @@ use Rattle.sc_syntax.specs.SpelledParts.{AreLed, AreListed}
 use Rattle.sc_syntax.proofs.CutLaws.{some_same, none_some}
 use Rattle.sc_syntax.proofs.BlankLaws.{both, and_true}
 use Rattle.sc_syntax.proofs.ListedLaws.{map_some, unparted}
-use Rattle.sc_syntax.proofs.ClassLaws.{same_number, itself, differs, EndsSolid, ends_joined}
+use Rattle.sc_syntax.proofs.ClassLaws.{same_number, itself, differs, EndsSolid, ends_joined, not_true}
 use Rattle.sc_syntax.proofs.DisplayLaws.{quote_first, backslash_first, other_first, nothing_closes, quoted_is, unquoted, no_quote}
 
 -- where the scan stands behind the text
@@ -61,10 +61,6 @@ parts_alone sign restart at to (b ∷ bs) h =
     let is = both (not (is_part_end at sign b)) (unparted sign (past at b) bs) h.0 in
     ap (λ t. cond t ([] ∷ parts restart sign restart bs) (onto_first b (parts restart sign (past at b) bs))) (not_true (is_part_end at sign b) is.0)
     ∙ ap (onto_first b) (parts_alone sign restart (past at b) to bs (is.1, h.1)) ∙ part_onto b bs []
-  where
-    not_true : (t : Bool) → not t ≡ true → t ≡ false
-    not_true true e = absurd (false≢true e)
-    not_true false e = refl
 
 pub parts_joined : (sign : ℕ) (restart at to : Scan) (text rest : Bytes) → Passes sign at text to → is_outside to ≡ true → parts restart sign at (text ++ sign ∷ rest) ≡ text ∷ parts restart sign restart rest
 unfolding parts unparted through
@@ -73,10 +69,6 @@ parts_joined sign restart at to (b ∷ bs) rest h o =
     let is = both (not (is_part_end at sign b)) (unparted sign (past at b) bs) h.0 in
     ap (λ t. cond t ([] ∷ parts restart sign restart (bs ++ sign ∷ rest)) (onto_first b (parts restart sign (past at b) (bs ++ sign ∷ rest)))) (not_true (is_part_end at sign b) is.0)
     ∙ ap (onto_first b) (parts_joined sign restart (past at b) to bs rest (is.1, h.1) o) ∙ part_onto b bs (parts restart sign restart rest)
-  where
-    not_true : (t : Bool) → not t ≡ true → t ≡ false
-    not_true true e = absurd (false≢true e)
-    not_true false e = refl
 
 -- ## Bytes that change nothing among parameters
 
@@ -122,7 +114,7 @@ passes_plain sign (b ∷ bs) s h =
     let is = both (is_plain b) (list_all is_plain bs) h in
     passes_more sign b Params Params Params bs (goes_on Params sign b (differs is_plain b sign s.0 is.0)) (stays_params b (differs is_plain b 34 plain_quote is.0)) (passes_plain sign bs s is.1)
 
-none_closes : (n : ℕ) → ¬ (closing [] ≡ Some n)
+pub none_closes : (n : ℕ) → ¬ (closing [] ≡ Some n)
 none_closes n h = none_some n (sym nothing_closes ∙ h)
 
 -- ## Quoted strings

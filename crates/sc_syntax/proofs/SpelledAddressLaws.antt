@@ -1,5 +1,5 @@
 -- What is spelled is read: addresses.
-use Rattle.std.proofs.Common.{◌≡◌, ℕ, suc, Bool, true, false, cond, not, Option, Some, None, Ok, Err, List, [], ◌∷◌, ◌++◌, ◌+◌, ◌≤◌, ◌&&◌, ◌||◌, ◌==◌, ◌⊎◌, inl, inr, length, drop, refl, sym, ap, subst, ◌∙◌, append_assoc, append-nil, length-append, arith}
+use Rattle.std.proofs.Common.{◌≡◌, ℕ, suc, Bool, true, false, cond, not, Option, Some, None, Ok, Err, List, [], ◌∷◌, ◌++◌, ◌+◌, ◌≤◌, ◌&&◌, ◌==◌, ◌⊎◌, inl, inr, length, drop, refl, sym, ap, subst, ◌∙◌, append_assoc, append-nil, length-append, arith}
 use Rattle.std.specs.Prelude.{unwrap_or, slice_get}
 use Rattle.std.specs.List.{list_all}
 use Rattle.std.specs.Option.{option_map, option_map_or, option_and_then}
@@ -34,12 +34,13 @@ use Rattle.sc_syntax.proofs.PartLaws.{if_ok}
 use Rattle.sc_syntax.proofs.CutLaws.{none_some, before_here, before_on}
 use Rattle.sc_syntax.proofs.BlankLaws.{both, front_more, trimmed_is_padded, trimmed_padded, padded_is_trimmed, padded_twice}
 use Rattle.sc_syntax.proofs.ListedLaws.{map_some, same_text, unparted}
-use Rattle.sc_syntax.proofs.DisplayLaws.{quote_first, backslash_first, other_first, nothing_closes, quoted_is, unquoted, no_quote}
-use Rattle.sc_syntax.proofs.AddressLaws.{front_blank, front_word, word_step, blank_differs, outside_word, blanks_lack}
-use Rattle.sc_syntax.proofs.ClassLaws.{same_number, positive, neither, differs, class_lacks, before_joined, after_joined, after_none, BeginsSolid, EndsSolid, begins_joined, ends_joined, class_ends, solid_is_trimmed}
-use Rattle.sc_syntax.proofs.RunLaws.{through, IsPart, IsSign, comma_sign, semicolon_sign, Passes, passes_none, passes_more, passes_joined, passes_plain, goes_on, scans_display, rest_is, string_end, parts_alone, listed_is_read}
+use Rattle.sc_syntax.proofs.DisplayLaws.{quote_first, backslash_first, other_first, quoted_is, unquoted, no_quote}
+use Rattle.sc_syntax.proofs.AddressLaws.{front_blank, front_word, word_step, blank_differs, outside_word, blanks_lack, begins_more}
+use Rattle.sc_syntax.proofs.ClassLaws.{same_number, positive, differs, class_lacks, before_joined, after_joined, after_none, BeginsSolid, EndsSolid, begins_joined, ends_joined, class_ends, solid_is_trimmed, lacks_more}
+use Rattle.sc_syntax.proofs.RunLaws.{through, IsPart, IsSign, comma_sign, semicolon_sign, Passes, passes_none, passes_more, passes_joined, passes_plain, goes_on, scans_display, rest_is, string_end, parts_alone, listed_is_read, none_closes}
 use Rattle.sc_syntax.proofs.ParameterLaws.{blanks_plain, params_are_read, params_pass, outside_params}
 use Rattle.sc_syntax.proofs.SpelledUriLaws.{lacks_joined, spelled_is_read, uri_is_open}
+use Rattle.sc_syntax.proofs.ViaLaws.{trimmed_none}
 
 -- ## Signs
 
@@ -58,13 +59,6 @@ semicolon_cut = (semicolon_sign, refl, refl, refl)
 no_blanks : (is_blank 34 ≡ false) × (is_blank 60 ≡ false) × (is_blank 62 ≡ false) × (is_blank 59 ≡ false)
 unfolding is_blank
 no_blanks = (refl, refl, refl, refl)
-
-has_more : (sign b : ℕ) (bs : Bytes) → has sign (b ∷ bs) ≡ ((b == sign) || has sign bs)
-unfolding has
-has_more sign b bs = refl
-
-lacks_more : (sign b : ℕ) (bs : Bytes) → has sign (b ∷ bs) ≡ false → ((b == sign) ≡ false) × (has sign bs ≡ false)
-lacks_more sign b bs h = neither (b == sign) (has sign bs) (sym (has_more sign b bs) ∙ h)
 
 -- ## Scans of an address
 
@@ -185,10 +179,6 @@ enclosed_read uri h =
     let text = uri ++ 62 ∷ [] in
     ap (λ o. cond (is_none_left o) (Some (before 62 text)) None) (after_joined 62 uri [] h) ∙ ap (λ t. cond t (Some (before 62 text)) None) left_none ∙ ap Some (before_joined 62 uri [] h)
 
-begins_more : (sign b : ℕ) (bs : Bytes) → begins sign (b ∷ bs) ≡ (b == sign)
-unfolding begins
-begins_more sign b bs = refl
-
 brackets_read : (uri : Bytes) → has 62 uri ≡ false → in_brackets (bracketed uri) ≡ Some uri
 unfolding in_brackets bracketed
 brackets_read uri h = ap (λ t. cond t (enclosed (uri ++ 62 ∷ [])) None) (begins_more 60 60 (uri ++ 62 ∷ [])) ∙ enclosed_read uri h
@@ -206,9 +196,6 @@ brackets_trimmed gap uri h =
     ap (λ l. trimmed (gap ++ l)) (sym (append-nil (bracketed uri))) ∙ trimmed_padded gap (bracketed uri) [] h refl ∙ solid_is_trimmed (bracketed uri) (brackets_begin uri) (brackets_end uri)
 
 -- ## Quoted displays are read
-
-none_closes : (n : ℕ) → ¬ (closing [] ≡ Some n)
-none_closes n h = none_some n (sym nothing_closes ∙ h)
 
 -- what stands behind the closing quote doesn't count
 closing_more : (text more : Bytes) (n : ℕ) → closing text ≡ Some n → closing (text ++ more) ≡ Some n
@@ -263,10 +250,6 @@ by_bracket front rest display uri shown q l t all is h =
     ap (λ c. cond c (option_and_then (quoted_named text) (quoted_end 0 text)) (option_map_or (token_named (trimmed (before 60 text))) (after 60 text) (Some (None, text)))) q
     ∙ ap (λ o. option_map_or (token_named (trimmed (before 60 text))) o (Some (None, text))) (after_joined 60 front rest l)
     ∙ ap (λ f. token_named (trimmed f) rest) (before_joined 60 front rest l) ∙ ap (λ d. token_named d rest) t ∙ token_read display rest uri shown all is h
-
-trimmed_none : trimmed [] ≡ []
-unfolding trimmed trimmed_front trimmed_back
-trimmed_none = refl
 
 unless_none : unless_empty [] ≡ None
 unfolding unless_empty

@@ -1,12 +1,12 @@
 -- What is spelled is read: URIs.
-use Rattle.std.proofs.Common.{◌≡◌, ℕ, Bool, true, false, cond, not, Option, Some, None, Result, Ok, Err, List, [], ◌∷◌, ◌++◌, ◌+◌, ◌-◌, ◌&&◌, ◌||◌, ◌==◌, map, length, refl, sym, ap, subst, ◌∙◌, append_assoc, append-nil, arith}
+use Rattle.std.proofs.Common.{◌≡◌, ℕ, Bool, true, false, cond, not, Option, Some, None, Result, Ok, Err, List, [], ◌∷◌, ◌++◌, ◌+◌, ◌-◌, ◌&&◌, ◌==◌, map, length, refl, sym, ap, subst, ◌∙◌, append_assoc, append-nil, arith}
 use Rattle.std.specs.Prelude.{codes, unwrap_or, slice_get}
 use Rattle.std.specs.List.{list_all, flat_map}
 use Rattle.std.specs.Option.{option_map, option_map_or}
 use Rattle.std.specs.Char.{to_ascii_lowercase, is_ascii_alphabetic, is_ascii_alphanumeric}
 use Rattle.std.proofs.lemmas.Bool.{false≢true}
 use Rattle.std.proofs.lemmas.Bool.Decides.{nat_tests}
-use Rattle.std.proofs.lemmas.List.Folds.{list_all-append, list_any-append}
+use Rattle.std.proofs.lemmas.List.Folds.{list_all-append}
 use Rattle.sc_value.specs.Params.{same_bytes, same_name}
 use Rattle.sc_value.specs.declared.parts.Param.{Param}
 use Rattle.sc_value.specs.declared.parts.SipUri.{SipUri}
@@ -18,7 +18,7 @@ use Rattle.sc_syntax.specs.UriParts.{Fault, scheme_fault, host_fault, param_faul
 use Rattle.sc_syntax.specs.Uris.{is_scheme, sip_scheme, user_in, behind_user, sent_in, params_text_in, sip_behind, sip_at, other_of, uri_behind, uri_of}
 use Rattle.sc_syntax.specs.SpelledUris.{led, closed_by, IsPortSpelled, spelled_param, AreUriParams, IsUser, IsSipUri, spelled_behind, IsSipSpelled, IsOtherSpelled, IsUriSpelled}
 use Rattle.sc_syntax.proofs.BlankLaws.{both, and_true}
-use Rattle.sc_syntax.proofs.ClassLaws.{itself, neither, both_false, differs, all_weaker, class_lacks, before_joined, after_joined, before_all, after_none}
+use Rattle.sc_syntax.proofs.ClassLaws.{itself, neither, both_false, differs, all_weaker, class_lacks, before_joined, after_joined, before_all, after_none, has_append}
 use Rattle.sc_syntax.proofs.HostLaws.{is_sent_byte, sent_bytes, sent_is_read}
 
 -- ## Cuts
@@ -28,10 +28,6 @@ pub cut_led : (sign : ℕ) (text : Bytes) (o : Option Bytes) → has sign text �
 unfolding led
 cut_led sign text None h = (ap (before sign) (append-nil text) ∙ before_all sign text h, ap (after sign) (append-nil text) ∙ after_none sign text h)
 cut_led sign text (Some rest) h = (before_joined sign text rest h, after_joined sign text rest h)
-
-has_append : (sign : ℕ) (a b : Bytes) → has sign (a ++ b) ≡ (has sign a || has sign b)
-unfolding has
-has_append sign a b = list_any-append (λ c. c == sign) a b
 
 pub lacks_joined : (sign : ℕ) (a b : Bytes) → has sign a ≡ false → has sign b ≡ false → has sign (a ++ b) ≡ false
 lacks_joined sign a b g h = has_append sign a b ∙ both_false (has sign a) (has sign b) g h

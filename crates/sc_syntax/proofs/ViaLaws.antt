@@ -67,7 +67,7 @@ gap_first c cs h =
     subst (λ (rest : Bytes). HasGap rest (c ∷ cs)) (ap trimmed_back (sym (front_more c cs h)))
     (c ∷ p.0, p.1, and_true (is_blank c) (list_all is_blank p.0) h p.2, not_empty (length p.0), p.3, ap (λ l. c ∷ l) p.4)
 
-trimmed_none : trimmed [] ≡ []
+pub trimmed_none : trimmed [] ≡ []
 unfolding trimmed trimmed_back trimmed_front
 trimmed_none = refl
 
