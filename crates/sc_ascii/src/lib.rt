@@ -10,4 +10,4 @@ mod tests;
 
 pub use names::same_name;
 pub use numbers::{read_port, read_u64};
-pub use places::{quoted_end, token_end};
+pub use places::{is_token_byte, quoted_end, token_end};

@@ -29,8 +29,10 @@ fn token_len(text: &[u8]) -> usize
     text.len()
 }
 
+/// Whether the byte may stand in a token: a letter, a digit or one of ``-.!%*_+`'~`` (RFC 3261
+/// section 25.1).
 #[tactic(auto, unfolding(sc_value::specs::Tokens::is_token_byte))]
-fn is_token_byte(b: u8) -> bool
+pub fn is_token_byte(b: u8) -> bool
     ensures { result ≡ is_token_byte b }
 {
     b.is_ascii_alphanumeric()
@@ -51,7 +53,8 @@ fn is_token_byte(b: u8) -> bool
 #[tactic(auto, unfolding(sc_syntax::specs::Quoted::quoted_end))]
 pub fn quoted_end(b: &[u8], at: usize) -> Option<usize>
     requires { at ≤ length b.now }
-    ensures { result ≡ quoted_end at b.now }
+    ensures exact { result ≡ quoted_end at b.now }
+    ensures within { IfSome result (λ end. end ≤ length b.now) }
 {
     if !is_quote_at(b, at) {
         return None;

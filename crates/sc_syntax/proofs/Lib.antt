@@ -4,3 +4,17 @@ pub mod UriCases
 pub mod DecimalLaws
 pub mod PartLaws
 pub mod UriLaws
+pub mod HeaderCases
+pub mod BlankLaws
+pub mod ListedLaws
+pub mod ViaLaws
+pub mod DisplayLaws
+pub mod AddressLaws
+pub mod ClassLaws
+pub mod RunLaws
+pub mod ParameterLaws
+pub mod HostLaws
+pub mod SpelledViaLaws
+pub mod SpelledUriLaws
+pub mod SpelledAddressLaws
+pub mod SequenceLaws

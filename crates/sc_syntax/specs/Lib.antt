@@ -6,3 +6,13 @@ pub mod UriParts
 pub mod Uris
 pub mod SpelledUris
 pub mod Quoted
+pub mod Blanks
+pub mod Scanning
+pub mod Parameters
+pub mod Vias
+pub mod Addresses
+pub mod Sequences
+pub mod SpelledParts
+pub mod SpelledVias
+pub mod SpelledAddresses
+pub mod SpelledSequences

@@ -6,6 +6,7 @@ ghost use Rattle.std.specs.Option.{option_copied};
 use sc_value::{NoMemory, Text};
 use std::alloc::Global;
 
+/// A copy of the text, where there is one. The one error is want of memory.
 pub fn copy_of(alloc: Global, text: Option<&[u8]>) -> Result<Option<Text>, NoMemory>
     ensures { IfOk result (λ copy. copy ≡ option_copied text.entry) }
 {

@@ -19,7 +19,7 @@ pub fn place_or_len(text: &[u8], sign: u8) -> usize
     text.len()
 }
 
-// What stands before the first such sign, or all, and what stands after it, where there is one.
+/// What stands before the first such sign, or all, and what stands after it, where there is one.
 #[tactic(auto, unfolding(sc_syntax::specs::Cuts::before, sc_syntax::specs::Cuts::after))]
 pub fn cut(text: &[u8], sign: u8) -> (&[u8], Option<&[u8]>)
     ensures front { result.0.now ≡ before sign text.now }
@@ -35,6 +35,7 @@ pub fn cut(text: &[u8], sign: u8) -> (&[u8], Option<&[u8]>)
     }
 }
 
+/// Whether the text begins with this byte.
 #[tactic(auto, unfolding(sc_syntax::specs::Hosts::begins))]
 pub fn begins(text: &[u8], sign: u8) -> bool
     ensures exact { result ≡ begins sign text.now }

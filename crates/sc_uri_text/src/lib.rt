@@ -14,6 +14,9 @@ mod sent;
 mod tests;
 mod writing;
 
+pub use copies::copy_of;
+pub use cuts::{begins, cut};
 pub use reading::read;
 pub use refused::UriRefused;
+pub use sent::read_sent;
 pub use writing::write;

@@ -1,0 +1,5 @@
+pub mod PartSteps
+pub mod BlankSteps
+pub mod ValueSteps
+pub mod WrittenValues
+pub mod KeptValues

@@ -1,0 +1,12 @@
+use Rattle.std.specs.Option.{option_copied}
+use Rattle.sc_syntax.specs.declared.scan.Scan.TheVariants.{Params}
+use Rattle.sc_head_text.specs.Parts.{parts_behind}
+use Rattle.sc_head_text.proofs.ValueSteps.{address_read, address_unread}
+use Rattle.sc_head_text.proofs.addresses.AddressReadable.read.Goals as goal
+
+pub returns-in-Ok : goal.returns-in-Ok
+returns-in-Ok c =
+    rw (address_read c.args.text.now c.split_part.result.0.now (parts_behind Params 59 (option_copied c.split_part.result.1)) c.in-Ok.params (c.split_part.ensures.exact Params) c.in-Ok.ensures) c.read_address_with.ensures
+
+pub returns-in-Err : goal.returns-in-Err
+returns-in-Err c = address_unread c.args.text.now c.split_part.result.0.now (parts_behind Params 59 (option_copied c.split_part.result.1)) c.in-Err.unread (c.split_part.ensures.exact Params) c.in-Err.ensures

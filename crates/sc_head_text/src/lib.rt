@@ -1,0 +1,23 @@
+//! The values of headers that have a structure, read (RFC 3261 section 20): Via, the addresses of
+//! From, To, Route, Record-Route and Contact, CSeq, Max-Forwards and Content-Length. A value is
+//! taken without its name; blanks at its ends don't count, but round a bare number.
+#![tactic(auto)]
+
+mod addresses;
+mod blanks;
+mod laws;
+mod named;
+mod params;
+mod parts;
+mod scanning;
+mod sequences;
+#[cfg(test)]
+mod tests;
+mod unread;
+mod vias;
+
+pub use addresses::{read_address, read_addresses, read_contacts};
+pub use laws::written_is_read;
+pub use sequences::{read_cseq, read_hops, read_length};
+pub use unread::Unread;
+pub use vias::read_vias;

@@ -1,0 +1,53 @@
+-- Which texts spell an address (RFC 3261 sections 20.10 and 25.1): its written form, with blanks round
+-- its parts, or the bare URI where that can be told from what follows it.
+use Rattle.std.specs.Prelude.{◌≡◌, Bool, true, false, Option, Some, None, List, [], ◌∷◌, ◌++◌, ◌==◌, ◌&&◌, ◌⊎◌, length, unwrap_or, ⊤}
+use Rattle.std.specs.List.{list_all}
+use Rattle.sc_value.specs.declared.parts.Address.{Address}
+use Rattle.sc_value.specs.declared.parts.Contact.{Contact}
+use Rattle.sc_value.specs.declared.parts.Contact.TheVariants.{Star, At}
+use Rattle.sc_syntax.specs.Bytes.{Bytes}
+use Rattle.sc_syntax.specs.Cuts.{has}
+use Rattle.sc_syntax.specs.Blanks.{trimmed}
+use Rattle.sc_syntax.specs.Parameters.{is_string}
+use Rattle.sc_syntax.specs.Addresses.{is_display_byte}
+use Rattle.sc_syntax.specs.SpelledUris.{IsUriSpelled}
+use Rattle.sc_syntax.specs.SpelledParts.{IsBlanks, Padded, AreListed, AreParamsSpelled}
+
+-- one token or more with blanks between, and none at the ends
+abbrev pub IsWords : Bytes → Type 0
+IsWords text = ((length text == 0) ≡ false) × (list_all is_display_byte text ≡ true) × (trimmed text ≡ text)
+
+-- what a display is: a quoted string, or words
+unfoldable pub IsDisplay : Option Bytes → Type 0
+IsDisplay None = ⊤
+IsDisplay (Some text) = (is_string text ≡ true) ⊎ IsWords text
+
+-- the display, blanks or none, and the URI in its brackets
+abbrev pub IsNamedSpelled : Bytes → Address → Type 0
+IsNamedSpelled text address =
+    IsDisplay address.display × (gap uri : Bytes) × IsBlanks gap × IsUriSpelled uri address.uri × (text ≡ unwrap_or address.display [] ++ (gap ++ 60 ∷ (uri ++ 62 ∷ [])))
+
+-- a URI without semicolon and, in a list, without comma
+abbrev pub IsBareSpelled : Bool → Bytes → Address → Type 0
+IsBareSpelled listed text address = (address.display ≡ None) × IsUriSpelled text address.uri × (has 59 text ≡ false) × ((listed && has 44 text) ≡ false)
+
+-- one of both, and the parameters
+abbrev pub IsAddressIn : Bool → Bytes → Address → Type 0
+IsAddressIn listed text address =
+    (inner first rest : Bytes) × (IsNamedSpelled inner address ⊎ IsBareSpelled listed inner address) × Padded inner first × AreParamsSpelled rest address.params × (text ≡ first ++ rest)
+
+-- the address of From and To
+abbrev pub IsAddressSpelled : Bytes → Address → Type 0
+IsAddressSpelled text address = IsAddressIn false text address
+
+-- those of Route and Record-Route
+abbrev pub AreAddressesSpelled : Bytes → List Address → Type 0
+AreAddressesSpelled text addresses = AreListed 44 (IsAddressIn true) text addresses
+
+-- an item of Contact
+unfoldable pub IsContactSpelled : Bytes → Contact → Type 0
+IsContactSpelled text Star = Padded (42 ∷ []) text
+IsContactSpelled text (At address) = IsAddressIn true text address
+
+abbrev pub AreContactsSpelled : Bytes → List Contact → Type 0
+AreContactsSpelled text contacts = AreListed 44 IsContactSpelled text contacts
