@@ -4,4 +4,8 @@ pub mod Parting
 pub mod TupleSteps
 pub mod LineSteps
 pub mod TupleTexts
+pub mod WrittenParts
+pub mod WrittenTuples
+pub mod WrittenLines
+pub mod WrittenTables
 mod Cases
