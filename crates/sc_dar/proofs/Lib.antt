@@ -8,4 +8,5 @@ pub mod WrittenParts
 pub mod WrittenTuples
 pub mod WrittenLines
 pub mod WrittenTables
+pub mod Kept
 mod Cases
