@@ -1,5 +1,5 @@
 -- What each table that is read keeps: its tuples name applications, and no method has more than 64.
-use Rattle.std.proofs.Common.{◌≡◌, ℕ, Bool, true, false, cond, Option, Some, None, Result, Ok, Err, List, [], ◌∷◌, ◌++◌, ◌+◌, ◌-◌, ◌<◌, ◌≤◌, ◌^◌, length, drop, subst, refl, sym, ap, ◌∙◌, append-nil, arith}
+use Rattle.std.proofs.Common.{◌≡◌, ℕ, Bool, true, false, cond, Option, Some, None, Result, Ok, Err, List, [], ◌∷◌, ◌++◌, ◌+◌, ◌-◌, ◌<◌, ◌≤◌, ◌^◌, length, drop, subst, refl, ap, arith}
 use Rattle.std.specs.Prelude.{nat_lt, is_some, option_and_then, unwrap_or, IfOk}
 use Rattle.std.specs.Result.{is_ok, result_unwrap_or}
 use Rattle.std.specs.List.{All, position}
@@ -17,7 +17,7 @@ use Rattle.sc_dar.specs.Answers.{IsJudged}
 use Rattle.sc_dar.specs.declared.refused.DarRefused.{DarRefused}
 use Rattle.sc_dar.specs.Lines.{Line, lines, is_comment}
 use Rattle.sc_dar.specs.Tuples.{BAD_TUPLE, BAD_REGION, BAD_MODIFIER, BAD_ORDER, UNKNOWN_APPLICATION, BAD_ROUTE, TOO_MANY, TupleTexts, then_read, given, parts, unquoted, region_of, modifier_of, order_of, of_32, app_of, route_of, tuple_of, counted, tuple_at, tuples_in}
-use Rattle.sc_dar.specs.Tables.{NO_SEPARATOR, LONG, DOUBLE_METHOD, Fault, method_in, behind_method, has_separator, is_listed, list_in, list_of, then_line, judged, table_with, table_of}
+use Rattle.sc_dar.specs.Tables.{NO_SEPARATOR, LONG, DOUBLE_METHOD, Fault, method_in, behind_method, list_in, list_of, then_line, judged, table_with, table_of}
 
 -- ## What an Ok says
 
@@ -112,9 +112,9 @@ tuples_kept apps order (a ∷ s ∷ g ∷ r ∷ m ∷ o ∷ more) tuples h =
     let (others, read, h2) = then_ok (tuples_in apps (1 + order) more) _ tuples h1 in
     let made = ok_same (tuple ∷ others) tuples h2 in
     let (named, few) = at_kept apps order t tuple is in
-    let (all, less) = tuples_kept apps (1 + order) more others read in
-    ( subst (AreNamed apps) made (All-cons (λ (u : Tuple). u.app < length apps) tuple others named all)
-    , subst (λ (ts : List Tuple). length ts ≤ 64 - order) made (one_more order tuple others few less)
+    let (all, less) = tuples_kept apps (1 + order) more others read in (
+      subst (AreNamed apps) made (All-cons (λ (u : Tuple). u.app < length apps) tuple others named all),
+      subst (λ (ts : List Tuple). length ts ≤ 64 - order) made (one_more order tuple others few less),
     )
 
 -- ## Lists

@@ -9,7 +9,7 @@ use Rattle.sc_syntax.specs.Cuts.{has, onto_first, pieces}
 use Rattle.sc_dar.specs.Lines.{ends, without_cr, ended, rows, onto_next, before_lines, joined, lines}
 use Rattle.sc_dar.specs.Tuples.{TupleTexts}
 use Rattle.sc_dar.specs.WrittenTables.{tuple_text, tuples_text}
-use Rattle.sc_dar.specs.Rules.{IsPlain, AreTuples}
+use Rattle.sc_dar.specs.Rules.{IsPlain, AreNames, AreTuples}
 use Rattle.sc_dar.proofs.Rows.{some_pieces, ended_more}
 use Rattle.sc_dar.proofs.WrittenParts.{ArePlain, first_lacks, rest_lacks, in_part, in_first, six_text}
 use Rattle.sc_dar.proofs.WrittenTuples.{texts_of, texts_plain, text_is, no_text, next_text, first_rule, room, room_on, fits_64}
@@ -57,16 +57,16 @@ nothing_lacks : has 10 [] ≡ false
 unfolding has
 nothing_lacks = refl
 
-pub tuples_lack : (apps : List Bytes) (order : ℕ) (tuple : Tuple) (more : List Tuple) → AreTuples apps (tuple ∷ more) → 1 + order + length more ≤ 64 → has 10 (from_tuple apps order tuple more) ≡ false
-tuples_lack apps order tuple [] h few =
+pub tuples_lack : (apps : List Bytes) (order : ℕ) (tuple : Tuple) (more : List Tuple) → AreNames apps → AreTuples apps (tuple ∷ more) → 1 + order + length more ≤ 64 → has 10 (from_tuple apps order tuple more) ≡ false
+tuples_lack apps order tuple [] names h few =
     let (is, _) = first_rule apps tuple [] h in
     ap (λ t. has 10 (32 ∷ (tuple_text apps order tuple ++ t))) (no_text apps (1 + order)) ∙ ap (has 10) (text_is apps order tuple [])
-    ∙ six_lack (texts_of apps order tuple) [] (texts_plain apps order tuple is (fits_64 order (room order [] few))) nothing_lacks
-tuples_lack apps order tuple (next ∷ more) h few =
+    ∙ six_lack (texts_of apps order tuple) [] (texts_plain apps order tuple names is (fits_64 order (room order [] few))) nothing_lacks
+tuples_lack apps order tuple (next ∷ more) names h few =
     let (is, others) = first_rule apps tuple (next ∷ more) h in
     let rest = from_tuple apps (1 + order) next more in
     ap (λ t. has 10 (32 ∷ (tuple_text apps order tuple ++ t))) (next_text apps order next more) ∙ ap (has 10) (text_is apps order tuple (44 ∷ rest))
-    ∙ six_lack (texts_of apps order tuple) (44 ∷ rest) (texts_plain apps order tuple is (fits_64 order (room order (next ∷ more) few))) (comma_lacks rest (tuples_lack apps (1 + order) next more others (room_on order next more few)))
+    ∙ six_lack (texts_of apps order tuple) (44 ∷ rest) (texts_plain apps order tuple names is (fits_64 order (room order (next ∷ more) few))) (comma_lacks rest (tuples_lack apps (1 + order) next more names others (room_on order next more few)))
 
 -- ## How a line ends
 

@@ -18,7 +18,7 @@ use Rattle.sc_dar.specs.Lines.{Line, drop_blanks, ends, lines, is_comment}
 use Rattle.sc_dar.specs.Tuples.{then_read, parts, tuples_in}
 use Rattle.sc_dar.specs.Tables.{NO_SEPARATOR, LONG, DOUBLE_METHOD, has_separator, is_listed, list_in, list_of, then_line, judged, table_with, table_of}
 use Rattle.sc_dar.specs.WrittenTables.{lead, tuple_text, tuples_text, list_text, dar_text}
-use Rattle.sc_dar.specs.Rules.{AreTuples, IsList, AreLists, IsTable}
+use Rattle.sc_dar.specs.Rules.{AreNames, AreTuples, IsList, AreLists, IsTable}
 use Rattle.sc_dar.proofs.Rows.{no_more}
 use Rattle.sc_dar.proofs.WrittenTuples.{tuples_again}
 use Rattle.sc_dar.proofs.WrittenLines.{both_lack, from_tuple, tuples_lack, ends_behind, ends_on, tuples_end, line_is}
@@ -204,9 +204,9 @@ colon_lacks tuples h = h
 zero_room : (more : List Tuple) → length more < 64 → 1 + 0 + length more ≤ 64
 zero_room more h = omega (arith, h)
 
-line_lacks : (apps : List Bytes) (first : ℕ) (others : Bytes) (tuple : Tuple) (more : List Tuple) → IsMethod first others → AreTuples apps (tuple ∷ more) → length more < 64 → has 10 (text_of apps first others tuple more) ≡ false
-line_lacks apps first others tuple more m h few =
-    both_lack 10 (first ∷ others) (58 ∷ from_tuple apps 0 tuple more) (token_lacks (first ∷ others) m.bytes) (colon_lacks (from_tuple apps 0 tuple more) (tuples_lack apps 0 tuple more h (zero_room more few)))
+line_lacks : (apps : List Bytes) (first : ℕ) (others : Bytes) (tuple : Tuple) (more : List Tuple) → IsMethod first others → AreNames apps → AreTuples apps (tuple ∷ more) → length more < 64 → has 10 (text_of apps first others tuple more) ≡ false
+line_lacks apps first others tuple more m names h few =
+    both_lack 10 (first ∷ others) (58 ∷ from_tuple apps 0 tuple more) (token_lacks (first ∷ others) m.bytes) (colon_lacks (from_tuple apps 0 tuple more) (tuples_lack apps 0 tuple more names h (zero_room more few)))
 
 line_ends : (sign : ℕ) (apps : List Bytes) (first : ℕ) (others : Bytes) (tuple : Tuple) (more : List Tuple) → ends sign (text_of apps first others tuple more) ≡ (41 == sign)
 line_ends sign apps first others tuple more =
@@ -220,22 +220,22 @@ unfolding judged then_line
 judged_line apps number earlier line more list h = ap (λ r. then_line number r (λ f. judged apps (number + line.height) (earlier ++ option_to_list f) more)) h
 
 one_line : (apps : List Bytes) (number : ℕ) (earlier : List MethodList) (first : ℕ) (others : Bytes) (tuple : Tuple) (more : List Tuple) (rest : Bytes)
-    → IsMethod first others → AreTuples apps (tuple ∷ more) → length more < 64 → is_listed earlier (first ∷ others) ≡ false
+    → IsMethod first others → AreNames apps → AreTuples apps (tuple ∷ more) → length more < 64 → is_listed earlier (first ∷ others) ≡ false
     → judged apps number earlier (lines (list_text apps (record { method = first ∷ others; tuples = tuple ∷ more }) ++ rest))
     ≡ judged apps (number + 1) (earlier ++ record { method = first ∷ others; tuples = tuple ∷ more } ∷ []) (lines rest)
-one_line apps number earlier first others tuple more rest m h few fresh =
+one_line apps number earlier first others tuple more rest m names h few fresh =
     let line = text_of apps first others tuple more in
-    let list = list_again apps earlier first others (from_tuple apps 0 tuple more) (tuple ∷ more) m fresh (tuples_again apps 0 tuple more h (zero_room more few)) in
+    let list = list_again apps earlier first others (from_tuple apps 0 tuple more) (tuple ∷ more) m fresh (tuples_again apps 0 tuple more names h (zero_room more few)) in
     ap (λ t. judged apps number earlier (lines t)) (written_line apps first others tuple more rest)
-    ∙ ap (judged apps number earlier) (line_is line rest (line_lacks apps first others tuple more m h few) (line_ends 13 apps first others tuple more) (line_ends 92 apps first others tuple more))
+    ∙ ap (judged apps number earlier) (line_is line rest (line_lacks apps first others tuple more m names h few) (line_ends 13 apps first others tuple more) (line_ends 92 apps first others tuple more))
     ∙ judged_line apps number earlier (record { text = line; height = 1 }) (lines rest) (record { method = first ∷ others; tuples = tuple ∷ more }) (said_again apps earlier line (record { method = first ∷ others; tuples = tuple ∷ more }) (no_comment first others (from_tuple apps 0 tuple more) m) list)
 
-by_parts : (apps : List Bytes) (number : ℕ) (earlier : List MethodList) (method : Bytes) (tuples : List Tuple) (rest : Bytes) → IsList apps (record { method = method; tuples = tuples }) → is_listed earlier method ≡ false
+by_parts : (apps : List Bytes) (number : ℕ) (earlier : List MethodList) (method : Bytes) (tuples : List Tuple) (rest : Bytes) → AreNames apps → IsList apps (record { method = method; tuples = tuples }) → is_listed earlier method ≡ false
     → judged apps number earlier (lines (list_text apps (record { method = method; tuples = tuples }) ++ rest)) ≡ judged apps (number + 1) (earlier ++ record { method = method; tuples = tuples } ∷ []) (lines rest)
-by_parts apps number earlier [] tuples rest h fresh = absurd (false≢true (sym no_token ∙ h.method))
-by_parts apps number earlier (first ∷ others) [] rest h fresh = absurd (omega (arith, h.some))
-by_parts apps number earlier (first ∷ others) (tuple ∷ more) rest h fresh =
-    one_line apps number earlier first others tuple more rest (record { bytes = token_bytes first others h.method; said = sym (begins_said first others) ∙ h.said }) h.tuples (omega (arith, h.few)) fresh
+by_parts apps number earlier [] tuples rest names h fresh = absurd (false≢true (sym no_token ∙ h.method))
+by_parts apps number earlier (first ∷ others) [] rest names h fresh = absurd (omega (arith, h.some))
+by_parts apps number earlier (first ∷ others) (tuple ∷ more) rest names h fresh =
+    one_line apps number earlier first others tuple more rest (record { bytes = token_bytes first others h.method; said = sym (begins_said first others) ∙ h.said }) names h.tuples (omega (arith, h.few)) fresh
 
 first_list : (apps : List Bytes) (earlier : List MethodList) (list : MethodList) (more : List MethodList) → AreLists apps earlier (list ∷ more)
     → IsList apps list × (is_listed earlier list.method ≡ false) × AreLists apps (earlier ++ list ∷ []) more
@@ -246,12 +246,12 @@ none_judged : (apps : List Bytes) (number : ℕ) (lists : List MethodList) → j
 unfolding judged
 none_judged apps number lists = refl
 
-judged_again : (apps : List Bytes) (number : ℕ) (earlier lists : List MethodList) → AreLists apps earlier lists → judged apps number earlier (lines (flat_map (list_text apps) lists)) ≡ Ok (earlier ++ lists)
-judged_again apps number earlier [] h = ap (judged apps number earlier) no_more ∙ none_judged apps number earlier ∙ ap Ok (sym (append-nil earlier))
-judged_again apps number earlier (list ∷ more) h =
+judged_again : (apps : List Bytes) (number : ℕ) (earlier lists : List MethodList) → AreNames apps → AreLists apps earlier lists → judged apps number earlier (lines (flat_map (list_text apps) lists)) ≡ Ok (earlier ++ lists)
+judged_again apps number earlier [] names h = ap (judged apps number earlier) no_more ∙ none_judged apps number earlier ∙ ap Ok (sym (append-nil earlier))
+judged_again apps number earlier (list ∷ more) names h =
     let (is, fresh, others) = first_list apps earlier list more h in
-    by_parts apps number earlier list.method list.tuples (flat_map (list_text apps) more) is fresh
-    ∙ judged_again apps (number + 1) (earlier ++ list ∷ []) more others
+    by_parts apps number earlier list.method list.tuples (flat_map (list_text apps) more) names is fresh
+    ∙ judged_again apps (number + 1) (earlier ++ list ∷ []) more names others
     ∙ ap Ok (append_assoc earlier (list ∷ []) more)
 
 not_long : (n : ℕ) → n ≤ 65536 → nat_lt 65536 n ≡ false
@@ -262,4 +262,4 @@ unfolding table_of table_with dar_text
 table_again apps dar h short =
     let text = flat_map (list_text apps) dar.lists in
     ap (λ t. cond t (Err (record { line = 0; kind = LONG })) (table_with (judged apps 1 [] (lines text)))) (not_long (length text) short)
-    ∙ ap table_with (judged_again apps 1 [] dar.lists h)
+    ∙ ap table_with (judged_again apps 1 [] dar.lists h.0 h.1)
