@@ -9,7 +9,7 @@ use Rattle.sc_dar.specs.Lines.{Line, drop_blanks, ends, without_last, without_cr
 
 -- ## Rows
 
-some_pieces : (text : Bytes) → (p : Bytes) × (ps : List Bytes) × (pieces 10 text ≡ p ∷ ps)
+pub some_pieces : (text : Bytes) → (p : Bytes) × (ps : List Bytes) × (pieces 10 text ≡ p ∷ ps)
 unfolding pieces onto_first
 some_pieces [] = ([], [], refl)
 some_pieces (b ∷ bs) = elim (b == 10) as (λ (t : Bool). (p : Bytes) × (ps : List Bytes) × (cond t ([] ∷ pieces 10 bs) (onto_first b (pieces 10 bs)) ≡ p ∷ ps)) [
@@ -17,7 +17,7 @@ some_pieces (b ∷ bs) = elim (b == 10) as (λ (t : Bool). (p : Bytes) × (ps : 
   | false ↦ let (q, qs, e) = some_pieces bs in (b ∷ q, qs, ap (onto_first b) e)
 ]
 
-ended_more : (row : Bytes) (ps : List Bytes) (p : Bytes) (others : List Bytes) → ps ≡ p ∷ others → ended (row ∷ ps) ≡ without_cr row ∷ ended ps
+pub ended_more : (row : Bytes) (ps : List Bytes) (p : Bytes) (others : List Bytes) → ps ≡ p ∷ others → ended (row ∷ ps) ≡ without_cr row ∷ ended ps
 unfolding ended
 ended_more row ps p others e = rw e refl
 

@@ -3,3 +3,4 @@ pub mod Tuples
 pub mod Tables
 pub mod Answers
 pub mod WrittenTables
+pub mod Rules

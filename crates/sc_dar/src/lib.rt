@@ -2,6 +2,7 @@
 #![tactic(auto)]
 
 mod cuts;
+mod laws;
 mod lines;
 mod lists;
 mod parts;
@@ -15,6 +16,7 @@ mod unread;
 mod words;
 mod writing;
 
+pub use laws::written_is_read;
 pub use reading::read;
 pub use refused::DarRefused;
 pub use writing::write;

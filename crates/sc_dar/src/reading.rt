@@ -1,6 +1,7 @@
 //! The table of a text.
 
-ghost use Rattle.std.specs.Prelude.{◌≡◌, ◌≤◌, ◌++◌, ◌∷◌, [], Err, OnOk, length};
+ghost use Rattle.std.specs.Prelude.{◌≡◌, ◌≤◌, ◌++◌, ◌∷◌, ◌<◌, [], Err, IfOk, OnOk, length};
+ghost use Rattle.std.specs.List.{All};
 ghost use Rattle.sc_dar.specs.Lines.{lines};
 ghost use Rattle.sc_dar.specs.Tables.{judged, table_of};
 ghost use Rattle.sc_dar.specs.Answers.{IsJudged, IsAtLine};
@@ -27,17 +28,26 @@ use std::alloc::Global;
 ///
 /// `Refused` exactly where the text gives no table, with the number of the first line at fault and
 /// the kind of its first fault; `NoMemory` for want of memory.
-#[tactic(auto, unfolding(crate::specs::Tables::table_of, crate::specs::Tables::table_with))]
+#[tactic(auto, using(crate::proofs::Kept::named_if_ok, crate::proofs::Kept::few_if_ok))]
 pub fn read(alloc: Global, b: &[u8], apps: &List<Text>) -> Result<Dar, DarRefused>
-    ensures { IsJudged result (table_of b.now apps.now) }
+    ensures exact { IsJudged result (table_of b.now apps.now) }
+    ensures named { IfOk result (λ dar. All (λ list. All (λ tuple. tuple.app < length apps.now) list.tuples) dar.lists) }
+    ensures few { IfOk result (λ dar. All (λ list. length list.tuples ≤ 64) dar.lists) }
 {
-    if b.len() > 65_536 {
+    table_of(alloc, b, apps.as_slice())
+}
+
+#[tactic(auto, unfolding(crate::specs::Tables::table_of, crate::specs::Tables::table_with))]
+fn table_of(alloc: Global, text: &[u8], apps: &[Text]) -> Result<Dar, DarRefused>
+    ensures { IsJudged result (table_of text.now apps.now) }
+{
+    if text.len() > 65_536 {
         return Err(DarRefused::Refused {
             line: 0,
             kind: LONG,
         });
     }
-    let lists = lists_in(alloc, b, apps.as_slice())?;
+    let lists = lists_in(alloc, text, apps)?;
     Ok(Dar { lists })
 }
 

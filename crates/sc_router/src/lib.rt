@@ -7,6 +7,8 @@ mod own;
 mod returning;
 mod routing;
 mod subscriber;
+#[cfg(test)]
+mod tests;
 
 pub use choice::next_choice;
 pub use routing::next;

@@ -1,0 +1,52 @@
+-- What a routing table keeps, for applications of these names.
+use Rattle.std.specs.Prelude.{ℕ, ◌^◌, ◌≡◌, ◌<◌, ◌≤◌, true, false, List, [], ◌∷◌, ◌++◌, Some, ⊤, length, get_or}
+use Rattle.std.specs.List.{All}
+use Rattle.sc_value.specs.Tokens.{is_token}
+use Rattle.sc_terms.specs.declared.settings.Dar.{Dar}
+use Rattle.sc_terms.specs.declared.settings.MethodList.{MethodList}
+use Rattle.sc_terms.specs.declared.settings.Tuple.{Tuple}
+use Rattle.sc_syntax.specs.Bytes.{Bytes}
+use Rattle.sc_syntax.specs.Cuts.{has}
+use Rattle.sc_syntax.specs.Hosts.{begins}
+use Rattle.sc_dar.specs.Tuples.{route_of}
+use Rattle.sc_dar.specs.Tables.{is_listed}
+use Rattle.sc_dar.specs.WrittenTables.{route_text}
+
+-- the text can stand between quotes: no quote, CR or LF stands in it
+pub record IsPlain (text : Bytes) : Type 0 where
+  pub quote : has 34 text ≡ false
+  pub cr : has 13 text ≡ false
+  pub lf : has 10 text ≡ false
+
+-- the names of the applications: each can stand between quotes, and no two are the same
+pub record AreNames (apps : List Bytes) : Type 0 where
+  pub few : length apps ≤ 2 ^ 32
+  pub plain : All IsPlain apps
+  pub distinct : (i j : ℕ) → i < length apps → j < length apps → get_or apps i [] ≡ get_or apps j [] → i ≡ j
+
+-- the tuple names an application, and its route is one that its text is read as
+pub record IsTuple (apps : List Bytes) (tuple : Tuple) : Type 0 where
+  pub app : tuple.app < length apps
+  pub subscriber : IsPlain tuple.subscriber
+  pub route : route_of (route_text tuple.route) ≡ Some tuple.route
+  pub route_plain : IsPlain (route_text tuple.route)
+
+unfoldable pub AreTuples : List Bytes → List Tuple → Type 0
+AreTuples apps [] = ⊤
+AreTuples apps (tuple ∷ more) = IsTuple apps tuple × AreTuples apps more
+
+-- a method is a token that begins no comment, and has 1 to 64 tuples
+pub record IsList (apps : List Bytes) (list : MethodList) : Type 0 where
+  pub method : is_token list.method ≡ true
+  pub said : begins 33 list.method ≡ false
+  pub some : 0 < length list.tuples
+  pub few : length list.tuples ≤ 64
+  pub tuples : AreTuples apps list.tuples
+
+-- no method has a list before its own
+unfoldable pub AreLists : List Bytes → List MethodList → List MethodList → Type 0
+AreLists apps earlier [] = ⊤
+AreLists apps earlier (list ∷ more) = IsList apps list × (is_listed earlier list.method ≡ false) × AreLists apps (earlier ++ list ∷ []) more
+
+abbrev pub IsTable : List Bytes → Dar → Type 0
+IsTable apps dar = AreNames apps × AreLists apps [] dar.lists
