@@ -3,7 +3,7 @@ use Rattle.std.proofs.Common.{◌≡◌, ℕ, zero, suc, ◌+◌, ◌<◌, List,
 use Rattle.std.proofs.Math.ListN.{set}
 use Rattle.std.proofs.Common.{Bool, true, false, cond, Option, None, Some}
 use Rattle.std.specs.Prelude.{option_to_list}
-use Rattle.std.specs.List.{fold, filter_map}
+use Rattle.std.specs.List.{filter_map}
 use Rattle.std.proofs.lemmas.List.Elements.{filter_map-append}
 use Rattle.std.proofs.lemmas.List.Sums.{fold-append}
 use Rattle.sc_value.specs.declared.ids.ReqId.{ReqId}

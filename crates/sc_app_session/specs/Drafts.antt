@@ -4,7 +4,6 @@ use Rattle.sc_value.specs.declared.ids.ReqId.{ReqId}
 use Rattle.sc_terms.specs.declared.calls.CallRecord.{CallRecord}
 use Rattle.sc_parts.specs.declared.outcome.Order.{Order}
 use Rattle.sc_parts.specs.declared.outcome.Outcome.{Outcome}
-use Rattle.sc_parts.specs.declared.session.Session.{Session}
 use Rattle.sc_terms.specs.declared.views.View.{View}
 use Rattle.sc_model.specs.Turns.{after_calls, after_record, request_in}
 use Rattle.sc_model.specs.Histories.{fault_record, is_left, orders_of}

@@ -16,7 +16,7 @@ use Rattle.sc_terms.specs.declared.calls.End.{End}
 use Rattle.sc_terms.specs.declared.calls.End.TheVariants as ends
 use Rattle.sc_terms.specs.declared.calls.Refusal.{Refusal}
 use Rattle.sc_model.specs.Turns.{refusal, answer_of, after_calls, ack}
-use Rattle.sc_model.specs.Charters.{Script, Done, answer_script, ok_script, played, played_from, reply, ok_reason, Promises, Meets}
+use Rattle.sc_model.specs.Charters.{Done, answer_script, ok_script, played, played_from, reply, ok_reason, Promises, Meets}
 use Rattle.sc_calls.specs.Working.{Working, after_accepted, after_refused}
 use Rattle.sc_apps.specs.Single.{single, later}
 

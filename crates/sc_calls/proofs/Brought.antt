@@ -1,5 +1,5 @@
 -- What is brought of a turn meets the charter of whom was called.
-use Rattle.std.proofs.Common.{◌≡◌, List, [], Bool, true, false, Option, Some, None, if◌then◌else◌, refl}
+use Rattle.std.proofs.Common.{◌≡◌, List, [], Bool, true, false, Option, Some, None, refl}
 use Rattle.sc_terms.specs.declared.views.View.{View}
 use Rattle.sc_terms.specs.declared.events.Event.{Event}
 use Rattle.sc_terms.specs.declared.charters.Charter.{Charter}

@@ -1,5 +1,5 @@
 -- A turn that lists one more call keeps what every turn keeps.
-use Rattle.std.proofs.Common.{◌≡◌, ℕ, suc, ◌+◌, ◌<◌, List, [], ◌∷◌, ◌++◌, Bool, true, false, Option, Some, None, nat_le, if◌then◌else◌, length, refl, sym, ap, subst, ◌∙◌, arith, add-zero, zero-add}
+use Rattle.std.proofs.Common.{◌≡◌, ℕ, suc, ◌+◌, ◌<◌, List, [], ◌∷◌, ◌++◌, Bool, true, false, Option, Some, None, nat_le, if◌then◌else◌, length, refl, arith, add-zero, zero-add}
 use Rattle.std.specs.List.{fold}
 use Rattle.sc_terms.specs.declared.views.View.{View}
 use Rattle.sc_terms.specs.declared.calls.Call.{Call}
@@ -7,8 +7,8 @@ use Rattle.sc_terms.specs.declared.calls.CallRecord.{CallRecord}
 use Rattle.sc_terms.specs.declared.calls.Refusal.{Refusal}
 use Rattle.sc_terms.specs.declared.calls.Refusal.TheVariants.{Limit}
 use Rattle.std.proofs.lemmas.Bool.Decides.{nat_tests}
-use Rattle.sc_model.specs.Turns.{MOST_CALLS, refusal, answer_of, after_call, after_answer, after_listed, after_record, after_calls}
-use Rattle.sc_model.specs.Charters.{IsAnsweredFrom, IsAnswered}
+use Rattle.sc_model.specs.Turns.{MOST_CALLS, refusal, answer_of, after_answer, after_listed, after_record, after_calls}
+use Rattle.sc_model.specs.Charters.{IsAnsweredFrom}
 use Rattle.sc_calls.specs.Working.{IsWorking}
 
 after_listed-answer : (view : View) (refused : Option Refusal) (call : Call) → after_listed view call (answer_of refused) ≡ after_answer view refused call

@@ -1,1 +1,2 @@
 pub mod FirstScript
+pub mod Reading

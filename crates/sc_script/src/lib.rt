@@ -2,12 +2,18 @@
 //! each message that was sent and of the run's end.
 #![tactic(auto)]
 
+mod cuts;
+mod numbers;
+mod places;
 mod reading;
 mod records;
 mod refused;
+mod rows;
+mod scripts;
 #[cfg(test)]
 mod tests;
 
 pub use reading::read;
 pub use records::{write_end, write_sent};
 pub use refused::ScriptRefused;
+pub use scripts::read_lines;

@@ -101,7 +101,7 @@ fn lines_of(alloc: Global, text: &[u8]) -> Result<List<Line>, NoMemory>
 }
 
 #[tactic(auto, unfolding(sc_model::specs::Scripts::script_lines))]
-fn put_lines(text: Text, lines: &mut List<Line>) -> Result<(), NoMemory>
+pub fn put_lines(text: Text, lines: &mut List<Line>) -> Result<(), NoMemory>
     ensures { OnOk result (lines.new ≡ lines.old ++ script_lines text) }
 {
     put_line(Line::In(Place::Back(1), text), lines)?;
@@ -109,7 +109,8 @@ fn put_lines(text: Text, lines: &mut List<Line>) -> Result<(), NoMemory>
     put_line(Line::End, lines)
 }
 
-fn put_line(line: Line, lines: &mut List<Line>) -> Result<(), NoMemory>
+/// Puts a line at the end of a list.
+pub fn put_line(line: Line, lines: &mut List<Line>) -> Result<(), NoMemory>
     ensures { OnOk result (lines.new ≡ lines.old ++ line ∷ []) }
 {
     lines.push(line)?;

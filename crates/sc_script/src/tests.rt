@@ -1,4 +1,4 @@
-use crate::{ScriptRefused, read, write_end, write_sent};
+use crate::{ScriptRefused, read, read_lines, write_end, write_sent};
 use sc_terms::Line;
 use sc_value::{Discard, List, Place, Sent, Text};
 use std::alloc::Global;
@@ -25,6 +25,29 @@ fn are_expected(lines: &List<Line>) -> bool {
 fn reads_the_one_script(rt: HostRuntime) {
     let right = match read(rt.alloc(), script()) {
         Ok(lines) => are_expected(&lines),
+        Err(_) => false,
+    };
+    assert!(rt; right);
+}
+
+// A script of four lines, the first with a line feed among its bytes.
+fn rows() -> &'static [u8] {
+    b"in c1 3\na\nb\ntick 5\nrun\nend\n"
+}
+
+fn are_four(lines: &[Line]) -> bool {
+    match lines {
+        [Line::In(_, text), Line::Tick(now), Line::Run, Line::End] => {
+            text.as_bytes() == b"a\nb".as_slice() && *now == 5
+        }
+        _ => false,
+    }
+}
+
+#[test]
+fn reads_lines(rt: HostRuntime) {
+    let right = match read_lines(rt.alloc(), rows()) {
+        Ok(lines) => are_four(lines.as_slice()),
         Err(_) => false,
     };
     assert!(rt; right);
