@@ -1,0 +1,170 @@
+//! Looking up in a view, and what the states and roles of SipSessions tell.
+
+ghost use Rattle.std.specs.Prelude.{◌≡◌, ◌==◌, ◌≤◌, not, position, option_and_then, length, filter};
+ghost use Rattle.std.specs.List.{find, list_any};
+ghost use Rattle.std.specs.Option.{option_copied, option_map_or};
+ghost use Rattle.sc_hosts.specs.Looking.{is_request, is_session, is_timer, request_in, session_in, timer_in, same_session, is_initial_state, is_early, is_confirmed, is_terminated, is_open_state, is_proxy, is_gone, is_gone_in, session_count, partner};
+ghost use Rattle.sc_hosts.specs.Refusals.{is_ended_session, is_begun};
+
+use sc_terms::{RequestView, Role, SessionView, State, TimerView, View};
+use sc_value::{ReqId, SessId, TimerId};
+
+fn request_place(requests: &[RequestView], req: ReqId) -> Option<usize>
+    ensures { result ≡ position (is_request req) requests.now }
+{
+    requests.iter().position(|request| request.id.0 == req.0)
+}
+
+#[tactic(auto, using(sc_value::proofs::ListFacts::find_position, sc_value::proofs::ListFacts::find_none))]
+fn request_among(requests: &[RequestView], req: ReqId) -> Option<&RequestView>
+    ensures { option_copied result ≡ find (is_request req) requests.now }
+{
+    match request_place(requests, req) {
+        Some(at) => Some(&requests[at]),
+        None => None,
+    }
+}
+
+/// The request of this number, None where the view shows none.
+pub fn request_in(view: &View, req: ReqId) -> Option<&RequestView>
+    ensures { option_copied result ≡ request_in view.entry.now req }
+{
+    request_among(view.requests.as_slice(), req)
+}
+
+fn session_place(sessions: &[SessionView], sess: SessId) -> Option<usize>
+    ensures { result ≡ position (is_session sess) sessions.now }
+{
+    sessions.iter().position(|session| session.id.0 == sess.0)
+}
+
+#[tactic(auto, using(sc_value::proofs::ListFacts::find_position, sc_value::proofs::ListFacts::find_none))]
+fn session_among(sessions: &[SessionView], sess: SessId) -> Option<&SessionView>
+    ensures { option_copied result ≡ find (is_session sess) sessions.now }
+{
+    match session_place(sessions, sess) {
+        Some(at) => Some(&sessions[at]),
+        None => None,
+    }
+}
+
+/// The SipSession of this number, None where there was never one.
+pub fn session_in(view: &View, sess: SessId) -> Option<&SessionView>
+    ensures { option_copied result ≡ session_in view.entry.now sess }
+{
+    session_among(view.sessions.as_slice(), sess)
+}
+
+fn timer_place(timers: &[TimerView], id: TimerId) -> Option<usize>
+    ensures { result ≡ position (is_timer id) timers.now }
+{
+    timers.iter().position(|timer| timer.id.0 == id.0)
+}
+
+#[tactic(auto, using(sc_value::proofs::ListFacts::find_position, sc_value::proofs::ListFacts::find_none))]
+fn timer_among(timers: &[TimerView], id: TimerId) -> Option<&TimerView>
+    ensures { option_copied result ≡ find (is_timer id) timers.now }
+{
+    match timer_place(timers, id) {
+        Some(at) => Some(&timers[at]),
+        None => None,
+    }
+}
+
+/// The active timer of this number.
+pub fn timer_in(view: &View, id: TimerId) -> Option<&TimerView>
+    ensures { option_copied result ≡ timer_in view.entry.now id }
+{
+    timer_among(view.timers.as_slice(), id)
+}
+
+#[tactic(auto, unfolding(sc_hosts::specs::Looking::is_initial_state))]
+fn is_initial_state(state: State) -> bool
+    ensures { result ≡ is_initial_state state }
+{
+    state == State::Initial
+}
+
+/// Whether the state is that of a dialog.
+#[tactic(auto, unfolding(sc_hosts::specs::Looking::is_early, sc_hosts::specs::Looking::is_confirmed))]
+pub fn is_open_state(state: State) -> bool
+    ensures { result ≡ is_open_state state }
+{
+    match state {
+        State::Early | State::Confirmed => true,
+        State::Initial | State::Terminated => false,
+    }
+}
+
+#[tactic(auto, unfolding(sc_hosts::specs::Looking::is_terminated))]
+fn is_terminated(state: State) -> bool
+    ensures { result ≡ is_terminated state }
+{
+    state == State::Terminated
+}
+
+#[tactic(auto, unfolding(sc_hosts::specs::Looking::is_proxy))]
+pub fn is_proxy(role: Role) -> bool
+    ensures { result ≡ is_proxy role }
+{
+    role == Role::Proxy
+}
+
+/// Whether the SipSession of this number isn't there.
+#[tactic(auto, unfolding(sc_hosts::specs::Looking::is_gone))]
+pub fn is_gone_in(view: &View, sess: SessId) -> bool
+    ensures { result ≡ is_gone_in view.entry.now sess }
+{
+    match session_in(view, sess) {
+        Some(session) => session.gone,
+        None => true,
+    }
+}
+
+/// Whether the SipSession of this number is TERMINATED.
+#[tactic(auto, unfolding(sc_hosts::specs::Refusals::is_ended_session))]
+pub fn is_ended(view: &View, sess: SessId) -> bool
+    ensures { result ≡ is_ended_session (session_in view.entry.now sess) }
+{
+    match session_in(view, sess) {
+        Some(session) => is_terminated(session.state),
+        None => false,
+    }
+}
+
+/// Whether the SipSession of this number has left the state INITIAL.
+#[tactic(auto, unfolding(sc_hosts::specs::Refusals::is_begun))]
+pub fn is_begun(view: &View, sess: SessId) -> bool
+    ensures { result ≡ is_begun (session_in view.entry.now sess) }
+{
+    match session_in(view, sess) {
+        Some(session) => !is_initial_state(session.state),
+        None => false,
+    }
+}
+
+/// How many SipSessions there are.
+#[tactic(auto, unfolding(sc_hosts::specs::Looking::session_count))]
+pub fn session_count(view: &View) -> usize
+    ensures { result ≡ session_count view.entry.now }
+{
+    view.sessions.as_slice().iter().filter(|session| !session.gone).count()
+}
+
+/// The SipSession to which this one is linked.
+#[tactic(auto, unfolding(sc_hosts::specs::Looking::partner))]
+pub fn partner(view: &View, sess: SessId) -> Option<SessId>
+    ensures { result ≡ partner view.entry.now sess }
+{
+    match session_in(view, sess) {
+        Some(session) => session.linked,
+        None => None,
+    }
+}
+
+/// Whether a SipSession stands in a list.
+pub fn has_session(sessions: &[SessId], sess: SessId) -> bool
+    ensures { result ≡ list_any (same_session sess) sessions.now }
+{
+    sessions.iter().any(|other| sess.0 == other.0)
+}
