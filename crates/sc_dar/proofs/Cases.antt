@@ -14,6 +14,8 @@ use Rattle.sc_syntax.specs.Hosts.{is_host_name, begins, is_host, host_len}
 use Rattle.sc_syntax.specs.Quoted.{token_end}
 use Rattle.sc_syntax.specs.UriParts.{then_read as then_read_uri, port_in, is_port_start, sent_at, is_param_name, is_param_value, param_at, params_in, params_at, headers_at}
 use Rattle.sc_syntax.specs.Uris.{is_scheme, sip_scheme, user_in, behind_user, sent_in, params_text_in, sip_behind, sip_at, other_of, uri_behind, uri_of}
+use Rattle.sc_grammar.specs.Written.{scheme, ended_text, port_text, params_text, param_text, signed_text, sip_uri_text, uri_text}
+use Rattle.sc_dar.specs.WrittenTables.{region_text, modifier_text, route_text, between, app_text, tuple_front, tuple_back, tuple_text, lead, tuples_text, list_text, dar_text}
 use Rattle.sc_dar.specs.Lines.{drop_blanks, is_blank_text, ends, without_last, without_cr, ended, rows, onto_next, before_lines, joined, lines, is_comment}
 use Rattle.sc_dar.specs.Tuples.{TupleTexts, then_read, parts, behind, closed, quoted, is_closing, opening, unquoted, region_of, modifier_of, sip_route, unbracketed, route_of, tuple_of, counted, tuple_at, tuples_in}
 use Rattle.sc_dar.specs.Tables.{Fault, has_separator, is_listed, list_in, list_of, then_line, judged, table_with, table_of}
@@ -21,8 +23,9 @@ use Rattle.sc_dar.specs.Tables.{Fault, has_separator, is_listed, list_in, list_o
 abbrev names : List Bytes
 names = codes "a0" ∷ codes "a1" ∷ codes "a2" ∷ []
 
--- a comment, a joined line, a CR, a route with brackets and a way back, and blanks round each sign
-reads_table : table_of (codes "  # routes\nINVITE = (\"a0\" ,\"DAR:From\",\"NEUTRAL\",\"\",\"NO_ROUTE\",\"0\"),\\\r\n  ( \"a1\", \"bob\", \"TERMINATING\", \"<sip:h;lr>\", \"ROUTE_BACK\", \"1\" ) \n\nBYE:(\"a2\",\"\",\"ORIGINATING\",\"\",\"ROUTE\",\"0\")") names ≡ Ok (record {
+-- a table of two methods
+abbrev table : Dar
+table = record {
   lists =
       record {
         method = codes "INVITE";
@@ -33,7 +36,10 @@ reads_table : table_of (codes "  # routes\nINVITE = (\"a0\" ,\"DAR:From\",\"NEUT
       }
       ∷ record { method = codes "BYE"; tuples = record { app = 2; subscriber = []; region = Originating; route = None; modifier = Route } ∷ [] }
       ∷ [];
-})
+}
+
+-- a comment, a joined line, a CR, a route with brackets and a way back, and blanks round each sign
+reads_table : table_of (codes "  # routes\nINVITE = (\"a0\" ,\"DAR:From\",\"NEUTRAL\",\"\",\"NO_ROUTE\",\"0\"),\\\r\n  ( \"a1\", \"bob\", \"TERMINATING\", \"<sip:h;lr>\", \"ROUTE_BACK\", \"1\" ) \n\nBYE:(\"a2\",\"\",\"ORIGINATING\",\"\",\"ROUTE\",\"0\")") names ≡ Ok table
 unfolding digits table_of table_with judged then_line list_of list_in is_listed has_separator tuples_in tuple_at counted tuple_of route_of unbracketed sip_route modifier_of region_of unquoted opening is_closing quoted closed behind parts then_read is_comment lines joined before_lines onto_next rows ended without_cr without_last ends is_blank_text drop_blanks uri_of uri_behind other_of sip_at sip_behind params_text_in sent_in behind_user user_in sip_scheme is_scheme headers_at params_at params_in param_at is_param_value is_param_name sent_at is_port_start port_in then_read_uri token_end host_len is_host begins is_host_name pieces onto_first after before has is_open is_closed is_param_byte is_param_sign is_mark is_scheme_byte is_host_byte same_name is_blank is_token_byte
 reads_table = refl
 
@@ -75,3 +81,9 @@ refuses_65th_order = refl
 refuses_long : (text : Bytes) (apps : List Bytes) → nat_lt 65536 (length text) ≡ true → table_of text apps ≡ Err (record { line = 0; kind = 8 })
 unfolding table_of
 refuses_long text apps h = rw h refl
+
+-- ## Writing
+
+writes_table : dar_text table names ≡ codes "INVITE: (\"a0\", \"DAR:From\", \"NEUTRAL\", \"\", \"NO_ROUTE\", \"0\"), (\"a1\", \"bob\", \"TERMINATING\", \"sip:h;lr\", \"ROUTE_BACK\", \"1\")\nBYE: (\"a2\", \"\", \"ORIGINATING\", \"\", \"ROUTE\", \"0\")\n"
+unfolding digits dar_text list_text tuples_text lead tuple_text tuple_front tuple_back app_text between route_text modifier_text region_text uri_text sip_uri_text scheme ended_text port_text params_text param_text signed_text
+writes_table = refl
