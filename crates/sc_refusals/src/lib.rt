@@ -2,14 +2,14 @@
 //! judged by what the turn shows, by the drafts of the turn, and by how many calls it has made.
 #![tactic(auto)]
 
-
-
-
+mod asking;
+mod judging;
+mod linking;
 mod looking;
 mod named;
-
-
+mod proxying;
+mod sums;
 mod texts;
 
+pub use judging::{MOST_CALLS, refusal};
 pub use looking::{request_in, session_in, timer_in};
-

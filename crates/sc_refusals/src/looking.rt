@@ -148,7 +148,11 @@ pub fn is_begun(view: &View, sess: SessId) -> bool
 pub fn session_count(view: &View) -> usize
     ensures { result ≡ session_count view.entry.now }
 {
-    view.sessions.as_slice().iter().filter(|session| !session.gone).count()
+    view.sessions
+        .as_slice()
+        .iter()
+        .filter(|session| !session.gone)
+        .count()
 }
 
 /// The SipSession to which this one is linked.

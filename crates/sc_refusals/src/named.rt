@@ -92,3 +92,86 @@ fn names_refusal(view: &View, first: Option<SessId>, second: Option<SessId>) -> 
     }
     None
 }
+
+#[tactic(auto, unfolding(sc_hosts::specs::Refusals::of_origin, sc_hosts::specs::Refusals::name_refusal))]
+fn origin_refusal(play: &Play, origin: Option<ReqId>) -> Option<Refusal>
+    ensures { result ≡ name_refusal play.now.view (of_origin play.now origin) }
+{
+    match origin {
+        Some(req) => name_refusal(&play.view, session_of_request(play, req)),
+        None => None,
+    }
+}
+
+#[tactic(auto, unfolding(sc_hosts::specs::Refusals::of_origin))]
+fn directed_refusal(play: &Play, draft: u32, origin: Option<ReqId>) -> Option<Refusal>
+    ensures { result ≡ name_refusal play.now.view (session_of_draft play.now draft ∷ of_origin play.now origin) }
+{
+    match origin {
+        Some(req) => names_refusal(
+            &play.view,
+            session_of_draft(play, draft),
+            session_of_request(play, req),
+        ),
+        None => name_refusal(&play.view, session_of_draft(play, draft)),
+    }
+}
+
+fn request_named(play: &Play, req: ReqId) -> Option<Refusal>
+    ensures { result ≡ name_refusal play.now.view (session_of_request play.now req ∷ []) }
+{
+    name_refusal(&play.view, session_of_request(play, req))
+}
+
+fn session_named(play: &Play, sess: SessId) -> Option<Refusal>
+    ensures { result ≡ name_refusal play.now.view (known_session play.now sess ∷ []) }
+{
+    name_refusal(&play.view, known_session(play, sess))
+}
+
+fn draft_named(play: &Play, draft: u32) -> Option<Refusal>
+    ensures { result ≡ name_refusal play.now.view (session_of_draft play.now draft ∷ []) }
+{
+    name_refusal(&play.view, session_of_draft(play, draft))
+}
+
+// The names of a call that makes a request, or does something with a draft or a SipSession.
+#[tactic(auto, unfolding(sc_hosts::specs::Refusals::named, sc_hosts::specs::Refusals::name_refusal))]
+pub fn named_refusal(play: &Play, call: &Call) -> Option<Refusal>
+    ensures { result ≡ name_refusal play.now.view (named play.now call.now) }
+{
+    match call {
+        Call::Respond { req, .. }
+        | Call::B2bCreate { req, .. }
+        | Call::Cancel { req }
+        | Call::ProxyTo { req, .. }
+        | Call::ProxyCancel { req } => request_named(play, *req),
+        Call::CreateRequest { ask } => origin_refusal(play, ask.origin),
+        Call::SetDirective { draft, origin, .. } => directed_refusal(play, *draft, *origin),
+        Call::Send { draft } | Call::Discard { draft } => draft_named(play, *draft),
+        Call::CreateInDialog { sess, .. }
+        | Call::Ack { sess, .. }
+        | Call::B2bRespond { sess, .. }
+        | Call::InvalidateSession { sess } => session_named(play, *sess),
+        Call::Link { a, b } => names_refusal(
+            &play.view,
+            known_session(play, *a),
+            known_session(play, *b),
+        ),
+        Call::Unlink { a } => session_named(play, *a),
+        Call::SetReadyFlag {
+            target: Target::Session(sess),
+            ..
+        } => session_named(play, *sess),
+        Call::SetReadyFlag {
+            target: Target::Application,
+            ..
+        }
+        | Call::StartTimer { .. }
+        | Call::CancelTimer { .. }
+        | Call::SetAttribute { .. }
+        | Call::RemoveAttribute { .. }
+        | Call::SetExpires { .. }
+        | Call::InvalidateApplication => None,
+    }
+}

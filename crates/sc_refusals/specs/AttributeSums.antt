@@ -1,0 +1,9 @@
+-- The bytes of an attribute beside one of a name.
+use Rattle.std.specs.Prelude.{ℕ, ◌+◌, if◌then◌else◌, length}
+use Rattle.sc_value.specs.Params.{same_bytes}
+use Rattle.sc_value.specs.declared.parts.Field.{Field}
+use Rattle.sc_grammar.specs.Written.{Bytes}
+
+-- its bytes, none where it has this name
+unfoldable pub bytes_beside : Bytes → Field → ℕ
+bytes_beside name field = if same_bytes field.name name then 0 else length field.name + length field.value
