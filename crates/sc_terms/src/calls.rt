@@ -57,13 +57,24 @@ pub enum Target {
 #[derive(Drop)]
 pub enum Call {
     /// Answers a received request.
-    Respond { req: ReqId, answer: Answer },
+    Respond {
+        req: ReqId,
+        answer: Answer,
+    },
     /// Makes an initial request of one's own.
-    CreateRequest { ask: Ask },
+    CreateRequest {
+        ask: Ask,
+    },
     /// Makes a request in a dialog.
-    CreateInDialog { sess: SessId, ask: Inside },
+    CreateInDialog {
+        sess: SessId,
+        ask: Inside,
+    },
     /// Makes the request of a back-to-back agent's second leg, to this URI where one is given.
-    B2bCreate { req: ReqId, uri: Option<Uri> },
+    B2bCreate {
+        req: ReqId,
+        uri: Option<Uri>,
+    },
     /// Says how the router goes on for a draft.
     SetDirective {
         draft: u32,
@@ -71,13 +82,22 @@ pub enum Call {
         origin: Option<ReqId>,
     },
     /// Sends a draft.
-    Send { draft: u32 },
+    Send {
+        draft: u32,
+    },
     /// Drops a draft.
-    Discard { draft: u32 },
+    Discard {
+        draft: u32,
+    },
     /// Acknowledges the 2xx that came in this SipSession.
-    Ack { sess: SessId, body: Text },
+    Ack {
+        sess: SessId,
+        body: Text,
+    },
     /// Cancels a sent INVITE.
-    Cancel { req: ReqId },
+    Cancel {
+        req: ReqId,
+    },
     /// Proxies a received request to these targets.
     ProxyTo {
         req: ReqId,
@@ -85,13 +105,23 @@ pub enum Call {
         options: ProxyOptions,
     },
     /// Cancels the branches of a proxied request.
-    ProxyCancel { req: ReqId },
+    ProxyCancel {
+        req: ReqId,
+    },
     /// Answers the received initial request of this SipSession.
-    B2bRespond { sess: SessId, answer: Answer },
+    B2bRespond {
+        sess: SessId,
+        answer: Answer,
+    },
     /// Links two SipSessions.
-    Link { a: SessId, b: SessId },
+    Link {
+        a: SessId,
+        b: SessId,
+    },
     /// Takes the link of this SipSession away.
-    Unlink { a: SessId },
+    Unlink {
+        a: SessId,
+    },
     /// Starts a timer that fires after so many milliseconds.
     StartTimer {
         delay_ms: u32,
@@ -99,17 +129,31 @@ pub enum Call {
         info: Text,
     },
     /// Ends a timer.
-    CancelTimer { id: TimerId },
+    CancelTimer {
+        id: TimerId,
+    },
     /// Sets an attribute of the application session.
-    SetAttribute { name: Text, value: Text },
+    SetAttribute {
+        name: Text,
+        value: Text,
+    },
     /// Removes an attribute.
-    RemoveAttribute { name: Text },
+    RemoveAttribute {
+        name: Text,
+    },
     /// Lets the application session expire so many minutes after this turn, 0 or less for never.
-    SetExpires { minutes: i32 },
+    SetExpires {
+        minutes: i32,
+    },
     /// Sets whether the target goes away by itself once it is ready.
-    SetReadyFlag { target: Target, flag: bool },
+    SetReadyFlag {
+        target: Target,
+        flag: bool,
+    },
     /// Ends a SipSession.
-    InvalidateSession { sess: SessId },
+    InvalidateSession {
+        sess: SessId,
+    },
     /// Ends the application session.
     InvalidateApplication,
 }

@@ -32,9 +32,15 @@ pub enum Event {
         response: Boxed<Response>,
     },
     /// The peer cancelled the request.
-    Cancelled { req: ReqId, sess: SessId },
+    Cancelled {
+        req: ReqId,
+        sess: SessId,
+    },
     /// A servlet timer fired.
-    Timer { id: TimerId, info: Text },
+    Timer {
+        id: TimerId,
+        info: Text,
+    },
     /// The application session expires (JSR 289 section 6.1.2).
     Expired,
     /// The application session is ready to go away (JSR 289 section 6.1.2.2).

@@ -11,9 +11,7 @@ mod settings;
 mod steps;
 mod views;
 
-pub use calls::{
-    Answer, Ask, Call, CallAnswer, CallRecord, End, ProxyOptions, Refusal, Target,
-};
+pub use calls::{Answer, Ask, Call, CallAnswer, CallRecord, End, ProxyOptions, Refusal, Target};
 pub use charters::{Charter, ListenerCharter};
 pub use events::Event;
 pub use inside::Inside;
