@@ -120,7 +120,7 @@ unfolding later_by queue_later
 later-below n config number from now request count None host more = refuse-below n config from _ _ request count host more
 later-below n config number from now request count (Some live) host more =
     below-if n _ _ _ (refuse-below n config from _ _ request count host more)
-      (trying-taken-below n from now request _ more (below-queue n live.serial now _ count _))
+    (trying-taken-below n from now request _ more (below-queue n live.serial now _ count _))
 
 first-below : {S : Type 0} (n : ℕ) (form : Form S) (config : Config) (epoch number : ℕ) (from : Peer) (now : ℕ) (noted : Note) (request : Request) (count : ℕ) (host : Host S)
     → 4 < n → Below n (begun form config epoch number from now noted request count host).reply
@@ -253,7 +253,7 @@ refuse-cancel : {S : Type 0} (config : Config) (from : Peer) (code : ℕ) (reaso
 unfolding refuse
 refuse-cancel config from code reason request count host e =
     below-if 2 _ _ _ (below-quiet 2 host count)
-      (below-replying 2 from _ (quiet host count) (rw (answer-rank _ code reason request e) (omega arith)))
+    (below-replying 2 from _ (quiet host count) (rw (answer-rank _ code reason request e) (omega arith)))
 
 unclaimed-cancel : {S : Type 0} (form : Form S) (config : Config) (epoch number : ℕ) (from : Peer) (now : ℕ) (noted : Option Note) (request : Request) (count : ℕ) (host : Host S)
     → same_bytes (method_of request) cancel ≡ true → Below 2 (take_unclaimed form config epoch number from now noted request count host).reply
@@ -295,7 +295,7 @@ pub request-below : {S : Type 0} (form : Form S) (config : Config) (epoch number
 unfolding take_request
 request-below form config epoch number from now noted request count host =
     rw (request-rank (same_bytes (method_of request) cancel) (same_bytes (method_of request) ack) request refl refl)
-      (request-by (same_bytes (method_of request) cancel) (same_bytes (method_of request) ack) form config epoch number from now noted request count host refl refl)
+    (request-by (same_bytes (method_of request) cancel) (same_bytes (method_of request) ack) form config epoch number from now noted request count host refl refl)
 
 -- ## Responses
 
@@ -379,16 +379,16 @@ failure-rank : (response : Response) → same_bytes response.head.cseq.method ca
 unfolding rank_of_response
 failure-rank response c f = rw (c, final response.code f) refl
   where
-  final : (code : ℕ) → is_failure code ≡ true → is_final code ≡ true
-  final code e = grind (arith, nat_tests, e)
+    final : (code : ℕ) → is_failure code ≡ true → is_final code ≡ true
+    final code e = grind (arith, nat_tests, e)
 
 provisional-rank : (response : Response) → same_bytes response.head.cseq.method cancel ≡ false → is_provisional response.code ≡ true → rank_of_response response ≡ 4
 unfolding rank_of_response
 provisional-rank response c f = rw (c, not_final (is_final response.code) f) refl
   where
-  not_final : (b : Bool) → not b ≡ true → b ≡ false
-  not_final true e = cc
-  not_final false e = refl
+    not_final : (b : Bool) → not b ≡ true → b ≡ false
+    not_final true e = cc
+    not_final false e = refl
 
 -- the response to an INVITE's client is no answer to a CANCEL
 of-invite : (client : Client) (response : Response) → is_invite_client client ≡ true
@@ -415,7 +415,7 @@ for-below : {S : Type 0} (now : ℕ) (client : Client) (response : Response) (co
 unfolding response_for
 for-below now client response count host m =
     reply-below (rank_of_response response) _ _ (out_of_client client (client_items.ResponseCame response.code now)) now client response _ refl refl
-      (ack-above client response now m) (cancel-above client response now m) (told-below (rank_of_response response) _ now client response count _)
+    (ack-above client response now m) (cancel-above client response now m) (told-below (rank_of_response response) _ now client response count _)
 
 third : (a b c d : Bool) → (a && b && c && d) ≡ true → c ≡ true
 third a b c d e = (both (a && b) c (both (a && b && c) d e).0).1
@@ -462,15 +462,15 @@ rank-some : (message : Message) → 0 < rank message
 unfolding rank rank_of_request rank_of_response
 rank-some (messages.Request request) = of_two (same_bytes (method_of request) cancel || same_bytes (method_of request) ack)
   where
-  of_two : (b : Bool) → 0 < cond b 2 5
-  of_two true = omega arith
-  of_two false = omega arith
+    of_two : (b : Bool) → 0 < cond b 2 5
+    of_two true = omega arith
+    of_two false = omega arith
 rank-some (messages.Response response) = of_three (same_bytes response.head.cseq.method cancel) (is_final response.code)
   where
-  of_three : (c f : Bool) → 0 < cond c 1 (cond f 3 4)
-  of_three true f = omega arith
-  of_three false true = omega arith
-  of_three false false = omega arith
+    of_three : (c f : Bool) → 0 < cond c 1 (cond f 3 4)
+    of_three true f = omega arith
+    of_three false true = omega arith
+    of_three false false = omega arith
 
 placed-weight : {S : Type 0} (number n : ℕ) (taken : Taken S) (net : Net S) → 0 < n → Below n taken.reply → weight (placed number taken net) < weight net + n
 unfolding placed weight

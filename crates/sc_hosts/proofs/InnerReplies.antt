@@ -134,8 +134,8 @@ kin-from : (host : ℕ) (request : Request) (server : Server) → is_kin (peers.
 unfolding is_kin
 kin-from host request server e =
     inner-end server.peer host
-      (both (takes_from server.peer (peers.Inside host)) (not (is_over (state_of_server server)))
-        (both (takes_from server.peer (peers.Inside host) && not (is_over (state_of_server server))) (same_top server.request.head.via request.head.via) e).0).0
+    (both (takes_from server.peer (peers.Inside host)) (not (is_over (state_of_server server)))
+    (both (takes_from server.peer (peers.Inside host) && not (is_over (state_of_server server))) (same_top server.request.head.via request.head.via) e).0).0
 
 inner-repeats : {S : Type 0} (form : Form S) (config : Config) (epoch number sender now : ℕ) (noted : Option Note) (request : Request) (found : Option Server) (count : ℕ) (host : Host S)
     → find (is_repeated_by (peers.Inside sender) request) host.servers ≡ found
@@ -144,7 +144,7 @@ unfolding claim_by take_claimed is_inner
 inner-repeats form config epoch number sender now noted request None count host e = inner-unclaimed form config epoch number (peers.Inside sender) now noted request count host refl
 inner-repeats form config epoch number sender now noted request (Some server) count host e =
     inner-repeated server count host (kin-from sender request server
-      (both (is_kin (peers.Inside sender) request server) _ (found-passes host.servers (is_repeated_by (peers.Inside sender) request) server e)).0)
+    (both (is_kin (peers.Inside sender) request server) _ (found-passes host.servers (is_repeated_by (peers.Inside sender) request) server e)).0)
 
 inner-cancelled : {S : Type 0} (from : Peer) (now : ℕ) (server : Server) (request : Request) (count : ℕ) (host : Host S)
     → is_inner from ≡ true → Inner (cancelled from now server request count host).reply
@@ -206,7 +206,7 @@ client-from : (salt : Bytes) (epoch host : ℕ) (response : Response) (client : 
 unfolding is_answered_by
 client-from salt epoch host response client e =
     inner-end client.peer host
-      (first-of-four (takes_from client.peer (peers.Inside host)) (not (is_over (state_of_client client))) (same_bytes (method_of client.request) response.head.cseq.method) _ e)
+    (first-of-four (takes_from client.peer (peers.Inside host)) (not (is_over (state_of_client client))) (same_bytes (method_of client.request) response.head.cseq.method) _ e)
 
 inner-answer : {S : Type 0} (salt : Bytes) (epoch sender now : ℕ) (found : Option Client) (response : Response) (count : ℕ) (host : Host S)
     → client_for salt epoch (peers.Inside sender) response host ≡ found → Inner (answer_to now found response count host).reply

@@ -46,15 +46,17 @@ script_at None view event = Done
 script_at (Some charters) view None = Done
 script_at (Some charters) view (Some event) = by_listener charters view event (is_listened event)
   where
-  of : Option Script → Script
-  of None = Done
-  of (Some script) = script
-  listens : Option ListenerCharter → View → Event → Script
-  listens None view event = Done
-  listens (Some listener) view event = of (listener_script listener view event)
-  by_listener : Charters → View → Event → Bool → Script
-  by_listener charters view event true = listens charters.1 view event
-  by_listener charters view event false = of (servlet_script charters.0 view event)
+    of : Option Script → Script
+    of None = Done
+    of (Some script) = script
+
+    listens : Option ListenerCharter → View → Event → Script
+    listens None view event = Done
+    listens (Some listener) view event = of (listener_script listener view event)
+
+    by_listener : Charters → View → Event → Bool → Script
+    by_listener charters view event true = listens charters.1 view event
+    by_listener charters view event false = of (servlet_script charters.0 view event)
 
 unfoldable pub turn_on : Setup → Played → AppId → Live Session → Option Waiting → Played
 turn_on setup p app live None = p

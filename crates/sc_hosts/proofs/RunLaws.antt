@@ -23,7 +23,7 @@ unfolding all_sent_from chained_from
 sent-from [] form setup net later = refl
 sent-from (step ∷ steps) form setup net later =
     rw (sent-from steps form setup (after_step form setup net step) later)
-      (sym (append_assoc (after_step form setup net step).sent (all_sent_from form setup (after_step form setup net step) steps) _))
+    (sym (append_assoc (after_step form setup net step).sent (all_sent_from form setup (after_step form setup net step) steps) _))
 
 -- the beginning of a journal sends the beginning
 pub sent-of-beginning : {S : Type 0} (form : Form S) (setup : Setup) (epoch began : ℕ) (begun later : List Step)

@@ -35,7 +35,7 @@ steps-same zero j busy step weight falls s true at_work a b = absurd (omega (ari
 steps-same (suc k) zero busy step weight falls s true at_work a b = absurd (omega (arith, falls s at_work, b))
 steps-same (suc k) (suc j) busy step weight falls s true at_work a b =
     rw (steps-busy busy step k s at_work, steps-busy busy step j s at_work)
-      (steps-same k j busy step weight falls (step s) (busy (step s)) refl (omega (arith, falls s at_work, a)) (omega (arith, falls s at_work, b)))
+    (steps-same k j busy step weight falls (step s) (busy (step s)) refl (omega (arith, falls s at_work, a)) (omega (arith, falls s at_work, b)))
 
 falls-under : {S : Type 0} (busy : S → Bool) (step : S → S) (weight : S → ℕ) → Falls busy step weight → (s : S) → busy s ≡ true → weight (step s) ≤ weight s
 unfolding Falls
@@ -57,14 +57,17 @@ pub settle-next : {S : Type 0} (busy : S → Bool) (step : S → S) (weight : S 
 unfolding settle
 settle-next busy step weight falls s at_work = next
   where
-  one : steps busy step (weight s) s ≡ steps busy step (suc (weight s)) s
-  one = steps-same (weight s) (suc (weight s)) busy step weight falls s true at_work (omega arith) (omega arith)
-  two : steps busy step (suc (weight s)) s ≡ steps busy step (weight s) (step s)
-  two = steps-busy busy step (weight s) s at_work
-  three : steps busy step (weight s) (step s) ≡ steps busy step (weight (step s)) (step s)
-  three = steps-same (weight s) (weight (step s)) busy step weight falls (step s) (busy (step s)) refl (falls-under busy step weight falls s at_work) (omega arith)
-  next : steps busy step (weight s) s ≡ steps busy step (weight (step s)) (step s)
-  next = rw (one, two) three
+    one : steps busy step (weight s) s ≡ steps busy step (suc (weight s)) s
+    one = steps-same (weight s) (suc (weight s)) busy step weight falls s true at_work (omega arith) (omega arith)
+
+    two : steps busy step (suc (weight s)) s ≡ steps busy step (weight s) (step s)
+    two = steps-busy busy step (weight s) s at_work
+
+    three : steps busy step (weight s) (step s) ≡ steps busy step (weight (step s)) (step s)
+    three = steps-same (weight s) (weight (step s)) busy step weight falls (step s) (busy (step s)) refl (falls-under busy step weight falls s at_work) (omega arith)
+
+    next : steps busy step (weight s) s ≡ steps busy step (weight (step s)) (step s)
+    next = rw (one, two) three
 
 no-steps : {S : Type 0} (busy : S → Bool) (step : S → S) (s : S) → steps busy step zero s ≡ s
 unfolding steps

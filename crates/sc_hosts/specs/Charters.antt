@@ -104,9 +104,9 @@ small_number text = number_below (2 ^ 32) text
 unfoldable pub readable : Bytes → Option Uri
 readable text = of_result (uri_of text)
   where
-  of_result : {E : Type 0} → Result Uri E → Option Uri
-  of_result (Ok uri) = Some uri
-  of_result (Err fault) = None
+    of_result : {E : Type 0} → Result Uri E → Option Uri
+    of_result (Ok uri) = Some uri
+    of_result (Err fault) = None
 
 unfoldable pub param_at : View → ℕ → Option Bytes
 param_at view i = slice_get view.params i
@@ -200,8 +200,8 @@ served_name n = 114 ∷ decimal n
 unfoldable pub sent_on : ReqId → Request → SessId → Script
 sent_on req request other =
     Make (calls.CreateInDialog other (record { method = request.method; fields = request.head.others; body = request.head.body }))
-      (with_number (λ draft. Make (calls.Send draft)
-      (with_number (λ n. only (calls.SetAttribute (served_name n) (decimal req.0))))))
+    (with_number (λ draft. Make (calls.Send draft)
+    (with_number (λ n. only (calls.SetAttribute (served_name n) (decimal req.0))))))
 
 unfoldable pub other_leg : ReqId → Request → SessId → Script
 other_leg req request other = if same_bytes request.method ack then only (calls.Ack other request.head.body) else sent_on req request other
@@ -210,8 +210,8 @@ other_leg req request other = if same_bytes request.method ack then only (calls.
 unfoldable pub sent_back : View → ReqId → Response → Script
 sent_back view req response =
     where_some (option_and_then small_number (attribute (served_name req.0) view)) (λ n.
-      then_make (calls.Respond (record { 0 = n }) (same_answer response))
-        (if is_final response.code then only (calls.RemoveAttribute (served_name req.0)) else Done))
+    then_make (calls.Respond (record { 0 = n }) (same_answer response))
+    (if is_final response.code then only (calls.RemoveAttribute (served_name req.0)) else Done))
 
 -- the request began its SipSession
 unfoldable pub is_initial : View → ReqId → Bool
@@ -262,8 +262,8 @@ dial_ask from to = record {
 unfoldable pub dial_script : View → Event → Script
 dial_script view (events.Initial req sess region subscriber popped request) =
     then_make (reply req 200 ok)
-      (where_some (uri_param view 0) (λ from. where_some (uri_param view 1) (λ to.
-        Make (calls.CreateRequest (dial_ask from to)) (with_number (λ draft. only (calls.Send draft))))))
+    (where_some (uri_param view 0) (λ from. where_some (uri_param view 1) (λ to.
+    Make (calls.CreateRequest (dial_ask from to)) (with_number (λ draft. only (calls.Send draft))))))
 dial_script view event = Done
 
 -- ## ringer

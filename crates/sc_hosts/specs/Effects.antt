@@ -125,7 +125,7 @@ unfoldable pub created_leg : Option RequestView → Play → Play
 created_leg None play = play
 created_leg (Some request) play =
     with_draft request.method (request.hops - 1) true request.ends (new_session play.view)
-      (with_view (linked request.sess (new_session play.view) (with_own_session play.view)) play)
+    (with_view (linked request.sess (new_session play.view) (with_own_session play.view)) play)
 
 -- the draft as a request that was sent
 unfoldable pub sent_view : View → Draft → RequestView

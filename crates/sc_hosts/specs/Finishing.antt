@@ -87,9 +87,9 @@ in_proxy req change working = record working { known = change_proxy req change w
 unfoldable pub started : Config → Proxy → Working → Uri → Working
 started config proxy working uri =
     in_proxy proxy.req (λ p. record p { branches = p.branches ++ new_branch proxy (next_branch working) working.play.view.now ∷ []; targets = drop 1 p.targets })
-      (in_view (drawn working.play.view)
-      (giving (orders.Begin (next_branch working) Continue working.known.region (Some (working.known.order + 1))
-        (on_branch config working.play.view (next_branch working) (proxied_request config working.play.view (records_route proxy) uri proxy.request)) ∷ []) working))
+    (in_view (drawn working.play.view)
+    (giving (orders.Begin (next_branch working) Continue working.known.region (Some (working.known.order + 1))
+    (on_branch config working.play.view (next_branch working) (proxied_request config working.play.view (records_route proxy) uri proxy.request)) ∷ []) working))
 
 -- the code of a final response that was forwarded first
 unfoldable pub with_forwarded : ℕ → Proxy → Proxy
@@ -112,8 +112,8 @@ with_subscribed proxy sess response view =
 unfoldable pub forwards : Proxy → SessId → Response → Working → Working
 forwards proxy sess response working =
     in_proxy proxy.req (with_forwarded response.code)
-      (in_view (forwarded_view sess (request_in working.play.view proxy.req) response (with_subscribed proxy sess response working.play.view))
-      (giving (orders.Respond proxy.event response ∷ []) working))
+    (in_view (forwarded_view sess (request_in working.play.view proxy.req) response (with_subscribed proxy sess response working.play.view))
+    (giving (orders.Respond proxy.event response ∷ []) working))
 
 unfoldable pub passes : Proxy → Option Passing → Working → Working
 passes proxy None working = working
@@ -184,9 +184,9 @@ unfoldable pub passed_on : Config → Kept → Working → Working
 passed_on config kept working =
     let sent : Request = on_branch config working.play.view (next_branch working) (passed_request kept.request) in
     in_view (drawn working.play.view)
-      (if same_bytes kept.request.method ack then giving (orders.Acknowledge sent ∷ []) working
-      else giving (orders.Send (next_branch working) sent ∷ [])
-             (record working { known = record working.known { proxies = working.known.proxies ++ sent_proxy kept (next_branch working) ∷ [] } }))
+    (if same_bytes kept.request.method ack then giving (orders.Acknowledge sent ∷ []) working
+    else giving (orders.Send (next_branch working) sent ∷ [])
+    (record working { known = record working.known { proxies = working.known.proxies ++ sent_proxy kept (next_branch working) ∷ [] } }))
 
 unfoldable pub passed_later : Config → RequestView → Option Kept → Working → Working
 passed_later config request None working = working
@@ -306,11 +306,11 @@ outcome config heard session waiting now made end =
 unfoldable pub waiting_answer : Bytes → Waiting → List Order
 waiting_answer tag waiting = unanswered waiting.event
   where
-  unanswered : Queued → List Order
-  unanswered (queued.Initial region subscriber popped request) = orders.Respond waiting.number (own_response tag 481 does_not_exist request) ∷ []
-  unanswered (queued.Request request) =
-      if same_bytes request.method ack then [] else orders.Respond waiting.number (own_response [] 481 does_not_exist request) ∷ []
-  unanswered event = []
+    unanswered : Queued → List Order
+    unanswered (queued.Initial region subscriber popped request) = orders.Respond waiting.number (own_response tag 481 does_not_exist request) ∷ []
+    unanswered (queued.Request request) =
+        if same_bytes request.method ack then [] else orders.Respond waiting.number (own_response [] 481 does_not_exist request) ∷ []
+    unanswered event = []
 
 -- 500 to what was handled, 481 to what waits, and then the CANCELs
 unfoldable pub goodbye : Config → Session → List Waiting → List Order
@@ -319,6 +319,6 @@ goodbye config session inbox =
     ++ flat_map (waiting_answer (own_tag_of session.view FIRST_SESSION)) inbox
     ++ filter (λ order. not (is_answer order)) (goodbyes config session.view session.known (λ sess. true))
   where
-  is_answer : Order → Bool
-  is_answer (orders.Respond event response) = true
-  is_answer order = false
+    is_answer : Order → Bool
+    is_answer (orders.Respond event response) = true
+    is_answer order = false

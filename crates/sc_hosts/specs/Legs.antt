@@ -219,7 +219,7 @@ handling_of session original tag (Some claimer) = In claimer.id
 handling_of session original tag None =
     if is_none original.peer_tag then Takes tag
     else (if nat_lt (session_count session.view) MOST_SESSIONS && not (option_map_or (λ leg. leg.invalidated) (leg_of session.known original.id) false)
-          then Derives tag else In original.id)
+    then Derives tag else In original.id)
 
 unfoldable pub handling_by : Session → ReqId → SessionView → Option Bytes → Handling
 handling_by session req original None = In original.id
@@ -260,11 +260,13 @@ unfoldable pub handled_in : Session → ReqId → SessionView → Handling → S
 handled_in session req original (In sess) = (sess, session)
 handled_in session req original (Takes tag) =
     (original.id, record session { view = change_session original.id (λ s. record s { peer_tag = Some tag }) session.view })
-handled_in session req original (Derives tag) =
-    (record { 0 = length session.view.sessions + 1 }, record session {
-      view = record session.view { sessions = session.view.sessions ++ derived_session session.view original tag ∷ [] };
-      known = record session.known { legs = session.known.legs ++ derived_leg (leg_of session.known original.id) req ∷ [] };
-    })
+handled_in session req original (Derives tag) = (
+  record { 0 = length session.view.sessions + 1 },
+  record session {
+    view = record session.view { sessions = session.view.sessions ++ derived_session session.view original tag ∷ [] };
+    known = record session.known { legs = session.known.legs ++ derived_leg (leg_of session.known original.id) req ∷ [] };
+  },
+)
 
 -- ## The first 2xx to an INVITE ends its other early SipSessions; this is the project's profile
 

@@ -89,7 +89,7 @@ tell_own config app branch code reason request net =
 unfoldable pub send_to : {S : Type 0} → AppId → ℕ → Peer → Option Note → Request → Net S → Net S
 send_to app branch peer noted request net =
     put app.host peer (messages.Request request) noted
-      (change_host app.host (with_client (record { app = app; branch = branch; peer = peer; request = request; sent = net.moment; passed = [] })) net)
+    (change_host app.host (with_client (record { app = app; branch = branch; peer = peer; request = request; sent = net.moment; passed = [] })) net)
 
 unfoldable pub leave_for : {S : Type 0} → Config → AppId → ℕ → Request → Option Place → Net S → Net S
 leave_for config app branch request None net = tell_own config app branch 503 unavailable request net
@@ -143,7 +143,7 @@ peer_of_place (Some place) = peers.Outside place
 unfoldable pub acknowledge : {S : Type 0} → Config → AppId → Request → Net S → Net S
 acknowledge config app request net =
     put app.host (if is_own config (next_uri request) then peer_of_host (named_host (next_uri request) net) else peer_of_place (destination config request))
-      (messages.Request request) None net
+    (messages.Request request) None net
 
 -- a CANCEL goes with its own client transaction
 unfoldable pub send_cancel : {S : Type 0} → AppId → Client → Net S → Net S
@@ -174,7 +174,7 @@ respond_by number event response None net = net
 respond_by number event response (Some server) net =
     if is_sent (is_invite_server server) server.passed response.code
     then put number server.peer (messages.Response response) None
-      (change_host number (λ host. tidied (record host { servers = change_first (is_server event) (answered_server response.code net.moment response) host.servers })) net)
+    (change_host number (λ host. tidied (record host { servers = change_first (is_server event) (answered_server response.code net.moment response) host.servers })) net)
     else net
 
 unfoldable pub server_at : {S : Type 0} → ℕ → Option (Host S) → Option Server

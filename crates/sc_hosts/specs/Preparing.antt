@@ -112,7 +112,7 @@ unfoldable pub taken : Session → ℕ → SessionView → Request → Prepared
 taken session number found request =
     let after : Session = received session number found.id false (is_proxy found.role) request in
     showing (record after { known = change_leg found.id (with_request request) after.known })
-      (events.Request (next_id session) found.id request) (Some (next_id session)) []
+    (events.Request (next_id session) found.id request) (Some (next_id session)) []
 
 unfoldable pub taken_in : Session → ℕ → SessId → Option SessionView → Request → Prepared
 taken_in session number sess None request = silent (numbered session) []
@@ -128,9 +128,9 @@ prepared_request session number request (Some sess) = taken_in session number se
 abbrev pub is_sent_on : ℕ → Kept → Bool
 is_sent_on branch kept = is_way branch kept.way
   where
-  is_way : ℕ → Way → Bool
-  is_way branch (Received event) = false
-  is_way branch (Sent number) = number == branch
+    is_way : ℕ → Way → Bool
+    is_way branch (Received event) = false
+    is_way branch (Sent number) = number == branch
 
 -- the SipSessions whose 2xx waits for an ACK, in order
 unfoldable pub insert_session : SessId → List SessId → List SessId
@@ -235,7 +235,7 @@ unfoldable pub terminated : Session → Invited → RequestView → Option Kept 
 terminated session invited request None = showing_in session invited.sess (events.Cancelled invited.req invited.sess) (Some invited.req) []
 terminated session invited request (Some kept) =
     showing_in (record session { view = answered (Some request) 487 session.view }) invited.sess (events.Cancelled invited.req invited.sess) (Some invited.req)
-      (orders.Respond invited.event (own_response (own_tag_of session.view invited.sess) 487 request_terminated kept.request) ∷ [])
+    (orders.Respond invited.event (own_response (own_tag_of session.view invited.sess) 487 request_terminated kept.request) ∷ [])
 
 unfoldable pub cancelled_proxy : Session → Invited → Option Proxy → Prepared
 cancelled_proxy session invited None = showing_in session invited.sess (events.Cancelled invited.req invited.sess) (Some invited.req) []
@@ -263,10 +263,10 @@ prepared_cancel session (Some invited) = cancelled_request session invited (requ
 unfoldable pub renewed : ℕ → TimerView → Option ℕ
 renewed now timer = next_due now timer.due timer.period
   where
-  next_due : ℕ → ℕ → Period → Option ℕ
-  next_due now due Once = None
-  next_due now due (Rate n) = Some (due + n)
-  next_due now due (Delay n) = Some (now + n)
+    next_due : ℕ → ℕ → Period → Option ℕ
+    next_due now due Once = None
+    next_due now due (Rate n) = Some (due + n)
+    next_due now due (Delay n) = Some (now + n)
 
 unfoldable pub fired : View → TimerView → Option ℕ → View
 fired view timer None = record view { timers = remove_first (is_timer timer.id) view.timers }
@@ -302,7 +302,7 @@ prepared_branch_timer config ringing session branch due (Some proxy) =
 unfoldable pub prepared_for : Config → List ℕ → Session → ℕ → Queued → Prepared
 prepared_for config ringing session number (queued.Initial region subscriber popped request) =
     showing (received session number FIRST_SESSION true false request)
-      (events.Initial (next_id session) FIRST_SESSION region subscriber popped request) (Some (next_id session)) []
+    (events.Initial (next_id session) FIRST_SESSION region subscriber popped request) (Some (next_id session)) []
 prepared_for config ringing session number (queued.Request request) = prepared_request session number request (session_for session request)
 prepared_for config ringing session number (queued.Response branch response) =
     prepared_response session branch response (find (is_sent_on branch) session.known.kept) (find (has_branch branch) session.known.proxies)

@@ -150,11 +150,11 @@ has_system_ask ask = has_system_name ask.fields || (not (length ask.contact == 0
 unfoldable pub respond_refusal : RequestView → Answer → Option Refusal
 respond_refusal request answer =
     option_or (first_of (
-      (not request.received || same_bytes request.method ack, NotYours)
-      ∷ (request.proxied, AlreadyProxy)
-      ∷ (is_some request.answered, AlreadyAnswered)
-      ∷ (has_system_answer request.method answer, SystemHeader)
-      ∷ [])) (answer_text answer)
+    (not request.received || same_bytes request.method ack, NotYours)
+    ∷ (request.proxied, AlreadyProxy)
+    ∷ (is_some request.answered, AlreadyAnswered)
+    ∷ (has_system_answer request.method answer, SystemHeader)
+    ∷ [])) (answer_text answer)
 
 unfoldable pub is_new : Directive → Bool
 is_new New = true
@@ -171,19 +171,19 @@ is_sent_origin play origin = option_map_or (λ req. option_map_or (λ request. n
 unfoldable pub create_refusal : Play → Ask → Option Refusal
 create_refusal play ask =
     option_or (first_of (
-      (nat_le MOST_SESSIONS (session_count play.view), Limit MOST_SESSIONS)
-      ∷ (is_sent_origin play ask.origin, NotYours)
-      ∷ (not (is_new ask.directive) && not (is_origin play ask.origin), NotInitial)
-      ∷ (has_system_ask ask, SystemHeader)
-      ∷ [])) (asked_text ask.method ask.fields)
+    (nat_le MOST_SESSIONS (session_count play.view), Limit MOST_SESSIONS)
+    ∷ (is_sent_origin play ask.origin, NotYours)
+    ∷ (not (is_new ask.directive) && not (is_origin play ask.origin), NotInitial)
+    ∷ (has_system_ask ask, SystemHeader)
+    ∷ [])) (asked_text ask.method ask.fields)
 
 unfoldable pub dialog_refusal : Option SessionView → Inside → Option Refusal
 dialog_refusal None ask = Some NotYours
 dialog_refusal (Some session) ask =
     option_or (first_of (
-      (not (is_open_state session.state) || is_proxy session.role, WrongState session.state)
-      ∷ (has_system_name ask.fields, SystemHeader)
-      ∷ [])) (asked_text ask.method ask.fields)
+    (not (is_open_state session.state) || is_proxy session.role, WrongState session.state)
+    ∷ (has_system_name ask.fields, SystemHeader)
+    ∷ [])) (asked_text ask.method ask.fields)
 
 unfoldable pub linked_refusal : Option SessId → Option Refusal
 linked_refusal other = option_map (λ sess. AlreadyLinked sess) other
@@ -192,14 +192,14 @@ unfoldable pub b2b_refusal : Play → Option RequestView → Option Refusal
 b2b_refusal play None = Some NotYours
 b2b_refusal play (Some request) =
     option_or (first_of (
-      (not request.received, NotYours)
-      ∷ (not request.initial, NotInitial)
-      ∷ (request.proxied, AlreadyProxy)
-      ∷ (is_some request.answered, AlreadyAnswered)
-      ∷ [])) (option_or (linked_refusal (partner play.view request.sess)) (first_of (
-      (request.hops == 0, NoHops)
-      ∷ (nat_le MOST_SESSIONS (session_count play.view), Limit MOST_SESSIONS)
-      ∷ [])))
+    (not request.received, NotYours)
+    ∷ (not request.initial, NotInitial)
+    ∷ (request.proxied, AlreadyProxy)
+    ∷ (is_some request.answered, AlreadyAnswered)
+    ∷ [])) (option_or (linked_refusal (partner play.view request.sess)) (first_of (
+    (request.hops == 0, NoHops)
+    ∷ (nat_le MOST_SESSIONS (session_count play.view), Limit MOST_SESSIONS)
+    ∷ [])))
 
 unfoldable pub directive_refusal : Play → Option Draft → Directive → Option ReqId → Option Refusal
 directive_refusal play None directive origin = Some NotYours
@@ -222,7 +222,7 @@ unfoldable pub cancel_refusal : View → Option RequestView → Option Refusal
 cancel_refusal view None = Some NotYours
 cancel_refusal view (Some request) =
     option_or (first_of ((request.received || not (same_bytes request.method invite), NotSent) ∷ []))
-              (if is_some request.answered then option_map (λ session. WrongState session.state) (session_in view request.sess) else None)
+    (if is_some request.answered then option_map (λ session. WrongState session.state) (session_in view request.sess) else None)
 
 unfoldable pub is_begun : Option SessionView → Bool
 is_begun session = option_map_or (λ s. not (is_initial_state s.state)) session false
@@ -238,17 +238,17 @@ unfoldable pub proxy_refusal : Play → Option RequestView → ℕ → ProxyOpti
 proxy_refusal play None count how = Some NotYours
 proxy_refusal play (Some request) count how =
     option_or (first_of (
-      (not request.received, NotYours)
-      ∷ (not request.initial, NotInitial)
-      ∷ (is_some request.answered && not request.proxied, AlreadyAnswered)
-      ∷ (is_some request.answered, AlreadyProxy)
-      ∷ [])) (option_or (if not request.proxied && is_begun (session_in play.view request.sess) then state_refusal (session_in play.view request.sess) else None)
-      (first_of (
-      (request.hops == 0, NoHops)
-      ∷ (count == 0, BadText 0)
-      ∷ (how.timeout == 0 || nat_lt 3600 how.timeout, BadText 1)
-      ∷ (nat_lt MOST_BRANCHES (branch_count play.view + count), Limit MOST_BRANCHES)
-      ∷ [])))
+    (not request.received, NotYours)
+    ∷ (not request.initial, NotInitial)
+    ∷ (is_some request.answered && not request.proxied, AlreadyAnswered)
+    ∷ (is_some request.answered, AlreadyProxy)
+    ∷ [])) (option_or (if not request.proxied && is_begun (session_in play.view request.sess) then state_refusal (session_in play.view request.sess) else None)
+    (first_of (
+    (request.hops == 0, NoHops)
+    ∷ (count == 0, BadText 0)
+    ∷ (how.timeout == 0 || nat_lt 3600 how.timeout, BadText 1)
+    ∷ (nat_lt MOST_BRANCHES (branch_count play.view + count), Limit MOST_BRANCHES)
+    ∷ [])))
 
 unfoldable pub proxy_cancel_refusal : Option RequestView → Option Refusal
 proxy_cancel_refusal None = Some NotYours
@@ -266,9 +266,9 @@ b2b_respond_refusal view sess answer =
 unfoldable pub link_refusal : View → SessId → SessId → Option Refusal
 link_refusal view a b =
     option_or (first_of (
-      (same_session a b, AlreadyLinked a)
-      ∷ (is_ended_session (session_in view a) || is_ended_session (session_in view b), WrongState Terminated)
-      ∷ [])) (option_or (linked_refusal (partner view a)) (linked_refusal (partner view b)))
+    (same_session a b, AlreadyLinked a)
+    ∷ (is_ended_session (session_in view a) || is_ended_session (session_in view b), WrongState Terminated)
+    ∷ [])) (option_or (linked_refusal (partner view a)) (linked_refusal (partner view b)))
 
 unfoldable pub is_zero_period : Period → Bool
 is_zero_period Once = false
@@ -313,4 +313,4 @@ own_refusal play calls.InvalidateApplication = None
 unfoldable pub refusal : Play → Call → Option Refusal
 refusal play call =
     option_or (first_of ((nat_le MOST_CALLS play.listed, Limit MOST_CALLS) ∷ (play.ended, Invalidated) ∷ []))
-              (option_or (name_refusal play.view (named play call)) (own_refusal play call))
+    (option_or (name_refusal play.view (named play call)) (own_refusal play call))

@@ -53,12 +53,13 @@ at_number region n = record { region = region; directive = Continue; state = Som
 unfoldable pub named_position : Bytes → Option Position
 named_position text = first_some (map_position Originating ∷ map_position Terminating ∷ map_position Neutral ∷ [])
   where
-  map_position : Region → Option Position
-  map_position region = option_map (at_number region) (named_number text region)
-  first_some : List (Option Position) → Option Position
-  first_some [] = None
-  first_some (None ∷ more) = first_some more
-  first_some (Some position ∷ more) = Some position
+    map_position : Region → Option Position
+    map_position region = option_map (at_number region) (named_number text region)
+
+    first_some : List (Option Position) → Option Position
+    first_some [] = None
+    first_some (None ∷ more) = first_some more
+    first_some (Some position ∷ more) = Some position
 
 unfoldable pub position_by : Option Address → Position
 position_by None = at_beginning

@@ -31,9 +31,9 @@ timer_entry timer = record { due = timer.due; number = 8 * timer.id.0 + 1; event
 unfoldable pub branch_entry : Branch → List SessionEntry
 branch_entry branch = entry_at branch.due
   where
-  entry_at : Option ℕ → List SessionEntry
-  entry_at None = []
-  entry_at (Some due) = record { due = due; number = 8 * branch.number + 2; event = queued.BranchTimer branch.number due } ∷ []
+    entry_at : Option ℕ → List SessionEntry
+    entry_at None = []
+    entry_at (Some due) = record { due = due; number = 8 * branch.number + 2; event = queued.BranchTimer branch.number due } ∷ []
 
 -- all that runs in a session
 unfoldable pub entries_of : Session → List SessionEntry

@@ -84,7 +84,7 @@ initial_arrives form setup from request net =
     if same_bytes (method_of request) ack then net
     else (if is_never_initial request then edge_answer setup.config from 481 does_not_exist request net
     else begins_by form setup from (unrouted_initial setup.config request) (popped_route setup.config request)
-           (choice_of setup.config setup.dar (unrouted_initial setup.config request) (position_of setup.config request).region (position_of setup.config request).directive (position_of setup.config request).state) net)
+    (choice_of setup.config setup.dar (unrouted_initial setup.config request) (position_of setup.config request).region (position_of setup.config request).directive (position_of setup.config request).state) net)
 
 unfoldable pub later_at : {S : Type 0} → Form S → Setup → Place → Request → Option ℕ → Net S → Net S
 later_at form setup from request None net = edge_answer setup.config from 481 does_not_exist request net
@@ -138,7 +138,7 @@ told_at config client reason (Some code) net =
 unfoldable pub passes : {S : Type 0} → Config → ClientItem → Bytes → Net S → Client → Net S
 passes config item reason net client =
     told_at config client reason (out_of_client client item).tell
-      (change_host client.app.host (pass_client client.app client.branch (is_cancel_client client) item) net)
+    (change_host client.app.host (pass_client client.app client.branch (is_cancel_client client) item) net)
 
 -- the client transactions whose request went to a place, by host, serial and branch
 unfoldable pub client_key : Client → DueEntry
@@ -183,8 +183,8 @@ is_fired fired due number = list_any (λ f. f.due == due && f.number == number) 
 unfoldable pub live_dated : {S : Type 0} → Form S → ℕ → Live S → List Dated
 live_dated form host live =
     flat_map (λ entry. if is_fired live.fired entry.due entry.number then []
-              else dated (record { host = host; serial = live.serial }) entry.number (Of_session (record { host = host; serial = live.serial }) entry.event) (Some entry.due))
-      (entries_of (form.read live.session))
+    else dated (record { host = host; serial = live.serial }) entry.number (Of_session (record { host = host; serial = live.serial }) entry.event) (Some entry.due))
+    (entries_of (form.read live.session))
 
 unfoldable pub host_dated : {S : Type 0} → Form S → ℕ → Host S → List Dated
 host_dated form number host =
@@ -275,8 +275,8 @@ closed_turn setup app done false net = with_ready app done (live_at app net) net
 unfoldable pub turned : {S : Type 0} → Form S → Setup → AppId → Turn → Outcome → Net S → Net S
 turned form setup app turn done net =
     closed_turn setup app done done.ends
-      (obeyed setup app done.orders
-      (change_host app.host (λ host. record host { sessions = change_first (is_live app.serial) (turned_live form setup.config net.moment turn done) host.sessions }) net))
+    (obeyed setup app done.orders
+    (change_host app.host (λ host. record host { sessions = change_first (is_live app.serial) (turned_live form setup.config net.moment turn done) host.sessions }) net))
 
 unfoldable pub turn_of : {S : Type 0} → Net S → AppId → Waiting → ℕ → List CallRecord → End → Turn
 turn_of net app waiting now made end = record { waiting = waiting; now = now; ringing = ringing_at app (host_at app.host net); calls = made; end = end }

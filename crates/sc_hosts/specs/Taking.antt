@@ -106,7 +106,7 @@ unfoldable pub response_for : {S : Type 0} → ℕ → Client → Response → �
 response_for now client response count host =
     let item = client_items.ResponseCame response.code now in
     with_reply (out_of_client client item) now client response
-      (told_by (out_of_client client item).tell now client response count (pass_client client.app client.branch (is_cancel_client client) item host))
+    (told_by (out_of_client client item).tell now client response count (pass_client client.app client.branch (is_cancel_client client) item host))
 
 unfoldable pub response_to : {S : Type 0} → ℕ → Option Client → Response → ℕ → Host S → Taken S
 response_to now None response count host = quiet host count
@@ -122,7 +122,7 @@ take_response config epoch from now response count host = response_to now (clien
 unfoldable pub cancelled : {S : Type 0} → Peer → ℕ → Server → Request → ℕ → Host S → Taken S
 cancelled from now server request count host =
     replying from (messages.Response (own_response server.tag 200 ok request))
-      (if has_final server then quiet host count else queue server.app.serial now (queued.Cancelled server.event) count host)
+    (if has_final server then quiet host count else queue server.app.serial now (queued.Cancelled server.event) count host)
 
 unfoldable pub last_again : {S : Type 0} → Server → Option Response → Taken S → Taken S
 last_again server None taken = taken
@@ -216,8 +216,8 @@ unfoldable pub queue_later : {S : Type 0} → Config → ℕ → Peer → ℕ �
 queue_later config number from now request count live host =
     if is_full live then refuse config from 503 unavailable request count host
     else with_trying from now request
-      (queue live.serial now (queued.Request (unrouted config request)) count
-        (with_server (record { host = number; serial = live.serial }) (count + 1) from [] (unrouted config request) host))
+    (queue live.serial now (queued.Request (unrouted config request)) count
+    (with_server (record { host = number; serial = live.serial }) (count + 1) from [] (unrouted config request) host))
 
 unfoldable pub later_by : {S : Type 0} → Config → ℕ → Peer → ℕ → Request → ℕ → Option (Live S) → Host S → Taken S
 later_by config number from now request count None host = refuse config from 481 does_not_exist request count host

@@ -127,9 +127,9 @@ is_same_app a b = a.host == b.host && a.serial == b.serial
 unfoldable pub is_client : AppId → ℕ → Bool → Client → Bool
 is_client app branch cancelling client = is_same_app client.app app && client.branch == branch && same_bool (is_cancel_client client) cancelling
   where
-  same_bool : Bool → Bool → Bool
-  same_bool true b = b
-  same_bool false b = not b
+    same_bool : Bool → Bool → Bool
+    same_bool true b = b
+    same_bool false b = not b
 
 -- the response belongs to it (RFC 3261 section 17.1.3)
 unfoldable pub is_answered_by : Bytes → ℕ → Peer → Response → Client → Bool

@@ -125,21 +125,23 @@ next_branch working = working.play.view.counter + 1
 
 -- the request that was sent is kept under its number
 unfoldable pub keeps_sent : SessId → Request → Working → Working
-keeps_sent sess request working = record working { known = record working.known {
-  kept = working.known.kept ++ record { id = record { 0 = working.play.view.next_request }; sess = sess; way = Sent (next_branch working); request = request } ∷ [];
-} }
+keeps_sent sess request working = record working {
+  known = record working.known {
+    kept = working.known.kept ++ record { id = record { 0 = working.play.view.next_request }; sess = sess; way = Sent (next_branch working); request = request } ∷ [];
+  };
+}
 
 unfoldable pub sends_initial : Config → Written → SessId → Request → Working → Working
 sends_initial config draft sess request working =
     giving (orders.Begin (next_branch working) draft.directive working.known.region (router_state draft.directive working.known) (on_branch config working.play.view (next_branch working) request) ∷ [])
-      (keeps_sent sess request (record working {
-        known = change_leg sess (λ leg. record leg { first = Some (record { 0 = working.play.view.next_request }) }) working.known;
-      }))
+    (keeps_sent sess request (record working {
+      known = change_leg sess (λ leg. record leg { first = Some (record { 0 = working.play.view.next_request }) }) working.known;
+    }))
 
 unfoldable pub sends_later : Config → SessId → Request → Working → Working
 sends_later config sess request working =
     giving (orders.Send (next_branch working) (on_branch config working.play.view (next_branch working) request) ∷ [])
-      (keeps_sent sess request (record working { known = change_leg sess (in_dialog (By_self (messages.Request request))) working.known }))
+    (keeps_sent sess request (record working { known = change_leg sess (in_dialog (By_self (messages.Request request))) working.known }))
 
 unfoldable pub dialog_in : Known → SessId → Option DialogState
 dialog_in known sess = option_and_then (λ leg. leg.dialog) (leg_of known sess)

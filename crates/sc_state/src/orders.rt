@@ -24,11 +24,17 @@ pub enum Order {
         request: Boxed<Request>,
     },
     /// An ACK to a 2xx.
-    Acknowledge { request: Boxed<Request> },
+    Acknowledge {
+        request: Boxed<Request>,
+    },
     /// A CANCEL of the INVITE on this branch, as soon as a provisional response has come.
-    Cancel { branch: u64 },
+    Cancel {
+        branch: u64,
+    },
     /// A CANCEL of the INVITE on this branch, where a provisional response has come.
-    CancelNow { branch: u64 },
+    CancelNow {
+        branch: u64,
+    },
 }
 
 /// What a turn makes of its application session.

@@ -12,18 +12,27 @@ pub enum Queued {
         request: Boxed<Request>,
     },
     /// A request with a To tag.
-    Request { request: Boxed<Request> },
+    Request {
+        request: Boxed<Request>,
+    },
     /// A response on this branch, without its own Via.
     Response {
         branch: u64,
         response: Boxed<Response>,
     },
     /// The INVITE of this event number was cancelled.
-    Cancelled { event: u64 },
+    Cancelled {
+        event: u64,
+    },
     /// The servlet timer was due.
-    Timer { id: TimerId },
+    Timer {
+        id: TimerId,
+    },
     /// The timer of this branch was due at this moment.
-    BranchTimer { branch: u64, due: u64 },
+    BranchTimer {
+        branch: u64,
+        due: u64,
+    },
     /// The application session's expiry was due.
     Expired,
     /// The application session is ready to go away.
