@@ -4,6 +4,7 @@ pub mod States
 pub mod Refusals
 pub mod Effects
 pub mod Charters
+pub mod HelperCharters
 pub mod Messages
 pub mod Legs
 pub mod Branches
