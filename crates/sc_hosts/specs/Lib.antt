@@ -19,5 +19,6 @@ pub mod Nets
 pub mod Settle
 pub mod Routes
 pub mod Steps
+pub mod EventLists
 pub mod Histories
 pub mod Runs
