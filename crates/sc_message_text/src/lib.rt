@@ -3,7 +3,10 @@
 #![tactic(auto)]
 
 mod addresses;
+mod blanks;
+mod ends;
 mod first;
+mod folds;
 mod headers;
 mod items;
 mod lines;
@@ -12,6 +15,7 @@ mod names;
 mod pieces;
 mod reading;
 mod refused;
+mod starts;
 #[cfg(test)]
 mod tests;
 mod uris;

@@ -1,0 +1,3 @@
+mod BlankSteps
+mod EndSteps
+mod FoldSteps
