@@ -9,6 +9,7 @@ mod first;
 mod folds;
 mod headers;
 mod items;
+mod keeping;
 mod lines;
 mod messages;
 mod names;
@@ -16,6 +17,7 @@ mod pieces;
 mod reading;
 mod refused;
 mod starts;
+mod taking;
 #[cfg(test)]
 mod tests;
 mod uris;
