@@ -4,9 +4,10 @@ use Rattle.std.specs.List.{fold}
 use Rattle.sc_syntax.specs.declared.ending.Ending.{Ending}
 use Rattle.sc_syntax.specs.declared.ending.Ending.TheVariants.{Any}
 use Rattle.sc_syntax.specs.Bytes.{Bytes}
-use Rattle.sc_syntax.specs.Lines.{pieces_at}
+use Rattle.sc_syntax.specs.Lines.{end_of, pieces_at}
 use Rattle.sc_syntax.specs.Folds.{continued, all_continued, joined}
 use Rattle.sc_message_text.specs.Pieces.{pieces_behind}
+use Rattle.sc_message_text.proofs.EndSteps.{pieces_last}
 
 pub joined_is : (line first : Bytes) (rest : List Bytes) → pieces_at Any line ≡ first ∷ rest → joined line ≡ fold continued first rest
 unfolding joined all_continued
@@ -27,3 +28,7 @@ fold_more text piece all more h = ap (fold continued text) h
 -- none more
 pub fold_end : (text : Bytes) (all : List Bytes) → all ≡ [] → text ≡ fold continued text all
 fold_end text all h = sym (ap (fold continued text) h)
+
+-- a line without a fold
+pub joined_plain : (line : Bytes) → end_of Any line ≡ None → joined line ≡ line
+joined_plain line h = joined_is line line [] (pieces_last Any line h)

@@ -1,3 +1,4 @@
 mod BlankSteps
 mod EndSteps
 mod FoldSteps
+mod HeadSteps

@@ -46,3 +46,8 @@ Reads (Err refused) read = HasPlace refused read
 abbrev pub TakesAll : {X U : Type 0} → Result U MessageRefused → X → Result X Fault → Type 0
 TakesAll (Ok done) now read = read ≡ Ok now
 TakesAll (Err refused) now read = HasPlace refused read
+
+-- a line's refusal, at this place
+abbrev pub placed_refusal : ℕ → LineRefused → MessageRefused
+placed_refusal at (line.Fault kind) = message.Refused at kind
+placed_refusal at line.NoMemory = message.NoMemory

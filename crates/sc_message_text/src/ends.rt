@@ -3,7 +3,8 @@
 ghost use Rattle.std.specs.Prelude.{◌≡◌, ◌≤◌, ◌<◌, ◌+◌, ◌∷◌, IfSome, IsTrue, length, take, drop};
 ghost use Rattle.std.specs.Option.{option_copied, option_map};
 ghost use Rattle.sc_value.specs.Tokens.{begins_blank};
-ghost use Rattle.sc_syntax.specs.Lines.{begins_break, end_of, is_end, pieces_at};
+ghost use Rattle.sc_syntax.specs.declared.ending.Ending.TheVariants.{Empty};
+ghost use Rattle.sc_syntax.specs.Lines.{begins_break, behind_start, end_of, is_end, pieces_at, start_line};
 ghost use Rattle.sc_message_text.specs.Pieces.{pieces_behind};
 
 use sc_syntax::Ending;
@@ -33,6 +34,7 @@ fn begins_blank(text: &[u8]) -> bool
 fn is_end(ending: Ending, text: &[u8]) -> bool
     ensures exact { result ≡ is_end ending text.now }
     ensures within { IsTrue result → 2 ≤ length text.now }
+    ensures whole { IsTrue result → ending ≡ Empty → 4 ≤ length text.now }
 {
     if !begins_break(text) {
         return false;
@@ -49,6 +51,7 @@ fn is_end(ending: Ending, text: &[u8]) -> bool
 pub fn end_of(ending: Ending, text: &[u8]) -> Option<usize>
     ensures exact { result ≡ end_of ending text.now }
     ensures within { IfSome result (λ end. end + 2 ≤ length text.now) }
+    ensures whole { ending ≡ Empty → IfSome result (λ end. end + 4 ≤ length text.now) }
 {
     for i in 0..text.len() {
         if is_end(ending, &text[i..]) {
@@ -68,5 +71,19 @@ pub fn split_piece(ending: Ending, text: &[u8]) -> (&[u8], Option<&[u8]>)
     match end_of(ending, text) {
         Some(end) => (&text[..end], Some(&text[end + 2..])),
         None => (text, None),
+    }
+}
+
+// The start line of a head, and what stands behind its end, where there is something.
+#[tactic(auto, unfolding(sc_syntax::specs::Lines::start_line, sc_syntax::specs::Lines::behind_start))]
+pub fn split_start(head: &[u8]) -> (&[u8], Option<&[u8]>)
+    ensures line { result.0.now ≡ start_line head.now }
+    ensures rest { option_copied result.1 ≡ behind_start head.now }
+    ensures within { length result.0.now ≤ length head.now }
+    ensures less { IfSome result.1 (λ rest. length result.0.now + 2 + length rest.now ≡ length head.now) }
+{
+    match end_of(Ending::Any, head) {
+        Some(end) => (&head[..end], Some(&head[end + 2..])),
+        None => (head, None),
     }
 }

@@ -8,6 +8,7 @@ mod ends;
 mod first;
 mod folds;
 mod headers;
+mod heads;
 mod items;
 mod keeping;
 mod lines;
