@@ -1,4 +1,5 @@
 mod BlankSteps
 mod EndSteps
+mod FinishSteps
 mod FoldSteps
 mod HeadSteps

@@ -5,6 +5,7 @@
 mod addresses;
 mod blanks;
 mod ends;
+mod finishing;
 mod first;
 mod folds;
 mod headers;

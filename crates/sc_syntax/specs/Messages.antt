@@ -82,15 +82,17 @@ is_method_of (Status code reason) named = true
 unfoldable pub fits : Option ℕ → Bytes → Bool
 fits len body = length body == unwrap_or len 0
 
-unfoldable pub finished_with : Start → Left → Bytes → Peers → Result Message ℕ
-finished_with start left body peers =
+unfoldable pub finished_with : Start → Lists → Option ℕ → Option ℕ → Bytes → Peers → Result Message ℕ
+finished_with start lists hops len body peers =
     if not (is_method_of start peers.1.1.method) then Err 10
-    else if not (fits left.singles.length body) then Err 12
-    else Ok (message_with start left.singles.hops (head_of left.lists peers body))
+    else if not (fits len body) then Err 12
+    else Ok (message_with start hops (head_of lists peers body))
 
 -- the message of a start line, of what its header lines have left and of the body
 unfoldable pub finished : Start → Left → Bytes → Result Message ℕ
-finished start left body = if length left.lists.via == 0 then Err 7 else option_map_or (finished_with start left body) (peers_of left.singles) (Err 7)
+finished start left body =
+    if length left.lists.via == 0 then Err 7
+    else option_map_or (finished_with start left.lists left.singles.hops left.singles.length body) (peers_of left.singles) (Err 7)
 
 -- ## The text
 
