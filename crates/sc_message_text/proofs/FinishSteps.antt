@@ -8,7 +8,6 @@ use Rattle.sc_syntax.specs.declared.left.Left.{Left}
 use Rattle.sc_syntax.specs.declared.left.Lists.{Lists}
 use Rattle.sc_syntax.specs.declared.left.Start.{Start}
 use Rattle.sc_syntax.specs.Bytes.{Bytes}
-use Rattle.sc_syntax.specs.UriParts.{Fault}
 use Rattle.sc_syntax.specs.Messages.{Peers, peers_of, head_of, message_with, is_method_of, fits, finished_with, finished}
 use Rattle.sc_message_text.specs.declared.refused.LineRefused.TheVariants as refusals
 use Rattle.sc_message_text.specs.declared.refused.LineRefused.{LineRefused}

@@ -3,3 +3,4 @@ mod EndSteps
 mod FinishSteps
 mod FoldSteps
 mod HeadSteps
+mod WholeSteps

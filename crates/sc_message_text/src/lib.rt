@@ -23,8 +23,10 @@ mod taking;
 #[cfg(test)]
 mod tests;
 mod uris;
+mod whole;
 
 pub use messages::{text_of, write};
 pub use reading::read;
 pub use refused::MessageRefused;
 pub use uris::uri_text;
+pub use whole::read_message;

@@ -1,4 +1,4 @@
-use Rattle.std.proofs.Common.{◌∙◌, ◌+◌, ap, length}
+use Rattle.std.proofs.Common.{◌∙◌, ap, length}
 use Rattle.std.specs.Option.{option_copied}
 use Rattle.sc_syntax.specs.declared.ending.Ending.TheVariants.{Unfolded}
 use Rattle.sc_syntax.specs.Messages.{all_judged}
