@@ -71,12 +71,7 @@ pub fn take_lines(
 
 // A header line, which begins at this place.
 #[tactic(auto, unfolding(sc_syntax::specs::Messages::placed), using(crate::proofs::HeadSteps::refusal_placed))]
-fn take_placed(
-    left: &mut Left,
-    alloc: Global,
-    line: &[u8],
-    at: usize,
-) -> Result<(), MessageRefused>
+fn take_placed(left: &mut Left, alloc: Global, line: &[u8], at: usize) -> Result<(), MessageRefused>
     ensures { TakesAll result left.new (placed at (judged left.old (joined line.now))) }
 {
     match take_folded(left, alloc, line) {

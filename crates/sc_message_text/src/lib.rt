@@ -24,6 +24,8 @@ mod taking;
 mod tests;
 mod uris;
 mod whole;
+#[cfg(test)]
+mod whole_tests;
 
 pub use messages::{text_of, write};
 pub use reading::read;

@@ -184,13 +184,7 @@ fn read_code(text: &[u8]) -> Option<u16>
         return None;
     }
     match read_below_700(text) {
-        Some(code) => {
-            if code >= 100 {
-                Some(code)
-            } else {
-                None
-            }
-        }
+        Some(code) => { if code >= 100 { Some(code) } else { None } }
         None => None,
     }
 }

@@ -9,9 +9,8 @@ ghost use Rattle.sc_syntax.specs.Vias.{vias_of};
 ghost use Rattle.sc_message_text.specs.Answers.{Takes};
 
 use crate::blanks::{trim, trim_back};
-use crate::keeping;
-use crate::names;
 use crate::refused::LineRefused;
+use crate::{keeping, names};
 use sc_head_text::{
     read_address, read_addresses, read_contacts, read_cseq, read_hops, read_length, read_vias,
 };
@@ -34,12 +33,7 @@ pub fn take_line(left: &mut Left, alloc: Global, line: &[u8]) -> Result<(), Line
 
 // A name, which may be compact, and what stands behind its colon.
 #[tactic(auto, unfolding(sc_syntax::specs::Judging::named))]
-fn take_named(
-    left: &mut Left,
-    alloc: Global,
-    name: &[u8],
-    value: &[u8],
-) -> Result<(), LineRefused>
+fn take_named(left: &mut Left, alloc: Global, name: &[u8], value: &[u8]) -> Result<(), LineRefused>
     ensures { Takes result left.new (named left.old name.now value.now) }
 {
     if !is_token(name) {
@@ -252,12 +246,7 @@ fn take_length(left: &mut Left, value: &[u8]) -> Result<(), LineRefused>
 }
 
 #[tactic(auto, unfolding(sc_syntax::specs::Judging::taken_as, sc_syntax::specs::Judging::in_line))]
-fn take_field(
-    left: &mut Left,
-    alloc: Global,
-    name: &[u8],
-    value: &[u8],
-) -> Result<(), LineRefused>
+fn take_field(left: &mut Left, alloc: Global, name: &[u8], value: &[u8]) -> Result<(), LineRefused>
     ensures { Takes result left.new (taken_as (with_field left.old name.now) (in_line Some value.now)) }
 {
     if !is_one_line(value) {
