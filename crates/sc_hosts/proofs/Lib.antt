@@ -3,3 +3,4 @@ pub mod SettleLaws
 pub mod Deliveries
 pub mod InnerReplies
 pub mod RunLaws
+pub mod Trying

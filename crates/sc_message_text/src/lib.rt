@@ -3,20 +3,32 @@
 #![tactic(auto)]
 
 mod addresses;
+mod blanks;
+mod ends;
+mod finishing;
 mod first;
+mod folds;
 mod headers;
+mod heads;
 mod items;
+mod keeping;
 mod lines;
 mod messages;
 mod names;
 mod pieces;
 mod reading;
 mod refused;
+mod starts;
+mod taking;
 #[cfg(test)]
 mod tests;
 mod uris;
+mod whole;
+#[cfg(test)]
+mod whole_tests;
 
 pub use messages::{text_of, write};
 pub use reading::read;
 pub use refused::MessageRefused;
 pub use uris::uri_text;
+pub use whole::read_message;

@@ -5,6 +5,7 @@ pub mod DecimalLaws
 pub mod PartLaws
 pub mod UriLaws
 pub mod HeaderCases
+pub mod MessageCases
 pub mod BlankLaws
 pub mod ListedLaws
 pub mod ViaLaws

@@ -12,6 +12,11 @@ pub mod Parameters
 pub mod Vias
 pub mod Addresses
 pub mod Sequences
+pub mod Lines
+pub mod Folds
+pub mod StartLines
+pub mod Judging
+pub mod Messages
 pub mod SpelledParts
 pub mod SpelledVias
 pub mod SpelledAddresses

@@ -1,7 +1,12 @@
-//! The syntax of a message's parts (RFC 3261 section 25.1): definitions and laws, and the states of
-//! a scan. A text is cut at its separators, and each part is read as a whole.
+//! The syntax of messages and of their parts (RFC 3261 sections 7 and 25.1): definitions and laws,
+//! the states of a scan, and what the lines of a message leave. A text is cut at its separators, and
+//! each part is read as a whole.
 #![tactic(auto)]
 
+mod ending;
+mod left;
 mod scan;
 
+pub use ending::Ending;
+pub use left::{Header, Left, Lists, Singles, Start};
 pub use scan::Scan;

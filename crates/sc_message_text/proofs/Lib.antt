@@ -1,0 +1,6 @@
+mod BlankSteps
+mod EndSteps
+mod FinishSteps
+mod FoldSteps
+mod HeadSteps
+mod WholeSteps

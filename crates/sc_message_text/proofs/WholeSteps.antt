@@ -1,0 +1,86 @@
+-- A message's text, part by part.
+use Rattle.std.proofs.Common.{◌≡◌, ℕ, Ok, Err, Option, Some, None, Result, ◌+◌, ◌≤◌, ◌^◌, length, Bor, refl, sym, ap, ◌∙◌, arith}
+use Rattle.std.specs.Prelude.{IfSome}
+use Rattle.std.specs.Option.{option_copied, option_map_or}
+use Rattle.sc_value.specs.declared.message.Message.{Message}
+use Rattle.sc_syntax.specs.declared.ending.Ending.TheVariants.{Unfolded}
+use Rattle.sc_syntax.specs.declared.left.Left.{Left}
+use Rattle.sc_syntax.specs.declared.left.Start.{Start}
+use Rattle.sc_syntax.specs.Bytes.{Bytes}
+use Rattle.sc_syntax.specs.UriParts.{Fault, then_read}
+use Rattle.sc_syntax.specs.Lines.{start_line, behind_start, header_lines}
+use Rattle.sc_syntax.specs.StartLines.{start_of}
+use Rattle.sc_syntax.specs.Messages.{placed, nothing_left, all_judged, finished, message_in}
+use Rattle.sc_message_text.specs.declared.refused.MessageRefused.{MessageRefused}
+use Rattle.sc_message_text.specs.declared.refused.MessageRefused.TheVariants as messages
+use Rattle.sc_message_text.specs.Answers.{HasPlace, Reads}
+use Rattle.sc_message_text.specs.Pieces.{pieces_behind, message_behind}
+use Rattle.sc_message_text.proofs.HeadSteps.{lines_are}
+
+reads_same : {X : Type 0} (result : Result X MessageRefused) (a b : Result X Fault) → b ≡ a → Reads result a → Reads result b
+reads_same (Ok x) a b same h = same ∙ h
+reads_same (Err (messages.Refused at kind)) a b same h = same ∙ h
+reads_same (Err messages.NoMemory) a b same h = tt
+
+then_ok : {A B : Type 0} (read : Result A Fault) (a : A) (next : A → Result B Fault) → read ≡ Ok a → then_read read next ≡ next a
+unfolding then_read
+then_ok read a next h = ap (λ r. then_read r next) h
+
+then_err : {A B : Type 0} (read : Result A Fault) (fault : Fault) (next : A → Result B Fault) → read ≡ Err fault → then_read read next ≡ Err fault
+unfolding then_read
+then_err read fault next h = ap (λ r. then_read r next) h
+
+pub reads_then : {A B : Type 0} (result : Result B MessageRefused) (read : Result A Fault) (a : A) (next : A → Result B Fault) → read ≡ Ok a → Reads result (next a) → Reads result (then_read read next)
+reads_then result read a next is h = reads_same result (next a) (then_read read next) (then_ok read a next is) h
+
+pub refused_then : {A B : Type 0} (refused : MessageRefused) (read : Result A Fault) (next : A → Result B Fault) → HasPlace refused read → HasPlace refused (then_read read next)
+refused_then (messages.Refused at kind) read next h = then_err read (record { at = at; kind = kind }) next h
+refused_then messages.NoMemory read next h = tt
+
+-- ## Behind the start line
+
+pub behind_done : (result : Result Message MessageRefused) (start : Start) (rest : Option Bytes) (at end : ℕ) (body : Bytes) (first left : Left) → first ≡ nothing_left
+    → all_judged at first (pieces_behind Unfolded rest) ≡ Ok left → Reads result (placed end (finished start left body)) → Reads result (message_behind start rest at body end)
+behind_done result start rest at end body first left new is h =
+    reads_then result (all_judged at nothing_left (pieces_behind Unfolded rest)) left (λ l. placed end (finished start l body)) (sym (ap (λ l. all_judged at l (pieces_behind Unfolded rest)) new) ∙ is) h
+
+place_same : {X : Type 0} (refused : MessageRefused) (a b : Result X Fault) → b ≡ a → HasPlace refused a → HasPlace refused b
+place_same (messages.Refused at kind) a b same h = same ∙ h
+place_same messages.NoMemory a b same h = tt
+
+pub behind_refused : (refused : MessageRefused) (start : Start) (rest : Option Bytes) (at end : ℕ) (body : Bytes) (first : Left) → first ≡ nothing_left
+    → HasPlace refused (all_judged at first (pieces_behind Unfolded rest)) → HasPlace refused (message_behind start rest at body end)
+behind_refused refused start rest at end body first new h =
+    refused_then refused (all_judged at nothing_left (pieces_behind Unfolded rest)) (λ l. placed end (finished start l body))
+    (place_same refused (all_judged at first (pieces_behind Unfolded rest)) (all_judged at nothing_left (pieces_behind Unfolded rest)) (sym (ap (λ l. all_judged at l (pieces_behind Unfolded rest)) new)) h)
+
+-- ## The whole
+
+message_is : (head body : Bytes) → message_in head body ≡ then_read (placed 0 (start_of (start_line head))) (λ start. message_behind start (behind_start head) (length (start_line head) + 2) body (length head + 2))
+unfolding message_in header_lines
+message_is head body =
+    ap (λ lines. then_read (placed 0 (start_of (start_line head))) (λ start. then_read (all_judged (length (start_line head) + 2) nothing_left lines) (λ left. placed (length head + 2) (finished start left body)))) (lines_are (behind_start head))
+
+-- with the start line and what stands behind it
+message_split : (head body line : Bytes) (rest : Option Bytes) → line ≡ start_line head → rest ≡ behind_start head
+    → message_in head body ≡ then_read (placed 0 (start_of line)) (λ start. message_behind start rest (length line + 2) body (length head + 2))
+message_split head body line rest is behind =
+    message_is head body
+    ∙ ap (λ l. then_read (placed 0 (start_of l)) (λ start. message_behind start (behind_start head) (length l + 2) body (length head + 2))) (sym is)
+    ∙ ap (λ r. then_read (placed 0 (start_of line)) (λ start. message_behind start r (length line + 2) body (length head + 2))) (sym behind)
+
+pub whole_read : (result : Result Message MessageRefused) (head body line : Bytes) (rest : Option Bytes) (start : Start) → line ≡ start_line head → rest ≡ behind_start head → placed 0 (start_of line) ≡ Ok start
+    → Reads result (message_behind start rest (length line + 2) body (length head + 2)) → Reads result (message_in head body)
+whole_read result head body line rest start is behind first h =
+    reads_same result (then_read (placed 0 (start_of line)) (λ s. message_behind s rest (length line + 2) body (length head + 2))) (message_in head body) (message_split head body line rest is behind)
+    (reads_then result (placed 0 (start_of line)) start (λ s. message_behind s rest (length line + 2) body (length head + 2)) first h)
+
+pub whole_refused : (refused : MessageRefused) (head body line : Bytes) → line ≡ start_line head → HasPlace refused (placed 0 (start_of line)) → HasPlace refused (message_in head body)
+whole_refused refused head body line is h =
+    place_same refused (then_read (placed 0 (start_of line)) (λ s. message_behind s (behind_start head) (length line + 2) body (length head + 2))) (message_in head body) (message_split head body line (behind_start head) is refl)
+    (refused_then refused (placed 0 (start_of line)) (λ s. message_behind s (behind_start head) (length line + 2) body (length head + 2)) h)
+
+-- the places of the header lines fit
+pub first_room : (line head : ℕ) (rest : Option (Bor Bytes)) → head + 4 ≤ 2 ^ 63 → IfSome rest (λ r. line + 2 + length r.now ≡ head) → option_map_or (λ t. line + 2 + length t) (option_copied rest) 0 ≤ 2 ^ 63
+first_room line head None fits less = omega (arith)
+first_room line head (Some r) fits less = omega (arith, fits, less)

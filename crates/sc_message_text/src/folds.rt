@@ -1,0 +1,53 @@
+//! Header lines with their folds joined (RFC 3261 section 7.3.1).
+
+ghost use Rattle.std.specs.Prelude.{◌≡◌, ◌++◌, ◌∷◌, IfOk, OnOk};
+ghost use Rattle.std.specs.List.{fold};
+ghost use Rattle.std.specs.Option.{option_copied};
+ghost use Rattle.sc_syntax.specs.declared.ending.Ending.TheVariants.{Any};
+ghost use Rattle.sc_syntax.specs.Blanks.{trimmed_back};
+ghost use Rattle.sc_syntax.specs.Folds.{continued, joined};
+ghost use Rattle.sc_message_text.specs.Pieces.{pieces_behind};
+
+use crate::blanks::{front_len, trim_front};
+use crate::ends::split_piece;
+use sc_syntax::Ending;
+use sc_value::NoMemory;
+use std::alloc::Global;
+
+// The text of a line that begins with this piece: each line end and all blanks round it are one
+// space.
+#[tactic(auto, using(crate::proofs::FoldSteps::joined_is))]
+pub fn join(alloc: Global, line: &[u8]) -> Result<Vec<u8>, NoMemory>
+    ensures { IfOk result (λ text. text.items ≡ joined line.now) }
+{
+    let (first, rest) = split_piece(Ending::Any, line);
+    let mut text = Vec::from_slice(alloc, first)?;
+    continue_all(&mut text, rest)?;
+    Ok(text)
+}
+
+fn continue_all(text: &mut Vec<u8>, rest: Option<&[u8]>) -> Result<(), NoMemory>
+    ensures { OnOk result (text.new.items ≡ fold continued text.old.items (pieces_behind Any (option_copied rest.entry))) }
+{
+    let mut rest = rest;
+    loop {
+        let behind = match rest {
+            Some(behind) => behind,
+            None => return Ok(()),
+        };
+        let (piece, more) = split_piece(Ending::Any, behind);
+        continue_by(text, piece)?;
+        rest = more;
+    }
+}
+
+#[tactic(auto, unfolding(sc_syntax::specs::Folds::continued, sc_syntax::specs::Blanks::trimmed_back))]
+fn continue_by(text: &mut Vec<u8>, piece: &[u8]) -> Result<(), NoMemory>
+    ensures { OnOk result (text.new.items ≡ continued text.old.items piece.now) }
+{
+    let len = front_len(text.as_slice());
+    text.truncate(len);
+    text.push(b' ')?;
+    text.extend_from_slice(trim_front(piece))?;
+    Ok(())
+}

@@ -1,0 +1,258 @@
+//! Header lines, judged one by one (RFC 3261 sections 7.3 and 20).
+
+ghost use Rattle.std.specs.Prelude.{◌≡◌, Some, is_some};
+ghost use Rattle.sc_syntax.specs.Addresses.{address_of, addresses_of, contacts_of};
+ghost use Rattle.sc_syntax.specs.Judging.{header_named, in_line, judged, named, taken, taken_as, taken_once, with_call_id, with_contacts, with_cseq, with_field, with_from, with_hops, with_length, with_record_routes, with_routes, with_to, with_vias};
+ghost use Rattle.sc_syntax.specs.Numbers.{number_of};
+ghost use Rattle.sc_syntax.specs.Sequences.{cseq_of, hops_of};
+ghost use Rattle.sc_syntax.specs.Vias.{vias_of};
+ghost use Rattle.sc_message_text.specs.Answers.{Takes};
+
+use crate::blanks::{trim, trim_back};
+use crate::refused::LineRefused;
+use crate::{keeping, names};
+use sc_head_text::{
+    read_address, read_addresses, read_contacts, read_cseq, read_hops, read_length, read_vias,
+};
+use sc_syntax::{Header, Left};
+use sc_uri_text::cut;
+use sc_value::{Field, Text, is_one_line, is_token, long_name, same_name};
+use std::alloc::Global;
+
+// Takes what the text of a header line leaves, or answers the kind of its fault.
+#[tactic(auto, unfolding(sc_syntax::specs::Judging::judged))]
+pub fn take_line(left: &mut Left, alloc: Global, line: &[u8]) -> Result<(), LineRefused>
+    ensures { Takes result left.new (judged left.old line.now) }
+{
+    let (name, value) = cut(line, b':');
+    match value {
+        Some(value) => take_named(left, alloc, trim_back(name), value),
+        None => Err(LineRefused::Fault(6)),
+    }
+}
+
+// A name, which may be compact, and what stands behind its colon.
+#[tactic(auto, unfolding(sc_syntax::specs::Judging::named))]
+fn take_named(left: &mut Left, alloc: Global, name: &[u8], value: &[u8]) -> Result<(), LineRefused>
+    ensures { Takes result left.new (named left.old name.now value.now) }
+{
+    if !is_token(name) {
+        return Err(LineRefused::Fault(6));
+    }
+    let name = long_name(name);
+    take_value(left, alloc, name, header_named(name), trim(value))
+}
+
+// Which header has this long name.
+#[tactic(auto, unfolding(sc_syntax::specs::Judging::header_named))]
+fn header_named(name: &[u8]) -> Header
+    ensures { result ≡ header_named name.now }
+{
+    if same_name(name, names::via()) {
+        Header::Via
+    } else if same_name(name, names::route()) {
+        Header::Route
+    } else if same_name(name, names::record_route()) {
+        Header::RecordRoute
+    } else if same_name(name, names::contact()) {
+        Header::Contact
+    } else if same_name(name, names::from()) {
+        Header::From
+    } else if same_name(name, names::to()) {
+        Header::To
+    } else if same_name(name, names::call_id()) {
+        Header::CallId
+    } else if same_name(name, names::cseq()) {
+        Header::CSeq
+    } else if same_name(name, names::max_forwards()) {
+        Header::MaxForwards
+    } else if same_name(name, names::content_length()) {
+        Header::ContentLength
+    } else {
+        Header::Other
+    }
+}
+
+// The header of this long name with this value.
+#[tactic(auto, unfolding(sc_syntax::specs::Judging::taken))]
+fn take_value(
+    left: &mut Left,
+    alloc: Global,
+    name: &[u8],
+    header: Header,
+    value: &[u8],
+) -> Result<(), LineRefused>
+    ensures { Takes result left.new (taken left.old name.now header value.now) }
+{
+    match header {
+        Header::Via => take_vias(left, alloc, value),
+        Header::Route => take_routes(left, alloc, value),
+        Header::RecordRoute => take_record_routes(left, alloc, value),
+        Header::Contact => take_contacts(left, alloc, value),
+        Header::From => take_from(left, alloc, value),
+        Header::To => take_to(left, alloc, value),
+        Header::CallId => take_call_id(left, alloc, value),
+        Header::CSeq => take_cseq(left, alloc, value),
+        Header::MaxForwards => take_hops(left, value),
+        Header::ContentLength => take_length(left, value),
+        Header::Other => take_field(left, alloc, name, value),
+    }
+}
+
+#[tactic(auto, unfolding(sc_syntax::specs::Judging::taken_as, sc_syntax::specs::Judging::in_line))]
+fn take_vias(left: &mut Left, alloc: Global, value: &[u8]) -> Result<(), LineRefused>
+    ensures { Takes result left.new (taken_as (with_vias left.old) (in_line vias_of value.now)) }
+{
+    if !is_one_line(value) {
+        return Err(LineRefused::Fault(9));
+    }
+    match read_vias(alloc, value) {
+        Ok(items) => keeping::keep_vias(left, items),
+        Err(unread) => Err(LineRefused::from(unread)),
+    }
+}
+
+#[tactic(auto, unfolding(sc_syntax::specs::Judging::taken_as, sc_syntax::specs::Judging::in_line))]
+fn take_routes(left: &mut Left, alloc: Global, value: &[u8]) -> Result<(), LineRefused>
+    ensures { Takes result left.new (taken_as (with_routes left.old) (in_line addresses_of value.now)) }
+{
+    if !is_one_line(value) {
+        return Err(LineRefused::Fault(9));
+    }
+    match read_addresses(alloc, value) {
+        Ok(items) => keeping::keep_routes(left, items),
+        Err(unread) => Err(LineRefused::from(unread)),
+    }
+}
+
+#[tactic(auto, unfolding(sc_syntax::specs::Judging::taken_as, sc_syntax::specs::Judging::in_line))]
+fn take_record_routes(left: &mut Left, alloc: Global, value: &[u8]) -> Result<(), LineRefused>
+    ensures { Takes result left.new (taken_as (with_record_routes left.old) (in_line addresses_of value.now)) }
+{
+    if !is_one_line(value) {
+        return Err(LineRefused::Fault(9));
+    }
+    match read_addresses(alloc, value) {
+        Ok(items) => keeping::keep_record_routes(left, items),
+        Err(unread) => Err(LineRefused::from(unread)),
+    }
+}
+
+#[tactic(auto, unfolding(sc_syntax::specs::Judging::taken_as, sc_syntax::specs::Judging::in_line))]
+fn take_contacts(left: &mut Left, alloc: Global, value: &[u8]) -> Result<(), LineRefused>
+    ensures { Takes result left.new (taken_as (with_contacts left.old) (in_line contacts_of value.now)) }
+{
+    if !is_one_line(value) {
+        return Err(LineRefused::Fault(9));
+    }
+    match read_contacts(alloc, value) {
+        Ok(items) => keeping::keep_contacts(left, items),
+        Err(unread) => Err(LineRefused::from(unread)),
+    }
+}
+
+#[tactic(auto, unfolding(sc_syntax::specs::Judging::taken_once, sc_syntax::specs::Judging::taken_as, sc_syntax::specs::Judging::in_line))]
+fn take_from(left: &mut Left, alloc: Global, value: &[u8]) -> Result<(), LineRefused>
+    ensures { Takes result left.new (taken_once (is_some left.old.singles.from) (with_from left.old) (in_line address_of value.now)) }
+{
+    if left.singles.from.is_some() {
+        return Err(LineRefused::Fault(8));
+    }
+    if !is_one_line(value) {
+        return Err(LineRefused::Fault(9));
+    }
+    match read_address(alloc, value) {
+        Ok(address) => keeping::keep_from(left, address),
+        Err(unread) => Err(LineRefused::from(unread)),
+    }
+}
+
+#[tactic(auto, unfolding(sc_syntax::specs::Judging::taken_once, sc_syntax::specs::Judging::taken_as, sc_syntax::specs::Judging::in_line))]
+fn take_to(left: &mut Left, alloc: Global, value: &[u8]) -> Result<(), LineRefused>
+    ensures { Takes result left.new (taken_once (is_some left.old.singles.to) (with_to left.old) (in_line address_of value.now)) }
+{
+    if left.singles.to.is_some() {
+        return Err(LineRefused::Fault(8));
+    }
+    if !is_one_line(value) {
+        return Err(LineRefused::Fault(9));
+    }
+    match read_address(alloc, value) {
+        Ok(address) => keeping::keep_to(left, address),
+        Err(unread) => Err(LineRefused::from(unread)),
+    }
+}
+
+#[tactic(auto, unfolding(sc_syntax::specs::Judging::taken_once, sc_syntax::specs::Judging::taken_as, sc_syntax::specs::Judging::in_line))]
+fn take_cseq(left: &mut Left, alloc: Global, value: &[u8]) -> Result<(), LineRefused>
+    ensures { Takes result left.new (taken_once (is_some left.old.singles.cseq) (with_cseq left.old) (in_line cseq_of value.now)) }
+{
+    if left.singles.cseq.is_some() {
+        return Err(LineRefused::Fault(8));
+    }
+    if !is_one_line(value) {
+        return Err(LineRefused::Fault(9));
+    }
+    match read_cseq(alloc, value) {
+        Ok(cseq) => keeping::keep_cseq(left, cseq),
+        Err(unread) => Err(LineRefused::from(unread)),
+    }
+}
+
+#[tactic(auto, unfolding(sc_syntax::specs::Judging::taken_once, sc_syntax::specs::Judging::taken_as, sc_syntax::specs::Judging::in_line))]
+fn take_call_id(left: &mut Left, alloc: Global, value: &[u8]) -> Result<(), LineRefused>
+    ensures { Takes result left.new (taken_once (is_some left.old.singles.call_id) (with_call_id left.old) (in_line Some value.now)) }
+{
+    if left.singles.call_id.is_some() {
+        return Err(LineRefused::Fault(8));
+    }
+    if !is_one_line(value) {
+        return Err(LineRefused::Fault(9));
+    }
+    let text = Text::from_slice(alloc, value)?;
+    keeping::keep_call_id(left, text)
+}
+
+#[tactic(auto, unfolding(sc_syntax::specs::Judging::taken_once, sc_syntax::specs::Judging::taken_as, sc_syntax::specs::Judging::in_line))]
+fn take_hops(left: &mut Left, value: &[u8]) -> Result<(), LineRefused>
+    ensures { Takes result left.new (taken_once (is_some left.old.singles.hops) (with_hops left.old) (in_line hops_of value.now)) }
+{
+    if left.singles.hops.is_some() {
+        return Err(LineRefused::Fault(8));
+    }
+    if !is_one_line(value) {
+        return Err(LineRefused::Fault(9));
+    }
+    match read_hops(value) {
+        Some(hops) => keeping::keep_hops(left, hops),
+        None => Err(LineRefused::Fault(9)),
+    }
+}
+
+#[tactic(auto, unfolding(sc_syntax::specs::Judging::taken_once, sc_syntax::specs::Judging::taken_as, sc_syntax::specs::Judging::in_line))]
+fn take_length(left: &mut Left, value: &[u8]) -> Result<(), LineRefused>
+    ensures { Takes result left.new (taken_once (is_some left.old.singles.length) (with_length left.old) (in_line number_of value.now)) }
+{
+    if left.singles.length.is_some() {
+        return Err(LineRefused::Fault(8));
+    }
+    if !is_one_line(value) {
+        return Err(LineRefused::Fault(9));
+    }
+    match read_length(value) {
+        Some(len) => keeping::keep_length(left, len),
+        None => Err(LineRefused::Fault(9)),
+    }
+}
+
+#[tactic(auto, unfolding(sc_syntax::specs::Judging::taken_as, sc_syntax::specs::Judging::in_line))]
+fn take_field(left: &mut Left, alloc: Global, name: &[u8], value: &[u8]) -> Result<(), LineRefused>
+    ensures { Takes result left.new (taken_as (with_field left.old name.now) (in_line Some value.now)) }
+{
+    if !is_one_line(value) {
+        return Err(LineRefused::Fault(9));
+    }
+    let name = Text::from_slice(alloc, name)?;
+    let value = Text::from_slice(alloc, value)?;
+    keeping::keep_field(left, Field { name, value })
+}

@@ -1,0 +1,109 @@
+//! Whole messages from text (RFC 3261 section 7).
+
+ghost use Rattle.std.specs.Prelude.{◌≡◌, ◌≤◌, ◌+◌, ◌^◌, length};
+ghost use Rattle.std.specs.Option.{option_copied, option_map_or};
+ghost use Rattle.sc_syntax.specs.Messages.{finished, message_in, message_of, placed};
+ghost use Rattle.sc_syntax.specs.StartLines.{start_of};
+ghost use Rattle.sc_message_text.specs.Answers.{Reads};
+ghost use Rattle.sc_message_text.specs.Pieces.{message_behind};
+
+use crate::ends::{begins_break, end_of, split_start};
+use crate::finishing::finish;
+use crate::heads::{nothing_left, refused_at, take_lines};
+use crate::refused::MessageRefused;
+use crate::starts::read_start;
+use sc_syntax::{Ending, Left, Start};
+use sc_value::Message;
+use std::alloc::Global;
+
+/// The message that a text spells (RFC 3261 section 7): all of the text is read, the body as what
+/// stands behind the empty line. Header names compare without case and may be compact, folds are
+/// joined, and lists may stand in several headers.
+///
+/// `Refused` comes exactly where the text spells none, with the place, in bytes from 0, and the kind
+/// of the first fault. Lines are judged in order, each at its first byte: the start line with 1 (the
+/// line), 2 (the version), 3 (the method), 4 (the Request-URI) or 5 (the status code), a header line
+/// with 6 (its name), 8 (a header that stands twice), 9 (its value) or 11 (the 129th value). Then come, at
+/// the empty line, 7 (no From, To, Call-ID, CSeq or Via), 10 (a CSeq of another method) and 12 (a body
+/// of another length than Content-Length, which is 0 where it is missing). A text without an
+/// empty line has 1 at its end. Of several faults of one line the lowest kind counts. `NoMemory` says
+/// nothing of the text.
+#[tactic(auto, unfolding(sc_syntax::specs::Messages::message_of))]
+pub fn read_message(alloc: Global, b: &[u8]) -> Result<Message, MessageRefused>
+    ensures { Reads result (message_of b.now) }
+{
+    if begins_break(b) {
+        return Err(MessageRefused::Refused { at: 0, kind: 1 });
+    }
+    match end_of(Ending::Empty, b) {
+        Some(end) => read_parts(alloc, &b[..end], &b[end + 4..]),
+        None => Err(MessageRefused::Refused {
+            at: b.len(),
+            kind: 1,
+        }),
+    }
+}
+
+// Head and body.
+fn read_parts(alloc: Global, head: &[u8], body: &[u8]) -> Result<Message, MessageRefused>
+    requires { length head.now + 4 ≤ 2 ^ 63 }
+    ensures { Reads result (message_in head.now body.now) }
+{
+    let (line, rest) = split_start(head);
+    match read_first(alloc, line) {
+        Ok(start) => read_behind(alloc, start, rest, line.len() + 2, body, head.len() + 2),
+        Err(refused) => Err(refused),
+    }
+}
+
+// The start line, which begins at 0.
+#[tactic(auto, unfolding(sc_syntax::specs::Messages::placed), using(crate::proofs::HeadSteps::refusal_placed))]
+fn read_first(alloc: Global, line: &[u8]) -> Result<Start, MessageRefused>
+    ensures { Reads result (placed 0 (start_of line.now)) }
+{
+    match read_start(alloc, line) {
+        Ok(start) => Ok(start),
+        Err(refused) => Err(refused_at(0, refused)),
+    }
+}
+
+// What stands behind the start line: header lines, of which the first begins at this place, and a
+// body behind the empty line, which begins at `end`.
+fn read_behind(
+    alloc: Global,
+    start: Start,
+    rest: Option<&[u8]>,
+    at: usize,
+    body: &[u8],
+    end: usize,
+) -> Result<Message, MessageRefused>
+    requires { option_map_or (λ text. at + length text) (option_copied rest) 0 ≤ 2 ^ 63 }
+    ensures { Reads result (message_behind start (option_copied rest.entry) at body.now end) }
+{
+    let mut left = nothing_left(alloc);
+    match take_lines(&mut left, alloc, rest, at) {
+        Ok(()) => finish_at(alloc, start, left, body, end),
+        Err(refused) => {
+            drop(left);
+            drop(start);
+            Err(refused)
+        }
+    }
+}
+
+// The message, or the fault that shows at the empty line.
+#[tactic(auto, unfolding(sc_syntax::specs::Messages::placed), using(crate::proofs::HeadSteps::refusal_placed))]
+fn finish_at(
+    alloc: Global,
+    start: Start,
+    left: Left,
+    body: &[u8],
+    end: usize,
+) -> Result<Message, MessageRefused>
+    ensures { Reads result (placed end (finished start left body.now)) }
+{
+    match finish(alloc, start, left, body) {
+        Ok(message) => Ok(message),
+        Err(refused) => Err(refused_at(end, refused)),
+    }
+}

@@ -1,0 +1,20 @@
+-- The text of a header line: each CR LF in it, with all blanks round it, is one space (RFC 3261
+-- section 7.3.1).
+use Rattle.std.specs.Prelude.{List, [], ◌∷◌, ◌++◌}
+use Rattle.std.specs.List.{fold}
+use Rattle.sc_syntax.specs.declared.ending.Ending.TheVariants.{Any}
+use Rattle.sc_syntax.specs.Bytes.{Bytes}
+use Rattle.sc_syntax.specs.Blanks.{trimmed_front, trimmed_back}
+use Rattle.sc_syntax.specs.Lines.{pieces_at}
+
+-- a text, and the piece that continues it
+unfoldable pub continued : Bytes → Bytes → Bytes
+continued text piece = trimmed_back text ++ 32 ∷ trimmed_front piece
+
+-- the first piece, continued by the others
+unfoldable pub all_continued : List Bytes → Bytes
+all_continued [] = []
+all_continued (first ∷ more) = fold continued first more
+
+unfoldable pub joined : Bytes → Bytes
+joined line = all_continued (pieces_at Any line)
