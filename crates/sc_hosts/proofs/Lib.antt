@@ -4,3 +4,10 @@ pub mod Deliveries
 pub mod InnerReplies
 pub mod RunLaws
 pub mod Trying
+mod CallCases
+mod ProxyCases
+mod ChainCases
+mod OfferCases
+mod TimerCases
+mod SubscriptionCases
+mod WorkedCases

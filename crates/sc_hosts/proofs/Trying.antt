@@ -1,11 +1,10 @@
 -- Worked cases as text: a case has its set-up, its script and what the run writes.
-use Rattle.std.specs.Prelude.{ℕ, pos, List, [], ◌∷◌, ◌++◌, Bool, true, false, Option, None, Some, Result, Ok, Err, codes}
+use Rattle.std.specs.Prelude.{ℕ, pos, List, [], ◌∷◌, Bool, None, Some, Result, Ok, Err, codes}
 use Rattle.std.specs.List.{list_all, flat_map}
 use Rattle.sc_value.specs.declared.ids.Place.{Place}
 use Rattle.sc_value.specs.declared.ids.Region.TheVariants.{Neutral}
 use Rattle.sc_value.specs.declared.message.Message.{Message}
 use Rattle.sc_value.specs.Params.{same_bytes}
-use Rattle.sc_terms.specs.declared.charters.Charter.{Charter}
 use Rattle.sc_terms.specs.declared.charters.Charter.TheVariants as charters
 use Rattle.sc_terms.specs.declared.charters.ListenerCharter.TheVariants as listeners
 use Rattle.sc_terms.specs.declared.settings.AppEntry.{AppEntry}

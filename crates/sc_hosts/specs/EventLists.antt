@@ -2,7 +2,7 @@
 -- which wait, and which were dropped or answered as the session ended. And what a reader from outside is
 -- shown of a net.
 use Rattle.std.specs.Prelude.{ℕ, ◌+◌, ◌==◌, List, [], ◌∷◌, ◌++◌, Bool, not, ◌&&◌, Option, None, Some, if◌then◌else◌, nat_lt, length, map, filter}
-use Rattle.std.specs.List.{list_any, filter_map, flat_map}
+use Rattle.std.specs.List.{list_any, filter_map}
 use Rattle.std.specs.Option.{option_map_or}
 use Rattle.sc_value.specs.declared.ids.AppId.{AppId}
 use Rattle.sc_terms.specs.declared.steps.Step.{Step}
