@@ -19,7 +19,7 @@ use Rattle.sc_parts.specs.declared.setup.Setup.{Setup}
 use Rattle.sc_grammar.specs.Written.{Bytes}
 use Rattle.sc_syntax.specs.Messages.{message_of}
 use Rattle.sc_syntax.specs.UriParts.{Fault}
-use Rattle.sc_model.specs.ScriptTexts.{Fault as ScriptFault, script_of}
+use Rattle.sc_script.specs.ScriptTexts.{Fault as ScriptFault, script_of}
 use Rattle.sc_model.specs.Settings.{Charters}
 use Rattle.sc_hosts.proofs.Playing.{Act, Take, Run, Turn_of, Drop_of, Free, output_with}
 

@@ -68,7 +68,7 @@ use Rattle.sc_hosts.specs.Words as sc_hosts_Words
 use Rattle.sc_hosts.specs.Working as sc_hosts_Working
 use Rattle.sc_model.specs.Turns as Turns
 use Rattle.sc_hosts.proofs.Playing as Playing
-use Rattle.sc_model.specs.ScriptTexts as sc_model_ScriptTexts
+use Rattle.sc_script.specs.ScriptTexts as sc_script_ScriptTexts
 use Rattle.sc_hosts.proofs.Trying as Trying
 use Rattle.sc_hosts.specs.Charters.{Done}
 use Rattle.sc_hosts.specs.HelperCharters.{early_script, timed_script, notify_script}
@@ -196,8 +196,8 @@ unfolding digits read_ipv4 read_octet read_number call_cases smallest_run called
     sc_hosts_Working.insert_number sc_hosts_Working.in_order sc_hosts_Working.invite_branches sc_hosts_Working.goodbyes sc_hosts_Working.invalidates sc_hosts_Working.does sc_hosts_Working.does_by sc_hosts_Working.worked sc_hosts_Working.worked_all Turns.ack
     Turns.is_bad_field Playing.step_taken Playing.script_or Playing.listener_plays Playing.script_at Playing.turn_on Playing.turn_by Playing.next_of Playing.nexts Playing.lowest
     Playing.run_on Playing.drop_by Playing.act Playing.run_of Playing.text_of Playing.output_with Playing.output_of Trying.kinds Trying.app Trying.settings
-    Trying.tuple Trying.set_up Trying.taken_in Trying.acts_of Trying.acts_in Trying.is_right Trying.are_right sc_model_ScriptTexts.is_plain sc_model_ScriptTexts.decimal_upto sc_model_ScriptTexts.connection_of
-    sc_model_ScriptTexts.all_four sc_model_ScriptTexts.ip_of sc_model_ScriptTexts.address_of sc_model_ScriptTexts.address_in sc_model_ScriptTexts.place_of sc_model_ScriptTexts.one_word sc_model_ScriptTexts.tick_line sc_model_ScriptTexts.lost_line sc_model_ScriptTexts.two_words sc_model_ScriptTexts.app_of
-    sc_model_ScriptTexts.turn_line sc_model_ScriptTexts.drop_line sc_model_ScriptTexts.three_words sc_model_ScriptTexts.is_feed sc_model_ScriptTexts.incoming sc_model_ScriptTexts.size_of sc_model_ScriptTexts.alone sc_model_ScriptTexts.line_of sc_model_ScriptTexts.is_end sc_model_ScriptTexts.row_with
-    sc_model_ScriptTexts.row_by sc_model_ScriptTexts.row_at sc_model_ScriptTexts.moment_after sc_model_ScriptTexts.with_first sc_model_ScriptTexts.followed sc_model_ScriptTexts.lines_in sc_model_ScriptTexts.script_of
+    Trying.tuple Trying.set_up Trying.taken_in Trying.acts_of Trying.acts_in Trying.is_right Trying.are_right sc_script_ScriptTexts.is_plain sc_script_ScriptTexts.decimal_upto sc_script_ScriptTexts.connection_of
+    sc_script_ScriptTexts.all_four sc_script_ScriptTexts.ip_of sc_script_ScriptTexts.address_of sc_script_ScriptTexts.address_in sc_script_ScriptTexts.place_of sc_script_ScriptTexts.one_word sc_script_ScriptTexts.tick_line sc_script_ScriptTexts.lost_line sc_script_ScriptTexts.two_words sc_script_ScriptTexts.app_of
+    sc_script_ScriptTexts.turn_line sc_script_ScriptTexts.drop_line sc_script_ScriptTexts.three_words sc_script_ScriptTexts.is_feed sc_script_ScriptTexts.incoming sc_script_ScriptTexts.size_of sc_script_ScriptTexts.alone sc_script_ScriptTexts.line_of sc_script_ScriptTexts.is_end sc_script_ScriptTexts.row_with
+    sc_script_ScriptTexts.row_by sc_script_ScriptTexts.row_at sc_script_ScriptTexts.moment_after sc_script_ScriptTexts.with_first sc_script_ScriptTexts.followed sc_script_ScriptTexts.lines_in sc_script_ScriptTexts.script_of
 outputs_are_right = refl

@@ -12,7 +12,6 @@ pub mod GeneratedLaws
 mod NameCases
 pub mod Names
 pub mod RisingKeys
-mod ScriptTextCases
 pub mod ServerTables
 pub mod ServerTransactionFacts
 pub mod ServerTransactions

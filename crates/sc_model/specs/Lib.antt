@@ -14,7 +14,6 @@ pub mod Records
 pub mod Responses
 pub mod Routing
 pub mod Scripts
-pub mod ScriptTexts
 pub mod ServerTransactions
 pub mod SessionStates
 pub mod Settings

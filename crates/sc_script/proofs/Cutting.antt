@@ -3,7 +3,7 @@ use Rattle.std.proofs.Common.{◌≡◌, ℕ, Option, None, Some, List, ◌∷�
 use Rattle.sc_syntax.specs.Cuts.{before, after, pieces}
 use Rattle.sc_syntax.proofs.CutLaws.{pieces_more, pieces_last}
 use Rattle.sc_grammar.specs.Written.{Bytes}
-use Rattle.sc_model.specs.ScriptTexts.{ip_of, address_in, line_of, WORD}
+use Rattle.sc_script.specs.ScriptTexts.{ip_of, address_in, line_of, WORD}
 use Rattle.sc_script.specs.Reading.{more_pieces}
 
 cut_by : (sign : ℕ) (text : Bytes) (rest : Option Bytes) → after sign text ≡ rest → pieces sign text ≡ before sign text ∷ more_pieces sign rest

@@ -5,7 +5,7 @@ use Rattle.std.proofs.lemmas.Bool.{false≢true}
 use Rattle.std.proofs.lemmas.Bool.Decides.{nat_tests}
 use Rattle.sc_grammar.specs.Written.{Bytes}
 use Rattle.sc_syntax.specs.Numbers.{is_digits, number_in, number_below, number_of}
-use Rattle.sc_model.specs.ScriptTexts.{decimal_upto, is_plain}
+use Rattle.sc_script.specs.ScriptTexts.{decimal_upto, is_plain}
 
 taken : (d s : Bool) (w m : ℕ) → cond (d && s) (Some w) None ≡ Some m → (d ≡ true) × (w ≡ m)
 taken true true w m e = (refl, ap (λ o. unwrap_or o w) e)

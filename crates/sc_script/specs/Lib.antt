@@ -1,2 +1,3 @@
 pub mod FirstScript
 pub mod Reading
+pub mod ScriptTexts

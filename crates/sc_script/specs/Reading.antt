@@ -3,7 +3,7 @@ use Rattle.std.specs.Prelude.{◌≡◌, ◌++◌, ℕ, List, [], Option, None, 
 use Rattle.sc_terms.specs.declared.steps.Line.{Line}
 use Rattle.sc_syntax.specs.Cuts.{pieces}
 use Rattle.sc_grammar.specs.Written.{Bytes}
-use Rattle.sc_model.specs.ScriptTexts.{Fault}
+use Rattle.sc_script.specs.ScriptTexts.{Fault}
 use Rattle.sc_script.specs.declared.refused.ScriptRefused.{ScriptRefused}
 use Rattle.sc_script.specs.declared.refused.ScriptRefused.TheVariants as refused
 use Rattle.sc_script.specs.declared.rows.RowRefused.{RowRefused}

@@ -2,7 +2,7 @@
 
 ghost use Rattle.std.specs.Prelude.{◌≡◌, ◌≤◌, ◌&&◌, nat_le, if◌then◌else◌, Some, None, IfSome};
 ghost use Rattle.sc_syntax.specs.Hosts.{begins};
-ghost use Rattle.sc_model.specs.ScriptTexts.{decimal_upto, is_plain};
+ghost use Rattle.sc_script.specs.ScriptTexts.{decimal_upto, is_plain};
 
 use sc_ascii::read_u64;
 
@@ -29,7 +29,7 @@ fn plain_upto(most: u64, number: u64, text: &[u8]) -> Option<u64>
 }
 
 // Whether the text is one digit, or doesn't begin with 0.
-#[tactic(auto, unfolding(sc_model::specs::ScriptTexts::is_plain))]
+#[tactic(auto, unfolding(crate::specs::ScriptTexts::is_plain))]
 fn is_plain(text: &[u8]) -> bool
     ensures { result ≡ is_plain text.now }
 {

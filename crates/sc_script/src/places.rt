@@ -2,7 +2,7 @@
 
 ghost use Rattle.std.specs.Prelude.{◌≡◌, ◌≤◌, IfSome};
 ghost use Rattle.sc_syntax.specs.Cuts.{pieces};
-ghost use Rattle.sc_model.specs.ScriptTexts.{decimal_upto, connection_of, all_four, ip_of, address_of, address_in, place_of};
+ghost use Rattle.sc_script.specs.ScriptTexts.{decimal_upto, connection_of, all_four, ip_of, address_of, address_in, place_of};
 ghost use Rattle.sc_script.specs.Reading.{more_pieces};
 
 use crate::cuts::cut;
@@ -14,7 +14,7 @@ pub const MOST_COUNT: u64 = 9_223_372_036_854_775_808;
 
 /// The place that a word names: `cN` for the connection N that a peer opened, from 1 on, or
 /// `a.b.c.d:port`.
-#[tactic(auto, unfolding(sc_model::specs::ScriptTexts::place_of))]
+#[tactic(auto, unfolding(crate::specs::ScriptTexts::place_of))]
 pub fn place_of(word: &[u8]) -> Option<Place>
     ensures { result ≡ place_of word.now }
 {
@@ -29,7 +29,7 @@ pub fn place_of(word: &[u8]) -> Option<Place>
     }
 }
 
-#[tactic(auto, unfolding(sc_model::specs::ScriptTexts::connection_of))]
+#[tactic(auto, unfolding(crate::specs::ScriptTexts::connection_of))]
 fn connection_of(number: Option<u64>) -> Option<Place>
     ensures { result ≡ connection_of number }
 {
@@ -44,7 +44,7 @@ fn connection_of(number: Option<u64>) -> Option<Place>
     }
 }
 
-#[tactic(auto, unfolding(sc_model::specs::ScriptTexts::address_in, crate::specs::Reading::more_pieces), using(crate::proofs::Cutting::address_long))]
+#[tactic(auto, unfolding(crate::specs::ScriptTexts::address_in, crate::specs::Reading::more_pieces), using(crate::proofs::Cutting::address_long))]
 fn address_in(word: &[u8]) -> Option<Place>
     ensures { result ≡ address_in (pieces 58 word.now) }
 {
@@ -56,7 +56,7 @@ fn address_in(word: &[u8]) -> Option<Place>
     }
 }
 
-#[tactic(auto, unfolding(sc_model::specs::ScriptTexts::address_of))]
+#[tactic(auto, unfolding(crate::specs::ScriptTexts::address_of))]
 fn address_of(ip: Option<[u8; 4]>, port: Option<u64>) -> Option<Place>
     requires { IfSome port (λ port. port ≤ 65535) }
     ensures { result ≡ address_of ip port }
@@ -68,7 +68,7 @@ fn address_of(ip: Option<[u8; 4]>, port: Option<u64>) -> Option<Place>
     }
 }
 
-#[tactic(auto, unfolding(sc_model::specs::ScriptTexts::ip_of, crate::specs::Reading::more_pieces), using(crate::proofs::Cutting::ip_long))]
+#[tactic(auto, unfolding(crate::specs::ScriptTexts::ip_of, crate::specs::Reading::more_pieces), using(crate::proofs::Cutting::ip_long))]
 fn ip_of(text: &[u8]) -> Option<[u8; 4]>
     ensures { result ≡ ip_of (pieces 46 text.now) }
 {
@@ -82,7 +82,7 @@ fn ip_of(text: &[u8]) -> Option<[u8; 4]>
     }
 }
 
-#[tactic(auto, unfolding(sc_model::specs::ScriptTexts::all_four))]
+#[tactic(auto, unfolding(crate::specs::ScriptTexts::all_four))]
 fn all_four(a: Option<u8>, b: Option<u8>, c: Option<u8>, d: Option<u8>) -> Option<[u8; 4]>
     ensures { result ≡ all_four a b c d }
 {

@@ -3,7 +3,7 @@
 ghost use Rattle.std.specs.Prelude.{◌≡◌, ◌≤◌, ◌<◌, ◌+◌, ◌^◌, ℕ, [], ◌∷◌, length, IfOk, IfSome, IsTrue};
 ghost use Rattle.std.specs.List.{slice_get};
 ghost use Rattle.sc_syntax.specs.Cuts.{pieces};
-ghost use Rattle.sc_model.specs.ScriptTexts.{decimal_upto, place_of, one_word, tick_line, lost_line, two_words, app_of, turn_line, drop_line, three_words, is_feed, incoming, size_of, alone, line_of};
+ghost use Rattle.sc_script.specs.ScriptTexts.{decimal_upto, place_of, one_word, tick_line, lost_line, two_words, app_of, turn_line, drop_line, three_words, is_feed, incoming, size_of, alone, line_of};
 ghost use Rattle.sc_script.specs.Reading.{Says, more_pieces};
 
 use crate::cuts::cut;
@@ -32,7 +32,7 @@ pub enum RowRefused {
     NoMemory,
 }
 
-#[tactic(auto, unfolding(sc_model::specs::ScriptTexts::one_word))]
+#[tactic(auto, unfolding(crate::specs::ScriptTexts::one_word))]
 fn one_word(word: &[u8]) -> Result<Line, u8>
     ensures { result ≡ one_word word.now }
 {
@@ -45,7 +45,7 @@ fn one_word(word: &[u8]) -> Result<Line, u8>
     Err(WORD)
 }
 
-#[tactic(auto, unfolding(sc_model::specs::ScriptTexts::tick_line))]
+#[tactic(auto, unfolding(crate::specs::ScriptTexts::tick_line))]
 fn tick_line(since: u64, now: Option<u64>) -> Result<Line, u8>
     ensures { result ≡ tick_line since now }
 {
@@ -60,7 +60,7 @@ fn tick_line(since: u64, now: Option<u64>) -> Result<Line, u8>
     }
 }
 
-#[tactic(auto, unfolding(sc_model::specs::ScriptTexts::lost_line))]
+#[tactic(auto, unfolding(crate::specs::ScriptTexts::lost_line))]
 fn lost_line(place: Option<Place>) -> Result<Line, u8>
     ensures { result ≡ lost_line place }
 {
@@ -70,7 +70,7 @@ fn lost_line(place: Option<Place>) -> Result<Line, u8>
     }
 }
 
-#[tactic(auto, unfolding(sc_model::specs::ScriptTexts::two_words))]
+#[tactic(auto, unfolding(crate::specs::ScriptTexts::two_words))]
 fn two_words(since: u64, word: &[u8], more: &[u8]) -> Result<Line, u8>
     ensures { result ≡ two_words since word.now more.now }
 {
@@ -83,7 +83,7 @@ fn two_words(since: u64, word: &[u8], more: &[u8]) -> Result<Line, u8>
     Err(WORD)
 }
 
-#[tactic(auto, unfolding(sc_model::specs::ScriptTexts::app_of))]
+#[tactic(auto, unfolding(crate::specs::ScriptTexts::app_of))]
 fn app_of(host: Option<u64>, serial: Option<u64>) -> Result<AppId, u8>
     requires { IfSome host (λ host. host ≤ 4294967295) }
     ensures { result ≡ app_of host serial }
@@ -98,7 +98,7 @@ fn app_of(host: Option<u64>, serial: Option<u64>) -> Result<AppId, u8>
     }
 }
 
-#[tactic(auto, unfolding(sc_model::specs::ScriptTexts::turn_line))]
+#[tactic(auto, unfolding(crate::specs::ScriptTexts::turn_line))]
 fn turn_line(app: Result<AppId, u8>) -> Result<Line, u8>
     ensures { result ≡ turn_line app }
 {
@@ -108,7 +108,7 @@ fn turn_line(app: Result<AppId, u8>) -> Result<Line, u8>
     }
 }
 
-#[tactic(auto, unfolding(sc_model::specs::ScriptTexts::drop_line))]
+#[tactic(auto, unfolding(crate::specs::ScriptTexts::drop_line))]
 fn drop_line(app: Result<AppId, u8>) -> Result<Line, u8>
     ensures { result ≡ drop_line app }
 {
@@ -127,7 +127,7 @@ fn named_app(host: &[u8], serial: &[u8]) -> Result<AppId, u8>
     )
 }
 
-#[tactic(auto, unfolding(sc_model::specs::ScriptTexts::three_words))]
+#[tactic(auto, unfolding(crate::specs::ScriptTexts::three_words))]
 fn three_words(word: &[u8], host: &[u8], serial: &[u8]) -> Result<Line, u8>
     ensures { result ≡ three_words word.now host.now serial.now }
 {
@@ -142,7 +142,7 @@ fn three_words(word: &[u8], host: &[u8], serial: &[u8]) -> Result<Line, u8>
 
 /// What the words of a line say, with what stands after the line: the line, and how many bytes of
 /// that are its own; else the lowest kind of what is wrong with it.
-#[tactic(auto, unfolding(sc_model::specs::ScriptTexts::line_of, crate::specs::Reading::more_pieces))]
+#[tactic(auto, unfolding(crate::specs::ScriptTexts::line_of, crate::specs::Reading::more_pieces))]
 pub fn line_of(
     alloc: Global,
     since: u64,
@@ -164,7 +164,7 @@ pub fn line_of(
 }
 
 // The same, behind the first two words.
-#[tactic(auto, unfolding(sc_model::specs::ScriptTexts::line_of, crate::specs::Reading::more_pieces, crate::specs::Reading::Says), using(crate::proofs::Cutting::line_long))]
+#[tactic(auto, unfolding(crate::specs::ScriptTexts::line_of, crate::specs::Reading::more_pieces, crate::specs::Reading::Says), using(crate::proofs::Cutting::line_long))]
 fn line_of_more(
     alloc: Global,
     since: u64,
@@ -183,7 +183,7 @@ fn line_of_more(
     }
 }
 
-#[tactic(auto, unfolding(sc_model::specs::ScriptTexts::line_of))]
+#[tactic(auto, unfolding(crate::specs::ScriptTexts::line_of))]
 fn line_of_three(
     alloc: Global,
     after: &[u8],
@@ -200,7 +200,7 @@ fn line_of_three(
     alone(three_words(a, b, c))
 }
 
-#[tactic(auto, unfolding(sc_model::specs::ScriptTexts::alone, crate::specs::Reading::Says))]
+#[tactic(auto, unfolding(crate::specs::ScriptTexts::alone, crate::specs::Reading::Says))]
 fn alone(line: Result<Line, u8>) -> Result<(Line, usize), RowRefused>
     ensures says { Says result (alone line) }
     ensures none { IfOk result (λ row. row.1 ≡ 0) }
@@ -211,7 +211,7 @@ fn alone(line: Result<Line, u8>) -> Result<(Line, usize), RowRefused>
     }
 }
 
-#[tactic(auto, unfolding(sc_model::specs::ScriptTexts::size_of))]
+#[tactic(auto, unfolding(crate::specs::ScriptTexts::size_of))]
 fn size_of(count: Option<u64>) -> Option<u64>
     requires { IfSome count (λ count. count ≤ 65536) }
     ensures exact { result ≡ size_of count }
@@ -228,7 +228,7 @@ fn size_of(count: Option<u64>) -> Option<u64>
     }
 }
 
-#[tactic(auto, unfolding(sc_model::specs::ScriptTexts::incoming, crate::specs::Reading::Says))]
+#[tactic(auto, unfolding(crate::specs::ScriptTexts::incoming, crate::specs::Reading::Says))]
 fn incoming(
     alloc: Global,
     after: &[u8],
@@ -254,7 +254,7 @@ fn incoming(
     }
 }
 
-#[tactic(auto, unfolding(sc_model::specs::ScriptTexts::is_feed))]
+#[tactic(auto, unfolding(crate::specs::ScriptTexts::is_feed))]
 fn is_feed_at(text: &[u8], at: usize) -> bool
     ensures exact { result ≡ is_feed (slice_get text.now at) }
     ensures within { IsTrue result → at < length text.now }

@@ -2,7 +2,7 @@
 
 ghost use Rattle.std.specs.Prelude.{◌≡◌, ◌≤◌, ◌<◌, ◌+◌, ℕ, [], ◌∷◌, ◌++◌, Result, drop, length, IfOk};
 ghost use Rattle.sc_terms.specs.declared.steps.Line.{Line};
-ghost use Rattle.sc_model.specs.ScriptTexts.{is_end, row_with, row_by, row_at, moment_after, lines_in, script_of};
+ghost use Rattle.sc_script.specs.ScriptTexts.{is_end, row_with, row_by, row_at, moment_after, lines_in, script_of};
 ghost use Rattle.sc_script.specs.Reading.{Says, Gives, Adds};
 
 use crate::cuts::cut;
@@ -28,7 +28,7 @@ const LONG: u8 = 7;
 /// one. Kind 6: the text ends without `end`, at its length, or goes on after it, at the first byte
 /// there. Kind 7, before all others: it has more than 67,108,864 bytes, at that place. `NoMemory`
 /// says nothing of the text.
-#[tactic(auto, unfolding(sc_model::specs::ScriptTexts::script_of, crate::specs::Reading::Gives, crate::specs::Reading::Adds))]
+#[tactic(auto, unfolding(crate::specs::ScriptTexts::script_of, crate::specs::Reading::Gives, crate::specs::Reading::Adds))]
 pub fn read_lines(alloc: Global, bytes: &[u8]) -> Result<List<Line>, ScriptRefused>
     ensures { Gives result (script_of bytes.now) }
 {
@@ -86,7 +86,7 @@ fn rest_of(bytes: &[u8], at: usize) -> &[u8]
 }
 
 // The line that begins at this place, and how many bytes it has with its own bytes.
-#[tactic(auto, unfolding(sc_model::specs::ScriptTexts::row_at, sc_model::specs::ScriptTexts::row_by, crate::specs::Reading::Gives))]
+#[tactic(auto, unfolding(crate::specs::ScriptTexts::row_at, crate::specs::ScriptTexts::row_by, crate::specs::Reading::Gives))]
 fn row_at(alloc: Global, at: usize, since: u64, text: &[u8]) -> Result<(Line, usize), ScriptRefused>
     requires { at + length text.now ≤ 67108864 }
     ensures gives { Gives result (row_at at since text.now) }
@@ -106,7 +106,7 @@ fn row_at(alloc: Global, at: usize, since: u64, text: &[u8]) -> Result<(Line, us
     }
 }
 
-#[tactic(auto, unfolding(sc_model::specs::ScriptTexts::row_with, crate::specs::Reading::Says, crate::specs::Reading::Gives))]
+#[tactic(auto, unfolding(crate::specs::ScriptTexts::row_with, crate::specs::Reading::Says, crate::specs::Reading::Gives))]
 fn row_with(
     at: usize,
     len: usize,
@@ -135,7 +135,7 @@ fn row_with(
     }
 }
 
-#[tactic(auto, unfolding(sc_model::specs::ScriptTexts::is_end))]
+#[tactic(auto, unfolding(crate::specs::ScriptTexts::is_end))]
 fn is_end(line: &Line) -> bool
     ensures { result ≡ is_end line.now }
 {
@@ -145,7 +145,7 @@ fn is_end(line: &Line) -> bool
     }
 }
 
-#[tactic(auto, unfolding(sc_model::specs::ScriptTexts::moment_after))]
+#[tactic(auto, unfolding(crate::specs::ScriptTexts::moment_after))]
 fn moment_after(since: u64, line: &Line) -> u64
     ensures { result ≡ moment_after since line.now }
 {
