@@ -6,6 +6,7 @@ pub mod PartLaws
 pub mod UriLaws
 pub mod HeaderCases
 pub mod MessageCases
+pub mod FrontCases
 pub mod BlankLaws
 pub mod ListedLaws
 pub mod ViaLaws

@@ -21,9 +21,7 @@ use Rattle.sc_syntax.specs.Vias.{vias_of}
 use Rattle.sc_syntax.specs.Addresses.{address_of, addresses_of, contacts_of}
 use Rattle.sc_syntax.specs.Sequences.{cseq_of, hops_of}
 
--- ## Which header a line has
-
--- by its long name
+-- which header has this long name
 unfoldable pub header_named : Bytes → Header
 header_named name =
     if same_name name via_name then headers.Via
@@ -93,8 +91,6 @@ with_length left len = counted 1 (record left { singles = record left.singles { 
 
 unfoldable pub with_field : Left → Bytes → Bytes → Result Left ℕ
 with_field left name value = counted 1 (record left { lists = record left.lists { others = left.lists.others ++ record { name = name; value = value } ∷ [] } })
-
--- ## One line
 
 -- a value of one line, read so
 unfoldable pub in_line : {X : Type 0} → (Bytes → Option X) → Bytes → Option X

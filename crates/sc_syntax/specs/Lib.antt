@@ -17,6 +17,7 @@ pub mod Folds
 pub mod StartLines
 pub mod Judging
 pub mod Messages
+pub mod Fronts
 pub mod SpelledParts
 pub mod SpelledVias
 pub mod SpelledAddresses

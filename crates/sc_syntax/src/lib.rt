@@ -4,9 +4,11 @@
 #![tactic(auto)]
 
 mod ending;
+mod front;
 mod left;
 mod scan;
 
 pub use ending::Ending;
+pub use front::{Answerable, Front};
 pub use left::{Header, Left, Lists, Singles, Start};
 pub use scan::Scan;
