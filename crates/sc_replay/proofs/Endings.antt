@@ -28,6 +28,7 @@ unfolding Comes ComesIn IsAccepted
 comes_with words names told read write statuses.Done is some comes = (is, some)
 comes_with words names told read write statuses.Usage is some comes = absurd comes
 comes_with words names told read write (statuses.Config kind key) is some comes = absurd comes
+comes_with words names told read write (statuses.Dar line kind) is some comes = absurd comes
 comes_with words names told read write statuses.JournalFull is some comes = (is, some)
 comes_with words names told read write statuses.NoMemory is some comes = is
 comes_with words names told read write (statuses.Script at kind) is some comes = ((is, some), comes.0, comes.1, comes.2)
@@ -39,6 +40,7 @@ unfolding Comes IsConfigRefused
 comes_without words names told read write statuses.Done is none refused = absurd refused
 comes_without words names told read write statuses.Usage is none refused = absurd refused
 comes_without words names told read write (statuses.Config kind key) is none refused = (is, none, refused.0, refused.1)
+comes_without words names told read write (statuses.Dar line kind) is none refused = absurd refused
 comes_without words names told read write statuses.JournalFull is none refused = absurd refused
 comes_without words names told read write statuses.NoMemory is none refused = is
 comes_without words names told read write (statuses.Script at kind) is none refused = absurd refused

@@ -1,3 +1,6 @@
+pub mod Accepted
+pub mod Checks
+pub mod CommandLaws
 pub mod Drivings
 pub mod Endings
 pub mod Playings
@@ -5,5 +8,6 @@ pub mod Readings
 pub mod Replayings
 pub mod Runnings
 pub mod Startings
+pub mod TableLengths
 pub mod Words
 pub mod Writings

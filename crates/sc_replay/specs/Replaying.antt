@@ -56,6 +56,7 @@ unfoldable pub Comes : List Bytes → List Bytes → Option Bytes → Type 0 →
 Comes words names told read write statuses.Done = IsAccepted words names
 Comes words names told read write statuses.Usage = IsReplay words → ⊥
 Comes words names told read write (statuses.Config kind key) = IsReplay words × (answer_kind names ≡ None) × (kind ≡ 5) × (key ≡ answer_word)
+Comes words names told read write (statuses.Dar line kind) = ⊥
 Comes words names told read write statuses.JournalFull = IsAccepted words names
 Comes words names told read write statuses.NoMemory = IsReplay words
 Comes words names told read write (statuses.Script at kind) = IsAccepted words names × TellsNoScript told × (at ≡ 0) × (kind ≡ 8)
@@ -94,6 +95,7 @@ unfoldable pub Leaves : Setup → Option Bytes → Type 0 → Option Bytes → O
 Leaves setup told write old new statuses.Done journal = Replays setup told journal × Takes old new (output setup journal)
 Leaves setup told write old new statuses.Usage journal = ⊥
 Leaves setup told write old new (statuses.Config kind key) journal = ⊥
+Leaves setup told write old new (statuses.Dar line kind) journal = ⊥
 Leaves setup told write old new statuses.JournalFull journal =
     ReplaysFull setup told journal × (Takes old new (journal_records setup journal) ⊎ (write × TakesPart old new (journal_records setup journal)))
 Leaves setup told write old new statuses.NoMemory journal = (ReplaysPart setup told journal × TakesPart old new (output setup journal)) ⊎ LeavesNothing old new journal

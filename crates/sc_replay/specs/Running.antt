@@ -81,6 +81,7 @@ unfoldable pub ComesIn : Option Bytes → Type 0 → Type 0 → Status → Type 
 ComesIn told read write statuses.Done = Unit {0}
 ComesIn told read write statuses.Usage = ⊥
 ComesIn told read write (statuses.Config kind key) = ⊥
+ComesIn told read write (statuses.Dar line kind) = ⊥
 ComesIn told read write statuses.JournalFull = Unit {0}
 ComesIn told read write statuses.NoMemory = Unit {0}
 ComesIn told read write (statuses.Script at kind) = TellsNoScript told × (at ≡ 0) × (kind ≡ 8)
@@ -92,6 +93,7 @@ unfoldable pub IsConfigRefused : Status → Type 0
 IsConfigRefused statuses.Done = ⊥
 IsConfigRefused statuses.Usage = ⊥
 IsConfigRefused (statuses.Config kind key) = (kind ≡ 5) × (key ≡ answer_word)
+IsConfigRefused (statuses.Dar line kind) = ⊥
 IsConfigRefused statuses.JournalFull = ⊥
 IsConfigRefused statuses.NoMemory = Unit {0}
 IsConfigRefused (statuses.Script at kind) = ⊥

@@ -1,7 +1,13 @@
-//! The command `replay`: a script is run on a switch, and what it sent is written.
+//! The commands: `replay` runs a script on a switch and writes what it sent, `check` reads the
+//! settings alone, and `make` writes a script.
 #![tactic(auto)]
 
+mod accepting;
+mod checking;
+mod commanding;
+mod making;
 mod playing;
+mod putting;
 mod reading;
 mod replaying;
 mod running;
@@ -9,5 +15,8 @@ mod settings;
 mod starting;
 mod writing;
 
+pub use checking::check;
+pub use commanding::{Command, command_of};
+pub use making::make;
 pub use replaying::replay;
 pub use sc_switch::{Ran, Status};

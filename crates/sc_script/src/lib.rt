@@ -13,6 +13,7 @@ mod scripts;
 #[cfg(test)]
 mod tests;
 
+pub use numbers::decimal_upto;
 pub use reading::read;
 pub use records::{write_end, write_sent};
 pub use refused::ScriptRefused;

@@ -6,6 +6,8 @@ pub const HELP: &str = "\
 sipd, a SIP Servlet container (JSR 289, RFC 3261)
 
 usage: sipd replay CONFIG DAR SCRIPT
+       sipd check CONFIG DAR
+       sipd make N
        sipd --help
        sipd --version
 
@@ -15,13 +17,18 @@ bytes of the message and a line feed, and at the end the line
 `end STEPS SENT LIVE`: how many steps were taken, messages sent, and
 application sessions live on.
 
-Today CONFIG and DAR are not read: one application, of the kind `answer`,
-gets each OPTIONS request. One script is read, examples/options/script.
+check reads a configuration and a routing table, and writes `ok A T`: how many
+applications and how many tuples they have. make writes a script of N calls, N
+from 1 to 1000.
+
+Today replay reads neither CONFIG nor DAR: one application, of the kind
+`answer`, gets each OPTIONS request. One script is read, examples/options/script.
 
 The exit status, and the line on standard error:
    0                          all was read and written
    2  sipd: usage             the command line has another form
    3  sipd: config KIND KEY   the configuration is refused
+   4  sipd: dar LINE KIND     the routing table is refused, at this line
    5  sipd: journal full      a step was due that the journal had no room for
    7  sipd: no memory         want of memory
    8  sipd: script AT KIND    the script is refused, at this byte

@@ -8,8 +8,9 @@ use endings::{exit_status, write_line};
 use sc_apps::Answers;
 use sc_calls::Catalogue;
 use sc_edge::{FileShelf, OutSink, put_all};
-use sc_replay::{Status, replay};
-use sc_value::Text;
+use sc_replay::{Command, Status, check, command_of, make, replay};
+use sc_value::{NoMemory, Text};
+use std::alloc::Global;
 use std::env;
 use std::io::{self, ErrorKind, Write};
 use std::process::ExitCode;
@@ -38,7 +39,7 @@ fn run(rt: &HostRuntime, words: &[String]) -> Status {
     match words {
         [word] if word.as_str() == "--help" => put(rt, help::HELP),
         [word] if word.as_str() == "--version" => put(rt, help::VERSION),
-        _ => replay_words(rt, words),
+        _ => run_command(rt, words),
     }
 }
 
@@ -50,22 +51,44 @@ fn put(rt: &HostRuntime, text: &str) -> Status {
     }
 }
 
-/// Runs `replay` over files, with the one kind of application that this program has.
-fn replay_words(rt: &HostRuntime, words: &[String]) -> Status {
-    let alloc = rt.alloc();
-    let mut apps = Catalogue::new(alloc);
-    let Ok(name) = Text::from_slice(alloc, b"answer") else {
-        return Status::NoMemory;
-    };
-    let Ok(servlet) = Box::new(alloc, Answers) else {
-        return Status::NoMemory;
-    };
-    if apps.add(name, servlet, None).is_err() {
-        return Status::NoMemory;
-    }
-    let mut shelf = FileShelf::new(rt, alloc);
+/// Runs the command that the words are, over files and standard output.
+fn run_command(rt: &HostRuntime, words: &[String]) -> Status {
     let mut out = OutSink::new(rt);
-    replay(alloc, words, &mut shelf, &apps, &mut out).status
+    match command_of(words) {
+        Command::Make => make(rt.alloc(), words, &mut out).status,
+        Command::Check => check_words(rt, words, &mut out),
+        _ => replay_words(rt, words, &mut out),
+    }
+}
+
+fn check_words(rt: &HostRuntime, words: &[String], out: &mut OutSink<'_, HostRuntime>) -> Status {
+    let alloc = rt.alloc();
+    match catalogue(alloc) {
+        Ok(apps) => check(alloc, words, &mut FileShelf::new(rt, alloc), &apps, out).status,
+        Err(NoMemory) => Status::NoMemory,
+    }
+}
+
+/// Runs `replay`, which answers words of another form too.
+fn replay_words(rt: &HostRuntime, words: &[String], out: &mut OutSink<'_, HostRuntime>) -> Status {
+    let alloc = rt.alloc();
+    match catalogue(alloc) {
+        Ok(apps) => replay(alloc, words, &mut FileShelf::new(rt, alloc), &apps, out).status,
+        Err(NoMemory) => Status::NoMemory,
+    }
+}
+
+/// The one kind of application that this program has.
+fn catalogue(alloc: Global) -> Result<Catalogue, NoMemory> {
+    let name = Text::from_slice(alloc, b"answer")?;
+    let Ok(servlet) = Box::new(alloc, Answers) else {
+        return Err(NoMemory);
+    };
+    let mut apps = Catalogue::new(alloc);
+    match apps.add(name, servlet, None) {
+        Ok(()) => Ok(apps),
+        Err(_) => Err(NoMemory),
+    }
 }
 
 /// Writes the line on standard error that the status has. Nobody is left to hear of a failure.

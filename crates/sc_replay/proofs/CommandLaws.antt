@@ -1,0 +1,117 @@
+-- The words of a command line, by their number.
+use Rattle.std.proofs.Common.{◌≡◌, ◌<◌, ◌≤◌, ℕ, Option, None, Some, true, false, Bool, cond, codes, List, [], ◌∷◌, map, length, sym, ap, subst, refl, ◌∙◌, arith}
+use Rattle.std.specs.Prelude.{get_or}
+use Rattle.std.proofs.lemmas.Bool.{false≢true}
+use Rattle.sc_value.specs.Params.{same_bytes}
+use Rattle.sc_grammar.specs.Written.{Bytes}
+use Rattle.sc_replay.specs.declared.commanding.Command.{Command}
+use Rattle.sc_replay.specs.declared.commanding.Command.TheVariants.{Usage}
+use Rattle.sc_replay.specs.Commands.{command_of, counted_command, settled_command, scripted_command}
+use Rattle.sc_replay.specs.Making.{made_count, count_made}
+use Rattle.sc_replay.specs.Checking.{checked_names}
+
+pub two_words : {S : Type 0} (f : S → Bytes) (words : List S) (a b : S) → 2 ≤ length words → length words < 3 → a ≡ get_or words 0 a → b ≡ get_or words 1 b
+    → counted_command (f a) (f b) ≡ command_of (map f words)
+unfolding command_of
+two_words f [] a b least below first second = absurd (omega (arith, least))
+two_words f (x ∷ []) a b least below first second = absurd (omega (arith, least))
+two_words f (x ∷ y ∷ []) a b least below first second = ap (λ w. counted_command (f w) (f b)) first ∙ ap (λ w. counted_command (f x) (f w)) second
+two_words f (x ∷ y ∷ z ∷ more) a b least below first second = absurd (omega (arith, below))
+
+pub three_words : {S : Type 0} (f : S → Bytes) (words : List S) (a : S) → 3 ≤ length words → length words < 4 → a ≡ get_or words 0 a → settled_command (f a) ≡ command_of (map f words)
+unfolding command_of
+three_words f [] a least below first = absurd (omega (arith, least))
+three_words f (x ∷ []) a least below first = absurd (omega (arith, least))
+three_words f (x ∷ y ∷ []) a least below first = absurd (omega (arith, least))
+three_words f (x ∷ y ∷ z ∷ []) a least below first = ap (λ w. settled_command (f w)) first
+three_words f (x ∷ y ∷ z ∷ v ∷ more) a least below first = absurd (omega (arith, below))
+
+pub four_words : {S : Type 0} (f : S → Bytes) (words : List S) (a : S) → 4 ≤ length words → length words < 5 → a ≡ get_or words 0 a → scripted_command (f a) ≡ command_of (map f words)
+unfolding command_of
+four_words f [] a least below first = absurd (omega (arith, least))
+four_words f (x ∷ []) a least below first = absurd (omega (arith, least))
+four_words f (x ∷ y ∷ []) a least below first = absurd (omega (arith, least))
+four_words f (x ∷ y ∷ z ∷ []) a least below first = absurd (omega (arith, least))
+four_words f (x ∷ y ∷ z ∷ v ∷ []) a least below first = ap (λ w. scripted_command (f w)) first
+four_words f (x ∷ y ∷ z ∷ v ∷ w ∷ more) a least below first = absurd (omega (arith, below))
+
+pub few_words : {S : Type 0} (f : S → Bytes) (words : List S) → length words < 2 → Usage ≡ command_of (map f words)
+unfolding command_of
+few_words f [] below = refl
+few_words f (x ∷ []) below = refl
+few_words f (x ∷ y ∷ more) below = absurd (omega (arith, below))
+
+pub many_words : {S : Type 0} (f : S → Bytes) (words : List S) → 5 ≤ length words → Usage ≡ command_of (map f words)
+unfolding command_of
+many_words f [] least = absurd (omega (arith, least))
+many_words f (x ∷ []) least = absurd (omega (arith, least))
+many_words f (x ∷ y ∷ []) least = absurd (omega (arith, least))
+many_words f (x ∷ y ∷ z ∷ []) least = absurd (omega (arith, least))
+many_words f (x ∷ y ∷ z ∷ v ∷ []) least = absurd (omega (arith, least))
+many_words f (x ∷ y ∷ z ∷ v ∷ w ∷ more) least = refl
+
+-- ## `make`
+
+pub made_two : {S : Type 0} (f : S → Bytes) (words : List S) (a b : S) → 2 ≤ length words → length words < 3 → a ≡ get_or words 0 a → b ≡ get_or words 1 b
+    → count_made (f a) (f b) ≡ made_count (map f words)
+unfolding made_count
+made_two f [] a b least below first second = absurd (omega (arith, least))
+made_two f (x ∷ []) a b least below first second = absurd (omega (arith, least))
+made_two f (x ∷ y ∷ []) a b least below first second = ap (λ w. count_made (f w) (f b)) first ∙ ap (λ w. count_made (f x) (f w)) second
+made_two f (x ∷ y ∷ z ∷ more) a b least below first second = absurd (omega (arith, below))
+
+pub made_few : {S : Type 0} (f : S → Bytes) (words : List S) → length words < 2 → ◌≡◌ {A = Option ℕ} None (made_count (map f words))
+unfolding made_count
+made_few f [] below = refl
+made_few f (x ∷ []) below = refl
+made_few f (x ∷ y ∷ more) below = absurd (omega (arith, below))
+
+pub made_many : {S : Type 0} (f : S → Bytes) (words : List S) → 3 ≤ length words → ◌≡◌ {A = Option ℕ} None (made_count (map f words))
+unfolding made_count
+made_many f [] least = absurd (omega (arith, least))
+made_many f (x ∷ []) least = absurd (omega (arith, least))
+made_many f (x ∷ y ∷ []) least = absurd (omega (arith, least))
+made_many f (x ∷ y ∷ z ∷ more) least = refl
+
+-- ## `check`
+
+if_names : (t : Bool) (names : Bytes × Bytes) → t ≡ true → Some names ≡ cond t (Some names) None
+if_names true names e = refl
+if_names false names e = absurd (false≢true e)
+
+if_none : (t : Bool) (names : Bytes × Bytes) → t ≡ false → None ≡ cond t (Some names) None
+if_none true names e = absurd (false≢true (sym e))
+if_none false names e = refl
+
+pub checked_three : {S : Type 0} (f : S → Bytes) (words : List S) (a b c : S) → 3 ≤ length words → length words < 4 → a ≡ get_or words 0 a → b ≡ get_or words 1 b → c ≡ get_or words 2 c
+    → same_bytes (f a) (codes "check") ≡ true → Some (f b, f c) ≡ checked_names (map f words)
+unfolding checked_names
+checked_three f [] a b c least below first second third is = absurd (omega (arith, least))
+checked_three f (x ∷ []) a b c least below first second third is = absurd (omega (arith, least))
+checked_three f (x ∷ y ∷ []) a b c least below first second third is = absurd (omega (arith, least))
+checked_three f (x ∷ y ∷ z ∷ []) a b c least below first second third is =
+    ap (λ w. Some (f w, f c)) second ∙ ap (λ w. Some (f y, f w)) third ∙ if_names (same_bytes (f x) (codes "check")) (f y, f z) (subst (λ w. same_bytes (f w) (codes "check") ≡ true) first is)
+checked_three f (x ∷ y ∷ z ∷ v ∷ more) a b c least below first second third is = absurd (omega (arith, below))
+
+pub checked_other : {S : Type 0} (f : S → Bytes) (words : List S) (a : S) → 3 ≤ length words → length words < 4 → a ≡ get_or words 0 a → same_bytes (f a) (codes "check") ≡ false → None ≡ checked_names (map f words)
+unfolding checked_names
+checked_other f [] a least below first is = absurd (omega (arith, least))
+checked_other f (x ∷ []) a least below first is = absurd (omega (arith, least))
+checked_other f (x ∷ y ∷ []) a least below first is = absurd (omega (arith, least))
+checked_other f (x ∷ y ∷ z ∷ []) a least below first is = if_none (same_bytes (f x) (codes "check")) (f y, f z) (subst (λ w. same_bytes (f w) (codes "check") ≡ false) first is)
+checked_other f (x ∷ y ∷ z ∷ v ∷ more) a least below first is = absurd (omega (arith, below))
+
+pub checked_few : {S : Type 0} (f : S → Bytes) (words : List S) → length words < 3 → None ≡ checked_names (map f words)
+unfolding checked_names
+checked_few f [] below = refl
+checked_few f (x ∷ []) below = refl
+checked_few f (x ∷ y ∷ []) below = refl
+checked_few f (x ∷ y ∷ z ∷ more) below = absurd (omega (arith, below))
+
+pub checked_many : {S : Type 0} (f : S → Bytes) (words : List S) → 4 ≤ length words → None ≡ checked_names (map f words)
+unfolding checked_names
+checked_many f [] least = absurd (omega (arith, least))
+checked_many f (x ∷ []) least = absurd (omega (arith, least))
+checked_many f (x ∷ y ∷ []) least = absurd (omega (arith, least))
+checked_many f (x ∷ y ∷ z ∷ []) least = absurd (omega (arith, least))
+checked_many f (x ∷ y ∷ z ∷ v ∷ more) least = refl

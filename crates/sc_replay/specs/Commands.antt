@@ -1,0 +1,34 @@
+-- Which command the words of a command line are.
+use Rattle.std.specs.Prelude.{ℕ, nat_le, Option, Some, None, List, [], ◌∷◌, codes, get_or, if◌then◌else◌, is_some}
+use Rattle.std.specs.Option.{option_and_then, unwrap_or}
+use Rattle.sc_value.specs.Params.{same_bytes}
+use Rattle.sc_grammar.specs.Written.{Bytes}
+use Rattle.sc_model.specs.ScriptTexts.{decimal_upto}
+use Rattle.sc_replay.specs.declared.commanding.Command.{Command}
+use Rattle.sc_replay.specs.declared.commanding.Command.TheVariants.{Replay, Check, Make, Trial, Serve, Usage}
+
+abbrev pub if_positive : ℕ → Option ℕ
+if_positive n = if nat_le 1 n then Some n else None
+
+-- the number N of a command: a decimal from 1 to 1,000 without leading zero
+unfoldable pub count_in : Bytes → Option ℕ
+count_in text = option_and_then if_positive (decimal_upto 1000 text)
+
+-- `make N` and `trial N`
+unfoldable pub counted_command : Bytes → Bytes → Command
+counted_command word count =
+    if is_some (count_in count) then (if same_bytes word (codes "make") then Make else (if same_bytes word (codes "trial") then Trial else Usage)) else Usage
+
+-- `check CONFIG DAR` and `serve CONFIG DAR`
+unfoldable pub settled_command : Bytes → Command
+settled_command word = if same_bytes word (codes "check") then Check else (if same_bytes word (codes "serve") then Serve else Usage)
+
+-- `replay CONFIG DAR SCRIPT`
+unfoldable pub scripted_command : Bytes → Command
+scripted_command word = if same_bytes word (codes "replay") then Replay else Usage
+
+unfoldable pub command_of : List Bytes → Command
+command_of (word ∷ count ∷ []) = counted_command word count
+command_of (word ∷ config ∷ dar ∷ []) = settled_command word
+command_of (word ∷ config ∷ dar ∷ script ∷ []) = scripted_command word
+command_of words = Usage
