@@ -107,7 +107,7 @@ unfolding table_of
 few_lists text apps dar h =
     let (short, is) = short_text (length text) (nat_lt 65536 (length text)) (table_with (judged apps 1 [] (lines text))) dar (lt-ltb 65536 (length text)) h in
     let lists_few = table_length (length text + 1) (judged apps 1 [] (lines text)) dar
-        (λ lists all. let few = judged_length (lines text) apps 1 [] lists all in let few_lines = lines_length text in omega (arith, few, few_lines)) is in
+    (λ lists all. let few = judged_length (lines text) apps 1 [] lists all in let few_lines = lines_length text in omega (arith, few, few_lines)) is in
     omega (arith, short, lists_few)
 
 -- so many tuples can be counted

@@ -97,7 +97,10 @@ fn check_table<F: Shelf, K: Sink>(
     ensures began { result.began ≡ 0 }
 {
     match read_dar(alloc, dar, shelf, config) {
-        Ok(dar) => accepted(alloc, put_ok(alloc, config.app.len(), dar.lists.as_slice(), out)),
+        Ok(dar) => accepted(
+            alloc,
+            put_ok(alloc, config.app.len(), dar.lists.as_slice(), out),
+        ),
         Err(status) => ended(status),
     }
 }

@@ -9,8 +9,7 @@ use sc_apps::Answers;
 use sc_calls::Catalogue;
 use sc_edge::{FileShelf, OutSink, put_all};
 use sc_replay::{Command, Status, check, command_of, make, replay};
-use sc_value::{NoMemory, Text};
-use std::alloc::Global;
+use sc_value::Text;
 use std::env;
 use std::io::{self, ErrorKind, Write};
 use std::process::ExitCode;
@@ -51,43 +50,29 @@ fn put(rt: &HostRuntime, text: &str) -> Status {
     }
 }
 
-/// Runs the command that the words are, over files and standard output.
+/// Runs the command that the words are, over files and standard output, with the one kind of
+/// application that this program has. Words of another form are left to `replay`, which refuses them.
 fn run_command(rt: &HostRuntime, words: &[String]) -> Status {
+    let alloc = rt.alloc();
     let mut out = OutSink::new(rt);
-    match command_of(words) {
-        Command::Make => make(rt.alloc(), words, &mut out).status,
-        Command::Check => check_words(rt, words, &mut out),
-        _ => replay_words(rt, words, &mut out),
+    let command = command_of(words);
+    if let Command::Make = command {
+        return make(alloc, words, &mut out).status;
     }
-}
-
-fn check_words(rt: &HostRuntime, words: &[String], out: &mut OutSink<'_, HostRuntime>) -> Status {
-    let alloc = rt.alloc();
-    match catalogue(alloc) {
-        Ok(apps) => check(alloc, words, &mut FileShelf::new(rt, alloc), &apps, out).status,
-        Err(NoMemory) => Status::NoMemory,
-    }
-}
-
-/// Runs `replay`, which answers words of another form too.
-fn replay_words(rt: &HostRuntime, words: &[String], out: &mut OutSink<'_, HostRuntime>) -> Status {
-    let alloc = rt.alloc();
-    match catalogue(alloc) {
-        Ok(apps) => replay(alloc, words, &mut FileShelf::new(rt, alloc), &apps, out).status,
-        Err(NoMemory) => Status::NoMemory,
-    }
-}
-
-/// The one kind of application that this program has.
-fn catalogue(alloc: Global) -> Result<Catalogue, NoMemory> {
-    let name = Text::from_slice(alloc, b"answer")?;
-    let Ok(servlet) = Box::new(alloc, Answers) else {
-        return Err(NoMemory);
-    };
     let mut apps = Catalogue::new(alloc);
-    match apps.add(name, servlet, None) {
-        Ok(()) => Ok(apps),
-        Err(_) => Err(NoMemory),
+    let Ok(name) = Text::from_slice(alloc, b"answer") else {
+        return Status::NoMemory;
+    };
+    let Ok(servlet) = Box::new(alloc, Answers) else {
+        return Status::NoMemory;
+    };
+    if apps.add(name, servlet, None).is_err() {
+        return Status::NoMemory;
+    }
+    let mut shelf = FileShelf::new(rt, alloc);
+    match command {
+        Command::Check => check(alloc, words, &mut shelf, &apps, &mut out).status,
+        _ => replay(alloc, words, &mut shelf, &apps, &mut out).status,
     }
 }
 

@@ -9,5 +9,5 @@ pub returns-in-Err-Refused-clause-unread : goal.returns-in-Err-Refused-clause-un
 unfolding IsNoConfig
 returns-in-Err-Refused-clause-unread c = λ told gives.
     config_fault c.args.kinds.now c.args.text.now told (c.in-Err-Refused.kind, c.in-Err-Refused.key) gives
-        (subst (λ (t : Bytes). settings_of t c.args.kinds.now ≡ Err (c.in-Err-Refused.kind, c.in-Err-Refused.key)) c.as_bytes.ensures
-            (refused_fault _ c.in-Err-Refused.field-0 c.in-Err-Refused.kind c.in-Err-Refused.key c.in-Err-Refused.field-0-is c.in-Err-Refused.ensures.refused))
+    (subst (λ (t : Bytes). settings_of t c.args.kinds.now ≡ Err (c.in-Err-Refused.kind, c.in-Err-Refused.key)) c.as_bytes.ensures
+    (refused_fault _ c.in-Err-Refused.field-0 c.in-Err-Refused.kind c.in-Err-Refused.key c.in-Err-Refused.field-0-is c.in-Err-Refused.ensures.refused))

@@ -6,7 +6,7 @@ use Rattle.sc_replay.proofs.checking.check_named.Goals as goal
 pub returns-in-Ok-clause-checks : goal.returns-in-Ok-clause-checks
 returns-in-Ok-clause-checks g c =
     named_table _ _ c.in-Ok.config _ _ _ _ _ _ _ c.check_table.result.status c.check_table.result.journal (rw c.names.ensures at c.in-Ok.ensures.found) (c.read_config.ensures.same (string_bytes c.args.dar.now))
-        (λ rose. Rose_after _ _ _ c.read_config.ensures.later rose) c.check_table.ensures.checks
+    (λ rose. Rose_after _ _ _ c.read_config.ensures.later rose) c.check_table.ensures.checks
 
 pub returns-in-Err-clause-checks : goal.returns-in-Err-clause-checks
 returns-in-Err-clause-checks g c =

@@ -10,7 +10,7 @@ returns-in_default c = elim c.in_default.branch [ in_default-via-then-words-lt3 
 pub returns-then-is_word : goal.returns-then-is_word
 returns-then-is_word c =
     checked_three string_bytes c.args.words.now c.word-item.result c.config-item.result c.dar-item.result c.in-len3.len_at_least c.in-len3.len_below c.word-item.is c.config-item.is c.dar-item.is
-        (rw (← c.as_bytes.ensures.value, ← c.is_word.ensures) c.if-is_word.true)
+    (rw (← c.as_bytes.ensures.value, ← c.is_word.ensures) c.if-is_word.true)
 
 pub returns-else-is_word : goal.returns-else-is_word
 returns-else-is_word c =
