@@ -1,3 +1,4 @@
+pub mod Choosing
 pub mod Playing
 pub mod Replaying
 pub mod Running

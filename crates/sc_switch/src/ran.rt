@@ -11,6 +11,8 @@ pub enum Status {
     Usage,
     /// The configuration is refused, at this key.
     Config { kind: u8, key: Text },
+    /// The routing table is refused, at this line.
+    Dar { line: u64, kind: u8 },
     /// A step was due that the journal had no room for.
     JournalFull,
     /// Want of memory.

@@ -8,6 +8,7 @@ unfoldable pub exit_status : Status → ℕ
 exit_status statuses.Done = 0
 exit_status statuses.Usage = 2
 exit_status (statuses.Config kind key) = 3
+exit_status (statuses.Dar line kind) = 4
 exit_status statuses.JournalFull = 5
 exit_status statuses.NoMemory = 7
 exit_status (statuses.Script at kind) = 8
@@ -17,6 +18,9 @@ exit_status statuses.Write = 10
 unfoldable pub config_word : Bytes
 config_word = codes "config "
 
+unfoldable pub dar_word : Bytes
+dar_word = codes "dar "
+
 unfoldable pub script_word : Bytes
 script_word = codes "script "
 
@@ -25,6 +29,7 @@ unfoldable pub cause_text : Status → Bytes
 cause_text statuses.Done = []
 cause_text statuses.Usage = codes "usage"
 cause_text (statuses.Config kind key) = config_word ++ decimal kind ++ 32 ∷ [] ++ key
+cause_text (statuses.Dar line kind) = dar_word ++ decimal line ++ 32 ∷ [] ++ decimal kind
 cause_text statuses.JournalFull = codes "journal full"
 cause_text statuses.NoMemory = codes "no memory"
 cause_text (statuses.Script at kind) = script_word ++ decimal at ++ 32 ∷ [] ++ decimal kind

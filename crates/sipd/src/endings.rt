@@ -1,7 +1,7 @@
 //! How the program ends.
 
 ghost use Rattle.std.specs.Prelude.{◌≡◌, ◌++◌, [], ◌∷◌, decimal, OnOk};
-ghost use Rattle.sipd.specs.Endings.{exit_status, line_text, cause_text, program_word, config_word, script_word};
+ghost use Rattle.sipd.specs.Endings.{exit_status, line_text, cause_text, program_word, config_word, dar_word, script_word};
 
 use sc_replay::Status;
 use sc_value::{NoMemory, Text, write_u64};
@@ -15,6 +15,7 @@ pub fn exit_status(status: &Status) -> u8
         Status::Done => 0,
         Status::Usage => 2,
         Status::Config { .. } => 3,
+        Status::Dar { .. } => 4,
         Status::JournalFull => 5,
         Status::NoMemory => 7,
         Status::Script { .. } => 8,
@@ -51,6 +52,7 @@ fn write_cause(status: &Status, out: &mut Text) -> Result<(), NoMemory>
         Status::Done => Ok(()),
         Status::Usage => out.append(b"usage"),
         Status::Config { kind, key } => write_config(*kind, key, out),
+        Status::Dar { line, kind } => write_dar(*line, *kind, out),
         Status::JournalFull => out.append(b"journal full"),
         Status::NoMemory => out.append(b"no memory"),
         Status::Script { at, kind } => write_script(*at, *kind, out),
@@ -67,6 +69,16 @@ fn write_config(kind: u8, key: &Text, out: &mut Text) -> Result<(), NoMemory>
     write_u64(u64::from(kind), out)?;
     out.append(b" ")?;
     out.append(key.as_bytes())
+}
+
+#[tactic(auto, unfolding(crate::specs::Endings::dar_word))]
+fn write_dar(line: u64, kind: u8, out: &mut Text) -> Result<(), NoMemory>
+    ensures { OnOk result (out.new ≡ out.old ++ (dar_word ++ decimal line ++ 32 ∷ [] ++ decimal kind)) }
+{
+    out.append(b"dar ")?;
+    write_u64(line, out)?;
+    out.append(b" ")?;
+    write_u64(u64::from(kind), out)
 }
 
 #[tactic(auto, unfolding(crate::specs::Endings::script_word))]

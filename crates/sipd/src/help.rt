@@ -15,13 +15,15 @@ bytes of the message and a line feed, and at the end the line
 `end STEPS SENT LIVE`: how many steps were taken, messages sent, and
 application sessions live on.
 
-Today CONFIG and DAR are not read: one application, of the kind `answer`,
-gets each OPTIONS request. One script is read, examples/options/script.
+CONFIG is a TOML text with the container's settings and its applications, each
+of the kind `answer`. DAR is the table of the Default Application Router. Today
+one script is read, examples/options/script.
 
 The exit status, and the line on standard error:
    0                          all was read and written
    2  sipd: usage             the command line has another form
    3  sipd: config KIND KEY   the configuration is refused
+   4  sipd: dar LINE KIND     the routing table is refused, at this line
    5  sipd: journal full      a step was due that the journal had no room for
    7  sipd: no memory         want of memory
    8  sipd: script AT KIND    the script is refused, at this byte
