@@ -1,5 +1,5 @@
 -- How `check` ends.
-use Rattle.std.proofs.Common.{◌≡◌, ℕ, Option, None, Some, List, refl, sym, subst, inl, inr}
+use Rattle.std.proofs.Common.{◌≡◌, Option, None, Some, List, refl, sym, subst, inl, inr}
 use Rattle.std.specs.Prelude.{length}
 use Rattle.sc_terms.specs.declared.settings.Config.{Config}
 use Rattle.sc_terms.specs.declared.settings.Dar.{Dar}

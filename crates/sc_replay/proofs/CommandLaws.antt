@@ -4,7 +4,6 @@ use Rattle.std.specs.Prelude.{get_or}
 use Rattle.std.proofs.lemmas.Bool.{false≢true}
 use Rattle.sc_value.specs.Params.{same_bytes}
 use Rattle.sc_grammar.specs.Written.{Bytes}
-use Rattle.sc_replay.specs.declared.commanding.Command.{Command}
 use Rattle.sc_replay.specs.declared.commanding.Command.TheVariants.{Usage}
 use Rattle.sc_replay.specs.Commands.{command_of, counted_command, settled_command, scripted_command}
 use Rattle.sc_replay.specs.Making.{made_count, count_made}

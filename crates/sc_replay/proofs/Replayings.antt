@@ -1,7 +1,7 @@
 -- What a run leaves at each status.
-use Rattle.std.specs.Prelude.{is_some, IfSome}
-use Rattle.std.proofs.Common.{◌≡◌, ℕ, Option, None, Some, List, [], refl, sym, ap, ◌∙◌, subst, inl, inr, true, arith}
-use Rattle.std.proofs.lemmas.Option.{same_Some}
+use Rattle.std.specs.Prelude.{is_some, IfSome, IsTrue}
+use Rattle.std.proofs.Common.{◌≡◌, Bool, false, Option, None, Some, List, [], refl, sym, ap, ◌∙◌, subst, inl, inr, true, arith}
+use Rattle.std.proofs.lemmas.Bool.{false≢true}
 use Rattle.sc_terms.specs.declared.steps.Line.{Line}
 use Rattle.sc_terms.specs.declared.steps.Step.{Step}
 use Rattle.sc_parts.specs.declared.setup.Setup.{Setup}
@@ -13,14 +13,11 @@ use Rattle.sc_journal.specs.Kept.{Kept}
 use Rattle.sc_model.specs.Journals.{IsLawful, IsLawfulFrom}
 use Rattle.sc_switch.specs.declared.ran.Ran.{Ran}
 use Rattle.sc_switch.specs.Standing.{Known}
-use Rattle.sc_switch.specs.declared.ran.Status.{Status}
 use Rattle.sc_switch.specs.declared.ran.Status.TheVariants as statuses
 use Rattle.sc_replay.specs.declared.running.RunRefused.TheVariants as runs
-use Rattle.sc_replay.specs.Replaying.{answer_kind, TellsScript, Leaves, Replays, ReplaysPart, ReplaysFull, LeavesNothing}
-use Rattle.sc_replay.specs.Running.{IsCutShort, ComesIn, IsRan, IsNew, ComesFor, IsConfigRefused}
-use Rattle.sc_replay.specs.Starting.{IsStarted}
-use Rattle.sc_model.specs.Settings.{Charters}
-use Rattle.sc_model.specs.FixedSettings.{fixed_setup}
+use Rattle.sc_replay.specs.Replaying.{TellsScript, TellsNoScript, ComesIn, IsUnrun, Leaves, Replays, ReplaysPart, ReplaysFull, LeavesNothing}
+use Rattle.sc_replay.specs.Running.{IsCutShort, IsRan, IsNew}
+use Rattle.sc_replay.specs.Starting.{IsStarted, IsRunnable}
 
 pub left_done : (setup : Setup) (told : Option Bytes) (write : Type 0) (a b : Option Bytes) (said : List Line) (journal : List Step) → TellsScript told said → Follows setup said journal → Takes a b (output setup journal) → Leaves setup told write a b statuses.Done journal
 unfolding Leaves Replays
@@ -38,13 +35,13 @@ pub left_cut : (setup : Setup) (told : Option Bytes) (write : Type 0) (a b : Opt
 unfolding Leaves Replays IsCutShort
 left_cut setup told write a b said journal tells (rose, follows, put) = ((said, tells, follows), put)
 
-pub comes_write : (setup : Setup) (told : Option Bytes) (read write : Type 0) (a b : Option Bytes) (said : List Line) (journal : List Step) → IsCutShort setup said write a b journal runs.Write → ComesIn told read write statuses.Write
+pub comes_write : (setup : Setup) (told : Option Bytes) (read write : Type 0) (a b : Option Bytes) (said : List Line) (journal : List Step) → IsRunnable setup.config setup.dar → IsCutShort setup said write a b journal runs.Write → ComesIn setup told read write statuses.Write
 unfolding IsCutShort ComesIn
-comes_write setup told read write a b said journal (rose, follows, put) = rose
+comes_write setup told read write a b said journal runnable (rose, follows, put) = (runnable, rose)
 
 -- a run of a switch, with its journal
 pub ran_on : (setup : Setup) (told : Option Bytes) (read write : Type 0) (a b : Option Bytes) (ran : Ran) (known : Known) (journal : Kept Step) → ran.journal ≡ Some journal → known.setup ≡ setup → journal.items ≡ known.journal
-    → IsLawful known.setup 0 0 known.journal → ComesIn told read write ran.status → Leaves setup told write a b ran.status known.journal → IsRan setup told read write a b ran
+    → IsLawful known.setup 0 0 known.journal → ComesIn setup told read write ran.status → Leaves setup told write a b ran.status known.journal → IsRan setup told read write a b ran
 ran_on setup told read write a b ran known journal journal_is setup_is items_is lawful comes leaves = record {
   journal = journal;
   journal_is = journal_is;
@@ -58,18 +55,8 @@ ran_on setup told read write a b ran known journal journal_is setup_is items_is 
 pub made_new : (setup : Setup) (known : Known) → known ≡ record { setup = setup; journal = []; left = []; kept = None; leases = 0 } → IsNew known
 made_new setup known made = subst (λ (k : Known). IsNew k) (sym made) (record { journal_is = refl; left_is = refl; kept_is = refl; leases_is = refl })
 
-pub made_started : (kind : ℕ) (kinds : List Charters) (known : Known) → known ≡ record { setup = fixed_setup kind kinds; journal = []; left = []; kept = None; leases = 0 } → IsStarted known
-made_started kind kinds known made = subst (λ (k : Known). IsStarted k) (sym made) (record { kind = kind; kinds = kinds; setup_is = refl; journal_is = refl })
-
 pub made_setup : (setup : Setup) (known : Known) → known ≡ record { setup = setup; journal = []; left = []; kept = None; leases = 0 } → known.setup ≡ setup
 made_setup setup known made = ap (λ (k : Known). k.setup) made
-
-fixed_kinds : (kind : ℕ) (kinds : List Charters) → (fixed_setup kind kinds).kinds ≡ kinds
-unfolding fixed_setup
-fixed_kinds kind kinds = refl
-
-pub made_kinds : (kind : ℕ) (kinds : List Charters) (known : Known) → known ≡ record { setup = fixed_setup kind kinds; journal = []; left = []; kept = None; leases = 0 } → known.setup.kinds ≡ kinds
-made_kinds kind kinds known made = ap (λ (s : Setup). s.kinds) (made_setup (fixed_setup kind kinds) known made) ∙ fixed_kinds kind kinds
 
 -- the switch could not be made
 pub ran_not : (setup : Setup) (told : Option Bytes) (read write : Type 0) (a : Option Bytes) (ran : Ran) → ran.status ≡ statuses.NoMemory → (journal : Kept Step) → ran.journal ≡ Some journal → journal.items ≡ [] → IsRan setup told read write a a ran
@@ -90,17 +77,25 @@ the_journal (Some journal) some items = (journal, refl, items)
 pub ran_for : (made setup : Setup) (told : Option Bytes) (read write : Type 0) (a b : Option Bytes) (ran : Ran) → made ≡ setup → IsRan made told read write a b ran → IsRan setup told read write a b ran
 ran_for made setup told read write a b ran same is = subst (λ (s : Setup). IsRan s told read write a b ran) same is
 
--- ## A call with the right words
+-- ## Its beginning
 
-pub comes_ran : (names : List Bytes) (kind : ℕ) (setup : Setup) (told : Option Bytes) (read write : Type 0) (a b : Option Bytes) (ran : Ran) → answer_kind names ≡ Some kind → IsRan setup told read write a b ran → ComesFor names told read write ran.status
-unfolding ComesFor
-comes_ran names kind setup told read write a b ran found is = inr (rw found refl, is.comes)
+-- a switch over settings that can be run
+pub started : (known : Known) → IsNew known → IsRunnable known.setup.config known.setup.dar → IsStarted known
+started known new runnable = record { runnable = runnable; journal_is = new.journal_is }
 
-pub comes_refused : (names : List Bytes) (told : Option Bytes) (read write : Type 0) (status given : Status) → answer_kind names ≡ None → status ≡ given → IsConfigRefused given → ComesFor names told read write status
-unfolding ComesFor
-comes_refused names told read write status given none same refused = inl (none, rw same refused)
+-- the settings that were made can be run where those of the switch can
+pub made_runnable : (setup : Setup) (known : Known) (test : Bool) → known ≡ record { setup = setup; journal = []; left = []; kept = None; leases = 0 }
+    → (IsTrue test → IsRunnable setup.config setup.dar) × (IsRunnable setup.config setup.dar → IsTrue test)
+    → (IsTrue test → IsRunnable known.setup.config known.setup.dar) × (IsRunnable known.setup.config known.setup.dar → IsTrue test)
+made_runnable setup known test made both =
+    subst (λ (s : Setup). (IsTrue test → IsRunnable s.config s.dar) × (IsRunnable s.config s.dar → IsTrue test)) (sym (made_setup setup known made)) both
 
-pub ran_kind : (names : List Bytes) (kind other : ℕ) (kinds : List Charters) (told : Option Bytes) (read write : Type 0) (a b : Option Bytes) (ran : Ran) → answer_kind names ≡ Some kind → answer_kind names ≡ Some other
-    → IsRan (fixed_setup kind kinds) told read write a b ran → IsRan (fixed_setup other kinds) told read write a b ran
-ran_kind names kind other kinds told read write a b ran is_kind is_other is =
-    subst (λ (k : ℕ). IsRan (fixed_setup k kinds) told read write a b ran) (same_Some kind other (sym is_kind ∙ is_other)) is
+-- the script isn't run
+pub comes_unrun : (setup : Setup) (told : Option Bytes) (read write : Type 0) (test : Bool) → test ≡ false → (IsRunnable setup.config setup.dar → IsTrue test) → ComesIn setup told read write (statuses.Script 0 8)
+unfolding ComesIn IsUnrun
+comes_unrun setup told read write test is runs = (inr (λ runnable. false≢true (sym is ∙ runs runnable)), refl, refl)
+
+-- the text is no script
+pub no_script : (setup : Setup) (told : Option Bytes) → TellsNoScript told → IsUnrun setup told
+unfolding IsUnrun
+no_script setup told none = inl none

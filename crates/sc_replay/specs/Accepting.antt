@@ -1,6 +1,6 @@
 -- Which settings a configuration and a routing table give, or how they are refused. What the shelf
 -- holds is told, or it is not.
-use Rattle.std.specs.Prelude.{◌≡◌, ℕ, Option, Some, None, Ok, Err, List, map}
+use Rattle.std.specs.Prelude.{◌≡◌, Option, Some, None, Ok, Err, List, map}
 use Rattle.sc_terms.specs.declared.settings.Config.{Config}
 use Rattle.sc_terms.specs.declared.settings.Dar.{Dar}
 use Rattle.sc_grammar.specs.Written.{Bytes}

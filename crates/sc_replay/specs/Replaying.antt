@@ -1,20 +1,25 @@
 -- What `replay` promises: when each status comes, and what the journal and the sink then hold.
-use Rattle.std.specs.Prelude.{◌≡◌, ℕ, ◌⊎◌, List, [], ◌∷◌, ◌++◌, Option, None, Some, codes, position, is_some, IsTrue, get_or}
-use Rattle.sc_value.specs.Params.{same_bytes}
+use Rattle.std.specs.Prelude.{◌≡◌, ℕ, ◌⊎◌, List, [], ◌∷◌, ◌++◌, Option, None, Some, Ok, Err, codes, map, get_or}
+use Rattle.sc_terms.specs.declared.settings.Config.{Config}
+use Rattle.sc_terms.specs.declared.settings.Dar.{Dar}
 use Rattle.sc_terms.specs.declared.steps.Line.{Line}
 use Rattle.sc_terms.specs.declared.steps.Step.{Step}
 use Rattle.sc_parts.specs.declared.setup.Setup.{Setup}
 use Rattle.sc_grammar.specs.Written.{Bytes}
+use Rattle.sc_config.specs.ReadSettings.{settings_of}
+use Rattle.sc_dar.specs.Tables.{table_of}
+use Rattle.sc_journal.specs.Kept.{Kept}
 use Rattle.sc_edge.specs.Shelving.{GivesAll}
 use Rattle.sc_edge.specs.Taking.{Takes, TakesPart}
-use Rattle.sc_model.specs.FixedSettings.{answer_word}
 use Rattle.sc_model.specs.Journals.{IsLawful, HasNoRoom, step_size}
 use Rattle.sc_model.specs.Records.{journal_records, output}
 use Rattle.sc_model.specs.Scripts.{IsScript, Follows, Upto}
+use Rattle.sc_model.specs.Settings.{Charters}
 use Rattle.sc_switch.specs.declared.ran.Status.{Status}
 use Rattle.sc_switch.specs.declared.ran.Status.TheVariants as statuses
+use Rattle.sc_replay.specs.Starting.{IsRunnable}
 
--- ## What is accepted
+-- ## The words
 
 unfoldable pub replay_word : Bytes
 replay_word = codes "replay"
@@ -26,17 +31,54 @@ pub record IsReplay (words : List Bytes) : Type 0 where
   pub script : Bytes
   pub words_are : words ≡ replay_word ∷ config ∷ dar ∷ script ∷ []
 
--- the name of the script
-unfoldable pub script_name : List Bytes → Bytes
-script_name words = get_or words 3 []
+-- what the shelf tells of the three texts
+pub record Told : Type 0 where
+  pub config : Option Bytes
+  pub dar : Option Bytes
+  pub script : Option Bytes
 
--- the place of the kind `answer` among the names of a catalogue
-unfoldable pub answer_kind : List Bytes → Option ℕ
-answer_kind names = position (λ known. same_bytes known answer_word) names
+-- what it tells under the names that the words give
+abbrev pub told_by : (Bytes → Option Bytes) → List Bytes → Told
+told_by holds words = record { config = holds (get_or words 1 []); dar = holds (get_or words 2 []); script = holds (get_or words 3 []) }
 
--- the words are right, and the catalogue has the kind of the one application
-unfoldable pub IsAccepted : List Bytes → List Bytes → Type 0
-IsAccepted words names = IsReplay words × IsTrue (is_some (answer_kind names))
+-- ## What is accepted
+
+-- the settings are those of a configuration, of the text that is told where one is; `names` are
+-- those of the catalogue's kinds
+pub record TellsConfig (names : List Bytes) (told : Option Bytes) (config : Config) : Type 0 where
+  pub text : Bytes
+  pub told_is : GivesAll text told
+  pub config_is : settings_of text names ≡ Ok config
+
+-- the table is that of a routing table's text, of the one that is told where one is; `names` are
+-- those of the applications
+pub record TellsTable (names : List Bytes) (told : Option Bytes) (dar : Dar) : Type 0 where
+  pub text : Bytes
+  pub told_is : GivesAll text told
+  pub table_is : table_of text names ≡ Ok dar
+
+abbrev pub app_names : Config → List Bytes
+app_names config = map (λ app. app.name) config.app
+
+-- the set-up of a run: the configuration, the table for its applications, and the catalogue's kinds
+pub record TellsSetup (names : List Bytes) (kinds : List Charters) (told : Told) (setup : Setup) : Type 0 where
+  pub config : TellsConfig names told.config setup.config
+  pub table : TellsTable (app_names setup.config) told.dar setup.dar
+  pub kinds_is : setup.kinds ≡ kinds
+
+-- a configuration that is told has this first fault
+unfoldable pub IsConfigFault : List Bytes → Option Bytes → ℕ → Bytes → Type 0
+IsConfigFault names None kind key = Unit {0}
+IsConfigFault names (Some text) kind key = settings_of text names ≡ Err (kind, key)
+
+-- a routing table's text that is told has this first fault
+unfoldable pub IsTableFault : List Bytes → Option Bytes → ℕ → ℕ → Type 0
+IsTableFault names None line kind = Unit {0}
+IsTableFault names (Some text) line kind = table_of text names ≡ Err (record { line = line; kind = kind })
+
+-- the settings are accepted, and the table for their applications isn't
+unfoldable pub IsTableRefused : List Bytes → Option Bytes → Option Bytes → ℕ → ℕ → Type 0
+IsTableRefused names told_config told_dar line kind = (config : Config) × TellsConfig names told_config config × IsTableFault (app_names config) told_dar line kind
 
 -- a text that is told says no script
 unfoldable pub TellsNoScript : Option Bytes → Type 0
@@ -49,19 +91,35 @@ pub record TellsScript (told : Option Bytes) (lines : List Line) : Type 0 where
   pub told_is : GivesAll text told
   pub script_is : IsScript text lines
 
+-- the script is none that is read, or it can't be run with these settings
+unfoldable pub IsUnrun : Setup → Option Bytes → Type 0
+IsUnrun setup told = TellsNoScript told ⊎ (IsRunnable setup.config setup.dar → ⊥)
+
 -- ## When each status comes
 
--- `read` and `write` say that the shelf's and the sink's count of faults rose
-unfoldable pub Comes : List Bytes → List Bytes → Option Bytes → Type 0 → Type 0 → Status → Type 0
-Comes words names told read write statuses.Done = IsAccepted words names
-Comes words names told read write statuses.Usage = IsReplay words → ⊥
-Comes words names told read write (statuses.Config kind key) = IsReplay words × (answer_kind names ≡ None) × (kind ≡ 5) × (key ≡ answer_word)
-Comes words names told read write (statuses.Dar line kind) = ⊥
-Comes words names told read write statuses.JournalFull = IsAccepted words names
-Comes words names told read write statuses.NoMemory = IsReplay words
-Comes words names told read write (statuses.Script at kind) = IsAccepted words names × TellsNoScript told × (at ≡ 0) × (kind ≡ 8)
-Comes words names told read write statuses.Read = IsAccepted words names × read
-Comes words names told read write statuses.Write = IsAccepted words names × write
+-- of a run with these settings: `read` and `write` say that the shelf's and the sink's count of faults rose
+unfoldable pub ComesIn : Setup → Option Bytes → Type 0 → Type 0 → Status → Type 0
+ComesIn setup told read write statuses.Done = IsRunnable setup.config setup.dar
+ComesIn setup told read write statuses.Usage = ⊥
+ComesIn setup told read write (statuses.Config kind key) = ⊥
+ComesIn setup told read write (statuses.Dar line kind) = ⊥
+ComesIn setup told read write statuses.JournalFull = IsRunnable setup.config setup.dar
+ComesIn setup told read write statuses.NoMemory = Unit {0}
+ComesIn setup told read write (statuses.Script at kind) = IsUnrun setup told × (at ≡ 0) × (kind ≡ 8)
+ComesIn setup told read write statuses.Read = read
+ComesIn setup told read write statuses.Write = IsRunnable setup.config setup.dar × write
+
+-- of a call whose settings were not accepted
+unfoldable pub IsUnset : List Bytes → Option Bytes → Option Bytes → Type 0 → Status → Type 0
+IsUnset names config dar read statuses.Done = ⊥
+IsUnset names config dar read statuses.Usage = ⊥
+IsUnset names config dar read (statuses.Config kind key) = IsConfigFault names config kind key
+IsUnset names config dar read (statuses.Dar line kind) = IsTableRefused names config dar line kind
+IsUnset names config dar read statuses.JournalFull = ⊥
+IsUnset names config dar read statuses.NoMemory = Unit {0}
+IsUnset names config dar read (statuses.Script at kind) = ⊥
+IsUnset names config dar read statuses.Read = read
+IsUnset names config dar read statuses.Write = ⊥
 
 -- ## What a run leaves
 
@@ -102,3 +160,16 @@ Leaves setup told write old new statuses.NoMemory journal = (ReplaysPart setup t
 Leaves setup told write old new (statuses.Script at kind) journal = LeavesNothing old new journal
 Leaves setup told write old new statuses.Read journal = LeavesNothing old new journal
 Leaves setup told write old new statuses.Write journal = Replays setup told journal × TakesPart old new (output setup journal)
+
+-- ## How a call ends
+
+-- with right words: the journal is there exactly where the settings were accepted, and it is that of
+-- a run with them; else the sink took nothing. `old` and `new` are what it took before and after
+unfoldable pub Ends : List Bytes → List Charters → Told → Type 0 → Type 0 → Option Bytes → Option Bytes → Status → Option (Kept Step) → Type 0
+Ends names kinds told read write old new status None = IsUnset names told.config told.dar read status × (new ≡ old)
+Ends names kinds told read write old new status (Some journal) =
+    (setup : Setup)
+    × TellsSetup names kinds told setup
+    × ComesIn setup told.script read write status
+    × IsLawful setup 0 0 journal.items
+    × Leaves setup told.script write old new status journal.items

@@ -1,12 +1,11 @@
 -- What the parts of `replay` answer.
-use Rattle.std.specs.Prelude.{◌≡◌, ◌⊎◌, List, [], Option, None, Some, length, ◌≤◌, is_some, IsTrue}
+use Rattle.std.specs.Prelude.{◌≡◌, ◌⊎◌, List, [], Option, None, Some, length, ◌≤◌}
 use Rattle.sc_terms.specs.declared.steps.Line.{Line}
 use Rattle.sc_terms.specs.declared.steps.Line.TheVariants as lines
 use Rattle.sc_terms.specs.declared.steps.Step.{Step}
 use Rattle.sc_parts.specs.declared.setup.Setup.{Setup}
 use Rattle.sc_grammar.specs.Written.{Bytes}
 use Rattle.sc_journal.specs.Kept.{Kept}
-use Rattle.sc_model.specs.FixedSettings.{answer_word}
 use Rattle.sc_edge.specs.Taking.{Takes, TakesPart}
 use Rattle.sc_model.specs.Journals.{IsLawful}
 use Rattle.sc_model.specs.Records.{journal_records, output}
@@ -22,7 +21,7 @@ use Rattle.sc_replay.specs.declared.running.RunRefused.TheVariants as runs
 use Rattle.sc_replay.specs.declared.reading.ScriptUnread.{ScriptUnread}
 use Rattle.sc_replay.specs.declared.reading.ScriptUnread.TheVariants as unread
 use Rattle.sc_replay.specs.Playing.{IsUntaken}
-use Rattle.sc_replay.specs.Replaying.{IsDueWithoutRoom, TellsNoScript, Leaves, answer_kind}
+use Rattle.sc_replay.specs.Replaying.{IsDueWithoutRoom, TellsNoScript, IsConfigFault, IsTableFault, ComesIn, Leaves}
 
 -- a switch that took no step and gave no lease
 pub record IsNew (known : Known) : Type 0 where
@@ -76,38 +75,34 @@ IsUnread told read unread.Failed = read
 IsUnread told read (unread.Refused at kind) = TellsNoScript told × (at ≡ 0) × (kind ≡ 8)
 IsUnread told read unread.NoMemory = Unit {0}
 
--- when a run on a switch ends so
-unfoldable pub ComesIn : Option Bytes → Type 0 → Type 0 → Status → Type 0
-ComesIn told read write statuses.Done = Unit {0}
-ComesIn told read write statuses.Usage = ⊥
-ComesIn told read write (statuses.Config kind key) = ⊥
-ComesIn told read write (statuses.Dar line kind) = ⊥
-ComesIn told read write statuses.JournalFull = Unit {0}
-ComesIn told read write statuses.NoMemory = Unit {0}
-ComesIn told read write (statuses.Script at kind) = TellsNoScript told × (at ≡ 0) × (kind ≡ 8)
-ComesIn told read write statuses.Read = read
-ComesIn told read write statuses.Write = write
+-- why there are no settings
+unfoldable pub IsConfigUnread : List Bytes → Option Bytes → Type 0 → Status → Type 0
+IsConfigUnread names told read statuses.Done = ⊥
+IsConfigUnread names told read statuses.Usage = ⊥
+IsConfigUnread names told read (statuses.Config kind key) = IsConfigFault names told kind key
+IsConfigUnread names told read (statuses.Dar line kind) = ⊥
+IsConfigUnread names told read statuses.JournalFull = ⊥
+IsConfigUnread names told read statuses.NoMemory = Unit {0}
+IsConfigUnread names told read (statuses.Script at kind) = ⊥
+IsConfigUnread names told read statuses.Read = read
+IsConfigUnread names told read statuses.Write = ⊥
 
--- the kind is missing, or memory
-unfoldable pub IsConfigRefused : Status → Type 0
-IsConfigRefused statuses.Done = ⊥
-IsConfigRefused statuses.Usage = ⊥
-IsConfigRefused (statuses.Config kind key) = (kind ≡ 5) × (key ≡ answer_word)
-IsConfigRefused (statuses.Dar line kind) = ⊥
-IsConfigRefused statuses.JournalFull = ⊥
-IsConfigRefused statuses.NoMemory = Unit {0}
-IsConfigRefused (statuses.Script at kind) = ⊥
-IsConfigRefused statuses.Read = ⊥
-IsConfigRefused statuses.Write = ⊥
-
--- when a call with the right words ends so
-unfoldable pub ComesFor : List Bytes → Option Bytes → Type 0 → Type 0 → Status → Type 0
-ComesFor names told read write status = ((answer_kind names ≡ None) × IsConfigRefused status) ⊎ (IsTrue (is_some (answer_kind names)) × ComesIn told read write status)
+-- why there is no routing table
+unfoldable pub IsTableUnread : List Bytes → Option Bytes → Type 0 → Status → Type 0
+IsTableUnread names told read statuses.Done = ⊥
+IsTableUnread names told read statuses.Usage = ⊥
+IsTableUnread names told read (statuses.Config kind key) = ⊥
+IsTableUnread names told read (statuses.Dar line kind) = IsTableFault names told line kind
+IsTableUnread names told read statuses.JournalFull = ⊥
+IsTableUnread names told read statuses.NoMemory = Unit {0}
+IsTableUnread names told read (statuses.Script at kind) = ⊥
+IsTableUnread names told read statuses.Read = read
+IsTableUnread names told read statuses.Write = ⊥
 
 -- what a run on a switch with these settings answers
 pub record IsRan (setup : Setup) (told : Option Bytes) (read write : Type 0) (old new : Option Bytes) (ran : Ran) : Type 0 where
   pub journal : Kept Step
   pub journal_is : ran.journal ≡ Some journal
-  pub comes : ComesIn told read write ran.status
+  pub comes : ComesIn setup told read write ran.status
   pub lawful : IsLawful setup 0 0 journal.items
   pub leaves : Leaves setup told write old new ran.status journal.items

@@ -2,7 +2,7 @@
 
 ghost use Rattle.std.specs.Prelude.{◌≡◌, ◌≤◌, ℕ, List, Option, IfOk, IfErr, string_bytes};
 ghost use Rattle.sc_edge.specs.Faults.{Rose};
-ghost use Rattle.sc_edge.specs.Shelving.{GivesAll};
+ghost use Rattle.sc_edge.specs.Shelving.{Gives, GivesAll};
 ghost use Rattle.sc_replay.specs.Replaying.{TellsScript};
 ghost use Rattle.sc_replay.specs.Running.{IsUnread};
 
@@ -26,6 +26,18 @@ pub enum ScriptUnread {
     NoMemory,
 }
 
+/// What the shelf answers for a name, asked for at most this many bytes.
+pub fn read_text<F: Shelf>(alloc: Global, name: &String, max: usize, shelf: &mut F) -> Shelved
+    ensures same { (n : List ℕ) → F.holds shelf.new n ≡ F.holds shelf.old n }
+    ensures later { F.faults shelf.old ≤ F.faults shelf.new }
+    ensures gives { Gives result (F.holds shelf.old (string_bytes name.now)) max (Rose (F.faults shelf.old) (F.faults shelf.new)) }
+{
+    match Text::from_slice(alloc, name.as_bytes()) {
+        Ok(name) => shelf.read(&name, max),
+        Err(NoMemory) => Shelved::NoMemory,
+    }
+}
+
 /// The lines of the script that the shelf holds under a name.
 ///
 /// # Errors
@@ -38,13 +50,11 @@ pub fn read_script<F: Shelf>(
     name: &String,
     shelf: &mut F,
 ) -> Result<List<Line>, ScriptUnread>
+    ensures later { F.faults shelf.old ≤ F.faults shelf.new }
     ensures found { IfOk result (λ lines. TellsScript (F.holds shelf.old (string_bytes name.now)) lines) }
     ensures unread { IfErr result (λ cause. IsUnread (F.holds shelf.old (string_bytes name.now)) (Rose (F.faults shelf.old) (F.faults shelf.new)) cause) }
 {
-    let Ok(name) = Text::from_slice(alloc, name.as_bytes()) else {
-        return Err(ScriptUnread::NoMemory);
-    };
-    match shelf.read(&name, LONGEST) {
+    match read_text(alloc, name, LONGEST, shelf) {
         Shelved::Got(text) => lines_of(alloc, &text),
         Shelved::Long => Err(ScriptUnread::Refused { at: 0, kind: 8 }),
         Shelved::Failed => Err(ScriptUnread::Failed),

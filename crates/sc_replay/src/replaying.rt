@@ -1,40 +1,39 @@
 //! The command `replay`.
 
-ghost use Rattle.std.specs.Prelude.{◌≡◌, ◌<◌, ◌↔◌, ℕ, [], true, None, Some, Option, IfSome, is_some, length, map, option_map, string_bytes, IsTrue};
-ghost use Rattle.sc_journal.specs.Kept.{Kept};
-ghost use Rattle.sc_terms.specs.declared.steps.Step.{Step};
+ghost use Rattle.std.specs.Prelude.{◌≡◌, ◌↔◌, ◌≤◌, [], true, None, IfSome, is_some, get_or, map, option_map, string_bytes, IsTrue};
 ghost use Rattle.sc_calls.specs.Stated.{both_charters};
 ghost use Rattle.sc_edge.specs.Faults.{Rose};
-ghost use Rattle.sc_model.specs.FixedSettings.{fixed_setup, answer_word};
-ghost use Rattle.sc_model.specs.Journals.{IsLawful};
 ghost use Rattle.sc_model.specs.Settings.{IsSetup};
-ghost use Rattle.sc_replay.specs.Starting.{IsStarted};
-ghost use Rattle.sc_replay.specs.Replaying.{IsReplay, IsAccepted, script_name, answer_kind, Comes, Leaves};
-ghost use Rattle.sc_replay.specs.Running.{IsNew, IsRan, ComesFor, IsConfigRefused, ComesIn};
+ghost use Rattle.sc_replay.specs.Starting.{IsRunnable};
+ghost use Rattle.sc_replay.specs.Replaying.{IsReplay, ComesIn, Ends, Leaves, told_by};
+ghost use Rattle.sc_replay.specs.Running.{IsNew, IsRan};
 
 use crate::reading::{ScriptUnread, read_script};
 use crate::running::{RunRefused, drive};
-use crate::starting::start;
+use crate::settings::{Settings, read_settings};
+use crate::starting::is_runnable;
 use sc_calls::Catalogue;
 use sc_edge::{Shelf, Sink};
 use sc_journal::Journal;
 use sc_switch::{Ran, Status, Switch};
-use sc_value::{NoMemory, Text};
+use sc_value::NoMemory;
 use std::alloc::Global;
 
 /// Runs a script and puts what it sent: a record for each message, `out PLACE N`, the N bytes of the
 /// message, and then the line `end STEPS SENT LIVE`. The words are `replay CONFIG DAR SCRIPT`, the
-/// names of three texts on the shelf. Until configurations and routing tables are read, the first
-/// two are not looked at: one application `answer`, of the kind `answer`, gets each OPTIONS request.
+/// names of three texts on the shelf, which are read in this order: the configuration, the routing
+/// table for its applications, and the script.
 ///
 /// The status says how it ended:
 ///
 /// - `Done`: the script was read to its end and all was put.
 /// - `Usage`: the words have another form.
-/// - `Config`, kind 5 and key `answer`: the catalogue has no such kind.
+/// - `Config`: the configuration is refused, with the first fault as `sc_config::read` tells it.
+/// - `Dar`: the routing table is refused, with the first fault as `sc_dar::read` tells it.
 /// - `JournalFull`: a step was due that the journal had no room for. The records are put without the
 ///   last line.
-/// - `Script`: the text is no script that can be run, which today is one alone.
+/// - `Script`, at 0 of kind 8: the text is no script that can be run, which today is one alone, or the
+///   router doesn't send its request to an application at once.
 /// - `Read`, `Write`: only where the shelf's, the sink's count of faults rose in this call.
 /// - `NoMemory`: want of memory, at any place.
 ///
@@ -47,71 +46,75 @@ pub fn replay<F: Shelf, K: Sink>(
     out: &mut K,
 ) -> Ran
     ensures usage { result.status ≡ Status.Usage ↔ (IsReplay (map string_bytes words.now) → ⊥) }
-    ensures comes { Comes (map string_bytes words.now) apps.now.names (F.holds shelf.old (script_name (map string_bytes words.now))) (Rose (F.faults shelf.old) (F.faults shelf.new)) (Rose (K.faults out.old) (K.faults out.new)) result.status }
-    ensures accepted { IsTrue (is_some result.journal) ↔ IsAccepted (map string_bytes words.now) apps.now.names }
-    ensures nothing { result.journal ≡ None → K.took out.new ≡ K.took out.old }
-    ensures lawful { (kind : ℕ) (journal : Kept Step) → answer_kind apps.now.names ≡ Some kind → result.journal ≡ Some journal → IsLawful (fixed_setup kind (map (λ k. both_charters (stated (k.servlet.vtable, k.servlet.value)) (option_map (λ l. listens (l.vtable, l.value)) k.listener)) apps.now.kinds)) 0 0 journal.items }
-    ensures leaves { (kind : ℕ) (journal : Kept Step) → answer_kind apps.now.names ≡ Some kind → result.journal ≡ Some journal → Leaves (fixed_setup kind (map (λ k. both_charters (stated (k.servlet.vtable, k.servlet.value)) (option_map (λ l. listens (l.vtable, l.value)) k.listener)) apps.now.kinds)) (F.holds shelf.old (script_name (map string_bytes words.now))) (Rose (K.faults out.old) (K.faults out.new)) (K.took out.old) (K.took out.new) result.status journal.items }
+    ensures wrong { result.status ≡ Status.Usage → (result.journal ≡ None) × (K.took out.new ≡ K.took out.old) }
+    ensures ends { IsReplay (map string_bytes words.now) → Ends apps.now.names (map (λ k. both_charters (stated (k.servlet.vtable, k.servlet.value)) (option_map (λ l. listens (l.vtable, l.value)) k.listener)) apps.now.kinds) (told_by (λ name. F.holds shelf.old name) (map string_bytes words.now)) (Rose (F.faults shelf.old) (F.faults shelf.new)) (Rose (K.faults out.old) (K.faults out.new)) (K.took out.old) (K.took out.new) result.status result.journal }
     ensures epoch { result.epoch ≡ 0 }
     ensures began { result.began ≡ 0 }
 {
-    match script_of(words) {
-        Some(script) => replay_script(alloc, script, shelf, apps, out),
+    match texts_of(words) {
+        Some((config, dar, script)) => {
+            replay_texts(alloc, config, dar, script, shelf, apps, out)
+        }
         None => without_journal(Status::Usage),
     }
 }
 
-/// The name of the script, None exactly where the words are not `replay CONFIG DAR SCRIPT`.
-fn script_of(words: &[String]) -> Option<&String>
+/// The names of the three texts, None exactly where the words are not `replay CONFIG DAR SCRIPT`.
+fn texts_of(words: &[String]) -> Option<(&String, &String, &String)>
     ensures replay { IsTrue (is_some result) ↔ IsReplay (map string_bytes words.now) }
-    ensures script { IfSome result (λ script. string_bytes script.now ≡ script_name (map string_bytes words.now)) }
+    ensures config { IfSome result (λ names. string_bytes names.0.now ≡ get_or (map string_bytes words.now) 1 []) }
+    ensures dar { IfSome result (λ names. string_bytes names.1.now ≡ get_or (map string_bytes words.now) 2 []) }
+    ensures script { IfSome result (λ names. string_bytes names.2.now ≡ get_or (map string_bytes words.now) 3 []) }
 {
-    let [word, _, _, script] = words else {
+    let [word, config, dar, script] = words else {
         return None;
     };
     if is_word(word, b"replay") {
-        Some(script)
+        Some((config, dar, script))
     } else {
         None
     }
 }
 
-/// Runs the script of this name, the words being right.
-fn replay_script<F: Shelf, K: Sink>(
+/// Runs the script of this name with the settings of these names, the words being right.
+fn replay_texts<F: Shelf, K: Sink>(
     alloc: Global,
-    name: &String,
+    config: &String,
+    dar: &String,
+    script: &String,
     shelf: &mut F,
     apps: &Catalogue,
     out: &mut K,
 ) -> Ran
-    ensures comes { ComesFor apps.now.names (F.holds shelf.old (string_bytes name.now)) (Rose (F.faults shelf.old) (F.faults shelf.new)) (Rose (K.faults out.old) (K.faults out.new)) result.status }
-    ensures refused { answer_kind apps.now.names ≡ None → (result.journal ≡ None) × (K.took out.new ≡ K.took out.old) }
-    ensures ran { (kind : ℕ) → answer_kind apps.now.names ≡ Some kind → IsRan (fixed_setup kind (map (λ k. both_charters (stated (k.servlet.vtable, k.servlet.value)) (option_map (λ l. listens (l.vtable, l.value)) k.listener)) apps.now.kinds)) (F.holds shelf.old (string_bytes name.now)) (Rose (F.faults shelf.old) (F.faults shelf.new)) (Rose (K.faults out.old) (K.faults out.new)) (K.took out.old) (K.took out.new) result }
+    ensures ends { Ends apps.now.names (map (λ k. both_charters (stated (k.servlet.vtable, k.servlet.value)) (option_map (λ l. listens (l.vtable, l.value)) k.listener)) apps.now.kinds) (record { config = F.holds shelf.old (string_bytes config.now); dar = F.holds shelf.old (string_bytes dar.now); script = F.holds shelf.old (string_bytes script.now) }) (Rose (F.faults shelf.old) (F.faults shelf.new)) (Rose (K.faults out.old) (K.faults out.new)) (K.took out.old) (K.took out.new) result.status result.journal }
     ensures epoch { result.epoch ≡ 0 }
     ensures began { result.began ≡ 0 }
 {
-    match kind_of(apps) {
-        Some(kind) => replay_as(alloc, kind, name, shelf, apps, out),
-        None => without_journal(config_refused(alloc)),
+    match read_settings(alloc, config, dar, shelf, apps.names()) {
+        Ok(settings) => replay_over(alloc, settings, script, shelf, apps, out),
+        Err(status) => without_journal(status),
     }
 }
 
-/// Runs the script of this name, the one application being of this kind.
-fn replay_as<F: Shelf, K: Sink>(
+/// Runs the script of this name with these settings.
+fn replay_over<F: Shelf, K: Sink>(
     alloc: Global,
-    kind: usize,
+    settings: Settings,
     name: &String,
     shelf: &mut F,
     apps: &Catalogue,
     out: &mut K,
 ) -> Ran
-    requires { kind < length apps.now.kinds }
-    ensures ran { IsRan (fixed_setup kind (map (λ k. both_charters (stated (k.servlet.vtable, k.servlet.value)) (option_map (λ l. listens (l.vtable, l.value)) k.listener)) apps.now.kinds)) (F.holds shelf.old (string_bytes name.now)) (Rose (F.faults shelf.old) (F.faults shelf.new)) (Rose (K.faults out.old) (K.faults out.new)) (K.took out.old) (K.took out.new) result }
+    requires { IsSetup (record { config = settings.config; dar = settings.dar; kinds = map (λ k. both_charters (stated (k.servlet.vtable, k.servlet.value)) (option_map (λ l. listens (l.vtable, l.value)) k.listener)) apps.now.kinds }) }
+    ensures ran { IsRan (record { config = settings.config; dar = settings.dar; kinds = map (λ k. both_charters (stated (k.servlet.vtable, k.servlet.value)) (option_map (λ l. listens (l.vtable, l.value)) k.listener)) apps.now.kinds }) (F.holds shelf.old (string_bytes name.now)) (Rose (F.faults shelf.old) (F.faults shelf.new)) (Rose (K.faults out.old) (K.faults out.new)) (K.took out.old) (K.took out.new) result }
+    ensures later { F.faults shelf.old ≤ F.faults shelf.new }
     ensures epoch { result.epoch ≡ 0 }
     ensures began { result.began ≡ 0 }
 {
-    match start(alloc, apps, kind) {
-        Ok(switch) => replay_on(alloc, switch, name, shelf, apps, out),
+    let Settings { config, dar } = settings;
+    let runnable = is_runnable(&dar);
+    match Switch::new(alloc, config, dar, apps) {
+        Ok(switch) => replay_on(alloc, switch, runnable, name, shelf, apps, out),
         Err(NoMemory) => not_started(alloc),
     }
 }
@@ -136,20 +139,22 @@ fn not_started(alloc: Global) -> Ran
 fn replay_on<F: Shelf, K: Sink>(
     alloc: Global,
     mut switch: Switch,
+    runnable: bool,
     name: &String,
     shelf: &mut F,
     apps: &Catalogue,
     out: &mut K,
 ) -> Ran
-    requires started { IsStarted switch }
+    requires runnable { IsTrue runnable ↔ IsRunnable switch.setup.config switch.setup.dar }
     requires new { IsNew switch }
     requires right { IsSetup switch.setup }
     requires kinds { switch.setup.kinds ≡ map (λ k. both_charters (stated (k.servlet.vtable, k.servlet.value)) (option_map (λ l. listens (l.vtable, l.value)) k.listener)) apps.now.kinds }
+    ensures later { F.faults shelf.old ≤ F.faults shelf.new }
     ensures ran { IsRan switch.setup (F.holds shelf.old (string_bytes name.now)) (Rose (F.faults shelf.old) (F.faults shelf.new)) (Rose (K.faults out.old) (K.faults out.new)) (K.took out.old) (K.took out.new) result }
     ensures epoch { result.epoch ≡ 0 }
     ensures began { result.began ≡ 0 }
 {
-    let status = run_script(alloc, &mut switch, name, shelf, apps, out);
+    let status = run_script(alloc, &mut switch, runnable, name, shelf, apps, out);
     let _ = switch.journal();
     Ran {
         status,
@@ -160,30 +165,37 @@ fn replay_on<F: Shelf, K: Sink>(
 }
 
 /// Reads the script of this name and runs it.
-#[tactic(auto, unfolding(crate::specs::Replaying::Leaves, crate::specs::Replaying::LeavesNothing, crate::specs::Running::ComesIn, crate::specs::Running::IsUnread))]
+#[tactic(auto, unfolding(crate::specs::Replaying::Leaves, crate::specs::Replaying::LeavesNothing, crate::specs::Replaying::ComesIn, crate::specs::Running::IsUnread), using(crate::proofs::Replayings::no_script))]
 fn run_script<F: Shelf, K: Sink>(
     alloc: Global,
     switch: &mut Switch,
+    runnable: bool,
     name: &String,
     shelf: &mut F,
     apps: &Catalogue,
     out: &mut K,
 ) -> Status
-    requires started { IsStarted switch.old }
+    requires runnable { IsTrue runnable ↔ IsRunnable switch.old.setup.config switch.old.setup.dar }
     requires new { IsNew switch.old }
     requires right { IsSetup switch.old.setup }
     requires kinds { switch.old.setup.kinds ≡ map (λ k. both_charters (stated (k.servlet.vtable, k.servlet.value)) (option_map (λ l. listens (l.vtable, l.value)) k.listener)) apps.now.kinds }
     ensures setup { switch.new.setup ≡ switch.old.setup }
-    ensures comes { ComesIn (F.holds shelf.old (string_bytes name.now)) (Rose (F.faults shelf.old) (F.faults shelf.new)) (Rose (K.faults out.old) (K.faults out.new)) result }
+    ensures later { F.faults shelf.old ≤ F.faults shelf.new }
+    ensures comes { ComesIn switch.old.setup (F.holds shelf.old (string_bytes name.now)) (Rose (F.faults shelf.old) (F.faults shelf.new)) (Rose (K.faults out.old) (K.faults out.new)) result }
     ensures leaves { Leaves switch.old.setup (F.holds shelf.old (string_bytes name.now)) (Rose (K.faults out.old) (K.faults out.new)) (K.took out.old) (K.took out.new) result switch.new.journal }
 {
     match read_script(alloc, name, shelf) {
-        Ok(lines) => match drive(alloc, switch, lines.as_slice(), apps, out) {
-            Ok(()) => Status::Done,
-            Err(RunRefused::JournalFull) => Status::JournalFull,
-            Err(RunRefused::NoMemory) => Status::NoMemory,
-            Err(RunRefused::Write) => Status::Write,
-        },
+        Ok(lines) => {
+            if !runnable {
+                return Status::Script { at: 0, kind: 8 };
+            }
+            match drive(alloc, switch, lines.as_slice(), apps, out) {
+                Ok(()) => Status::Done,
+                Err(RunRefused::JournalFull) => Status::JournalFull,
+                Err(RunRefused::NoMemory) => Status::NoMemory,
+                Err(RunRefused::Write) => Status::Write,
+            }
+        }
         Err(ScriptUnread::Failed) => Status::Read,
         Err(ScriptUnread::Refused { at, kind }) => Status::Script { at, kind },
         Err(ScriptUnread::NoMemory) => Status::NoMemory,
@@ -202,29 +214,6 @@ fn without_journal(status: Status) -> Ran
         epoch: 0,
         began: 0,
         journal: None,
-    }
-}
-
-/// The place of the kind `answer` in a catalogue.
-#[tactic(auto, unfolding(crate::specs::Replaying::answer_kind, sc_model::specs::FixedSettings::answer_word))]
-fn kind_of(apps: &Catalogue) -> Option<usize>
-    ensures found { result ≡ answer_kind apps.now.names }
-    ensures within { IfSome result (λ kind. kind < length apps.now.kinds) }
-{
-    apps.names()
-        .as_slice()
-        .iter()
-        .position(|name| name.as_bytes() == b"answer".as_slice())
-}
-
-/// The refusal of the settings: the catalogue has no kind `answer`.
-#[tactic(auto, unfolding(crate::specs::Running::IsConfigRefused, sc_model::specs::FixedSettings::answer_word))]
-fn config_refused(alloc: Global) -> Status
-    ensures { IsConfigRefused result }
-{
-    match Text::from_slice(alloc, b"answer") {
-        Ok(key) => Status::Config { kind: 5, key },
-        Err(NoMemory) => Status::NoMemory,
     }
 }
 

@@ -1,89 +1,183 @@
-//! The settings of every run, until configurations and routing tables are read.
+//! Reading the configuration and the routing table.
 
-ghost use Rattle.std.specs.Prelude.{◌≡◌, ◌∷◌, [], IfOk, codes};
-ghost use Rattle.sc_grammar.specs.Spelled.{home_host, options};
-ghost use Rattle.sc_model.specs.FixedSettings.{fixed_app, fixed_config, fixed_dar, fixed_list, fixed_tuple, salt_word, answer_word, from_word};
+ghost use Rattle.std.specs.Prelude.{◌≡◌, ◌≤◌, ◌++◌, ℕ, List, [], Option, IfOk, IfErr, OnOk, map, string_bytes};
+ghost use Rattle.sc_edge.specs.Faults.{Rose};
+ghost use Rattle.sc_edge.specs.Shelving.{GivesAll};
+ghost use Rattle.sc_replay.specs.Replaying.{TellsConfig, TellsTable, IsUnset, app_names};
+ghost use Rattle.sc_replay.specs.Running.{IsConfigUnread, IsTableUnread};
 
-use sc_terms::{AppEntry, Config, Dar, MethodList, Modifier, Tuple};
-use sc_value::{Discard, List, NoMemory, Region, Text};
+use crate::reading::read_text;
+use sc_config::ConfigRefused;
+use sc_dar::DarRefused;
+use sc_edge::{Shelf, Shelved};
+use sc_switch::Status;
+use sc_terms::{AppEntry, Config, Dar};
+use sc_value::{List, NoMemory, Text};
 use std::alloc::Global;
 
-/// The fixed configuration, with its one application of the kind at this place of the catalogue.
-#[tactic(auto, unfolding(sc_model::specs::FixedSettings::fixed_config, sc_model::specs::FixedSettings::salt_word, sc_grammar::specs::Spelled::home_host))]
-pub fn fixed_config(alloc: Global, kind: usize) -> Result<Config, NoMemory>
-    ensures { IfOk result (λ config. config ≡ fixed_config kind) }
-{
-    let domain = Text::from_slice(alloc, b"home.test")?;
-    let salt = Text::from_slice(alloc, b"s1")?;
-    let app = fixed_apps(alloc, kind)?;
-    Ok(Config {
-        listen: ([127, 0, 0, 1], 5060),
-        domain,
-        salt,
-        workers: 2,
-        stop_after: 0,
-        journal_steps: 1_000_000,
-        journal_bytes: 67_108_864,
-        epoch_steps: 0,
-        hosts: List::new(alloc),
-        app,
-    })
+/// The most bytes of a configuration, and of a routing table.
+const LONGEST: usize = 65_536;
+
+/// The settings that a run is set up with.
+#[derive(Drop)]
+pub struct Settings {
+    pub config: Config,
+    pub dar: Dar,
 }
 
-fn fixed_apps(alloc: Global, kind: usize) -> Result<List<AppEntry>, NoMemory>
-    ensures { IfOk result (λ apps. apps ≡ fixed_app kind ∷ []) }
+/// The settings that the shelf holds under the names of a configuration and a routing table. `kinds`
+/// are the names of the kinds of applications.
+///
+/// # Errors
+///
+/// `Config` only where the configuration's text is refused so; else `Dar` only where the routing
+/// table's text is refused so for its applications; `Read` only where the shelf counted a fault; and
+/// `NoMemory`.
+pub fn read_settings<F: Shelf>(
+    alloc: Global,
+    config: &String,
+    dar: &String,
+    shelf: &mut F,
+    kinds: &List<Text>,
+) -> Result<Settings, Status>
+    ensures config { IfOk result (λ settings. TellsConfig kinds.now (F.holds shelf.old (string_bytes config.now)) settings.config) }
+    ensures table { IfOk result (λ settings. TellsTable (app_names settings.config) (F.holds shelf.old (string_bytes dar.now)) settings.dar) }
+    ensures unset { IfErr result (λ status. IsUnset kinds.now (F.holds shelf.old (string_bytes config.now)) (F.holds shelf.old (string_bytes dar.now)) (Rose (F.faults shelf.old) (F.faults shelf.new)) status) }
+    ensures same { (n : List ℕ) → F.holds shelf.new n ≡ F.holds shelf.old n }
+    ensures later { F.faults shelf.old ≤ F.faults shelf.new }
 {
-    let app = fixed_app(alloc, kind)?;
-    let mut apps = List::new(alloc);
-    apps.push(app)?;
-    Ok(apps)
+    match read_config(alloc, config, shelf, kinds) {
+        Ok(config) => with_table(alloc, config, dar, shelf),
+        Err(status) => Err(status),
+    }
 }
 
-#[tactic(auto, unfolding(sc_model::specs::FixedSettings::fixed_app, sc_model::specs::FixedSettings::answer_word))]
-fn fixed_app(alloc: Global, kind: usize) -> Result<AppEntry, NoMemory>
-    ensures { IfOk result (λ app. app ≡ fixed_app kind) }
+/// The settings of this configuration and of the routing table of this name.
+fn with_table<F: Shelf>(
+    alloc: Global,
+    config: Config,
+    name: &String,
+    shelf: &mut F,
+) -> Result<Settings, Status>
+    ensures config { IfOk result (λ settings. settings.config ≡ config) }
+    ensures table { IfOk result (λ settings. TellsTable (app_names config) (F.holds shelf.old (string_bytes name.now)) settings.dar) }
+    ensures unread { IfErr result (λ status. IsTableUnread (app_names config) (F.holds shelf.old (string_bytes name.now)) (Rose (F.faults shelf.old) (F.faults shelf.new)) status) }
+    ensures same { (n : List ℕ) → F.holds shelf.new n ≡ F.holds shelf.old n }
+    ensures later { F.faults shelf.old ≤ F.faults shelf.new }
 {
-    let name = Text::from_slice(alloc, b"answer")?;
-    Ok(AppEntry {
-        name,
-        kind,
-        params: List::new(alloc),
-        expires: 3,
-    })
+    match read_table(alloc, name, shelf, config.app.as_slice()) {
+        Ok(dar) => Ok(Settings { config, dar }),
+        Err(status) => {
+            drop(config);
+            Err(status)
+        }
+    }
 }
 
-/// The fixed routing table: OPTIONS goes to the one application.
-#[tactic(auto, unfolding(sc_model::specs::FixedSettings::fixed_dar))]
-pub fn fixed_dar(alloc: Global) -> Result<Dar, NoMemory>
-    ensures { IfOk result (λ dar. dar ≡ fixed_dar) }
+/// The configuration of this name.
+#[tactic(auto, unfolding(crate::specs::Running::IsConfigUnread), using(crate::proofs::Settled::config_longer))]
+fn read_config<F: Shelf>(
+    alloc: Global,
+    name: &String,
+    shelf: &mut F,
+    kinds: &List<Text>,
+) -> Result<Config, Status>
+    ensures found { IfOk result (λ config. TellsConfig kinds.now (F.holds shelf.old (string_bytes name.now)) config) }
+    ensures unread { IfErr result (λ status. IsConfigUnread kinds.now (F.holds shelf.old (string_bytes name.now)) (Rose (F.faults shelf.old) (F.faults shelf.new)) status) }
+    ensures same { (n : List ℕ) → F.holds shelf.new n ≡ F.holds shelf.old n }
+    ensures later { F.faults shelf.old ≤ F.faults shelf.new }
 {
-    let list = fixed_list(alloc)?;
-    let mut lists = List::new(alloc);
-    lists.push(list)?;
-    Ok(Dar { lists })
+    match read_text(alloc, name, LONGEST, shelf) {
+        Shelved::Got(text) => config_of(alloc, &text, kinds),
+        Shelved::Long => Err(config_long(alloc)),
+        Shelved::Failed => Err(Status::Read),
+        Shelved::NoMemory => Err(Status::NoMemory),
+    }
 }
 
-#[tactic(auto, unfolding(sc_model::specs::FixedSettings::fixed_list, sc_grammar::specs::Spelled::options))]
-fn fixed_list(alloc: Global) -> Result<MethodList, NoMemory>
-    ensures { IfOk result (λ list. list ≡ fixed_list) }
+/// The configuration of a text.
+#[tactic(auto, unfolding(crate::specs::Running::IsConfigUnread, sc_config::specs::ReadSettings::fault_told), using(crate::proofs::Settled::config_fault))]
+fn config_of(alloc: Global, text: &Text, kinds: &List<Text>) -> Result<Config, Status>
+    ensures found { (told : Option (List ℕ)) → GivesAll text.now told → IfOk result (λ config. TellsConfig kinds.now told config) }
+    ensures unread { (told : Option (List ℕ)) → GivesAll text.now told → IfErr result (λ status. IsConfigUnread kinds.now told ⊥ status) }
 {
-    let method = Text::from_slice(alloc, b"OPTIONS")?;
-    let tuple = fixed_tuple(alloc)?;
-    let mut tuples = List::new(alloc);
-    tuples.push(tuple)?;
-    Ok(MethodList { method, tuples })
+    match sc_config::read(alloc, text.as_bytes(), kinds) {
+        Ok(config) => Ok(config),
+        Err(ConfigRefused::Refused { kind, key }) => Err(Status::Config { kind, key }),
+        Err(ConfigRefused::NoMemory) => Err(Status::NoMemory),
+    }
 }
 
-#[tactic(auto, unfolding(sc_model::specs::FixedSettings::fixed_tuple, sc_model::specs::FixedSettings::from_word))]
-fn fixed_tuple(alloc: Global) -> Result<Tuple, NoMemory>
-    ensures { IfOk result (λ tuple. tuple ≡ fixed_tuple) }
+/// The refusal of a configuration of more bytes than are read.
+fn config_long(alloc: Global) -> Status
+    ensures { result ≡ Status.Config 6 [] }
 {
-    let subscriber = Text::from_slice(alloc, b"DAR:From")?;
-    Ok(Tuple {
-        app: 0,
-        subscriber,
-        region: Region::Neutral,
-        route: None,
-        modifier: Modifier::NoRoute,
-    })
+    Status::Config {
+        kind: 6,
+        key: Text::new(alloc),
+    }
+}
+
+/// The routing table of this name, for these applications.
+#[tactic(auto, unfolding(crate::specs::Running::IsTableUnread), using(crate::proofs::Settled::table_longer))]
+fn read_table<F: Shelf>(
+    alloc: Global,
+    name: &String,
+    shelf: &mut F,
+    apps: &[AppEntry],
+) -> Result<Dar, Status>
+    ensures found { IfOk result (λ dar. TellsTable (map (λ app. app.name) apps.now) (F.holds shelf.old (string_bytes name.now)) dar) }
+    ensures unread { IfErr result (λ status. IsTableUnread (map (λ app. app.name) apps.now) (F.holds shelf.old (string_bytes name.now)) (Rose (F.faults shelf.old) (F.faults shelf.new)) status) }
+    ensures same { (n : List ℕ) → F.holds shelf.new n ≡ F.holds shelf.old n }
+    ensures later { F.faults shelf.old ≤ F.faults shelf.new }
+{
+    match read_text(alloc, name, LONGEST, shelf) {
+        Shelved::Got(text) => table_of(alloc, &text, apps),
+        Shelved::Long => Err(Status::Dar { line: 0, kind: 8 }),
+        Shelved::Failed => Err(Status::Read),
+        Shelved::NoMemory => Err(Status::NoMemory),
+    }
+}
+
+/// The routing table of a text, for these applications.
+#[tactic(auto, unfolding(crate::specs::Running::IsTableUnread))]
+fn table_of(alloc: Global, text: &Text, apps: &[AppEntry]) -> Result<Dar, Status>
+    ensures found { (told : Option (List ℕ)) → GivesAll text.now told → IfOk result (λ dar. TellsTable (map (λ app. app.name) apps.now) told dar) }
+    ensures unread { (told : Option (List ℕ)) → GivesAll text.now told → IfErr result (λ status. IsTableUnread (map (λ app. app.name) apps.now) told ⊥ status) }
+{
+    match names_of(alloc, apps) {
+        Ok(names) => table_for(alloc, text, &names),
+        Err(NoMemory) => Err(Status::NoMemory),
+    }
+}
+
+/// The routing table of a text, for applications of these names.
+#[tactic(auto, unfolding(crate::specs::Running::IsTableUnread), using(crate::proofs::Settled::table_fault))]
+fn table_for(alloc: Global, text: &Text, names: &List<Text>) -> Result<Dar, Status>
+    ensures found { (told : Option (List ℕ)) → GivesAll text.now told → IfOk result (λ dar. TellsTable names.now told dar) }
+    ensures unread { (told : Option (List ℕ)) → GivesAll text.now told → IfErr result (λ status. IsTableUnread names.now told ⊥ status) }
+{
+    match sc_dar::read(alloc, text.as_bytes(), names) {
+        Ok(dar) => Ok(dar),
+        Err(DarRefused::Refused { line, kind }) => Err(Status::Dar { line, kind }),
+        Err(DarRefused::NoMemory) => Err(Status::NoMemory),
+    }
+}
+
+/// The names of applications.
+fn names_of(alloc: Global, apps: &[AppEntry]) -> Result<List<Text>, NoMemory>
+    ensures { IfOk result (λ names. names ≡ map (λ app. app.name) apps.now) }
+{
+    let mut names = List::new(alloc);
+    add_names(alloc, apps, &mut names)?;
+    Ok(names)
+}
+
+fn add_names(alloc: Global, apps: &[AppEntry], names: &mut List<Text>) -> Result<(), NoMemory>
+    ensures { OnOk result (names.new ≡ names.old ++ map (λ app. app.name) apps.now) }
+{
+    for app in apps {
+        names.push(Text::from_slice(alloc, app.name.as_bytes())?)?;
+    }
+    Ok(())
 }

@@ -1,33 +1,79 @@
-//! Making a switch, and its first step.
+//! What a run can begin with, and its first step.
 
-ghost use Rattle.std.specs.Prelude.{◌≡◌, ◌<◌, [], None, length, map, option_map, IfOk, IfErr, OnOk, OnErr};
-ghost use Rattle.sc_calls.specs.Stated.{both_charters};
-ghost use Rattle.sc_grammar.specs.Written.{written};
-ghost use Rattle.sc_grammar.specs.Spelled.{IsSpelledBy};
-ghost use Rattle.sc_model.specs.FixedSettings.{fixed_setup};
-ghost use Rattle.sc_replay.specs.Starting.{IsStarted, IsTakenIn, IsSomeMessage};
+ghost use Rattle.std.specs.Prelude.{◌≡◌, ◌↔◌, IsTrue, length, position, option_copied, IfErr, OnOk, OnErr};
+ghost use Rattle.std.specs.List.{find};
+ghost use Rattle.sc_value.specs.Params.{same_bytes};
+ghost use Rattle.sc_terms.specs.declared.settings.Config.{Config};
+ghost use Rattle.sc_grammar.specs.Spelled.{IsSpelledBy, options};
+ghost use Rattle.sc_model.specs.Routing.{list_of};
+ghost use Rattle.sc_replay.specs.Starting.{IsStarted, IsRunnable, IsTakenIn, IsSomeMessage};
+ghost use Rattle.sc_replay.specs.Choosing.{is_straight, begins_straight};
 ghost use Rattle.sc_switch.specs.Answers.{RefusesRight};
 
-use crate::settings::{fixed_config, fixed_dar};
-use sc_calls::Catalogue;
 use sc_message_text::{MessageRefused, read};
 use sc_switch::{StepRefused, Switch};
-use sc_value::{NoMemory, Place};
+use sc_terms::{Dar, MethodList, Modifier, Tuple};
+use sc_value::Place;
 use std::alloc::Global;
 
-/// A switch with the fixed settings and an empty journal, its one application being of the kind at
-/// this place of the catalogue.
-pub fn start(alloc: Global, apps: &Catalogue, kind: usize) -> Result<Switch, NoMemory>
-    requires { kind < length apps.now.kinds }
-    ensures { IfOk result (λ s. s ≡ record { setup = fixed_setup kind (map (λ k. both_charters (stated (k.servlet.vtable, k.servlet.value)) (option_map (λ l. listens (l.vtable, l.value)) k.listener)) apps.now.kinds); journal = []; left = []; kept = None; leases = 0 }) }
+/// Whether the router sends the request that is read to the application of its method's first tuple,
+/// and takes no route.
+pub fn is_runnable(dar: &Dar) -> bool
+    ensures { (config : Config) → (IsTrue result ↔ IsRunnable config dar.now) }
 {
-    let config = fixed_config(alloc, kind)?;
-    match fixed_dar(alloc) {
-        Ok(dar) => Switch::new(alloc, config, dar, apps),
-        Err(cause) => {
-            drop(config);
-            Err(cause)
-        }
+    match options_list(dar) {
+        Some(list) => begins_straight(list.tuples.as_slice()),
+        None => false,
+    }
+}
+
+/// The list of OPTIONS.
+#[tactic(auto, unfolding(sc_model::specs::Routing::list_of))]
+fn options_list(dar: &Dar) -> Option<&MethodList>
+    ensures { option_copied result ≡ list_of options dar.now }
+{
+    options_in(dar.lists.as_slice())
+}
+
+#[tactic(auto, using(sc_value::proofs::ListFacts::find_position, sc_value::proofs::ListFacts::find_none))]
+fn options_in(lists: &[MethodList]) -> Option<&MethodList>
+    ensures { option_copied result ≡ find (λ list. same_bytes list.method options) lists.now }
+{
+    match options_place(lists) {
+        Some(at) => Some(&lists[at]),
+        None => None,
+    }
+}
+
+#[tactic(auto, unfolding(sc_grammar::specs::Spelled::options))]
+fn options_place(lists: &[MethodList]) -> Option<usize>
+    ensures { result ≡ position (λ list. same_bytes list.method options) lists.now }
+{
+    lists
+        .iter()
+        .position(|list| list.method.as_bytes() == b"OPTIONS".as_slice())
+}
+
+/// Whether there is a first tuple, which takes no route.
+#[tactic(auto, unfolding(crate::specs::Choosing::begins_straight))]
+fn begins_straight(tuples: &[Tuple]) -> bool
+    ensures { result ≡ begins_straight tuples.now }
+{
+    match tuples.first() {
+        Some(tuple) => is_straight(tuple),
+        None => false,
+    }
+}
+
+/// Whether the tuple takes no route.
+#[tactic(auto, unfolding(crate::specs::Choosing::is_straight))]
+fn is_straight(tuple: &Tuple) -> bool
+    ensures { result ≡ is_straight tuple.now.modifier tuple.now.route }
+{
+    match tuple.modifier {
+        Modifier::NoRoute => true,
+        Modifier::Route => tuple.route.is_none(),
+        Modifier::RouteBack => tuple.route.is_none(),
     }
 }
 

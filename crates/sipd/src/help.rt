@@ -21,8 +21,9 @@ check reads a configuration and a routing table, and writes `ok A T`: how many
 applications and how many tuples they have. make writes a script of N calls, N
 from 1 to 1000.
 
-Today replay reads neither CONFIG nor DAR: one application, of the kind
-`answer`, gets each OPTIONS request. One script is read, examples/options/script.
+CONFIG is a TOML text with the container's settings and its applications, each
+of the kind `answer`. DAR is the table of the Default Application Router. Today
+one script is read, examples/options/script.
 
 The exit status, and the line on standard error:
    0                          all was read and written

@@ -1,22 +1,20 @@
-use Rattle.std.proofs.Common.{ℕ, ◌<◌, sym, subst}
-use Rattle.std.proofs.lemmas.List.{length-map}
+use Rattle.std.proofs.Common.{ap, sym, subst}
+use Rattle.sc_parts.specs.declared.setup.Setup.{Setup}
 use Rattle.sc_model.specs.Settings.{IsSetup}
-use Rattle.sc_replay.proofs.Startings.{fixed_in_range}
-use Rattle.sc_replay.proofs.Replayings.{made_new, made_started, made_kinds, made_setup, ran_not, ran_for, the_journal}
-use Rattle.sc_replay.proofs.replaying.replay_as.Goals as goal
+use Rattle.sc_replay.proofs.Replayings.{made_new, made_runnable, made_setup, ran_not, ran_for, the_journal}
+use Rattle.sc_replay.proofs.replaying.replay_over.Goals as goal
 
-pub replay_on-requires-clause-started : goal.replay_on-requires-clause-started
-replay_on-requires-clause-started g c = made_started _ _ _ c.in-Ok.ensures
+pub replay_on-requires-clause-runnable : goal.replay_on-requires-clause-runnable
+replay_on-requires-clause-runnable g c = made_runnable _ _ _ c.in-Ok.ensures (c.is_runnable-runnable.ensures _)
 
 pub replay_on-requires-clause-new : goal.replay_on-requires-clause-new
 replay_on-requires-clause-new g c = made_new _ _ c.in-Ok.ensures
 
 pub replay_on-requires-clause-right : goal.replay_on-requires-clause-right
-replay_on-requires-clause-right g c =
-    subst IsSetup (sym (made_setup _ _ c.in-Ok.ensures)) (fixed_in_range c.args.kind _ (subst (λ (n : ℕ). c.args.kind < n) (sym (length-map _ _)) c.requires))
+replay_on-requires-clause-right g c = subst IsSetup (sym (made_setup _ _ c.in-Ok.ensures)) c.requires
 
 pub replay_on-requires-clause-kinds : goal.replay_on-requires-clause-kinds
-replay_on-requires-clause-kinds g c = made_kinds _ _ _ c.in-Ok.ensures
+replay_on-requires-clause-kinds g c = ap (λ (s : Setup). s.kinds) (made_setup _ _ c.in-Ok.ensures)
 
 pub returns-in-Ok-clause-ran : goal.returns-in-Ok-clause-ran
 returns-in-Ok-clause-ran g c = ran_for _ _ _ _ _ _ _ c.replay_on.result (made_setup _ _ c.in-Ok.ensures) c.replay_on.ensures.ran
