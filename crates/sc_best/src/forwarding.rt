@@ -5,13 +5,17 @@ ghost use Rattle.std.specs.List.{flat_map};
 ghost use Rattle.sc_value.specs.declared.message.Response.{Response};
 ghost use Rattle.sc_model.specs.BestResponses.{is_challenge, asks_credentials, challenges_of, gathered, forwarded_code, forwarded_reason, forwarded};
 
-use sc_value::{CloneIn, Field, Head, List, NoMemory, Response, Text, same_name};
+use sc_value::{CloneIn, Field, Head, List, NoMemory, Response, Shared, Text, same_name};
 use std::alloc::Global;
 
 /// The challenges that a chosen 401 or 407 is given: the WWW-Authenticate and Proxy-Authenticate
 /// fields of all other 401 and 407 responses, in their order; none where another response is chosen.
 /// `Err` for want of memory alone.
-pub fn gather(alloc: Global, list: &List<Response>, chosen: usize) -> Result<List<Field>, NoMemory>
+pub fn gather(
+    alloc: Global,
+    list: &List<Shared<Response>>,
+    chosen: usize,
+) -> Result<List<Field>, NoMemory>
     requires { chosen < length list.now }
     ensures { IfOk result (λ fields. fields ≡ gathered list.now chosen) }
 {
@@ -22,14 +26,14 @@ pub fn gather(alloc: Global, list: &List<Response>, chosen: usize) -> Result<Lis
 
 fn add_gathered(
     alloc: Global,
-    responses: &[Response],
+    responses: &[Shared<Response>],
     chosen: usize,
     fields: &mut List<Field>,
 ) -> Result<(), NoMemory>
     requires { chosen < length responses.now }
     ensures { OnOk result (fields.new ≡ fields.old ++ gathered responses.now chosen) }
 {
-    if !asks_credentials(&responses[chosen]) {
+    if !asks_credentials(responses[chosen].get()) {
         return Ok(());
     }
     add_challenges(alloc, &responses[..chosen], fields)?;
@@ -39,13 +43,13 @@ fn add_gathered(
 
 fn add_challenges(
     alloc: Global,
-    responses: &[Response],
+    responses: &[Shared<Response>],
     fields: &mut List<Field>,
 ) -> Result<(), NoMemory>
     ensures { OnOk result (fields.new ≡ fields.old ++ flat_map challenges_of responses.now) }
 {
     for response in responses {
-        add_challenges_of(alloc, response, fields)?;
+        add_challenges_of(alloc, response.get(), fields)?;
     }
     Ok(())
 }
@@ -92,12 +96,16 @@ fn is_challenge(field: &Field) -> bool
 
 /// The chosen response as it is forwarded: a 503 made a 500, a 401 or 407 with the challenges of the
 /// others. `Err` for want of memory alone.
-pub fn forwarded(alloc: Global, list: &List<Response>, chosen: usize) -> Result<Response, NoMemory>
+pub fn forwarded(
+    alloc: Global,
+    list: &List<Shared<Response>>,
+    chosen: usize,
+) -> Result<Response, NoMemory>
     requires { chosen < length list.now }
     ensures { IfOk result (λ response. forwarded list.now chosen ≡ Some response) }
 {
     let responses = list.as_slice();
-    let response = &responses[chosen];
+    let response = responses[chosen].get();
     let reason = forwarded_reason(alloc, response)?;
     let head = forwarded_head(alloc, responses, chosen)?;
     Ok(Response {
@@ -125,23 +133,27 @@ fn forwarded_reason(alloc: Global, response: &Response) -> Result<Text, NoMemory
 }
 
 /// The headers with the challenges that are gathered, after its own.
-fn forwarded_head(alloc: Global, responses: &[Response], chosen: usize) -> Result<Head, NoMemory>
+fn forwarded_head(
+    alloc: Global,
+    responses: &[Shared<Response>],
+    chosen: usize,
+) -> Result<Head, NoMemory>
     requires { chosen < length responses.now }
     ensures { IfOk result (λ head. (response : Response) → slice_get responses.now chosen ≡ Some response → head ≡ record response.head { others = response.head.others ++ gathered responses.now chosen }) }
 {
     let others = forwarded_others(alloc, responses, chosen)?;
-    head_with(alloc, &responses[chosen].head, others)
+    head_with(alloc, &responses[chosen].get().head, others)
 }
 
 fn forwarded_others(
     alloc: Global,
-    responses: &[Response],
+    responses: &[Shared<Response>],
     chosen: usize,
 ) -> Result<List<Field>, NoMemory>
     requires { chosen < length responses.now }
     ensures { IfOk result (λ fields. (response : Response) → slice_get responses.now chosen ≡ Some response → fields ≡ response.head.others ++ gathered responses.now chosen) }
 {
-    let mut fields = responses[chosen].head.others.clone_in(alloc)?;
+    let mut fields = responses[chosen].get().head.others.clone_in(alloc)?;
     add_gathered(alloc, responses, chosen, &mut fields)?;
     Ok(fields)
 }

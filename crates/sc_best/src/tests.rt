@@ -1,7 +1,7 @@
 //! The choice by codes (RFC 3261 section 16.7), and what is forwarded, with ample memory.
 
 use crate::{best, forwarded, gather};
-use sc_value::{Address, CSeq, Field, Head, List, NoMemory, Response, Text, Uri};
+use sc_value::{Address, CSeq, Field, Head, List, NoMemory, Response, Shared, Text, Uri};
 use std::alloc::Global;
 use std::test::Fail;
 
@@ -61,11 +61,11 @@ fn response(alloc: Global, code: u16, challenge: &[u8]) -> Result<Response, NoMe
     })
 }
 
-fn responses(alloc: Global, codes: &[u16]) -> Result<List<Response>, NoMemory> {
+fn responses(alloc: Global, codes: &[u16]) -> Result<List<Shared<Response>>, NoMemory> {
     let mut all = List::new(alloc);
     for code in codes {
         let made = response(alloc, *code, b"c")?;
-        all.push(made)?;
+        all.push(Shared::new(alloc, made)?)?;
     }
     Ok(all)
 }
@@ -73,7 +73,7 @@ fn responses(alloc: Global, codes: &[u16]) -> Result<List<Response>, NoMemory> {
 /// How many challenges are gathered for the response of this place.
 fn gathered(
     alloc: Global,
-    list: &List<Response>,
+    list: &List<Shared<Response>>,
     chosen: usize,
 ) -> Result<Option<usize>, NoMemory> {
     if list.len() <= chosen {
@@ -86,7 +86,7 @@ fn gathered(
 /// The code that is forwarded, and how many headers without structure go with it.
 fn sent(
     alloc: Global,
-    list: &List<Response>,
+    list: &List<Shared<Response>>,
     chosen: usize,
 ) -> Result<Option<(u16, usize)>, NoMemory> {
     if list.len() <= chosen {

@@ -1,6 +1,5 @@
-ghost use Rattle.std.specs.Prelude.{◌≡◌, ◌<◌, ◌≤◌, ◌↔◌, [], IsTrue, IfOk, IfErr, OnOk, OnErr, IsErrOf, Some, unwrap_or};
+ghost use Rattle.std.specs.Prelude.{◌≡◌, ◌<◌, ◌≤◌, ◌↔◌, [], IsTrue, IfOk, IfErr, OnOk, OnErr, IsErrOf, Some, unwrap_or, max};
 ghost use Rattle.std.specs.Option.{option_copied};
-ghost use Rattle.sc_value.specs.Tokens.{is_token};
 ghost use Rattle.sc_value.specs.declared.message.Message.{Message};
 ghost use Rattle.sc_model.specs.Dialogs.{Beginning, Passed, dialog_of, Follows, request_target, response_target};
 ghost use Rattle.sc_model.specs.DialogRequests.{is_askable, next_request, ack_request};
@@ -20,14 +19,14 @@ use std::mem;
 /// that of the dialog's messages.
 #[derive(Drop)]
 pub struct Dialog {
-    call_id: Text,
-    local: Address,
-    remote: Address,
-    route_set: List<Address>,
-    target: Uri,
-    sent: u32,
-    received: u32,
-    begun_by: Option<CSeq>,
+    pub(crate) call_id: Text,
+    pub(crate) local: Address,
+    pub(crate) remote: Address,
+    pub(crate) route_set: List<Address>,
+    pub(crate) target: Uri,
+    pub(crate) sent: u32,
+    pub(crate) received: u32,
+    pub(crate) begun_by: Option<CSeq>,
 }
 
 impl Model for Dialog {
@@ -46,10 +45,9 @@ impl Discard for Dialog {
 
 impl Dialog {
     /// The dialog of the called side: the peer's request, on which the own side puts this tag, begins
-    /// it (RFC 3261 section 12.1.1). The tag is to be a token.
+    /// it (RFC 3261 section 12.1.1).
     #[tactic(auto, using(sc_model::proofs::DialogLaws::called_dialog))]
     pub fn from_uas(alloc: Global, request: &Request, tag: &Text) -> Result<Dialog, NoMemory>
-        requires { IsTrue (is_token tag.now) }
         ensures { IfOk result (λ d. d ≡ dialog_of (Beginning.Called tag.now request.now) []) }
     {
         let call_id = request.head.call_id.clone_in(alloc)?;
@@ -213,6 +211,31 @@ impl Dialog {
         ensures stays { number ≤ self.now.sent → Follows self.now (Passed.By_self (Message.Request (ack_request self.now number body.now))) self.now }
     {
         ack_request(alloc, self, number, body)
+    }
+
+    /// The peer's request gives the target where it has one, and its number where that is greater
+    /// than all before.
+    pub fn hear_request(&mut self, alloc: Global, request: &Request) -> Result<(), NoMemory>
+        ensures { OnOk result (self.new ≡ record self.old { target = unwrap_or (request_target request.now) self.old.target; received = max self.old.received request.now.head.cseq.number }) }
+    {
+        self.set_target(alloc, request_target(request))?;
+        self.received = self.received.max(request.head.cseq.number);
+        Ok(())
+    }
+
+    /// The peer's response gives the target where it has one.
+    pub fn hear_response(&mut self, alloc: Global, response: &Response) -> Result<(), NoMemory>
+        ensures { OnOk result (self.new ≡ record self.old { target = unwrap_or (response_target self.old.begun_by response.now) self.old.target }) }
+    {
+        let target = response_target(&self.begun_by, response);
+        self.set_target(alloc, target)
+    }
+
+    /// An own request has this number.
+    pub fn count_sent(&mut self, number: u32)
+        ensures { self.new ≡ record self.old { sent = max self.old.sent number } }
+    {
+        self.sent = self.sent.max(number);
     }
 
     fn set_target(&mut self, alloc: Global, target: Option<&Uri>) -> Result<(), NoMemory>

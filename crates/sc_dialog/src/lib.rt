@@ -5,6 +5,7 @@
 //! dialog stands for, which list it stands for after a call.
 #![tactic(auto)]
 
+mod copies;
 mod dialog;
 mod refused;
 mod requests;
@@ -14,8 +15,9 @@ mod targets;
 
 pub use dialog::Dialog;
 pub use refused::DialogRefused;
-pub use requests::is_askable;
+pub use requests::{ack_request, is_askable, kept_fields, next_request};
 pub use sc_terms::Inside;
+pub use targets::{request_target, response_target};
 
 #[cfg(test)]
 mod tests;

@@ -113,7 +113,7 @@ stopped proxy = record proxy { targets = []; settled = true; branches = map canc
 unfoldable pub rung : ℕ → ℕ → Proxy → Proxy
 rung number now proxy = change_branch number (λ branch. record branch { due = branch_due proxy now }) proxy
 
-abbrev pub with_end : ℕ → Branch → Branch
+unfoldable pub with_end : ℕ → Branch → Branch
 with_end code branch = record branch { ended = Some code; cancelled = false; due = None }
 
 unfoldable pub ended_branch : ℕ → ℕ → Proxy → Proxy

@@ -58,7 +58,7 @@ tidy view = record view { requests = filter (stands view) (map (with_there view)
 unfoldable pub with_answer : ℕ → RequestView → RequestView
 with_answer code request = if is_final code && is_none request.answered then record request { answered = Some code } else request
 
-abbrev pub with_response : RequestView → Bool → ℕ → SessionView → SessionView
+unfoldable pub with_response : RequestView → Bool → ℕ → SessionView → SessionView
 with_response request tagged code session = record session { state = after_response session.role request tagged session.state code }
 
 -- the view after a response of this code to a request, sent, handled or forwarded in this SipSession

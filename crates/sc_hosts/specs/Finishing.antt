@@ -139,7 +139,7 @@ closes proxy working =
     if is_exhausted proxy && is_some proxy.options
     then in_view (record working.play.view { sessions = map (closed_session working.known proxy.req proxy.sess) working.play.view.sessions }) working else working
 
-abbrev pub rested_branch : Branch → Branch
+unfoldable pub rested_branch : Branch → Branch
 rested_branch branch = record branch { cancelled = false }
 
 unfoldable pub rested : Proxy → Proxy

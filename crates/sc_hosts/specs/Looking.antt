@@ -102,10 +102,10 @@ change_request req change view = record view { requests = change_first (is_reque
 abbrev pub change_session : SessId → (SessionView → SessionView) → View → View
 change_session sess change view = record view { sessions = change_first (is_session sess) change view.sessions }
 
-abbrev pub in_state : State → SessionView → SessionView
+unfoldable pub in_state : State → SessionView → SessionView
 in_state state session = record session { state = state }
 
-abbrev pub linked_to : Option SessId → SessionView → SessionView
+unfoldable pub linked_to : Option SessId → SessionView → SessionView
 linked_to other session = record session { linked = other }
 
 -- the SipSession to which this one is linked

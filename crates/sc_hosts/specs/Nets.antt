@@ -165,7 +165,7 @@ unfoldable pub client_at : {S : Type 0} → AppId → ℕ → Option (Host S) �
 client_at app branch None = None
 client_at app branch (Some host) = find (is_client app branch false) host.clients
 
-abbrev pub answered_server : ℕ → ℕ → Response → Server → Server
+unfoldable pub answered_server : ℕ → ℕ → Response → Server → Server
 answered_server code now response server = record server { passed = server_items.AnswerGiven code now ∷ server.passed; last = Some response }
 
 -- a response goes by its server transaction, where that lets it go

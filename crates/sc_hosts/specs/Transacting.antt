@@ -141,7 +141,7 @@ is_answered_by salt epoch from response client =
 unfoldable pub client_for : {S : Type 0} → Bytes → ℕ → Peer → Response → Host S → Option Client
 client_for salt epoch from response host = find (is_answered_by salt epoch from response) host.clients
 
-abbrev pub client_passed : ClientItem → Client → Client
+unfoldable pub client_passed : ClientItem → Client → Client
 client_passed item client = record client { passed = item ∷ client.passed }
 
 -- an item passes a client transaction
@@ -194,7 +194,7 @@ has_final server = is_some (final_answer server.passed)
 abbrev pub is_server : ℕ → Server → Bool
 is_server event server = server.event == event
 
-abbrev pub server_passed : ServerItem → Server → Server
+unfoldable pub server_passed : ServerItem → Server → Server
 server_passed item server = record server { passed = item ∷ server.passed }
 
 unfoldable pub pass_server : {S : Type 0} → ℕ → ServerItem → Host S → Host S

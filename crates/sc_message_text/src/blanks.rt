@@ -12,7 +12,7 @@ pub fn is_blank(b: u8) -> bool
     b == b' ' || b == b'\t'
 }
 
-// The text without the blanks at its ends.
+/// The text without the blanks at its ends.
 #[tactic(auto, unfolding(sc_syntax::specs::Blanks::trimmed))]
 pub fn trim(text: &[u8]) -> &[u8]
     ensures { result.now ≡ trimmed text.now }
@@ -40,7 +40,7 @@ fn blanks_len(text: &[u8]) -> usize
     text.len()
 }
 
-// The text without the blanks at its back.
+/// The text without the blanks at its back.
 #[tactic(auto, unfolding(sc_syntax::specs::Blanks::trimmed_back))]
 pub fn trim_back(text: &[u8]) -> &[u8]
     ensures { result.now ≡ trimmed_back text.now }

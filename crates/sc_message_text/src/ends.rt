@@ -10,7 +10,7 @@ ghost use Rattle.sc_message_text.specs.Pieces.{pieces_behind};
 use sc_syntax::Ending;
 use sc_uri_text::begins;
 
-// Whether CR LF stands at the front.
+/// Whether CR LF stands at the front.
 #[tactic(auto, unfolding(sc_syntax::specs::Lines::begins_break))]
 pub fn begins_break(text: &[u8]) -> bool
     ensures exact { result ≡ begins_break text.now }
@@ -46,7 +46,7 @@ fn is_end(ending: Ending, text: &[u8]) -> bool
     }
 }
 
-// The place of the first such end.
+/// The place, in bytes from 0, of the first such end; None exactly where there is none.
 #[tactic(auto, using(crate::proofs::EndSteps::end_none))]
 pub fn end_of(ending: Ending, text: &[u8]) -> Option<usize>
     ensures exact { result ≡ end_of ending text.now }
@@ -61,7 +61,7 @@ pub fn end_of(ending: Ending, text: &[u8]) -> Option<usize>
     None
 }
 
-// The first piece between such ends, and what stands behind its end, where there is one.
+/// The first piece between such ends, and what stands behind its end, where there is one.
 #[tactic(auto, unfolding(crate::specs::Pieces::pieces_behind), using(crate::proofs::EndSteps::pieces_last, crate::proofs::EndSteps::pieces_more))]
 pub fn split_piece(ending: Ending, text: &[u8]) -> (&[u8], Option<&[u8]>)
     ensures exact { pieces_at ending text.now ≡ result.0.now ∷ pieces_behind ending (option_copied result.1) }
@@ -74,7 +74,8 @@ pub fn split_piece(ending: Ending, text: &[u8]) -> (&[u8], Option<&[u8]>)
     }
 }
 
-// The start line of a head, and what stands behind its end, where there is something.
+/// The start line of a head, and what stands behind its end, where there is something (RFC 3261
+/// section 7).
 #[tactic(auto, unfolding(sc_syntax::specs::Lines::start_line, sc_syntax::specs::Lines::behind_start))]
 pub fn split_start(head: &[u8]) -> (&[u8], Option<&[u8]>)
     ensures line { result.0.now ≡ start_line head.now }

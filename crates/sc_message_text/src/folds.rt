@@ -14,8 +14,8 @@ use sc_syntax::Ending;
 use sc_value::NoMemory;
 use std::alloc::Global;
 
-// The text of a line that begins with this piece: each line end and all blanks round it are one
-// space.
+/// The text of a line: each line end in it and all blanks round that are one space (RFC 3261
+/// section 7.3.1).
 #[tactic(auto, using(crate::proofs::FoldSteps::joined_is))]
 pub fn join(alloc: Global, line: &[u8]) -> Result<Vec<u8>, NoMemory>
     ensures { IfOk result (λ text. text.items ≡ joined line.now) }

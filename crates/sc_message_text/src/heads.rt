@@ -17,7 +17,7 @@ use sc_syntax::{Ending, Left, Lists, Singles};
 use sc_value::List;
 use std::alloc::Global;
 
-// Before the first header line.
+/// What is left before the first header line.
 #[tactic(auto, unfolding(sc_syntax::specs::Messages::nothing_left, sc_syntax::specs::Messages::no_lists, sc_syntax::specs::Messages::no_singles))]
 pub fn nothing_left(alloc: Global) -> Left
     ensures { result ≡ nothing }
@@ -42,7 +42,8 @@ pub fn nothing_left(alloc: Global) -> Left
     }
 }
 
-// The lines behind an end, of which the first begins at this place.
+/// The header lines behind an end, of which the first begins at this place, in bytes from the
+/// message's first one: what they leave, or the place and the kind of the first fault.
 pub fn take_lines(
     left: &mut Left,
     alloc: Global,

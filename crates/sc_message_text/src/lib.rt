@@ -27,8 +27,12 @@ mod whole;
 #[cfg(test)]
 mod whole_tests;
 
+pub use blanks::{trim, trim_back};
+pub use ends::{begins_break, end_of, split_piece, split_start};
+pub use folds::join;
+pub use heads::{nothing_left, take_lines};
 pub use messages::{text_of, write};
 pub use reading::read;
 pub use refused::MessageRefused;
 pub use uris::uri_text;
-pub use whole::read_message;
+pub use whole::{read_message, read_parts};

@@ -44,8 +44,10 @@ pub fn read_message(alloc: Global, b: &[u8]) -> Result<Message, MessageRefused>
     }
 }
 
-// Head and body.
-fn read_parts(alloc: Global, head: &[u8], body: &[u8]) -> Result<Message, MessageRefused>
+/// The message of a head, which is all before its empty line without the CR LF of the last line, and
+/// of a body, or the place and the kind of its first fault (RFC 3261 section 7). `NoMemory` says nothing
+/// of them.
+pub fn read_parts(alloc: Global, head: &[u8], body: &[u8]) -> Result<Message, MessageRefused>
     requires { length head.now + 4 ≤ 2 ^ 63 }
     ensures { Reads result (message_in head.now body.now) }
 {

@@ -1,6 +1,6 @@
 //! Copies of sessions, and letting go of what is large.
 
-use crate::{Order, Outcome, Queued, Received, Session, Waiting};
+use crate::{ClientItem, Order, Outcome, Queued, Received, ServerItem, Session, Waiting};
 use sc_value::{CloneIn, Discard, NoMemory};
 use std::alloc::Global;
 
@@ -12,6 +12,18 @@ impl CloneIn for Received {
             server: self.server,
             request: self.request.clone_in(alloc)?,
         })
+    }
+}
+
+impl CloneIn for ClientItem {
+    fn clone_in(&self, _alloc: Global) -> Result<ClientItem, NoMemory> {
+        Ok(*self)
+    }
+}
+
+impl CloneIn for ServerItem {
+    fn clone_in(&self, _alloc: Global) -> Result<ServerItem, NoMemory> {
+        Ok(*self)
     }
 }
 

@@ -14,7 +14,8 @@ use crate::texts::is_invite;
 use sc_terms::{Answer, Period, Refusal, RequestView, State, View};
 use sc_value::{Field, ReqId, SessId, TimerId};
 
-fn awaits_ack(request: &RequestView, sess: SessId) -> bool
+/// Whether a request is a sent INVITE whose 2xx in this SipSession has no ACK.
+pub fn awaits_ack(request: &RequestView, sess: SessId) -> bool
     ensures { result ≡ awaits_ack sess request.now }
 {
     has_session(request.unacked.as_slice(), sess)
@@ -186,8 +187,9 @@ pub fn cancel_timer_refusal(view: &View, id: TimerId) -> Option<Refusal>
     None
 }
 
+/// Whether a field has this name.
 #[tactic(auto, unfolding(sc_hosts::specs::Refusals::is_set))]
-fn is_set(name: &[u8], fields: &[Field]) -> bool
+pub fn is_set(name: &[u8], fields: &[Field]) -> bool
     ensures { result ≡ is_set name.now fields.now }
 {
     fields.iter().any(|field| field.name.as_bytes() == name)

@@ -9,7 +9,8 @@ ghost use Rattle.sc_hosts.specs.Refusals.{is_ended_session, is_begun};
 use sc_terms::{RequestView, Role, SessionView, State, TimerView, View};
 use sc_value::{ReqId, SessId, TimerId};
 
-fn request_place(requests: &[RequestView], req: ReqId) -> Option<usize>
+/// The place of the request of this number.
+pub fn request_place(requests: &[RequestView], req: ReqId) -> Option<usize>
     ensures { result ≡ position (is_request req) requests.now }
 {
     requests.iter().position(|request| request.id.0 == req.0)
@@ -32,7 +33,8 @@ pub fn request_in(view: &View, req: ReqId) -> Option<&RequestView>
     request_among(view.requests.as_slice(), req)
 }
 
-fn session_place(sessions: &[SessionView], sess: SessId) -> Option<usize>
+/// The place of the SipSession of this number.
+pub fn session_place(sessions: &[SessionView], sess: SessId) -> Option<usize>
     ensures { result ≡ position (is_session sess) sessions.now }
 {
     sessions.iter().position(|session| session.id.0 == sess.0)
@@ -55,7 +57,8 @@ pub fn session_in(view: &View, sess: SessId) -> Option<&SessionView>
     session_among(view.sessions.as_slice(), sess)
 }
 
-fn timer_place(timers: &[TimerView], id: TimerId) -> Option<usize>
+/// The place of the active timer of this number.
+pub fn timer_place(timers: &[TimerView], id: TimerId) -> Option<usize>
     ensures { result ≡ position (is_timer id) timers.now }
 {
     timers.iter().position(|timer| timer.id.0 == id.0)
@@ -78,8 +81,9 @@ pub fn timer_in(view: &View, id: TimerId) -> Option<&TimerView>
     timer_among(view.timers.as_slice(), id)
 }
 
+/// Whether the state is INITIAL.
 #[tactic(auto, unfolding(sc_hosts::specs::Looking::is_initial_state))]
-fn is_initial_state(state: State) -> bool
+pub fn is_initial_state(state: State) -> bool
     ensures { result ≡ is_initial_state state }
 {
     state == State::Initial
@@ -96,13 +100,15 @@ pub fn is_open_state(state: State) -> bool
     }
 }
 
+/// Whether the state is TERMINATED.
 #[tactic(auto, unfolding(sc_hosts::specs::Looking::is_terminated))]
-fn is_terminated(state: State) -> bool
+pub fn is_terminated(state: State) -> bool
     ensures { result ≡ is_terminated state }
 {
     state == State::Terminated
 }
 
+/// Whether the application proxies.
 #[tactic(auto, unfolding(sc_hosts::specs::Looking::is_proxy))]
 pub fn is_proxy(role: Role) -> bool
     ensures { result ≡ is_proxy role }

@@ -10,7 +10,8 @@ use sc_state::{Draft, Play};
 use sc_terms::{Call, Refusal, Target, View};
 use sc_value::{ReqId, SessId};
 
-fn draft_place(drafts: &[Draft], number: u32) -> Option<usize>
+/// The place of the draft of this number.
+pub fn draft_place(drafts: &[Draft], number: u32) -> Option<usize>
     ensures { result ≡ position (λ draft. draft.number == number) drafts.now }
 {
     drafts.iter().position(|draft| draft.number == number)

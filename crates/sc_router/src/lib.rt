@@ -11,6 +11,7 @@ mod subscriber;
 mod tests;
 
 pub use choice::next_choice;
+pub use own::{ip_text, is_own};
 pub use routing::next;
 pub use sc_parts::{Choice, Chosen};
 pub use sc_value::Directive;

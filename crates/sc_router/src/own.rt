@@ -8,7 +8,7 @@ use sc_terms::Config;
 use sc_value::{NoMemory, Text, Uri, same_name, write_u64};
 use std::alloc::Global;
 
-// The text of an address, `a.b.c.d`.
+/// The text of an address, `a.b.c.d`.
 pub fn ip_text(alloc: Global, ip: [u8; 4]) -> Result<Text, NoMemory>
     ensures { IfOk result (λ t. t ≡ ip_text ip) }
 {
@@ -59,7 +59,8 @@ fn is_of(host: &[u8], uri: &Uri) -> bool
     }
 }
 
-// Whether the URI leads to where the container listens.
+/// Whether the URI leads to where the container listens: it is a `sip:` URI with its host and its
+/// port, where none means 5060.
 #[tactic(auto, unfolding(sc_model::specs::OwnHosts::is_own))]
 pub fn is_own(alloc: Global, config: &Config, uri: &Uri) -> Result<bool, NoMemory>
     ensures { IfOk result (λ own. own ≡ is_own config.now uri.now) }

@@ -1,6 +1,6 @@
 use crate::Waiting;
 use sc_parts::{ClientItem, ServerItem};
-use sc_value::{AppId, Boxed, List, Message, Place, Request, Response, Text};
+use sc_value::{AppId, Boxed, List, Message, Place, Request, Response, Shared, Text};
 
 /// The other end of a transaction.
 #[derive(Clone, Copy, Debug, PartialEq, Eq)]
@@ -21,7 +21,7 @@ pub struct Client {
     pub branch: u64,
     pub peer: Peer,
     /// The request as it was sent.
-    pub request: Boxed<Request>,
+    pub request: Shared<Request>,
     /// The moment at which it was sent, in milliseconds.
     pub sent: u64,
     /// What has passed it, the newest first.
@@ -37,11 +37,11 @@ pub struct Server {
     pub peer: Peer,
     /// The own tag of its SipSession.
     pub tag: Text,
-    pub request: Boxed<Request>,
+    pub request: Shared<Request>,
     /// What has passed it, the newest first.
     pub passed: List<ServerItem>,
     /// The response that was sent last.
-    pub last: Option<Boxed<Response>>,
+    pub last: Option<Shared<Response>>,
 }
 
 /// A due entry whose event was queued.
@@ -55,7 +55,7 @@ pub struct Fired {
 #[derive(Drop)]
 pub struct Live<S> {
     pub serial: u64,
-    pub session: S,
+    pub session: Shared<S>,
     /// The events that wait, in order.
     pub inbox: List<Waiting>,
     /// The moment at which the first of them became first.
@@ -66,9 +66,9 @@ pub struct Live<S> {
 /// A host: it knows its own transactions and sessions alone.
 #[derive(Drop)]
 pub struct Host<S> {
-    pub clients: List<Client>,
-    pub servers: List<Server>,
-    pub sessions: List<Live<S>>,
+    pub clients: List<Shared<Client>>,
+    pub servers: List<Shared<Server>>,
+    pub sessions: List<Shared<Live<S>>>,
     /// The serial of its last session.
     pub last: u64,
 }

@@ -2,6 +2,7 @@
 //! definitions of the container's steps speak of these types.
 #![tactic(auto)]
 
+mod copies;
 mod host;
 mod net;
 mod orders;

@@ -1,5 +1,5 @@
 use crate::Session;
-use sc_value::{Boxed, Directive, List, Region, Request, Response};
+use sc_value::{Directive, List, Region, Request, Response, Shared};
 
 /// What a session gives its host to send.
 #[derive(Drop)]
@@ -7,7 +7,7 @@ pub enum Order {
     /// A response, by the server transaction of this event.
     Respond {
         event: u64,
-        response: Boxed<Response>,
+        response: Shared<Response>,
     },
     /// An initial request, which goes where the router says.
     Begin {
@@ -16,16 +16,16 @@ pub enum Order {
         /// The region and the place in the router's list at which the router goes on.
         region: Region,
         state: Option<u32>,
-        request: Boxed<Request>,
+        request: Shared<Request>,
     },
     /// A request with a To tag.
     Send {
         branch: u64,
-        request: Boxed<Request>,
+        request: Shared<Request>,
     },
     /// An ACK to a 2xx.
     Acknowledge {
-        request: Boxed<Request>,
+        request: Shared<Request>,
     },
     /// A CANCEL of the INVITE on this branch, as soon as a provisional response has come.
     Cancel {

@@ -1,5 +1,5 @@
 use sc_terms::ProxyOptions;
-use sc_value::{Boxed, List, ReqId, Request, Response, SessId, Uri};
+use sc_value::{List, ReqId, Request, Response, SessId, Shared, Uri};
 
 /// A branch of a proxied request.
 #[derive(Clone, Copy, Debug, PartialEq, Eq)]
@@ -18,7 +18,7 @@ pub struct Branch {
 #[derive(Drop)]
 pub struct Passing {
     pub sess: SessId,
-    pub response: Boxed<Response>,
+    pub response: Shared<Response>,
 }
 
 /// A request that is proxied (RFC 3261 section 16).
@@ -28,7 +28,7 @@ pub struct Proxy {
     pub sess: SessId,
     /// The number of its event, which names its server transaction.
     pub event: u64,
-    pub request: Boxed<Request>,
+    pub request: Shared<Request>,
     /// None of a later request, which is passed on along its dialog.
     pub options: Option<ProxyOptions>,
     /// All targets that it has had.
@@ -38,7 +38,7 @@ pub struct Proxy {
     /// In the order in which they were started.
     pub branches: List<Branch>,
     /// The final responses of which the best is forwarded, in the order in which they came.
-    pub candidates: List<Response>,
+    pub candidates: List<Shared<Response>>,
     /// What is forwarded at the end of this turn.
     pub passing: Option<Passing>,
     /// The code of the final response that was forwarded first.

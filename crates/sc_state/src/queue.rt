@@ -1,4 +1,4 @@
-use sc_value::{Address, Boxed, Region, Request, Response, Text, TimerId};
+use sc_value::{Address, Region, Request, Response, Shared, Text, TimerId};
 
 /// An event that waits in an application session.
 #[derive(Drop)]
@@ -9,16 +9,16 @@ pub enum Queued {
         subscriber: Text,
         /// The container's own top Route that the request came with.
         popped: Option<Address>,
-        request: Boxed<Request>,
+        request: Shared<Request>,
     },
     /// A request with a To tag.
     Request {
-        request: Boxed<Request>,
+        request: Shared<Request>,
     },
     /// A response on this branch, without its own Via.
     Response {
         branch: u64,
-        response: Boxed<Response>,
+        response: Shared<Response>,
     },
     /// The INVITE of this event number was cancelled.
     Cancelled {

@@ -1,7 +1,7 @@
 use crate::Proxy;
 use sc_dialog::Dialog;
 use sc_terms::View;
-use sc_value::{Boxed, List, Region, ReqId, Request, SessId, Text};
+use sc_value::{List, Region, ReqId, Request, SessId, Shared, Text};
 
 /// The greatest sequence number that a peer of this tag sent in a SipSession. That there is no tag
 /// is a value of its own.
@@ -43,7 +43,7 @@ pub struct Kept {
     pub id: ReqId,
     pub sess: SessId,
     pub way: Way,
-    pub request: Boxed<Request>,
+    pub request: Shared<Request>,
 }
 
 /// An INVITE that came: it may be cancelled.

@@ -1,6 +1,6 @@
 use crate::{Known, Order};
 use sc_terms::{Event, Inside, View};
-use sc_value::{Boxed, Directive, List, ReqId, Request, SessId, Text};
+use sc_value::{Directive, List, ReqId, Request, SessId, Shared, Text};
 
 /// A request that was made in this turn and isn't sent yet.
 #[derive(Drop)]
@@ -34,7 +34,7 @@ pub struct Play {
 #[derive(Drop)]
 pub enum Asked {
     /// An initial request.
-    Initial(Boxed<Request>),
+    Initial(Shared<Request>),
     /// A request in the dialog of its SipSession.
     Later(Inside),
 }

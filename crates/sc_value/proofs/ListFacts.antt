@@ -111,3 +111,17 @@ pub change_place : {A : Type 0} (p : A → Bool) (f : A → A) (xs ys zs : List 
     → set xs i y ≡ change_first p f zs
 change_place p f xs ys zs r i x y same searched found is at changed =
     rw (changed, ← same) (sym (change_first_position p f xs i x (rw same (rw searched at (sym found ∙ is))) ∙ ap (λ z. set xs i (f z)) (sym at)))
+
+-- the item at a place changed, within the list
+pub change_nth_at : {A : Type 0} (i : ℕ) (f : A → A) (xs : List A) (d : A) → i < length xs → change_nth i f xs ≡ set xs i (f (get_or xs i d))
+unfolding change_nth
+change_nth_at i f [] d below = absurd (omega (arith, below))
+change_nth_at zero f (x ∷ xs) d below = refl
+change_nth_at (suc i) f (x ∷ xs) d below = ap (λ ys. x ∷ ys) (change_nth_at i f xs d (omega (arith, below)))
+
+-- and past its end
+pub change_nth_none : {A : Type 0} (i : ℕ) (f : A → A) (xs : List A) → length xs ≤ i → change_nth i f xs ≡ xs
+unfolding change_nth
+change_nth_none i f [] past = refl
+change_nth_none zero f (x ∷ xs) past = absurd (omega (arith, past))
+change_nth_none (suc i) f (x ∷ xs) past = ap (λ ys. x ∷ ys) (change_nth_none i f xs (omega (arith, past)))

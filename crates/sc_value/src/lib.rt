@@ -18,6 +18,7 @@ mod numbers;
 mod part_copies;
 mod parts;
 mod same;
+mod shared;
 mod text;
 mod tokens;
 
@@ -29,8 +30,9 @@ pub use list::List;
 pub use message::{Head, Message, Request, Response, Sent};
 pub use names::{is_system_name, long_name, same_name};
 pub use no_memory::NoMemory;
-pub use numbers::write_u64;
+pub use numbers::{number_after, sum, sum_u32, write_u64};
 pub use parts::{Address, CSeq, Contact, Field, Param, SipUri, Uri, Via, branch, tag};
 pub use same::Same;
+pub use shared::Shared;
 pub use text::Text;
 pub use tokens::{is_one_line, is_token, is_value};

@@ -1,4 +1,4 @@
-ghost use Rattle.std.specs.Prelude.{◌≡◌, ◌++◌, decimal, OnOk, OnErr};
+ghost use Rattle.std.specs.Prelude.{◌≡◌, ◌++◌, ◌+◌, decimal, IfOk, OnOk, OnErr};
 
 use crate::{NoMemory, Text};
 use itoa::Buffer;
@@ -11,4 +11,35 @@ pub fn write_u64(n: u64, out: &mut Text) -> Result<(), NoMemory>
 {
     let mut buffer = Buffer::new();
     out.append(buffer.format(n).as_bytes())
+}
+
+/// The sum. A counter that would pass the greatest number of its type is answered as want of
+/// memory: it would have to count as many things first.
+pub fn sum(a: u64, b: u64) -> Result<u64, NoMemory>
+    ensures { IfOk result (λ n. n ≡ a + b) }
+{
+    match a.checked_add(b) {
+        Some(n) => Ok(n),
+        None => Err(NoMemory),
+    }
+}
+
+/// The sum of two smaller numbers, with the same answer past their greatest.
+pub fn sum_u32(a: u32, b: u32) -> Result<u32, NoMemory>
+    ensures { IfOk result (λ n. n ≡ a + b) }
+{
+    match a.checked_add(b) {
+        Some(n) => Ok(n),
+        None => Err(NoMemory),
+    }
+}
+
+/// The number of a thing that follows so many others, with the same answer past the greatest.
+pub fn number_after(count: usize) -> Result<u32, NoMemory>
+    ensures { IfOk result (λ n. n ≡ count + 1) }
+{
+    match u32::try_from(count) {
+        Ok(n) => sum_u32(n, 1),
+        Err(_) => Err(NoMemory),
+    }
 }

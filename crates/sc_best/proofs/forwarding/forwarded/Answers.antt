@@ -5,4 +5,4 @@ use Rattle.sc_best.proofs.forwarding.forwarded.Goals as goal
 pub returns : goal.returns
 returns c =
     let below : c.args.chosen < length c.as_slice-responses.result.now = rw c.as_slice-responses.ensures c.requires in
-    rw (← c.as_slice-responses.ensures) (forwarded_is _ _ c.index-responses-chosen.result _ below c.index-responses-chosen.is c.forwarded_code.ensures c.in_ok-reason.ensures (c.in_ok-head.ensures c.index-responses-chosen.result))
+    rw (← c.as_slice-responses.ensures) (forwarded_is _ _ c.get-response.result.now _ below (rw c.get-response.ensures c.index-responses-chosen.is) c.forwarded_code.ensures c.in_ok-reason.ensures (c.in_ok-head.ensures c.get-response.result.now))
