@@ -1,0 +1,4 @@
+mod FrameLaws
+mod FrontLaws
+mod HearSteps
+mod ReadSteps
