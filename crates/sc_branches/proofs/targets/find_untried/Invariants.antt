@@ -1,0 +1,6 @@
+use Rattle.std.proofs.Common.{◌≡◌, ◌++◌, drop}
+use Rattle.sc_hosts.specs.Branches.{untried}
+use Rattle.sc_branches.proofs.targets.find_untried.Given as goal
+
+abbrev pub invariant-loop-uri : goal.invariant-loop-uri
+invariant-loop-uri l = l.found ++ untried l.all (drop l.uri-index l.uris) ≡ l.fn.found ++ untried l.fn.all l.uris
