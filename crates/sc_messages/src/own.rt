@@ -1,0 +1,186 @@
+//! The marks by which the container knows its own: the Via of a branch, and the Record-Route and
+//! Contact of an application session.
+
+ghost use Rattle.std.specs.Prelude.{◌≡◌, ◌++◌, ◌∷◌, [], Some, decimal, IfOk, OnOk};
+ghost use Rattle.sc_value.specs.Params.{branch_name};
+ghost use Rattle.sc_model.specs.Names.{ap_name, ap_value, app_text, branch_text, loose_param, session_uri, tcp_param};
+ghost use Rattle.sc_model.specs.Records.{ip_text};
+ghost use Rattle.sc_hosts.specs.Messages.{own_address, own_via};
+
+use sc_terms::Config;
+use sc_value::{Address, AppId, List, NoMemory, Param, SipUri, Text, Uri, Via, write_u64};
+use std::alloc::Global;
+
+/// The text of an address, `a.b.c.d`.
+pub fn ip_text(alloc: Global, ip: [u8; 4]) -> Result<Text, NoMemory>
+    ensures { IfOk result (λ t. t ≡ ip_text ip) }
+{
+    let mut text = Text::new(alloc);
+    put_ip(ip, &mut text)?;
+    Ok(text)
+}
+
+#[tactic(auto, unfolding(sc_model::specs::Records::ip_text))]
+fn put_ip(ip: [u8; 4], out: &mut Text) -> Result<(), NoMemory>
+    ensures { OnOk result (out.new ≡ out.old ++ ip_text ip) }
+{
+    put_pair(ip[0], ip[1], out)?;
+    out.append(b".")?;
+    put_pair(ip[2], ip[3], out)
+}
+
+// `a.b`
+fn put_pair(a: u8, b: u8, out: &mut Text) -> Result<(), NoMemory>
+    ensures { OnOk result (out.new ≡ out.old ++ (decimal a ++ 46 ∷ [] ++ decimal b)) }
+{
+    write_u64(u64::from(a), out)?;
+    out.append(b".")?;
+    write_u64(u64::from(b), out)
+}
+
+/// The Via of a branch (RFC 3261 section 8.1.1.7).
+#[tactic(auto, unfolding(sc_hosts::specs::Messages::own_via, sc_hosts::specs::Messages::tcp))]
+pub fn own_via(
+    alloc: Global,
+    config: &Config,
+    epoch: u32,
+    app: AppId,
+    branch: u64,
+) -> Result<Via, NoMemory>
+    ensures { IfOk result (λ v. v ≡ own_via config.now epoch app branch) }
+{
+    let transport = Text::from_slice(alloc, b"TCP")?;
+    let host = ip_text(alloc, config.listen.0)?;
+    let params = branch_params(alloc, &config.salt, epoch, app, branch)?;
+    Ok(Via {
+        transport,
+        host,
+        port: Some(config.listen.1),
+        params,
+    })
+}
+
+#[tactic(auto, unfolding(sc_value::specs::Params::branch_name))]
+fn branch_params(
+    alloc: Global,
+    salt: &Text,
+    epoch: u32,
+    app: AppId,
+    branch: u64,
+) -> Result<List<Param>, NoMemory>
+    ensures { IfOk result (λ l. l ≡ record { name = branch_name; value = Some (branch_text salt.now epoch app branch) } ∷ []) }
+{
+    let mut value = Text::new(alloc);
+    sc_names::branch(alloc, salt, epoch, app, branch, &mut value)?;
+    let name = Text::from_slice(alloc, b"branch")?;
+    let mut params = List::new(alloc);
+    params.push(Param {
+        name,
+        value: Some(value),
+    })?;
+    Ok(params)
+}
+
+/// The Record-Route and Contact of an application session.
+#[tactic(auto, unfolding(sc_hosts::specs::Messages::own_address, sc_hosts::specs::Messages::plain))]
+pub fn own_address(
+    alloc: Global,
+    config: &Config,
+    epoch: u32,
+    app: AppId,
+) -> Result<Address, NoMemory>
+    ensures { IfOk result (λ a. a ≡ own_address config.now epoch app) }
+{
+    let host = ip_text(alloc, config.listen.0)?;
+    let uri = session_uri(alloc, host, config.listen.1, epoch, app)?;
+    Ok(Address {
+        display: None,
+        uri: Uri::Sip(uri),
+        params: List::new(alloc),
+    })
+}
+
+#[tactic(auto, unfolding(sc_model::specs::Names::session_uri, sc_model::specs::Names::own_uri))]
+fn session_uri(
+    alloc: Global,
+    host: Text,
+    port: u16,
+    epoch: u32,
+    app: AppId,
+) -> Result<SipUri, NoMemory>
+    ensures { IfOk result (λ u. u ≡ session_uri host port epoch app) }
+{
+    let params = session_params(alloc, epoch, app)?;
+    Ok(SipUri {
+        user: None,
+        host,
+        port: Some(port),
+        params,
+        headers: None,
+    })
+}
+
+fn session_params(alloc: Global, epoch: u32, app: AppId) -> Result<List<Param>, NoMemory>
+    ensures { IfOk result (λ l. l ≡ tcp_param ∷ loose_param ∷ record { name = ap_name; value = Some (ap_value epoch app) } ∷ []) }
+{
+    let mut params = List::new(alloc);
+    params.push(tcp_param(alloc)?)?;
+    params.push(loose_param(alloc)?)?;
+    params.push(ap_param(alloc, epoch, app)?)?;
+    Ok(params)
+}
+
+#[tactic(auto, unfolding(sc_model::specs::Names::tcp_param))]
+fn tcp_param(alloc: Global) -> Result<Param, NoMemory>
+    ensures { IfOk result (λ p. p ≡ tcp_param) }
+{
+    let name = Text::from_slice(alloc, b"transport")?;
+    let value = Text::from_slice(alloc, b"tcp")?;
+    Ok(Param {
+        name,
+        value: Some(value),
+    })
+}
+
+#[tactic(auto, unfolding(sc_model::specs::Names::loose_param))]
+fn loose_param(alloc: Global) -> Result<Param, NoMemory>
+    ensures { IfOk result (λ p. p ≡ loose_param) }
+{
+    let name = Text::from_slice(alloc, b"lr")?;
+    Ok(Param { name, value: None })
+}
+
+#[tactic(auto, unfolding(sc_model::specs::Names::ap_name))]
+fn ap_param(alloc: Global, epoch: u32, app: AppId) -> Result<Param, NoMemory>
+    ensures { IfOk result (λ p. p ≡ record { name = ap_name; value = Some (ap_value epoch app) }) }
+{
+    let mut value = Text::new(alloc);
+    put_ap_value(epoch, app, &mut value)?;
+    let name = Text::from_slice(alloc, b"ap")?;
+    Ok(Param {
+        name,
+        value: Some(value),
+    })
+}
+
+#[tactic(auto, unfolding(sc_model::specs::Names::ap_value))]
+fn put_ap_value(epoch: u32, app: AppId, out: &mut Text) -> Result<(), NoMemory>
+    ensures { OnOk result (out.new ≡ out.old ++ ap_value epoch app) }
+{
+    put_app(app, out)?;
+    if epoch == 0 {
+        return Ok(());
+    }
+    out.append(b".")?;
+    write_u64(u64::from(epoch), out)
+}
+
+// `h-s`
+#[tactic(auto, unfolding(sc_model::specs::Names::app_text))]
+fn put_app(app: AppId, out: &mut Text) -> Result<(), NoMemory>
+    ensures { OnOk result (out.new ≡ out.old ++ app_text app) }
+{
+    write_u64(u64::from(app.host), out)?;
+    out.append(b"-")?;
+    write_u64(app.serial, out)
+}

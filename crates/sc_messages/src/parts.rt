@@ -1,0 +1,107 @@
+//! The parts of a head, finished before the head is built, and changes of one part of a message.
+
+ghost use Rattle.std.specs.Prelude.{◌≡◌, [], IfOk};
+
+use sc_value::{
+    Address, CSeq, Contact, Field, Head, List, NoMemory, Request, Response, Text, Uri, Via,
+};
+use std::alloc::Global;
+
+/// What names the transaction and the dialog of a message.
+#[derive(Drop)]
+pub struct Names {
+    pub from: Address,
+    pub to: Address,
+    pub call_id: Text,
+    pub cseq: CSeq,
+}
+
+/// What a message says.
+#[derive(Drop)]
+pub struct Content {
+    pub contact: List<Contact>,
+    pub others: List<Field>,
+    pub body: Text,
+}
+
+/// The head of these parts, without Record-Route.
+pub fn head_of(
+    alloc: Global,
+    via: List<Via>,
+    route: List<Address>,
+    names: Names,
+    content: Content,
+) -> Head
+    ensures { result ≡ record { via = via; route = route; record_route = []; from = names.from; to = names.to; call_id = names.call_id; cseq = names.cseq; contact = content.contact; others = content.others; body = content.body } }
+{
+    Head {
+        via,
+        route,
+        record_route: List::new(alloc),
+        from: names.from,
+        to: names.to,
+        call_id: names.call_id,
+        cseq: names.cseq,
+        contact: content.contact,
+        others: content.others,
+        body: content.body,
+    }
+}
+
+/// A sequence number with its method.
+pub fn cseq(alloc: Global, number: u32, method: &[u8]) -> Result<CSeq, NoMemory>
+    ensures { IfOk result (λ c. c ≡ record { number = number; method = method.now }) }
+{
+    let method = Text::from_slice(alloc, method)?;
+    Ok(CSeq { number, method })
+}
+
+/// Puts these Vias in place of a request's own.
+pub fn set_via(request: &mut Request, via: List<Via>)
+    ensures { request.new ≡ record request.old { head = record request.old.head { via = via } } }
+{
+    request.head.via = via;
+}
+
+/// Puts this Contact in place of a request's own.
+pub fn set_contact(request: &mut Request, contact: List<Contact>)
+    ensures { request.new ≡ record request.old { head = record request.old.head { contact = contact } } }
+{
+    request.head.contact = contact;
+}
+
+/// Puts these Record-Routes in place of a request's own.
+pub fn set_record_route(request: &mut Request, routes: List<Address>)
+    ensures { request.new ≡ record request.old { head = record request.old.head { record_route = routes } } }
+{
+    request.head.record_route = routes;
+}
+
+/// Sends a request to this URI, with so many hops.
+pub fn set_uri(request: &mut Request, uri: Uri, hops: u8)
+    ensures { request.new ≡ record request.old { uri = uri; hops = hops } }
+{
+    request.uri = uri;
+    request.hops = hops;
+}
+
+/// Puts this Contact in place of a response's own.
+pub fn set_response_contact(response: &mut Response, contact: List<Contact>)
+    ensures { response.new ≡ record response.old { head = record response.old.head { contact = contact } } }
+{
+    response.head.contact = contact;
+}
+
+/// Puts these Record-Routes in place of a response's own.
+pub fn set_response_routes(response: &mut Response, routes: List<Address>)
+    ensures { response.new ≡ record response.old { head = record response.old.head { record_route = routes } } }
+{
+    response.head.record_route = routes;
+}
+
+/// Puts this To in place of a response's own.
+pub fn set_response_to(response: &mut Response, to: Address)
+    ensures { response.new ≡ record response.old { head = record response.old.head { to = to } } }
+{
+    response.head.to = to;
+}

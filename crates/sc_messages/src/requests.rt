@@ -1,0 +1,346 @@
+//! Requests: the own ones, those that are passed on, CANCEL and ACK.
+
+ghost use Rattle.std.specs.Prelude.{◌≡◌, ◌∷◌, [], option_map, unwrap_or, slice_get, map, if◌then◌else◌, IfOk};
+ghost use Rattle.sc_model.specs.Dialogs.{sets_target};
+ghost use Rattle.sc_model.specs.Responses.{kept_field};
+ghost use Rattle.sc_hosts.specs.Messages.{ack_of, asked_request, begins_dialog, cancel_of, from_here, kin, leg_request, on_branch, own_address, passed_request, proxied_request, tagged, untagged};
+
+use crate::own::{own_address, own_via};
+use crate::parts::{
+    Content, Names, cseq, head_of, set_contact, set_record_route, set_uri, set_via,
+};
+use crate::sides::{tagged, untagged};
+use sc_dialog::kept_fields;
+use sc_terms::{Ask, Config, View};
+use sc_value::{
+    Address, AppId, CloneIn, Contact, Head, List, NoMemory, Request, Response, Text, Uri, Via,
+};
+use std::alloc::Global;
+
+/// The request as it is sent on this branch.
+#[tactic(auto, unfolding(sc_hosts::specs::Messages::on_branch))]
+pub fn on_branch(
+    alloc: Global,
+    config: &Config,
+    view: &View,
+    branch: u64,
+    request: &Request,
+) -> Result<Request, NoMemory>
+    ensures { IfOk result (λ r. r ≡ on_branch config.now view.entry.now branch request.now) }
+{
+    let own = own_via(alloc, config, view.epoch, view.app, branch)?;
+    let via = behind(alloc, own, &request.head.via)?;
+    let mut copy = request.clone_in(alloc)?;
+    set_via(&mut copy, via);
+    Ok(copy)
+}
+
+// The Vias with this one on top.
+fn behind(alloc: Global, top: Via, vias: &List<Via>) -> Result<List<Via>, NoMemory>
+    ensures { IfOk result (λ l. l ≡ top ∷ vias.now) }
+{
+    let mut copy = vias.clone_in(alloc)?;
+    copy.items.insert(0, top)?;
+    Ok(copy)
+}
+
+/// A request that an application makes, with the own Contact where it sets the target of a dialog.
+#[tactic(auto, unfolding(sc_hosts::specs::Messages::from_here))]
+pub fn from_here(
+    alloc: Global,
+    config: &Config,
+    view: &View,
+    request: &Request,
+) -> Result<Request, NoMemory>
+    ensures { IfOk result (λ r. r ≡ from_here config.now view.entry.now request.now) }
+{
+    if !sets_target(request.method.as_bytes()) {
+        return request.clone_in(alloc);
+    }
+    let contact = own_contact(alloc, config, view.epoch, view.app)?;
+    let mut copy = request.clone_in(alloc)?;
+    set_contact(&mut copy, contact);
+    Ok(copy)
+}
+
+/// The Contact of an application session.
+pub fn own_contact(
+    alloc: Global,
+    config: &Config,
+    epoch: u32,
+    app: AppId,
+) -> Result<List<Contact>, NoMemory>
+    ensures { IfOk result (λ l. l ≡ Contact.At (own_address config.now epoch app) ∷ []) }
+{
+    let address = own_address(alloc, config, epoch, app)?;
+    let mut contact = List::new(alloc);
+    contact.push(Contact::At(address))?;
+    Ok(contact)
+}
+
+/// Whether a request of this method sets the target of a dialog.
+#[tactic(auto, unfolding(sc_model::specs::Dialogs::sets_target, sc_model::specs::Dialogs::update, sc_model::specs::Dialogs::subscribe, sc_model::specs::Dialogs::notify, sc_model::specs::Dialogs::refer, sc_model::specs::SessionStates::invite))]
+pub fn sets_target(method: &[u8]) -> bool
+    ensures { result ≡ sets_target method.now }
+{
+    method == b"INVITE".as_slice()
+        || method == b"UPDATE".as_slice()
+        || method == b"SUBSCRIBE".as_slice()
+        || method == b"NOTIFY".as_slice()
+        || method == b"REFER".as_slice()
+}
+
+/// Whether the request begins a dialog where it is accepted.
+#[tactic(auto, unfolding(sc_model::specs::Dialogs::subscribe, sc_model::specs::SessionStates::invite))]
+pub fn begins_dialog(request: &Request) -> bool
+    ensures { result ≡ begins_dialog request.now }
+{
+    request.method.as_bytes() == b"INVITE".as_slice()
+        || request.method.as_bytes() == b"SUBSCRIBE".as_slice()
+}
+
+/// A request of one's own, with this Call-ID and tag (RFC 3261 section 8.1.1).
+#[tactic(auto, unfolding(sc_hosts::specs::Messages::asked_request))]
+pub fn asked_request(
+    alloc: Global,
+    call_id: &Text,
+    tag: &Text,
+    ask: &Ask,
+) -> Result<Request, NoMemory>
+    ensures { IfOk result (λ r. r ≡ asked_request call_id.now tag.now ask.now) }
+{
+    let method = ask.method.clone_in(alloc)?;
+    let uri = ask.uri.clone_in(alloc)?;
+    let content = asked_content(alloc, ask)?;
+    let names = begun_names(alloc, call_id, tag, &ask.from, &ask.to, &ask.method)?;
+    Ok(Request {
+        method,
+        uri,
+        hops: 70,
+        head: head_of(alloc, List::new(alloc), List::new(alloc), names, content),
+    })
+}
+
+fn asked_content(alloc: Global, ask: &Ask) -> Result<Content, NoMemory>
+    ensures { IfOk result (λ c. c ≡ record { contact = ask.now.contact; others = map kept_field ask.now.fields; body = ask.now.body }) }
+{
+    let body = ask.body.clone_in(alloc)?;
+    let contact = ask.contact.clone_in(alloc)?;
+    let others = kept_fields(alloc, ask.fields.as_slice())?;
+    Ok(Content {
+        contact,
+        others,
+        body,
+    })
+}
+
+// What names the first request of a dialog that the own side begins.
+fn begun_names(
+    alloc: Global,
+    call_id: &Text,
+    tag: &Text,
+    from: &Address,
+    to: &Address,
+    method: &Text,
+) -> Result<Names, NoMemory>
+    ensures { IfOk result (λ n. n ≡ record { from = tagged tag.now from.now; to = untagged to.now; call_id = call_id.now; cseq = record { number = 1; method = method.now } }) }
+{
+    let call_id = call_id.clone_in(alloc)?;
+    let cseq = cseq(alloc, 1, method.as_bytes())?;
+    let from = tagged(alloc, tag.as_bytes(), from)?;
+    let to = untagged(alloc, to)?;
+    Ok(Names {
+        from,
+        to,
+        call_id,
+        cseq,
+    })
+}
+
+/// The request of a back-to-back agent's second leg: what the application didn't change is that of
+/// the first (JSR 289 section 12.3).
+#[tactic(auto, unfolding(sc_hosts::specs::Messages::leg_request))]
+pub fn leg_request(
+    alloc: Global,
+    call_id: &Text,
+    tag: &Text,
+    uri: &Option<Uri>,
+    request: &Request,
+) -> Result<Request, NoMemory>
+    ensures { IfOk result (λ r. r ≡ leg_request call_id.now tag.now uri.now request.now) }
+{
+    let method = request.method.clone_in(alloc)?;
+    let uri = uri_or(alloc, uri, &request.uri)?;
+    let route = request.head.route.clone_in(alloc)?;
+    let content = leg_content(alloc, &request.head)?;
+    let names = leg_names(alloc, call_id, tag, request)?;
+    Ok(Request {
+        method,
+        uri,
+        hops: request.hops.saturating_sub(1),
+        head: head_of(alloc, List::new(alloc), route, names, content),
+    })
+}
+
+fn uri_or(alloc: Global, uri: &Option<Uri>, other: &Uri) -> Result<Uri, NoMemory>
+    ensures { IfOk result (λ u. u ≡ unwrap_or uri.now other.now) }
+{
+    match uri {
+        Some(uri) => uri.clone_in(alloc),
+        None => other.clone_in(alloc),
+    }
+}
+
+fn leg_names(
+    alloc: Global,
+    call_id: &Text,
+    tag: &Text,
+    request: &Request,
+) -> Result<Names, NoMemory>
+    ensures { IfOk result (λ n. n ≡ record { from = tagged tag.now request.now.head.from; to = untagged request.now.head.to; call_id = call_id.now; cseq = record { number = 1; method = request.now.method } }) }
+{
+    let head = &request.head;
+    begun_names(alloc, call_id, tag, &head.from, &head.to, &request.method)
+}
+
+fn leg_content(alloc: Global, head: &Head) -> Result<Content, NoMemory>
+    ensures { IfOk result (λ c. c ≡ record { contact = []; others = head.now.others; body = head.now.body }) }
+{
+    let body = head.body.clone_in(alloc)?;
+    let others = head.others.clone_in(alloc)?;
+    Ok(Content {
+        contact: List::new(alloc),
+        others,
+        body,
+    })
+}
+
+/// A proxied request: the target, one hop less, and the own Record-Route on top where the
+/// application stays on the path (RFC 3261 section 16.6).
+#[tactic(auto, unfolding(sc_hosts::specs::Messages::proxied_request))]
+pub fn proxied_request(
+    alloc: Global,
+    config: &Config,
+    view: &View,
+    record_route: bool,
+    target: &Uri,
+    request: &Request,
+) -> Result<Request, NoMemory>
+    ensures { IfOk result (λ r. r ≡ proxied_request config.now view.entry.now record_route target.now request.now) }
+{
+    let routes = proxied_routes(
+        alloc,
+        config,
+        view,
+        record_route,
+        &request.head.record_route,
+    )?;
+    let uri = target.clone_in(alloc)?;
+    let mut copy = request.clone_in(alloc)?;
+    set_uri(&mut copy, uri, request.hops.saturating_sub(1));
+    set_record_route(&mut copy, routes);
+    Ok(copy)
+}
+
+fn proxied_routes(
+    alloc: Global,
+    config: &Config,
+    view: &View,
+    record_route: bool,
+    routes: &List<Address>,
+) -> Result<List<Address>, NoMemory>
+    ensures { IfOk result (λ l. l ≡ (if record_route then own_address config.now view.entry.now.epoch view.entry.now.app ∷ routes.now else routes.now)) }
+{
+    if !record_route {
+        return routes.clone_in(alloc);
+    }
+    let own = own_address(alloc, config, view.epoch, view.app)?;
+    let mut copy = routes.clone_in(alloc)?;
+    copy.items.insert(0, own)?;
+    Ok(copy)
+}
+
+/// A later request on a proxied dialog: one hop less.
+#[tactic(auto, unfolding(sc_hosts::specs::Messages::passed_request))]
+pub fn passed_request(alloc: Global, request: &Request) -> Result<Request, NoMemory>
+    ensures { IfOk result (λ r. r ≡ passed_request request.now) }
+{
+    let mut copy = request.clone_in(alloc)?;
+    copy.hops = request.hops.saturating_sub(1);
+    Ok(copy)
+}
+
+/// The CANCEL of an INVITE as it was sent (RFC 3261 section 9.1).
+#[tactic(auto, unfolding(sc_hosts::specs::Messages::cancel_of, sc_hosts::specs::Words::cancel))]
+pub fn cancel_of(alloc: Global, request: &Request) -> Result<Request, NoMemory>
+    ensures { IfOk result (λ r. r ≡ cancel_of request.now) }
+{
+    kin(alloc, b"CANCEL", &request.head.to, request)
+}
+
+/// The ACK to a final response other than 2xx to an INVITE as it was sent (RFC 3261 section
+/// 17.1.1.3).
+#[tactic(auto, unfolding(sc_hosts::specs::Messages::ack_of, sc_hosts::specs::Words::ack))]
+pub fn ack_of(alloc: Global, request: &Request, response: &Response) -> Result<Request, NoMemory>
+    ensures { IfOk result (λ r. r ≡ ack_of request.now response.now) }
+{
+    kin(alloc, b"ACK", &response.head.to, request)
+}
+
+// A request of this method with the top Via, Request-URI, Route, From, Call-ID and CSeq number of
+// another, and with this To.
+#[tactic(auto, unfolding(sc_hosts::specs::Messages::kin))]
+fn kin(alloc: Global, method: &[u8], to: &Address, request: &Request) -> Result<Request, NoMemory>
+    ensures { IfOk result (λ r. r ≡ kin method.now to.now request.now) }
+{
+    let text = Text::from_slice(alloc, method)?;
+    let uri = request.uri.clone_in(alloc)?;
+    let via = top_via(alloc, request.head.via.as_slice())?;
+    let route = request.head.route.clone_in(alloc)?;
+    let names = kin_names(alloc, method, to, &request.head)?;
+    let content = no_content(alloc);
+    Ok(Request {
+        method: text,
+        uri,
+        hops: 70,
+        head: head_of(alloc, via, route, names, content),
+    })
+}
+
+fn kin_names(alloc: Global, method: &[u8], to: &Address, head: &Head) -> Result<Names, NoMemory>
+    ensures { IfOk result (λ n. n ≡ record { from = head.now.from; to = to.now; call_id = head.now.call_id; cseq = record { number = head.now.cseq.number; method = method.now } }) }
+{
+    let call_id = head.call_id.clone_in(alloc)?;
+    let cseq = cseq(alloc, head.cseq.number, method)?;
+    let from = head.from.clone_in(alloc)?;
+    let to = to.clone_in(alloc)?;
+    Ok(Names {
+        from,
+        to,
+        call_id,
+        cseq,
+    })
+}
+
+fn no_content(alloc: Global) -> Content
+    ensures { result ≡ record { contact = []; others = []; body = [] } }
+{
+    Content {
+        contact: List::new(alloc),
+        others: List::new(alloc),
+        body: Text::new(alloc),
+    }
+}
+
+fn top_via(alloc: Global, vias: &[Via]) -> Result<List<Via>, NoMemory>
+    ensures { IfOk result (λ l. l ≡ unwrap_or (option_map (λ via. via ∷ []) (slice_get vias.now 0)) []) }
+{
+    let mut top = List::new(alloc);
+    match vias.first() {
+        Some(via) => {
+            top.push(via.clone_in(alloc)?)?;
+            Ok(top)
+        }
+        None => Ok(top),
+    }
+}

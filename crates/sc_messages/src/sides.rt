@@ -1,0 +1,96 @@
+//! The two sides of a message, with and without a tag (RFC 3261 section 19.3).
+
+ghost use Rattle.std.specs.Prelude.{◌≡◌, ◌++◌, ◌∷◌, [], not, filter, IfOk};
+ghost use Rattle.sc_model.specs.Responses.{tag_param, with_tag};
+ghost use Rattle.sc_hosts.specs.Messages.{is_tag, tagged, untagged};
+
+use sc_value::{Address, CloneIn, List, NoMemory, Param, Text, same_name, tag};
+use std::alloc::Global;
+
+/// The address with this tag, where it has none.
+#[tactic(auto, unfolding(sc_model::specs::Responses::with_tag))]
+pub fn with_tag(alloc: Global, own_tag: &[u8], address: &Address) -> Result<Address, NoMemory>
+    ensures { IfOk result (λ a. a ≡ with_tag own_tag.now address.now) }
+{
+    if tag(address).is_some() {
+        return address.clone_in(alloc);
+    }
+    let params = address.params.clone_in(alloc)?;
+    tagged_by(alloc, own_tag, address, params)
+}
+
+/// The address with this tag in place of its own.
+#[tactic(auto, unfolding(sc_hosts::specs::Messages::tagged, sc_hosts::specs::Messages::untagged))]
+pub fn tagged(alloc: Global, own_tag: &[u8], address: &Address) -> Result<Address, NoMemory>
+    ensures { IfOk result (λ a. a ≡ tagged own_tag.now address.now) }
+{
+    let params = other_params(alloc, address.params.as_slice())?;
+    tagged_by(alloc, own_tag, address, params)
+}
+
+/// The address without its tag.
+#[tactic(auto, unfolding(sc_hosts::specs::Messages::untagged))]
+pub fn untagged(alloc: Global, address: &Address) -> Result<Address, NoMemory>
+    ensures { IfOk result (λ a. a ≡ untagged address.now) }
+{
+    let params = other_params(alloc, address.params.as_slice())?;
+    with_params(alloc, address, params)
+}
+
+// The address with these parameters, and behind them this tag.
+fn tagged_by(
+    alloc: Global,
+    own_tag: &[u8],
+    address: &Address,
+    params: List<Param>,
+) -> Result<Address, NoMemory>
+    ensures { IfOk result (λ a. a ≡ record address.now { params = params ++ tag_param own_tag.now ∷ [] }) }
+{
+    let mut params = params;
+    params.push(tag_param(alloc, own_tag)?)?;
+    with_params(alloc, address, params)
+}
+
+fn with_params(alloc: Global, address: &Address, params: List<Param>) -> Result<Address, NoMemory>
+    ensures { IfOk result (λ a. a ≡ record address.now { params = params }) }
+{
+    let display = address.display.clone_in(alloc)?;
+    let uri = address.uri.clone_in(alloc)?;
+    Ok(Address {
+        display,
+        uri,
+        params,
+    })
+}
+
+#[tactic(auto, unfolding(sc_model::specs::Responses::tag_param, sc_value::specs::Params::tag_name))]
+fn tag_param(alloc: Global, own_tag: &[u8]) -> Result<Param, NoMemory>
+    ensures { IfOk result (λ p. p ≡ tag_param own_tag.now) }
+{
+    let value = Text::from_slice(alloc, own_tag)?;
+    let name = Text::from_slice(alloc, b"tag")?;
+    Ok(Param {
+        name,
+        value: Some(value),
+    })
+}
+
+// All parameters but the tag.
+fn other_params(alloc: Global, params: &[Param]) -> Result<List<Param>, NoMemory>
+    ensures { IfOk result (λ l. l ≡ filter (λ param. not (is_tag param)) params.now) }
+{
+    let mut others = List::new(alloc);
+    for param in params {
+        if !is_tag(param) {
+            others.push(param.clone_in(alloc)?)?;
+        }
+    }
+    Ok(others)
+}
+
+#[tactic(auto, unfolding(sc_value::specs::Params::tag_name))]
+fn is_tag(param: &Param) -> bool
+    ensures { result ≡ is_tag param.now }
+{
+    same_name(param.name.as_bytes(), b"tag")
+}
