@@ -1,0 +1,128 @@
+//! What a response to a request leaves of a view.
+
+ghost use Rattle.std.specs.Prelude.{◌≡◌, Some, is_none, ◌&&◌, IfOk, OnOk};
+ghost use Rattle.std.specs.Option.{option_copied};
+ghost use Rattle.sc_value.specs.Lists.{change_first};
+ghost use Rattle.sc_hosts.specs.Looking.{is_request, is_session, request_in};
+ghost use Rattle.sc_hosts.specs.Refusals.{begun_by};
+ghost use Rattle.sc_hosts.specs.Effects.{with_answer, with_response, answered_in, answered};
+
+use crate::states::{after_response, is_final};
+use crate::tidying::tidy;
+use sc_refusals::{begun_by, request_in, request_place, session_place};
+use sc_terms::{RequestView, SessionView, View};
+use sc_value::{CloneIn, NoMemory, ReqId, SessId};
+use std::alloc::Global;
+
+#[tactic(auto, unfolding(sc_hosts::specs::Effects::with_answer))]
+fn with_answer(request: &mut RequestView, code: u16)
+    ensures { request.new ≡ with_answer code request.old }
+{
+    if is_final(code) && request.answered.is_none() {
+        request.answered = Some(code);
+    }
+}
+
+#[tactic(auto, using(sc_value::proofs::ListFacts::change_first_position, sc_value::proofs::ListFacts::change_first_none))]
+fn answer_in(requests: &mut [RequestView], req: ReqId, code: u16)
+    ensures { requests.new ≡ change_first (is_request req) (with_answer code) requests.old }
+{
+    match request_place(requests, req) {
+        Some(at) => with_answer(&mut requests[at], code),
+        None => {}
+    }
+}
+
+#[tactic(auto, unfolding(sc_hosts::specs::Effects::with_response))]
+fn with_response(session: &mut SessionView, request: &RequestView, tagged: bool, code: u16)
+    ensures { session.new ≡ with_response request.now tagged code session.old }
+{
+    session.state = after_response(session.role, request, tagged, session.state, code);
+}
+
+#[tactic(auto, using(sc_value::proofs::ListFacts::change_first_position, sc_value::proofs::ListFacts::change_first_none))]
+fn response_in(
+    sessions: &mut [SessionView],
+    sess: SessId,
+    request: &RequestView,
+    tagged: bool,
+    code: u16,
+)
+    ensures { sessions.new ≡ change_first (is_session sess) (with_response request.now tagged code) sessions.old }
+{
+    match session_place(sessions, sess) {
+        Some(at) => with_response(&mut sessions[at], request, tagged, code),
+        None => {}
+    }
+}
+
+/// Notes a response of this code to a request, sent, handled or forwarded in a SipSession: on the
+/// request, where the first final code stays, and in the state of the SipSession.
+#[tactic(auto, unfolding(sc_hosts::specs::Effects::answered_in))]
+pub fn answered_in(view: &mut View, sess: SessId, request: &RequestView, tagged: bool, code: u16)
+    ensures { view.new ≡ answered_in sess request.now tagged code view.old }
+{
+    answer_in(&mut view.requests.items, request.id, code);
+    response_in(&mut view.sessions.items, sess, request, tagged, code);
+}
+
+/// Notes an answer of this code that the application or the container gave to a request.
+#[tactic(auto, unfolding(sc_hosts::specs::Effects::answered))]
+pub fn answered(view: &mut View, request: &RequestView, code: u16)
+    ensures { view.new ≡ answered (Some request.now) code view.old }
+{
+    answered_in(view, request.sess, request, true, code);
+    tidy(view);
+}
+
+#[tactic(auto, unfolding(sc_hosts::specs::Effects::answered))]
+fn answered_where(view: &mut View, request: Option<RequestView>, code: u16)
+    ensures { view.new ≡ answered request code view.old }
+{
+    match request {
+        Some(request) => answered(view, &request, code),
+        None => {}
+    }
+}
+
+/// A copy of the request of this number.
+pub fn request_copy(alloc: Global, view: &View, req: ReqId) -> Result<Option<RequestView>, NoMemory>
+    ensures { IfOk result (λ r. r ≡ request_in view.entry.now req) }
+{
+    match request_in(view, req) {
+        Some(request) => Ok(Some(request.clone_in(alloc)?)),
+        None => Ok(None),
+    }
+}
+
+fn begun_copy(alloc: Global, view: &View, sess: SessId) -> Result<Option<RequestView>, NoMemory>
+    ensures { IfOk result (λ r. r ≡ begun_by view.entry.now sess) }
+{
+    match begun_by(view, sess) {
+        Some(request) => Ok(Some(request.clone_in(alloc)?)),
+        None => Ok(None),
+    }
+}
+
+/// Notes an answer to the request of this number.
+pub fn answered_by(alloc: Global, view: &mut View, req: ReqId, code: u16) -> Result<(), NoMemory>
+    ensures { OnOk result (view.new ≡ answered (request_in view.old req) code view.old) }
+{
+    let request = request_copy(alloc, view, req)?;
+    answered_where(view, request, code);
+    Ok(())
+}
+
+/// Notes an answer to the received request that began a SipSession.
+pub fn answered_begun(
+    alloc: Global,
+    view: &mut View,
+    sess: SessId,
+    code: u16,
+) -> Result<(), NoMemory>
+    ensures { OnOk result (view.new ≡ answered (begun_by view.old sess) code view.old) }
+{
+    let request = begun_copy(alloc, view, sess)?;
+    answered_where(view, request, code);
+    Ok(())
+}

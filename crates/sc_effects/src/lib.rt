@@ -1,0 +1,25 @@
+//! What calls leave of the view and the drafts of their turn, what they answer, and the states of
+//! SipSessions after responses. Values are changed in place, and nothing is sent.
+#![tactic(auto)]
+
+mod answering;
+mod calling;
+mod keeping;
+mod known;
+mod looking;
+mod making;
+mod sending;
+mod states;
+mod tidying;
+
+pub use answering::{answered, answered_begun, answered_by, answered_in, request_copy};
+pub use calling::{accepted, after_call, after_calls, after_listed, answer_of, begun};
+pub use keeping::moment_after;
+pub use known::{kept_of, own_tag_of, proxy_of, proxy_place};
+pub use looking::{in_state, is_confirmed, is_early, is_uac, linked, removed, unlinked};
+pub use making::{new_call_id, new_session, new_tag};
+pub use sending::awaiting;
+pub use states::{
+    after_response, ends_subscription, is_failure, is_final, is_subscribe, is_success,
+};
+pub use tidying::tidy;
