@@ -1,0 +1,12 @@
+-- The greatest numbers that came from a peer, one by one.
+use Rattle.std.specs.Prelude.{ℕ, Bool, Option, max}
+use Rattle.sc_state.specs.declared.session.Got.{Got}
+use Rattle.sc_grammar.specs.Written.{Bytes}
+use Rattle.sc_hosts.specs.Legs.{same_tag}
+
+-- the number came from this tag
+unfoldable pub is_from : Option Bytes → Got → Bool
+is_from tag got = same_tag got.tag tag
+
+unfoldable pub raised : ℕ → Got → Got
+raised number got = record got { number = max got.number number }
