@@ -1,0 +1,4 @@
+pub mod Endings
+pub mod Forgetting
+pub mod Pieced
+pub mod Plays
