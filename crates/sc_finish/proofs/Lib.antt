@@ -1,0 +1,5 @@
+pub mod Folds
+pub mod Outcomes
+pub mod Partings
+pub mod Passings
+pub mod Starts

@@ -1,0 +1,5 @@
+pub mod Acts
+pub mod Ends
+pub mod Partings
+pub mod Passing
+pub mod Sweeps

@@ -1,0 +1,11 @@
+-- The answer to a request that waits as its application session ends.
+use Rattle.std.specs.Prelude.{ℕ}
+use Rattle.sc_value.specs.declared.message.Request.{Request}
+use Rattle.sc_state.specs.declared.orders.Order.{Order}
+use Rattle.sc_state.specs.declared.orders.Order.TheVariants as orders
+use Rattle.sc_grammar.specs.Written.{Bytes}
+use Rattle.sc_hosts.specs.Messages.{own_response}
+use Rattle.sc_hosts.specs.Words.{does_not_exist}
+
+unfoldable pub gone_order : Bytes → ℕ → Request → Order
+gone_order tag event request = orders.Respond event (own_response tag 481 does_not_exist request)

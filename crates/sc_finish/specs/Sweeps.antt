@@ -1,0 +1,30 @@
+-- What goes away at the end of a turn, one thing at a time.
+use Rattle.std.specs.Prelude.{Bool, not, ◌&&◌}
+use Rattle.sc_value.specs.declared.ids.SessId.{SessId}
+use Rattle.sc_value.specs.Params.{same_bytes}
+use Rattle.sc_terms.specs.declared.views.View.{View}
+use Rattle.sc_terms.specs.declared.views.RequestView.{RequestView}
+use Rattle.sc_terms.specs.declared.views.SessionView.{SessionView}
+use Rattle.sc_state.specs.declared.session.Kept.{Kept}
+use Rattle.sc_state.specs.declared.session.Known.{Known}
+use Rattle.sc_hosts.specs.Finishing.{is_session_ready, is_needed}
+use Rattle.sc_hosts.specs.Looking.{removed}
+use Rattle.sc_hosts.specs.Words.{ack}
+
+-- the SipSession is ready and goes away by itself
+unfoldable pub goes : Known → View → SessionView → Bool
+goes known view session = session.ready_flag && not session.gone && is_session_ready known view session
+
+abbrev pub id_of : SessionView → SessId
+id_of session = session.id
+
+abbrev pub without : View → SessId → View
+without view sess = removed sess view
+
+-- the request is no received ACK
+unfoldable pub stays : RequestView → Bool
+stays request = not (request.received && same_bytes request.method ack)
+
+-- the request can still be needed
+unfoldable pub needed : View → Kept → Bool
+needed view kept = is_needed view kept kept.way

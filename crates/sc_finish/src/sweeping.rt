@@ -1,0 +1,123 @@
+//! What goes away at the end of a turn.
+
+ghost use Rattle.std.specs.Prelude.{◌≡◌, ◌++◌, false, OnOk, IfOk, map, filter};
+ghost use Rattle.std.specs.List.{fold};
+ghost use Rattle.std.specs.Option.{option_map_or};
+ghost use Rattle.sc_hosts.specs.Finishing.{lacks_final, swept, without_acks, is_needed, lightened};
+ghost use Rattle.sc_hosts.specs.Looking.{request_in};
+ghost use Rattle.sc_finish.specs.Sweeps.{goes, id_of, without, stays, needed};
+
+use crate::readiness::{is_session_ready, lacks_final};
+use sc_effects::{removed, tidy};
+use sc_refusals::{is_ack, is_gone_in, is_invite, request_in};
+use sc_state::{Kept, Known, Session, Way};
+use sc_terms::{RequestView, SessionView, View};
+use sc_value::{List, NoMemory, ReqId, SessId};
+use std::alloc::Global;
+
+#[tactic(auto, unfolding(crate::specs::Sweeps::goes))]
+fn goes(known: &Known, view: &View, session: &SessionView) -> bool
+    ensures { result ≡ goes known.now view.entry.now session.now }
+{
+    session.ready_flag && !session.gone && is_session_ready(known, view, session)
+}
+
+fn add_going(
+    known: &Known,
+    view: &View,
+    sessions: &[SessionView],
+    going: &mut List<SessId>,
+) -> Result<(), NoMemory>
+    ensures { OnOk result (going.new ≡ going.old ++ map id_of (filter (goes known.now view.entry.now) sessions.now)) }
+{
+    for session in sessions {
+        if goes(known, view, session) {
+            going.push(session.id)?;
+        }
+    }
+    Ok(())
+}
+
+fn going_of(alloc: Global, known: &Known, view: &View) -> Result<List<SessId>, NoMemory>
+    ensures { IfOk result (λ going. going ≡ map id_of (filter (goes known.now view.entry.now) view.entry.now.sessions)) }
+{
+    let mut going = List::new(alloc);
+    add_going(known, view, view.sessions.as_slice(), &mut going)?;
+    Ok(going)
+}
+
+fn all_removed(view: &mut View, going: &[SessId])
+    ensures { view.new ≡ fold without view.old going.now }
+{
+    for sess in going {
+        removed(view, *sess);
+    }
+}
+
+/// Each ready SipSession goes away whose flag is set.
+#[tactic(auto, unfolding(sc_hosts::specs::Finishing::swept), using(crate::proofs::Folds::swept_all))]
+pub fn swept(alloc: Global, session: &mut Session) -> Result<(), NoMemory>
+    ensures { OnOk result (session.new ≡ swept session.old) }
+{
+    let going = going_of(alloc, &session.known, &session.view)?;
+    all_removed(&mut session.view, going.as_slice());
+    tidy(&mut session.view);
+    Ok(())
+}
+
+#[tactic(auto, unfolding(crate::specs::Sweeps::stays))]
+fn stays(request: &RequestView) -> bool
+    ensures { result ≡ stays request.now }
+{
+    !(request.received && is_ack(request.method.as_bytes()))
+}
+
+fn keep_staying(requests: &mut List<RequestView>)
+    ensures { requests.new ≡ filter stays requests.old }
+{
+    requests.items.retain(|request| stays(request));
+}
+
+/// A received ACK stands in its own turn alone.
+#[tactic(auto, unfolding(sc_hosts::specs::Finishing::without_acks, crate::specs::Sweeps::stays))]
+pub fn without_acks(view: &mut View)
+    ensures { view.new ≡ without_acks view.old }
+{
+    keep_staying(&mut view.requests);
+}
+
+fn lacks_final_of(view: &View, req: ReqId) -> bool
+    ensures { result ≡ option_map_or lacks_final (request_in view.entry.now req) false }
+{
+    match request_in(view, req) {
+        Some(request) => lacks_final(request),
+        None => false,
+    }
+}
+
+#[tactic(auto, unfolding(sc_hosts::specs::Finishing::is_needed, crate::specs::Sweeps::needed))]
+fn needed(view: &View, kept: &Kept) -> bool
+    ensures { result ≡ needed view.entry.now kept.now }
+{
+    match kept.way {
+        Way::Received { .. } => lacks_final_of(view, kept.id),
+        Way::Sent { .. } => {
+            request_in(view, kept.id).is_some()
+                || (is_invite(kept.request.get().method.as_bytes()) && !is_gone_in(view, kept.sess))
+        }
+    }
+}
+
+fn keep_needed(view: &View, kept: &mut List<Kept>)
+    ensures { kept.new ≡ filter (needed view.entry.now) kept.old }
+{
+    kept.items.retain(|kept| needed(view, kept));
+}
+
+/// Of the requests only those are kept that can still be needed.
+#[tactic(auto, unfolding(sc_hosts::specs::Finishing::lightened, crate::specs::Sweeps::needed))]
+pub fn lightened(session: &mut Session)
+    ensures { session.new ≡ lightened session.old }
+{
+    keep_needed(&session.view, &mut session.known.kept);
+}

@@ -1,0 +1,125 @@
+//! The whole turn of an application session.
+
+ghost use Rattle.std.specs.Prelude.{◌≡◌, IfOk, OnOk};
+ghost use Rattle.sc_hosts.specs.Finishing.{is_expiry, is_ready_event, session_in_play, finished, outcome_of, outcome};
+ghost use Rattle.sc_finish.specs.Ends.{ends, left_by};
+
+use crate::acting::all_act;
+use crate::faults::{drafts_ended, faulted};
+use crate::later::passes_later;
+use crate::readiness::is_ready;
+use crate::sweeping::{lightened, swept, without_acks};
+use sc_prepare::{has_expired, prepared};
+use sc_state::{Outcome, Queued, Session, Waiting, Working};
+use sc_terms::{CallRecord, Config, End};
+use sc_value::{NoMemory, ReqId};
+use sc_work::worked_all;
+use std::alloc::Global;
+
+/// What follows the calls: drafts that were left, the answer to a fault, proxies, and a later request
+/// that is passed on.
+#[tactic(auto, unfolding(sc_hosts::specs::Finishing::finished))]
+fn finished(
+    alloc: Global,
+    config: &Config,
+    event: &Queued,
+    req: Option<ReqId>,
+    end: End,
+    working: &mut Working,
+) -> Result<(), NoMemory>
+    ensures { OnOk result (working.new ≡ finished config.now event.now req end working.old) }
+{
+    drafts_ended(working);
+    faulted(alloc, config, req, end, working)?;
+    all_act(alloc, config, working)?;
+    passes_later(alloc, config, event, req, working)
+}
+
+#[tactic(auto, unfolding(sc_hosts::specs::Finishing::is_expiry))]
+fn is_expiry(event: &Queued) -> bool
+    ensures { result ≡ is_expiry event.now }
+{
+    match event {
+        Queued::Expired => true,
+        _ => false,
+    }
+}
+
+#[tactic(auto, unfolding(sc_hosts::specs::Finishing::is_ready_event))]
+fn is_ready_event(event: &Queued) -> bool
+    ensures { result ≡ is_ready_event event.now }
+{
+    match event {
+        Queued::Ready => true,
+        _ => false,
+    }
+}
+
+/// Whether the application session is invalidated: by a call, by its expiry, or as it is still ready.
+#[tactic(auto, unfolding(crate::specs::Ends::ends))]
+fn ends(event: &Queued, ended: bool, session: &Session) -> bool
+    ensures { result ≡ ends event.now ended session.now }
+{
+    ended
+        || (is_expiry(event) && has_expired(&session.view))
+        || (is_ready_event(event) && is_ready(session) && session.view.ready_flag)
+}
+
+/// What an application session that goes on keeps.
+#[tactic(auto, unfolding(crate::specs::Ends::left_by))]
+fn left_by(alloc: Global, ends: bool, session: &mut Session) -> Result<(), NoMemory>
+    ensures { OnOk result (session.new ≡ left_by ends session.old) }
+{
+    if !ends {
+        swept(alloc, session)?;
+    }
+    lightened(session);
+    Ok(())
+}
+
+#[tactic(auto, using(crate::proofs::Outcomes::outcome_is))]
+fn outcome_of(alloc: Global, event: &Queued, working: Working) -> Result<Outcome, NoMemory>
+    ensures { IfOk result (λ o. o ≡ outcome_of event.now working) }
+{
+    let Working {
+        play,
+        known,
+        orders,
+        ..
+    } = working;
+    let ended = play.ended;
+    let mut session = Session {
+        view: play.view,
+        known,
+    };
+    without_acks(&mut session.view);
+    let ends = ends(event, ended, &session);
+    left_by(alloc, ends, &mut session)?;
+    Ok(Outcome {
+        session,
+        orders,
+        ends,
+    })
+}
+
+/// The outcome of a turn: what the application session is afterwards, what it sends, and whether it is
+/// invalidated. The branches are given whose INVITE has had a provisional response.
+#[tactic(auto, unfolding(sc_hosts::specs::Finishing::outcome))]
+pub fn outcome(
+    alloc: Global,
+    config: &Config,
+    ringing: &[u64],
+    session: Session,
+    waiting: &Waiting,
+    now: u64,
+    made: &[CallRecord],
+    end: End,
+) -> Result<Outcome, NoMemory>
+    ensures { IfOk result (λ o. o ≡ outcome config.now ringing.now session waiting.now now made.now end) }
+{
+    let shown = prepared(alloc, config, ringing, session, waiting, now)?;
+    let req = shown.req;
+    let mut working = worked_all(alloc, config, shown, made)?;
+    finished(alloc, config, &waiting.event, req, end, &mut working)?;
+    outcome_of(alloc, &waiting.event, working)
+}
