@@ -1,0 +1,4 @@
+pub mod BranchTexts
+pub mod Places
+pub mod ClientStanding
+pub mod ServerStanding

@@ -1,0 +1,148 @@
+//! The ends of a transaction, its state, and the Vias by which it is found.
+
+ghost use Rattle.std.specs.Prelude.{◌≡◌, false};
+ghost use Rattle.std.specs.Option.{option_map_or, option_copied};
+ghost use Rattle.sc_value.specs.Params.{same_bytes};
+ghost use Rattle.sc_value.specs.declared.ids.Place.{Place};
+ghost use Rattle.sc_hosts.specs.Transacting.{same_place, takes_from, goes_to, is_over, is_proceeding, is_completed, top_via, branch_of, port_of, same_via, same_top};
+
+use sc_parts::TxnState;
+use sc_state::Peer;
+use sc_value::{Place, Via, branch, same_name};
+
+fn same_ip(a: [u8; 4], b: [u8; 4]) -> bool
+    ensures { result ≡ same_bytes a b }
+{
+    a == b
+}
+
+/// Whether two outside places are the same.
+#[tactic(auto, unfolding(sc_hosts::specs::Transacting::same_place))]
+pub fn same_place(a: Place, b: Place) -> bool
+    ensures { result ≡ same_place a b }
+{
+    match a {
+        Place::Back(a) => is_back(a, b),
+        Place::To(ip, port) => is_to(ip, port, b),
+    }
+}
+
+#[tactic(auto, unfolding(sc_hosts::specs::Transacting::same_place))]
+fn is_back(number: u64, place: Place) -> bool
+    ensures { result ≡ same_place (Place.Back number) place }
+{
+    match place {
+        Place::Back(other) => number == other,
+        Place::To(_, _) => false,
+    }
+}
+
+#[tactic(auto, unfolding(sc_hosts::specs::Transacting::same_place))]
+fn is_to(ip: [u8; 4], port: u16, place: Place) -> bool
+    ensures { result ≡ same_place (Place.To ip port) place }
+{
+    match place {
+        Place::Back(_) => false,
+        Place::To(other, other_port) => same_ip(ip, other) && port == other_port,
+    }
+}
+
+/// Whether a transaction with this end takes a message from there.
+#[tactic(auto, unfolding(sc_hosts::specs::Transacting::takes_from))]
+pub fn takes_from(peer: Peer, from: Peer) -> bool
+    ensures { result ≡ takes_from peer from }
+{
+    match (peer, from) {
+        (Peer::Outside(_), Peer::Outside(_)) => true,
+        (Peer::Inside(host), Peer::Inside(from)) => host == from,
+        _ => false,
+    }
+}
+
+/// Whether what goes to this peer goes to the outside place.
+#[tactic(auto, unfolding(sc_hosts::specs::Transacting::goes_to))]
+pub fn goes_to(place: Place, peer: Peer) -> bool
+    ensures { result ≡ goes_to place peer }
+{
+    match peer {
+        Peer::Outside(other) => same_place(place, other),
+        Peer::Inside(_) | Peer::Nowhere => false,
+    }
+}
+
+/// Whether the state is that of a transaction that is over.
+#[tactic(auto, unfolding(sc_hosts::specs::Transacting::is_over))]
+pub fn is_over(state: TxnState) -> bool
+    ensures { result ≡ is_over state }
+{
+    state == TxnState::Terminated
+}
+
+/// Whether the state is Proceeding.
+#[tactic(auto, unfolding(sc_hosts::specs::Transacting::is_proceeding))]
+pub fn is_proceeding(state: TxnState) -> bool
+    ensures { result ≡ is_proceeding state }
+{
+    state == TxnState::Proceeding
+}
+
+/// Whether the state is Completed.
+#[tactic(auto, unfolding(sc_hosts::specs::Transacting::is_completed))]
+pub fn is_completed(state: TxnState) -> bool
+    ensures { result ≡ is_completed state }
+{
+    state == TxnState::Completed
+}
+
+/// The top Via, None where there is none.
+pub fn top_via(via: &[Via]) -> Option<&Via>
+    ensures { option_copied result ≡ top_via via.now }
+{
+    via.first()
+}
+
+/// The branch of a Via, empty where it has none.
+pub fn branch_of(via: &Via) -> &[u8]
+    ensures { result.now ≡ branch_of via.now }
+{
+    match branch(via) {
+        Some(text) => text.as_bytes(),
+        None => b"",
+    }
+}
+
+#[tactic(auto, unfolding(sc_hosts::specs::Transacting::port_of))]
+fn port_of(via: &Via) -> u16
+    ensures { result ≡ port_of via.now }
+{
+    via.port.unwrap_or(5060)
+}
+
+#[tactic(auto, unfolding(sc_hosts::specs::Transacting::same_via))]
+fn same_via(a: &Via, b: &Via) -> bool
+    ensures { result ≡ same_via a.now b.now }
+{
+    branch_of(a) == branch_of(b)
+        && same_name(a.host.as_bytes(), b.host.as_bytes())
+        && port_of(a) == port_of(b)
+}
+
+fn is_top(via: &Via, other: &[Via]) -> bool
+    ensures { result ≡ option_map_or (same_via via.now) (top_via other.now) false }
+{
+    match top_via(other) {
+        Some(other) => same_via(via, other),
+        None => false,
+    }
+}
+
+/// Whether two lists of Vias have the same one on top: the same branch and sent-by.
+#[tactic(auto, unfolding(sc_hosts::specs::Transacting::same_top))]
+pub fn same_top(a: &[Via], b: &[Via]) -> bool
+    ensures { result ≡ same_top a.now b.now }
+{
+    match top_via(a) {
+        Some(via) => is_top(via, b),
+        None => false,
+    }
+}
