@@ -1,0 +1,2 @@
+pub mod TakenParts
+pub mod UriParams

@@ -1,0 +1,208 @@
+//! Requests that begin a session.
+
+ghost use Rattle.std.specs.Prelude.{◌≡◌, ◌+◌, ◌∷◌, ◌++◌, [], IfOk, OnOk};
+ghost use Rattle.sc_value.specs.Params.{same_bytes};
+ghost use Rattle.sc_state.specs.declared.queue.Queued.{Queued};
+ghost use Rattle.sc_model.specs.Dialogs.{update};
+ghost use Rattle.sc_model.specs.Names.{tag_text};
+ghost use Rattle.sc_model.specs.SessionStates.{bye};
+ghost use Rattle.sc_hosts.specs.Histories.{as_session};
+ghost use Rattle.sc_hosts.specs.Taking.{begun_live, begun, take_initial, is_never_initial, take_begun};
+ghost use Rattle.sc_hosts.specs.Transacting.{method_of};
+ghost use Rattle.sc_hosts.specs.Words.{prack};
+ghost use Rattle.sc_take.specs.TakenParts.{taken_by};
+
+use crate::refusals::{refuse_full, refuse_unknown};
+use crate::server_parts::{with_server, with_trying};
+use crate::told::{Told, quiet};
+use sc_legs::fresh;
+use sc_names::tag;
+use sc_state::{Host, Live, Note, Peer, Queued, Session, Waiting};
+use sc_terms::Config;
+use sc_transact::method_of;
+use sc_value::{AppId, CloneIn, List, NoMemory, Request, Shared, Text, sum};
+use std::alloc::Global;
+
+fn first_event(alloc: Global, noted: &Note, request: &Shared<Request>) -> Result<Queued, NoMemory>
+    ensures { IfOk result (λ e. e ≡ Queued.Initial noted.now.region noted.now.subscriber noted.now.popped request.now) }
+{
+    let subscriber = noted.subscriber.clone_in(alloc)?;
+    let popped = noted.popped.clone_in(alloc)?;
+    let request = request.clone_in(alloc)?;
+    Ok(Queued::Initial {
+        region: noted.region,
+        subscriber,
+        popped,
+        request,
+    })
+}
+
+fn first_inbox(
+    alloc: Global,
+    noted: &Note,
+    request: &Shared<Request>,
+    number: u64,
+) -> Result<List<Waiting>, NoMemory>
+    ensures { IfOk result (λ l. l ≡ record { number = number; event = Queued.Initial noted.now.region noted.now.subscriber noted.now.popped request.now } ∷ []) }
+{
+    let event = first_event(alloc, noted, request)?;
+    let mut inbox = List::new(alloc);
+    inbox.push(Waiting { number, event })?;
+    Ok(inbox)
+}
+
+#[tactic(auto, unfolding(sc_hosts::specs::Taking::begun_live, sc_hosts::specs::Histories::as_session))]
+fn begun_live(
+    alloc: Global,
+    config: &Config,
+    epoch: u32,
+    app: AppId,
+    now: u64,
+    noted: &Note,
+    request: &Shared<Request>,
+    number: u64,
+) -> Result<Live<Session>, NoMemory>
+    ensures { IfOk result (λ l. l ≡ begun_live as_session config.now epoch app now noted.now request.now number) }
+{
+    let inbox = first_inbox(alloc, noted, request, number)?;
+    let session = fresh(alloc, config, app, epoch, now, noted, request.get())?;
+    let session = Shared::new(alloc, session)?;
+    Ok(Live {
+        serial: app.serial,
+        session,
+        inbox,
+        since: now,
+        fired: List::new(alloc),
+    })
+}
+
+fn first_tag(alloc: Global, config: &Config, epoch: u32, app: AppId) -> Result<Text, NoMemory>
+    ensures { IfOk result (λ t. t ≡ tag_text config.now.salt epoch app 1) }
+{
+    let mut text = Text::new(alloc);
+    tag(alloc, &config.salt, epoch, app, 1, &mut text)?;
+    Ok(text)
+}
+
+fn with_live(
+    alloc: Global,
+    live: Live<Session>,
+    serial: u64,
+    host: &mut Host<Session>,
+) -> Result<(), NoMemory>
+    ensures { OnOk result (host.new ≡ record host.old { sessions = host.old.sessions ++ live ∷ []; last = serial }) }
+{
+    let live = Shared::new(alloc, live)?;
+    host.sessions.push(live)?;
+    host.last = serial;
+    Ok(())
+}
+
+#[tactic(auto, unfolding(sc_hosts::specs::Taking::begun, sc_hosts::specs::Taking::quiet))]
+fn begun(
+    alloc: Global,
+    config: &Config,
+    epoch: u32,
+    number: u32,
+    from: Peer,
+    now: u64,
+    noted: &Note,
+    request: &Request,
+    count: u64,
+    host: &mut Host<Session>,
+) -> Result<Told, NoMemory>
+    ensures { IfOk result (λ t. begun as_session config.now epoch number from now noted.now request.now count host.old ≡ taken_by host.new t) }
+{
+    let serial = sum(host.last, 1)?;
+    let app = AppId {
+        host: number,
+        serial,
+    };
+    let event = sum(count, 1)?;
+    let own = Shared::new(alloc, request.clone_in(alloc)?)?;
+    let live = begun_live(alloc, config, epoch, app, now, noted, &own, event)?;
+    let tag = first_tag(alloc, config, epoch, app)?;
+    with_live(alloc, live, serial, host)?;
+    with_server(alloc, app, event, from, tag, &own, host)?;
+    with_trying(alloc, from, now, request, quiet(event), host)
+}
+
+#[tactic(auto, unfolding(sc_hosts::specs::Taking::take_initial))]
+fn take_initial(
+    alloc: Global,
+    config: &Config,
+    epoch: u32,
+    number: u32,
+    from: Peer,
+    now: u64,
+    noted: &Note,
+    request: &Request,
+    count: u64,
+    host: &mut Host<Session>,
+) -> Result<Told, NoMemory>
+    ensures { IfOk result (λ t. take_initial as_session config.now epoch number from now noted.now request.now count host.old ≡ taken_by host.new t) }
+{
+    if 4096 <= host.sessions.len() {
+        return refuse_full(alloc, config, from, request, count);
+    }
+    begun(
+        alloc, config, epoch, number, from, now, noted, request, count, host,
+    )
+}
+
+#[tactic(auto, unfolding(sc_model::specs::SessionStates::bye))]
+fn is_bye(request: &Request) -> bool
+    ensures { result ≡ same_bytes (method_of request.now) bye }
+{
+    method_of(request) == b"BYE".as_slice()
+}
+
+#[tactic(auto, unfolding(sc_hosts::specs::Words::prack))]
+fn is_prack(request: &Request) -> bool
+    ensures { result ≡ same_bytes (method_of request.now) prack }
+{
+    method_of(request) == b"PRACK".as_slice()
+}
+
+#[tactic(auto, unfolding(sc_model::specs::Dialogs::update))]
+fn is_update(request: &Request) -> bool
+    ensures { result ≡ same_bytes (method_of request.now) update }
+{
+    method_of(request) == b"UPDATE".as_slice()
+}
+
+/// Whether a request of this method begins nothing.
+#[tactic(auto, unfolding(sc_hosts::specs::Taking::is_never_initial))]
+pub fn is_never_initial(request: &Request) -> bool
+    ensures { result ≡ is_never_initial request.now }
+{
+    is_bye(request) || is_prack(request) || is_update(request)
+}
+
+/// A request without To tag begins a session where it has its note.
+#[tactic(auto, unfolding(sc_hosts::specs::Taking::take_begun))]
+pub fn take_begun(
+    alloc: Global,
+    config: &Config,
+    epoch: u32,
+    number: u32,
+    from: Peer,
+    now: u64,
+    noted: &Option<Note>,
+    request: &Request,
+    count: u64,
+    host: &mut Host<Session>,
+) -> Result<Told, NoMemory>
+    ensures { IfOk result (λ t. take_begun as_session config.now epoch number from now noted.now request.now count host.old ≡ taken_by host.new t) }
+{
+    let noted = match noted {
+        Some(noted) => noted,
+        None => return refuse_unknown(alloc, config, from, request, count),
+    };
+    if is_never_initial(request) {
+        return refuse_unknown(alloc, config, from, request, count);
+    }
+    take_initial(
+        alloc, config, epoch, number, from, now, noted, request, count, host,
+    )
+}

@@ -1,0 +1,174 @@
+//! Requests that belong to a live transaction: CANCEL, ACK, and what comes again (RFC 3261 sections
+//! 9.2 and 17.2.3).
+
+ghost use Rattle.std.specs.Prelude.{◌≡◌, if◌then◌else◌, IfOk};
+ghost use Rattle.std.specs.List.{find};
+ghost use Rattle.std.specs.Option.{option_copied};
+ghost use Rattle.sc_state.specs.declared.queue.Queued.{Queued};
+ghost use Rattle.sc_state.specs.declared.host.Host.{Host};
+ghost use Rattle.sc_state.specs.declared.session.Session.{Session};
+ghost use Rattle.sc_hosts.specs.Messages.{own_response};
+ghost use Rattle.sc_hosts.specs.Taking.{quiet, queue, cancelled, again_if, repeated, claim_of, is_claimed};
+ghost use Rattle.sc_hosts.specs.Transacting.{has_final, is_cancelled_by, is_acked_by, is_repeated_by};
+ghost use Rattle.sc_hosts.specs.Words.{ok};
+ghost use Rattle.sc_take.specs.TakenParts.{taken_by};
+
+use crate::inboxes::queue;
+use crate::told::{Told, quiet, replying};
+use sc_messages::own_response;
+use sc_parts::ServerItem;
+use sc_state::{Host, Peer, Queued, Server, Session};
+use sc_transact::{
+    acked_server, cancelled_server, has_final, is_ack, is_cancel, is_invite_server, is_sent_again,
+    pass_server, repeated_server,
+};
+use sc_value::{CloneIn, Message, NoMemory, Request, Response, Shared};
+use std::alloc::Global;
+
+#[tactic(auto, unfolding(sc_hosts::specs::Taking::quiet))]
+fn tell_cancelled(
+    alloc: Global,
+    now: u64,
+    server: &Server,
+    count: u64,
+    host: &mut Host<Session>,
+) -> Result<Told, NoMemory>
+    ensures { IfOk result (λ t. (if has_final server.now then quiet host.old count else queue server.now.app.serial now (Queued.Cancelled server.now.event) count host.old) ≡ taken_by host.new t) }
+{
+    if has_final(server) {
+        return Ok(quiet(count));
+    }
+    let event = Queued::Cancelled {
+        event: server.event,
+    };
+    queue(alloc, server.app.serial, now, event, count, host)
+}
+
+#[tactic(auto, unfolding(sc_hosts::specs::Words::ok))]
+fn ok_response(alloc: Global, server: &Server, request: &Request) -> Result<Response, NoMemory>
+    ensures { IfOk result (λ r. r ≡ own_response server.now.tag 200 ok request.now) }
+{
+    own_response(alloc, server.tag.as_bytes(), 200, b"OK", request)
+}
+
+/// A CANCEL is answered 200, and the session is told where its INVITE has no final response.
+#[tactic(auto, unfolding(sc_hosts::specs::Taking::cancelled))]
+pub fn cancelled(
+    alloc: Global,
+    from: Peer,
+    now: u64,
+    server: &Server,
+    request: &Request,
+    count: u64,
+    host: &mut Host<Session>,
+) -> Result<Told, NoMemory>
+    ensures { IfOk result (λ t. cancelled from now server.now request.now count host.old ≡ taken_by host.new t) }
+{
+    let response = ok_response(alloc, server, request)?;
+    let told = tell_cancelled(alloc, now, server, count, host)?;
+    replying(alloc, from, Message::Response(response), told)
+}
+
+#[tactic(auto, unfolding(sc_hosts::specs::Taking::last_again, sc_hosts::specs::Taking::again_if, sc_hosts::specs::Taking::quiet))]
+fn last_again(alloc: Global, server: &Server, again: bool, count: u64) -> Result<Told, NoMemory>
+    ensures { IfOk result (λ t. (host : Host Session) → again_if again server.now (quiet host count) ≡ taken_by host t) }
+{
+    if !again {
+        return Ok(quiet(count));
+    }
+    match &server.last {
+        Some(response) => {
+            let response = response.get().clone_in(alloc)?;
+            replying(
+                alloc,
+                server.peer,
+                Message::Response(response),
+                quiet(count),
+            )
+        }
+        None => Ok(quiet(count)),
+    }
+}
+
+/// A request that comes again gets the last answer again, where its transaction does that.
+#[tactic(auto, unfolding(sc_hosts::specs::Taking::repeated))]
+pub fn repeated(
+    alloc: Global,
+    server: &Server,
+    count: u64,
+    host: &mut Host<Session>,
+) -> Result<Told, NoMemory>
+    ensures { IfOk result (λ t. repeated server.now count host.old ≡ taken_by host.new t) }
+{
+    let again = is_sent_again(is_invite_server(server), server.passed.as_slice());
+    pass_server(alloc, server.event, ServerItem::RequestAgain, host)?;
+    last_again(alloc, server, again, count)
+}
+
+fn copy_of(
+    alloc: Global,
+    server: Option<&Shared<Server>>,
+) -> Result<Option<Shared<Server>>, NoMemory>
+    ensures { IfOk result (λ copy. copy ≡ option_copied server.entry) }
+{
+    match server {
+        Some(server) => Ok(Some(server.clone_in(alloc)?)),
+        None => Ok(None),
+    }
+}
+
+/// The INVITE that a CANCEL is for.
+pub fn cancelled_by(
+    alloc: Global,
+    from: Peer,
+    request: &Request,
+    host: &Host<Session>,
+) -> Result<Option<Shared<Server>>, NoMemory>
+    ensures { IfOk result (λ server. server ≡ find (is_cancelled_by from request.now) host.now.servers) }
+{
+    copy_of(
+        alloc,
+        cancelled_server(from, request, host.servers.as_slice()),
+    )
+}
+
+/// The INVITE that an ACK is for.
+pub fn acked_by(
+    alloc: Global,
+    from: Peer,
+    request: &Request,
+    host: &Host<Session>,
+) -> Result<Option<Shared<Server>>, NoMemory>
+    ensures { IfOk result (λ server. server ≡ find (is_acked_by from request.now) host.now.servers) }
+{
+    copy_of(alloc, acked_server(from, request, host.servers.as_slice()))
+}
+
+/// The transaction of a request that came before.
+pub fn repeated_by(
+    alloc: Global,
+    from: Peer,
+    request: &Request,
+    host: &Host<Session>,
+) -> Result<Option<Shared<Server>>, NoMemory>
+    ensures { IfOk result (λ server. server ≡ find (is_repeated_by from request.now) host.now.servers) }
+{
+    copy_of(
+        alloc,
+        repeated_server(from, request, host.servers.as_slice()),
+    )
+}
+
+/// Whether a request belongs to a live transaction.
+#[tactic(auto, unfolding(sc_hosts::specs::Taking::claim_of, sc_hosts::specs::Taking::claim_by, sc_hosts::specs::Taking::is_claimed))]
+pub fn is_claimed(from: Peer, request: &Request, host: &Host<Session>) -> bool
+    ensures { result ≡ is_claimed (claim_of from request.now host.now) }
+{
+    if is_cancel(request) {
+        return cancelled_server(from, request, host.servers.as_slice()).is_some();
+    }
+    if is_ack(request) {
+        return acked_server(from, request, host.servers.as_slice()).is_some();
+    }
+    repeated_server(from, request, host.servers.as_slice()).is_some()
+}

@@ -1,0 +1,120 @@
+//! Requests with a To tag (RFC 3261 section 12.2.2).
+
+ghost use Rattle.std.specs.Prelude.{◌≡◌, option_and_then, IfOk};
+ghost use Rattle.std.specs.Option.{option_copied};
+ghost use Rattle.sc_hosts.specs.Taking.{named_live, queue_later, later_by, take_later};
+ghost use Rattle.sc_take.specs.TakenParts.{taken_by};
+
+use crate::inboxes::{is_full, queue};
+use crate::refusals::{refuse_full, refuse_unknown};
+use crate::server_parts::{with_server, with_trying};
+use crate::told::Told;
+use crate::uris::{named_live, own_uri, unrouted};
+use sc_state::{Host, Live, Peer, Queued, Session};
+use sc_terms::Config;
+use sc_value::{AppId, CloneIn, NoMemory, Request, Shared, Text, Uri, sum};
+use std::alloc::Global;
+
+#[tactic(auto, unfolding(sc_hosts::specs::Taking::queue_later))]
+fn queue_later(
+    alloc: Global,
+    config: &Config,
+    number: u32,
+    from: Peer,
+    now: u64,
+    request: &Request,
+    count: u64,
+    live: &Live<Session>,
+    host: &mut Host<Session>,
+) -> Result<Told, NoMemory>
+    ensures { IfOk result (λ t. queue_later config.now number from now request.now count live.now host.old ≡ taken_by host.new t) }
+{
+    if is_full(live) {
+        return refuse_full(alloc, config, from, request, count);
+    }
+    let own = Shared::new(alloc, unrouted(alloc, config, request)?)?;
+    let app = AppId {
+        host: number,
+        serial: live.serial,
+    };
+    let event = sum(count, 1)?;
+    with_server(alloc, app, event, from, Text::new(alloc), &own, host)?;
+    let told = queue(
+        alloc,
+        live.serial,
+        now,
+        Queued::Request { request: own },
+        count,
+        host,
+    )?;
+    with_trying(alloc, from, now, request, told, host)
+}
+
+#[tactic(auto, unfolding(sc_hosts::specs::Taking::later_by))]
+fn later_by(
+    alloc: Global,
+    config: &Config,
+    number: u32,
+    from: Peer,
+    now: u64,
+    request: &Request,
+    count: u64,
+    live: Option<Shared<Live<Session>>>,
+    host: &mut Host<Session>,
+) -> Result<Told, NoMemory>
+    ensures { IfOk result (λ t. later_by config.now number from now request.now count live host.old ≡ taken_by host.new t) }
+{
+    match live {
+        Some(live) => queue_later(
+            alloc,
+            config,
+            number,
+            from,
+            now,
+            request,
+            count,
+            live.get(),
+            host,
+        ),
+        None => refuse_unknown(alloc, config, from, request, count),
+    }
+}
+
+fn named_by(
+    alloc: Global,
+    epoch: u32,
+    number: u32,
+    uri: Option<&Uri>,
+    host: &Host<Session>,
+) -> Result<Option<Shared<Live<Session>>>, NoMemory>
+    ensures { IfOk result (λ live. live ≡ option_and_then (λ uri. named_live epoch number uri host.now) (option_copied uri.entry)) }
+{
+    let uri = match uri {
+        Some(uri) => uri,
+        None => return Ok(None),
+    };
+    match named_live(epoch, number, uri, host) {
+        Some(live) => Ok(Some(live.clone_in(alloc)?)),
+        None => Ok(None),
+    }
+}
+
+/// A request with a To tag goes to the session that its own URI names.
+#[tactic(auto, unfolding(sc_hosts::specs::Taking::take_later))]
+pub fn take_later(
+    alloc: Global,
+    config: &Config,
+    epoch: u32,
+    number: u32,
+    from: Peer,
+    now: u64,
+    request: &Request,
+    count: u64,
+    host: &mut Host<Session>,
+) -> Result<Told, NoMemory>
+    ensures { IfOk result (λ t. take_later config.now epoch number from now request.now count host.old ≡ taken_by host.new t) }
+{
+    let uri = own_uri(alloc, config, request)?;
+    let live = named_by(alloc, epoch, number, uri, host)?;
+    later_by(alloc, config, number, from, now, request, count, live, host)
+}
