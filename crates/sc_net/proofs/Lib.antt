@@ -1,0 +1,4 @@
+pub mod AllDelivered
+pub mod HostTaking
+pub mod Literals
+pub mod NamedHosts

@@ -1,0 +1,124 @@
+//! Messages that the hosts of a net take.
+
+ghost use Rattle.std.specs.Prelude.{◌≡◌, Some, slice_get, IfOk, OnOk};
+ghost use Rattle.sc_value.specs.Lists.{change_nth};
+ghost use Rattle.sc_hosts.specs.Histories.{as_session};
+ghost use Rattle.sc_hosts.specs.Steps.{taken_at};
+ghost use Rattle.sc_hosts.specs.Taking.{takes};
+ghost use Rattle.sc_net.specs.HostChanges.{host_after, told_after, net_after};
+
+use crate::wire::put_reply;
+use sc_parts::Setup;
+use sc_state::{Host, Net, Note, Peer, Session};
+use sc_take::{Told, takes};
+use sc_terms::Config;
+use sc_value::{Message, NoMemory, Place};
+use std::alloc::Global;
+
+#[tactic(auto, unfolding(crate::specs::HostChanges::host_after, crate::specs::HostChanges::told_after))]
+fn host_takes(
+    alloc: Global,
+    config: &Config,
+    epoch: u32,
+    number: u32,
+    from: Peer,
+    now: u64,
+    noted: &Option<Note>,
+    message: &Message,
+    count: u64,
+    host: &mut Host<Session>,
+) -> Result<Told, NoMemory>
+    ensures host { OnOk result (host.new ≡ host_after (takes as_session config.now epoch number from now noted.now message.now count) host.old) }
+    ensures told { IfOk result (λ t. t ≡ told_after (takes as_session config.now epoch number from now noted.now message.now count) count (Some host.old)) }
+{
+    takes(
+        alloc, config, epoch, number, from, now, noted, message, count, host,
+    )
+}
+
+#[tactic(auto, unfolding(crate::specs::HostChanges::told_after), using(sc_value::proofs::ListFacts::change_nth_at, sc_value::proofs::ListFacts::change_nth_none, sc_value::proofs::ListFacts::slice_get_at, sc_value::proofs::ListFacts::slice_get_none))]
+fn takes_in(
+    alloc: Global,
+    config: &Config,
+    epoch: u32,
+    number: u32,
+    from: Peer,
+    now: u64,
+    noted: &Option<Note>,
+    message: &Message,
+    count: u64,
+    hosts: &mut [Host<Session>],
+) -> Result<Told, NoMemory>
+    ensures hosts { OnOk result (hosts.new ≡ change_nth number (host_after (takes as_session config.now epoch number from now noted.now message.now count)) hosts.old) }
+    ensures told { IfOk result (λ t. t ≡ told_after (takes as_session config.now epoch number from now noted.now message.now count) count (slice_get hosts.old number)) }
+{
+    let at = number as usize;
+    if at < hosts.len() {
+        return host_takes(
+            alloc,
+            config,
+            epoch,
+            number,
+            from,
+            now,
+            noted,
+            message,
+            count,
+            &mut hosts[at],
+        );
+    }
+    Ok(Told { reply: None, count })
+}
+
+/// The host of this number takes a message, where there is one.
+#[tactic(auto, unfolding(crate::specs::HostChanges::net_after))]
+pub fn net_takes(
+    alloc: Global,
+    config: &Config,
+    number: u32,
+    from: Peer,
+    noted: &Option<Note>,
+    message: &Message,
+    net: &mut Net<Session>,
+) -> Result<(), NoMemory>
+    ensures { OnOk result (net.new ≡ net_after (takes as_session config.now net.old.epoch number from net.old.moment noted.now message.now net.old.count) number net.old) }
+{
+    let told = takes_in(
+        alloc,
+        config,
+        net.epoch,
+        number,
+        from,
+        net.moment,
+        noted,
+        message,
+        net.count,
+        &mut net.hosts.items,
+    )?;
+    net.count = told.count;
+    put_reply(number, told.reply, net)
+}
+
+/// The host of this number takes a message from outside, where there is one.
+#[tactic(auto, using(crate::proofs::HostTaking::net_taken))]
+pub fn taken_at(
+    alloc: Global,
+    setup: &Setup,
+    from: Place,
+    noted: &Option<Note>,
+    message: &Message,
+    number: u32,
+    net: &mut Net<Session>,
+) -> Result<(), NoMemory>
+    ensures { OnOk result (net.new ≡ taken_at as_session setup.now from noted.now message.now number net.old) }
+{
+    net_takes(
+        alloc,
+        &setup.config,
+        number,
+        Peer::Outside(from),
+        noted,
+        message,
+        net,
+    )
+}
