@@ -1,11 +1,11 @@
-ghost use Rattle.std.specs.Prelude.{◌≡◌, [], false, IfOk};
+ghost use Rattle.std.specs.Prelude.{◌≡◌, [], false, IfOk, IfErr};
 ghost use Rattle.sc_hosts.specs.Charters.{IsAnswered};
 ghost use Rattle.sc_turn.specs.Working.{play_of, end_of};
 
 use sc_effects::begun;
 use sc_state::Play;
 use sc_terms::{CallRecord, End, View};
-use sc_value::{CloneIn, Discard, List, NoMemory};
+use sc_value::{CloneIn, List, NoMemory};
 use std::alloc::Global;
 use std::marker::Model;
 
@@ -44,10 +44,11 @@ impl Turn {
 }
 
 impl Turn {
-    /// A turn that shows this view.
+    /// A turn that shows this view. For want of memory the view is handed back.
     #[tactic(auto, using(crate::proofs::Listing::begins))]
-    pub fn begin(alloc: Global, shown: View) -> Result<Turn, NoMemory>
-        ensures { IfOk result (λ t. t ≡ record { shown = shown; calls = []; starved = false }) }
+    pub fn begin(alloc: Global, shown: View) -> Result<Turn, View>
+        ensures ok { IfOk result (λ t. t ≡ record { shown = shown; calls = []; starved = false }) }
+        ensures back { IfErr result (λ view. view ≡ shown) }
     {
         match shown.clone_in(alloc) {
             Ok(view) => Ok(Turn {
@@ -57,18 +58,16 @@ impl Turn {
                 calls: List::new(alloc),
                 starved: false,
             }),
-            Err(NoMemory) => {
-                shown.discard();
-                Err(NoMemory)
-            }
+            Err(NoMemory) => Err(shown),
         }
     }
 
-    /// What is left of the turn, which its servlet or listener ended so: the calls, each with the
-    /// answer that is right, and the end. For want of memory the end is `Starved`, whatever the
+    /// What is left of the turn, which its servlet or listener ended so: the view that was shown, the
+    /// calls, each with the answer that is right, and the end. For want of memory the end is `Starved`, whatever the
     /// servlet or listener said.
     #[tactic(auto, unfolding(crate::specs::Working::end_of))]
     pub fn finish(self, end: End) -> Called
+        ensures shown { result.shown ≡ self.shown }
         ensures calls { result.calls ≡ self.calls }
         ensures end { result.end ≡ end_of self.starved end }
         ensures answered { IsAnswered self.shown self.calls }
@@ -80,9 +79,9 @@ impl Turn {
             starved,
             ..
         } = self;
-        shown.discard();
         drop(play);
         Called {
+            shown,
             calls,
             end: if starved { End::Starved } else { end },
         }
@@ -92,6 +91,7 @@ impl Turn {
 /// What is left of a turn.
 #[derive(Drop)]
 pub struct Called {
+    pub shown: View,
     pub calls: List<CallRecord>,
     pub end: End,
 }

@@ -1,0 +1,19 @@
+-- Tests of a host for what comes from outside.
+use Rattle.std.specs.Prelude.{ℕ, Bool, is_some}
+use Rattle.sc_value.specs.declared.ids.Place.{Place}
+use Rattle.sc_value.specs.declared.message.Request.{Request}
+use Rattle.sc_value.specs.declared.message.Response.{Response}
+use Rattle.sc_state.specs.declared.host.Host.{Host}
+use Rattle.sc_state.specs.declared.host.Peer.TheVariants as peers
+use Rattle.sc_state.specs.declared.session.Session.{Session}
+use Rattle.sc_grammar.specs.Written.{Bytes}
+use Rattle.sc_hosts.specs.Taking.{claim_of, is_claimed}
+use Rattle.sc_hosts.specs.Transacting.{client_for}
+
+-- a server transaction of the host takes the request
+unfoldable pub claims : Place → Request → Host Session → Bool
+claims from request host = is_claimed (claim_of (peers.Outside from) request host)
+
+-- a client transaction of the host has asked for the response
+unfoldable pub awaits : Bytes → ℕ → Place → Response → Host Session → Bool
+awaits salt epoch from response host = is_some (client_for salt epoch (peers.Outside from) response host)

@@ -1,0 +1,143 @@
+//! Requests without To tag: the router says which application they begin a session of.
+
+ghost use Rattle.std.specs.Prelude.{◌≡◌, is_some, if◌then◌else◌, IfOk, OnOk};
+ghost use Rattle.std.specs.Option.{option_copied};
+ghost use Rattle.sc_model.specs.Choices.{choice_of};
+ghost use Rattle.sc_hosts.specs.Histories.{as_session};
+ghost use Rattle.sc_hosts.specs.Routes.{position_of, popped_route, unrouted_initial};
+ghost use Rattle.sc_hosts.specs.Steps.{begins_by, initial_arrives};
+
+use crate::answers::{answer_not_found, answer_unknown};
+use crate::messages::take_request;
+use sc_net::{Position, popped_route, position_of, unrouted_initial};
+use sc_parts::{Choice, Setup};
+use sc_router::next;
+use sc_state::{Net, Note, Session};
+use sc_take::is_never_initial;
+use sc_transact::is_ack;
+use sc_value::{Address, CloneIn, NoMemory, Place, Request, Shared};
+use std::alloc::Global;
+
+fn copied_route(alloc: Global, route: Option<&Address>) -> Result<Option<Address>, NoMemory>
+    ensures { IfOk result (λ copy. copy ≡ option_copied route.entry) }
+{
+    match route {
+        Some(route) => Ok(Some(route.clone_in(alloc)?)),
+        None => Ok(None),
+    }
+}
+
+// The Route that the router took off, else that which the container did.
+fn route_taken(
+    alloc: Global,
+    route: Option<Address>,
+    popped: Option<&Address>,
+) -> Result<Option<Address>, NoMemory>
+    ensures { IfOk result (λ taken. taken ≡ (if is_some route then route else option_copied popped.entry)) }
+{
+    match route {
+        Some(route) => Ok(Some(route)),
+        None => copied_route(alloc, popped),
+    }
+}
+
+#[tactic(auto, unfolding(sc_hosts::specs::Steps::begins_by))]
+fn begins_by(
+    alloc: Global,
+    setup: &Setup,
+    from: Place,
+    request: &Request,
+    popped: Option<&Address>,
+    choice: Choice,
+    net: &mut Net<Session>,
+) -> Result<(), NoMemory>
+    ensures { OnOk result (net.new ≡ begins_by as_session setup.now from request.now (option_copied popped.entry) choice net.old) }
+{
+    match choice {
+        Choice::App {
+            host,
+            order,
+            region,
+            subscriber,
+            popped: route,
+        } => {
+            let popped = route_taken(alloc, route, popped)?;
+            let noted = Some(Note {
+                order,
+                region,
+                subscriber,
+                popped,
+            });
+            take_request(alloc, setup, from, &noted, request, host, net)
+        }
+        Choice::Send(_) => answer_not_found(alloc, &setup.config, from, request, net),
+        Choice::Onward => answer_not_found(alloc, &setup.config, from, request, net),
+        Choice::NotFound => answer_not_found(alloc, &setup.config, from, request, net),
+    }
+}
+
+fn shared_unrouted(
+    alloc: Global,
+    setup: &Setup,
+    request: &Request,
+) -> Result<Shared<Request>, NoMemory>
+    ensures { IfOk result (λ r. r ≡ unrouted_initial setup.now.config request.now) }
+{
+    Shared::new(alloc, unrouted_initial(alloc, &setup.config, request)?)
+}
+
+fn chosen(
+    alloc: Global,
+    setup: &Setup,
+    request: &Request,
+    position: Position,
+) -> Result<Choice, NoMemory>
+    ensures { IfOk result (λ c. c ≡ choice_of setup.now.config setup.now.dar request.now position.region position.directive position.state) }
+{
+    next(
+        alloc,
+        &setup.config,
+        &setup.dar,
+        request,
+        position.region,
+        position.directive,
+        position.state,
+    )
+}
+
+fn begins(
+    alloc: Global,
+    setup: &Setup,
+    from: Place,
+    request: &Request,
+    net: &mut Net<Session>,
+) -> Result<(), NoMemory>
+    ensures { OnOk result (net.new ≡ begins_by as_session setup.now from (unrouted_initial setup.now.config request.now) (popped_route setup.now.config request.now) (choice_of setup.now.config setup.now.dar (unrouted_initial setup.now.config request.now) (position_of setup.now.config request.now).region (position_of setup.now.config request.now).directive (position_of setup.now.config request.now).state) net.old) }
+{
+    let position = position_of(alloc, &setup.config, request)?;
+    let popped = popped_route(alloc, &setup.config, request)?;
+    let unrouted = shared_unrouted(alloc, setup, request)?;
+    let choice = chosen(alloc, setup, unrouted.get(), position)?;
+    begins_by(alloc, setup, from, unrouted.get(), popped, choice, net)
+}
+
+/// A request without To tag, which no transaction takes, begins a session where the router has an
+/// application for it.
+#[tactic(auto, unfolding(sc_hosts::specs::Steps::initial_arrives))]
+pub fn initial_arrives(
+    alloc: Global,
+    setup: &Setup,
+    from: Place,
+    request: &Request,
+    net: &mut Net<Session>,
+) -> Result<(), NoMemory>
+    ensures { OnOk result (net.new ≡ initial_arrives as_session setup.now from request.now net.old) }
+{
+    if is_ack(request) {
+        return Ok(());
+    }
+    if is_never_initial(request) {
+        return answer_unknown(alloc, &setup.config, from, request, net);
+    }
+    begins(alloc, setup, from, request, net)
+}

@@ -1,0 +1,85 @@
+//! The first host with a transaction that a message belongs to.
+
+ghost use Rattle.std.specs.Prelude.{◌≡◌, IfOk};
+ghost use Rattle.sc_hosts.specs.Steps.{first_host};
+ghost use Rattle.sc_arrivals.specs.Arriving.{first_for};
+ghost use Rattle.sc_arrivals.specs.HostTests.{claims, awaits};
+
+use sc_state::{Host, Net, Peer, Session};
+use sc_take::is_claimed;
+use sc_transact::client_for;
+use sc_value::{Message, NoMemory, Place, Request, Response, Text, sum_u32};
+
+#[tactic(auto, unfolding(crate::specs::HostTests::claims))]
+fn claims(from: Place, request: &Request, host: &Host<Session>) -> bool
+    ensures { result ≡ claims from request.now host.now }
+{
+    is_claimed(Peer::Outside(from), request, host)
+}
+
+// The host with the server transaction of a request (RFC 3261 section 17.2.3).
+#[tactic(auto, using(crate::proofs::FirstHosts::claimed_here, crate::proofs::FirstHosts::claimed_later, crate::proofs::FirstHosts::found_nowhere))]
+fn claiming_host(
+    from: Place,
+    request: &Request,
+    hosts: &[Host<Session>],
+) -> Result<Option<u32>, NoMemory>
+    ensures { IfOk result (λ number. number ≡ first_host (claims from request.now) 0 hosts.now) }
+{
+    let mut number: u32 = 0;
+    for host in hosts {
+        if claims(from, request, host) {
+            return Ok(Some(number));
+        }
+        number = sum_u32(number, 1)?;
+    }
+    Ok(None)
+}
+
+#[tactic(auto, unfolding(crate::specs::HostTests::awaits))]
+fn awaits(salt: &[u8], epoch: u32, from: Place, response: &Response, host: &Host<Session>) -> bool
+    ensures { result ≡ awaits salt.now epoch from response.now host.now }
+{
+    client_for(salt, epoch, Peer::Outside(from), response, host).is_some()
+}
+
+// The host with the client transaction of a response (RFC 3261 section 17.1.3).
+#[tactic(auto, using(crate::proofs::FirstHosts::awaited_here, crate::proofs::FirstHosts::awaited_later, crate::proofs::FirstHosts::found_nowhere))]
+fn awaiting_host(
+    salt: &[u8],
+    epoch: u32,
+    from: Place,
+    response: &Response,
+    hosts: &[Host<Session>],
+) -> Result<Option<u32>, NoMemory>
+    ensures { IfOk result (λ number. number ≡ first_host (awaits salt.now epoch from response.now) 0 hosts.now) }
+{
+    let mut number: u32 = 0;
+    for host in hosts {
+        if awaits(salt, epoch, from, response, host) {
+            return Ok(Some(number));
+        }
+        number = sum_u32(number, 1)?;
+    }
+    Ok(None)
+}
+
+/// The number of the first host with a transaction that the message belongs to, None where there is
+/// none.
+#[tactic(auto, unfolding(crate::specs::Arriving::first_for))]
+pub fn first_for(
+    salt: &Text,
+    from: Place,
+    message: &Message,
+    net: &Net<Session>,
+) -> Result<Option<u32>, NoMemory>
+    ensures { IfOk result (λ number. number ≡ first_for salt.now from message.now net.now) }
+{
+    let hosts = net.hosts.as_slice();
+    match message {
+        Message::Request(request) => claiming_host(from, request, hosts),
+        Message::Response(response) => {
+            awaiting_host(salt.as_bytes(), net.epoch, from, response, hosts)
+        }
+    }
+}

@@ -1,0 +1,131 @@
+//! What a turn leaves of its live session.
+
+ghost use Rattle.std.specs.Prelude.{◌≡◌, ◌++◌, IfOk, OnOk, drop, filter};
+ghost use Rattle.sc_value.specs.Lists.{change_first, change_nth};
+ghost use Rattle.sc_hosts.specs.Steps.{still_fired};
+ghost use Rattle.sc_hosts.specs.Taking.{is_live};
+ghost use Rattle.sc_steps.specs.TurnParts.{is_running, live_after, host_after, net_after};
+
+use sc_state::{Fired, Host, Live, Net, Session, Waiting};
+use sc_take::live_place;
+use sc_ticks::runs;
+use sc_value::{AppId, CloneIn, List, NoMemory, Shared};
+use std::alloc::Global;
+
+#[tactic(auto, unfolding(crate::specs::TurnParts::is_running))]
+fn is_running(session: &Session, fired: Fired) -> bool
+    ensures { result ≡ is_running session.now fired }
+{
+    runs(session, fired.due, fired.number)
+}
+
+fn add_running(
+    session: &Session,
+    fired: &[Fired],
+    running: &mut List<Fired>,
+) -> Result<(), NoMemory>
+    ensures { OnOk result (running.new ≡ running.old ++ filter (is_running session.now) fired.now) }
+{
+    for entry in fired {
+        if is_running(session, *entry) {
+            running.push(*entry)?;
+        }
+    }
+    Ok(())
+}
+
+// The entries that the turn leaves in the session.
+#[tactic(auto, unfolding(sc_hosts::specs::Steps::still_fired, crate::specs::TurnParts::is_running))]
+fn still_fired(alloc: Global, session: &Session, fired: &[Fired]) -> Result<List<Fired>, NoMemory>
+    ensures { IfOk result (λ running. running ≡ still_fired session.now fired.now) }
+{
+    let mut running = List::new(alloc);
+    add_running(session, fired, &mut running)?;
+    Ok(running)
+}
+
+fn drop_first(inbox: &mut List<Waiting>)
+    ensures { inbox.new ≡ drop 1 inbox.old }
+{
+    if !inbox.is_empty() {
+        inbox.items.remove(0);
+    }
+}
+
+#[tactic(auto, unfolding(crate::specs::TurnParts::live_after))]
+fn live_after(
+    alloc: Global,
+    now: u64,
+    session: &Shared<Session>,
+    live: &mut Shared<Live<Session>>,
+) -> Result<(), NoMemory>
+    ensures { OnOk result (live.new ≡ live_after now session.now live.old) }
+{
+    let running = still_fired(alloc, session.get(), live.get().fired.as_slice())?;
+    let mut own = live.get().clone_in(alloc)?;
+    own.session = session.clone_in(alloc)?;
+    drop_first(&mut own.inbox);
+    own.since = now;
+    own.fired = running;
+    *live = Shared::new(alloc, own)?;
+    Ok(())
+}
+
+#[tactic(auto, using(sc_value::proofs::ListFacts::change_first_position, sc_value::proofs::ListFacts::change_first_none))]
+fn sessions_after(
+    alloc: Global,
+    serial: u64,
+    now: u64,
+    session: &Shared<Session>,
+    sessions: &mut [Shared<Live<Session>>],
+) -> Result<(), NoMemory>
+    ensures { OnOk result (sessions.new ≡ change_first (is_live serial) (live_after now session.now) sessions.old) }
+{
+    match live_place(serial, sessions) {
+        Some(at) => live_after(alloc, now, session, &mut sessions[at]),
+        None => Ok(()),
+    }
+}
+
+#[tactic(auto, unfolding(crate::specs::TurnParts::host_after))]
+fn host_after(
+    alloc: Global,
+    serial: u64,
+    now: u64,
+    session: &Shared<Session>,
+    host: &mut Host<Session>,
+) -> Result<(), NoMemory>
+    ensures { OnOk result (host.new ≡ host_after serial now session.now host.old) }
+{
+    sessions_after(alloc, serial, now, session, &mut host.sessions.items)
+}
+
+#[tactic(auto, using(sc_value::proofs::ListFacts::change_nth_at, sc_value::proofs::ListFacts::change_nth_none))]
+fn hosts_after(
+    alloc: Global,
+    app: AppId,
+    now: u64,
+    session: &Shared<Session>,
+    hosts: &mut [Host<Session>],
+) -> Result<(), NoMemory>
+    ensures { OnOk result (hosts.new ≡ change_nth app.host (host_after app.serial now session.now) hosts.old) }
+{
+    let at = app.host as usize;
+    if at < hosts.len() {
+        return host_after(alloc, app.serial, now, session, &mut hosts[at]);
+    }
+    Ok(())
+}
+
+/// The event leaves the inbox of the live session, which is from now on what its turn made of it.
+#[tactic(auto, unfolding(crate::specs::TurnParts::net_after))]
+pub fn net_after(
+    alloc: Global,
+    app: AppId,
+    session: &Shared<Session>,
+    net: &mut Net<Session>,
+) -> Result<(), NoMemory>
+    ensures { OnOk result (net.new ≡ net_after app session.now net.old) }
+{
+    hosts_after(alloc, app, net.moment, session, &mut net.hosts.items)
+}

@@ -1,0 +1,102 @@
+//! Each step.
+
+ghost use Rattle.std.specs.Prelude.{◌≡◌, [], OnOk};
+ghost use Rattle.sc_terms.specs.declared.steps.Step.TheVariants as steps;
+ghost use Rattle.sc_hosts.specs.Histories.{as_session};
+ghost use Rattle.sc_hosts.specs.Runs.{after_step};
+ghost use Rattle.sc_hosts.specs.Steps.{bad_by, stepped};
+
+use crate::endings::withdrawn;
+use crate::turning::turns;
+use sc_arrivals::{answer_bad, arrived};
+use sc_net::delivered;
+use sc_parts::Setup;
+use sc_state::{Net, Session};
+use sc_terms::{Bad, CallRecord, Config, End, Step};
+use sc_ticks::{lost, ticked};
+use sc_value::{AppId, List, NoMemory, Place};
+use std::alloc::Global;
+
+fn nothing_sent(alloc: Global, net: &mut Net<Session>)
+    ensures { net.new ≡ record net.old { sent = [] } }
+{
+    net.sent = List::new(alloc);
+}
+
+#[tactic(auto, unfolding(sc_hosts::specs::Steps::bad_by))]
+fn bad_arrived(
+    alloc: Global,
+    config: &Config,
+    from: Place,
+    bad: &Bad,
+    net: &mut Net<Session>,
+) -> Result<(), NoMemory>
+    ensures { OnOk result (net.new ≡ bad_by config.now from bad.now.heads net.old) }
+{
+    match &bad.heads {
+        Some(heads) => answer_bad(alloc, config, from, heads.get(), net),
+        None => Ok(()),
+    }
+}
+
+/// A step, before anything is delivered.
+#[tactic(auto, unfolding(sc_hosts::specs::Steps::stepped))]
+fn stepped(
+    alloc: Global,
+    setup: &Setup,
+    step: &Step,
+    net: &mut Net<Session>,
+) -> Result<(), NoMemory>
+    ensures { OnOk result (net.new ≡ stepped as_session setup.now step.now net.old) }
+{
+    match step {
+        Step::In(from, message) => arrived(alloc, setup, *from, message, net),
+        Step::Bad(from, bad) => bad_arrived(alloc, &setup.config, *from, bad, net),
+        Step::Lost(place) => lost(alloc, &setup.config, *place, net),
+        Step::Tick(now) => ticked(alloc, &setup.config, *now, net),
+        Step::Turn {
+            app,
+            now,
+            calls,
+            end,
+            ..
+        } => turns(alloc, setup, *app, *now, calls.as_slice(), *end, net),
+        Step::Withdraw(app) => withdrawn(alloc, setup, *app, net),
+    }
+}
+
+/// What a step makes of a net: all that it sends outside stands in `sent`, and no message is on its
+/// way.
+#[tactic(auto, unfolding(sc_hosts::specs::Runs::after_step))]
+pub fn after_step(
+    alloc: Global,
+    setup: &Setup,
+    step: &Step,
+    net: &mut Net<Session>,
+) -> Result<(), NoMemory>
+    ensures { OnOk result (net.new ≡ after_step as_session setup.now net.old step.now) }
+{
+    nothing_sent(alloc, net);
+    stepped(alloc, setup, step, net)?;
+    delivered(alloc, setup, net)
+}
+
+/// What a turn of an event makes of a net, as `after_step`.
+#[tactic(auto, unfolding(sc_hosts::specs::Runs::after_step, sc_hosts::specs::Steps::stepped))]
+pub fn after_turn(
+    alloc: Global,
+    setup: &Setup,
+    app: AppId,
+    event: u64,
+    now: u64,
+    made: &[CallRecord],
+    end: End,
+    net: &mut Net<Session>,
+) -> Result<(), NoMemory>
+    ensures { OnOk result (net.new ≡ after_step as_session setup.now net.old (Step.Turn app event now made.now end)) }
+{
+    let _ = event;
+    nothing_sent(alloc, net);
+    turns(alloc, setup, app, now, made, end, net)?;
+    delivered(alloc, setup, net)
+}

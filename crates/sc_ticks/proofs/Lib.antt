@@ -1,0 +1,4 @@
+pub mod DatedHosts
+pub mod FirstItems
+pub mod LostClients
+pub mod Runnings

@@ -1,0 +1,6 @@
+use Rattle.std.proofs.Common.{sym, ◌∙◌}
+use Rattle.sc_ticks.proofs.Runnings.{any_entry}
+use Rattle.sc_ticks.proofs.running.runs.Goals as goal
+
+pub returns : goal.returns
+returns c = c.parts_run.ensures ∙ sym (any_entry c.args.due c.args.number c.args.session.now)

@@ -1,0 +1,226 @@
+//! All that runs in a net, each with its key and what is due there.
+
+ghost use Rattle.std.specs.Prelude.{◌≡◌, ◌++◌, if◌then◌else◌, Some, IfOk, OnOk};
+ghost use Rattle.std.specs.List.{flat_map};
+ghost use Rattle.sc_hosts.specs.Histories.{as_session};
+ghost use Rattle.sc_hosts.specs.Steps.{dated, client_dated, server_dated, is_fired, live_dated, host_dated, hosts_dated, all_dated};
+ghost use Rattle.sc_hosts.specs.Transacting.{is_cancel_client};
+ghost use Rattle.sc_ticks.specs.Items.{item_of, entry_dated};
+
+use crate::entries::{SessionEntry, entries_of};
+use crate::numbers::numbered;
+use sc_due::DueKey;
+use sc_state::{Client, Fired, Host, Live, Net, Queued, Server, Session};
+use sc_transact::{due_of_client, due_of_server, is_cancel_client};
+use sc_value::{AppId, CloneIn, List, NoMemory, Shared, sum_u32};
+use std::alloc::Global;
+use std::marker::Model;
+
+/// What is due at a moment.
+#[derive(Drop)]
+pub enum Item {
+    /// The event of an entry of a session.
+    Event { app: AppId, event: Queued },
+    /// The timer of a client transaction.
+    Client(Shared<Client>),
+    /// The timer of a server transaction.
+    Server(Shared<Server>),
+}
+
+/// An item with its key.
+#[derive(Drop)]
+pub struct Dated {
+    pub key: DueKey,
+    pub item: Item,
+}
+
+impl Model for Dated {
+    ghost use Rattle.sc_hosts.specs.Steps.{Dated as Seen};
+    ghost use Rattle.sc_ticks.specs.Items.{item_of};
+
+    ghost Value = { Seen };
+
+    ghost view = { λ d. record { entry = d.key; item = item_of d.item } };
+}
+
+#[tactic(auto, unfolding(sc_hosts::specs::Steps::dated))]
+fn put_dated(
+    app: AppId,
+    number: u64,
+    item: Item,
+    due: Option<u64>,
+    out: &mut List<Dated>,
+) -> Result<(), NoMemory>
+    ensures { OnOk result (out.new ≡ out.old ++ dated app number (item_of item) due) }
+{
+    match due {
+        Some(due) => {
+            let key = DueKey { due, app, number };
+            out.push(Dated { key, item })?;
+            Ok(())
+        }
+        None => Ok(()),
+    }
+}
+
+fn client_timer(client: &Client) -> u64
+    ensures { result ≡ (if is_cancel_client client.now then 4 else 3) }
+{
+    if is_cancel_client(client) { 4 } else { 3 }
+}
+
+#[tactic(auto, unfolding(sc_hosts::specs::Steps::client_dated))]
+fn put_client(alloc: Global, client: &Shared<Client>, out: &mut List<Dated>) -> Result<(), NoMemory>
+    ensures { OnOk result (out.new ≡ out.old ++ client_dated client.now) }
+{
+    let own = client.get();
+    let due = due_of_client(own)?;
+    let number = numbered(8, own.branch, client_timer(own))?;
+    let item = Item::Client(client.clone_in(alloc)?);
+    put_dated(own.app, number, item, due, out)
+}
+
+fn put_clients(
+    alloc: Global,
+    clients: &[Shared<Client>],
+    out: &mut List<Dated>,
+) -> Result<(), NoMemory>
+    ensures { OnOk result (out.new ≡ out.old ++ flat_map client_dated clients.now) }
+{
+    for client in clients {
+        put_client(alloc, client, out)?;
+    }
+    Ok(())
+}
+
+#[tactic(auto, unfolding(sc_hosts::specs::Steps::server_dated))]
+fn put_server(alloc: Global, server: &Shared<Server>, out: &mut List<Dated>) -> Result<(), NoMemory>
+    ensures { OnOk result (out.new ≡ out.old ++ server_dated server.now) }
+{
+    let own = server.get();
+    let due = due_of_server(own)?;
+    let number = numbered(8, own.event, 5)?;
+    let item = Item::Server(server.clone_in(alloc)?);
+    put_dated(own.app, number, item, due, out)
+}
+
+fn put_servers(
+    alloc: Global,
+    servers: &[Shared<Server>],
+    out: &mut List<Dated>,
+) -> Result<(), NoMemory>
+    ensures { OnOk result (out.new ≡ out.old ++ flat_map server_dated servers.now) }
+{
+    for server in servers {
+        put_server(alloc, server, out)?;
+    }
+    Ok(())
+}
+
+#[tactic(auto, unfolding(sc_hosts::specs::Steps::is_fired))]
+fn is_fired(fired: &[Fired], due: u64, number: u64) -> bool
+    ensures { result ≡ is_fired fired.now due number }
+{
+    fired.iter().any(|f| f.due == due && f.number == number)
+}
+
+// An entry that has had its event is left out.
+#[tactic(auto, unfolding(crate::specs::Items::entry_dated))]
+fn put_entry(
+    alloc: Global,
+    app: AppId,
+    fired: &[Fired],
+    entry: &SessionEntry,
+    out: &mut List<Dated>,
+) -> Result<(), NoMemory>
+    ensures { OnOk result (out.new ≡ out.old ++ entry_dated app fired.now entry.now) }
+{
+    if is_fired(fired, entry.due, entry.number) {
+        return Ok(());
+    }
+    let event = entry.event.clone_in(alloc)?;
+    let item = Item::Event { app, event };
+    put_dated(app, entry.number, item, Some(entry.due), out)
+}
+
+fn put_entries(
+    alloc: Global,
+    app: AppId,
+    fired: &[Fired],
+    entries: &[SessionEntry],
+    out: &mut List<Dated>,
+) -> Result<(), NoMemory>
+    ensures { OnOk result (out.new ≡ out.old ++ flat_map (entry_dated app fired.now) entries.now) }
+{
+    for entry in entries {
+        put_entry(alloc, app, fired, entry, out)?;
+    }
+    Ok(())
+}
+
+#[tactic(auto, unfolding(sc_hosts::specs::Steps::live_dated, crate::specs::Items::entry_dated, sc_hosts::specs::Histories::as_session))]
+fn put_live(
+    alloc: Global,
+    host: u32,
+    live: &Live<Session>,
+    out: &mut List<Dated>,
+) -> Result<(), NoMemory>
+    ensures { OnOk result (out.new ≡ out.old ++ live_dated as_session host live.now) }
+{
+    let app = AppId {
+        host,
+        serial: live.serial,
+    };
+    let entries = entries_of(alloc, live.session.get())?;
+    put_entries(alloc, app, live.fired.as_slice(), entries.as_slice(), out)
+}
+
+fn put_sessions(
+    alloc: Global,
+    host: u32,
+    sessions: &[Shared<Live<Session>>],
+    out: &mut List<Dated>,
+) -> Result<(), NoMemory>
+    ensures { OnOk result (out.new ≡ out.old ++ flat_map (live_dated as_session host) sessions.now) }
+{
+    for live in sessions {
+        put_live(alloc, host, live.get(), out)?;
+    }
+    Ok(())
+}
+
+#[tactic(auto, unfolding(sc_hosts::specs::Steps::host_dated))]
+fn put_host(
+    alloc: Global,
+    number: u32,
+    host: &Host<Session>,
+    out: &mut List<Dated>,
+) -> Result<(), NoMemory>
+    ensures { OnOk result (out.new ≡ out.old ++ host_dated as_session number host.now) }
+{
+    put_clients(alloc, host.clients.as_slice(), out)?;
+    put_servers(alloc, host.servers.as_slice(), out)?;
+    put_sessions(alloc, number, host.sessions.as_slice(), out)
+}
+
+#[tactic(auto, using(crate::proofs::DatedHosts::dated_next, crate::proofs::DatedHosts::dated_end))]
+fn put_hosts(alloc: Global, hosts: &[Host<Session>], out: &mut List<Dated>) -> Result<(), NoMemory>
+    ensures { OnOk result (out.new ≡ out.old ++ hosts_dated as_session 0 hosts.now) }
+{
+    let mut number: u32 = 0;
+    for host in hosts {
+        put_host(alloc, number, host, out)?;
+        number = sum_u32(number, 1)?;
+    }
+    Ok(())
+}
+
+/// All that runs in a net.
+#[tactic(auto, unfolding(sc_hosts::specs::Steps::all_dated))]
+pub fn all_dated(alloc: Global, net: &Net<Session>) -> Result<List<Dated>, NoMemory>
+    ensures { IfOk result (λ all. all ≡ all_dated as_session net.now) }
+{
+    let mut all = List::new(alloc);
+    put_hosts(alloc, net.hosts.as_slice(), &mut all)?;
+    Ok(all)
+}

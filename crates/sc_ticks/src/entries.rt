@@ -1,0 +1,116 @@
+//! What runs in an application session.
+
+ghost use Rattle.std.specs.Prelude.{◌≡◌, ◌++◌, [], ◌∷◌, IfOk, OnOk};
+ghost use Rattle.std.specs.List.{flat_map};
+ghost use Rattle.sc_hosts.specs.Sessions.{expiry_entry, timer_entry, branch_entry, entries_of};
+
+use crate::numbers::numbered;
+use sc_state::{Branch, Proxy, Queued, Session};
+use sc_terms::TimerView;
+use sc_value::{List, NoMemory};
+use std::alloc::Global;
+use std::marker::Model;
+
+/// An entry of an application session: when it is due, its number there, and the event that is
+/// queued then. The number tells the kind: 0 for the expiry, 8x + 1 for the timer x, and 8x + 2
+/// for the timer of branch x.
+#[derive(Drop)]
+pub struct SessionEntry {
+    pub due: u64,
+    pub number: u64,
+    pub event: Queued,
+}
+
+impl Model for SessionEntry {
+    ghost use Rattle.sc_hosts.specs.Sessions.{SessionEntry as Seen};
+
+    ghost Value = { Seen };
+
+    ghost view = { λ e. record { due = e.due; number = e.number; event = e.event } };
+}
+
+#[tactic(auto, unfolding(sc_hosts::specs::Sessions::expiry_entry))]
+fn put_expiry(expires: Option<u64>, out: &mut List<SessionEntry>) -> Result<(), NoMemory>
+    ensures { OnOk result (out.new ≡ out.old ++ expiry_entry expires) }
+{
+    match expires {
+        Some(due) => {
+            out.push(SessionEntry {
+                due,
+                number: 0,
+                event: Queued::Expired,
+            })?;
+            Ok(())
+        }
+        None => Ok(()),
+    }
+}
+
+#[tactic(auto, unfolding(sc_hosts::specs::Sessions::timer_entry))]
+fn timer_entry(timer: &TimerView) -> Result<SessionEntry, NoMemory>
+    ensures { IfOk result (λ entry. entry ≡ timer_entry timer.now) }
+{
+    let number = numbered(8, u64::from(timer.id.0), 1)?;
+    Ok(SessionEntry {
+        due: timer.due,
+        number,
+        event: Queued::Timer { id: timer.id },
+    })
+}
+
+fn put_timers(timers: &[TimerView], out: &mut List<SessionEntry>) -> Result<(), NoMemory>
+    ensures { OnOk result (out.new ≡ out.old ++ flat_map (λ timer. timer_entry timer ∷ []) timers.now) }
+{
+    for timer in timers {
+        out.push(timer_entry(timer)?)?;
+    }
+    Ok(())
+}
+
+#[tactic(auto, unfolding(sc_hosts::specs::Sessions::branch_entry))]
+fn put_branch(branch: &Branch, out: &mut List<SessionEntry>) -> Result<(), NoMemory>
+    ensures { OnOk result (out.new ≡ out.old ++ branch_entry branch.now) }
+{
+    let due = match branch.due {
+        Some(due) => due,
+        None => return Ok(()),
+    };
+    let number = numbered(8, branch.number, 2)?;
+    let branch = branch.number;
+    out.push(SessionEntry {
+        due,
+        number,
+        event: Queued::BranchTimer { branch, due },
+    })?;
+    Ok(())
+}
+
+fn put_branches(branches: &[Branch], out: &mut List<SessionEntry>) -> Result<(), NoMemory>
+    ensures { OnOk result (out.new ≡ out.old ++ flat_map branch_entry branches.now) }
+{
+    for branch in branches {
+        put_branch(branch, out)?;
+    }
+    Ok(())
+}
+
+fn put_proxies(proxies: &[Proxy], out: &mut List<SessionEntry>) -> Result<(), NoMemory>
+    ensures { OnOk result (out.new ≡ out.old ++ flat_map (λ proxy. flat_map branch_entry proxy.branches) proxies.now) }
+{
+    for proxy in proxies {
+        put_branches(proxy.branches.as_slice(), out)?;
+    }
+    Ok(())
+}
+
+/// All that runs in a session: its expiry, its timers and those of its branches.
+#[tactic(auto, unfolding(sc_hosts::specs::Sessions::entries_of))]
+pub fn entries_of(alloc: Global, session: &Session) -> Result<List<SessionEntry>, NoMemory>
+    ensures { IfOk result (λ entries. entries ≡ entries_of session.now) }
+{
+    let mut entries = List::new(alloc);
+    put_expiry(session.view.expires, &mut entries)?;
+    put_timers(session.view.timers.as_slice(), &mut entries)?;
+    put_proxies(session.known.proxies.as_slice(), &mut entries)?;
+    Ok(entries)
+}
