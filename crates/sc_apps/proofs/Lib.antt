@@ -1,1 +1,3 @@
-pub mod Singles
+pub mod Legs
+pub mod Playing
+pub mod Readable

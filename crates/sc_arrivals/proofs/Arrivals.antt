@@ -7,7 +7,7 @@ use Rattle.sc_parts.specs.declared.setup.Setup.{Setup}
 use Rattle.sc_state.specs.declared.net.Net.{Net}
 use Rattle.sc_state.specs.declared.session.Session.{Session}
 use Rattle.sc_hosts.specs.Histories.{as_session}
-use Rattle.sc_hosts.specs.Steps.{arrived, request_by, response_by, taken_at}
+use Rattle.sc_hosts.specs.Arrivals.{arrived, request_by, response_by, taken_at}
 use Rattle.sc_arrivals.specs.Arriving.{first_for, untaken}
 use Rattle.sc_arrivals.specs.HostTests.{claims, awaits}
 

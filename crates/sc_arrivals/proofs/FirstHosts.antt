@@ -8,7 +8,7 @@ use Rattle.sc_value.specs.declared.message.Response.{Response}
 use Rattle.sc_state.specs.declared.host.Host.{Host}
 use Rattle.sc_state.specs.declared.session.Session.{Session}
 use Rattle.sc_grammar.specs.Written.{Bytes}
-use Rattle.sc_hosts.specs.Steps.{first_host}
+use Rattle.sc_hosts.specs.Arrivals.{first_host}
 use Rattle.sc_arrivals.specs.HostTests.{claims, awaits}
 
 step : (test : Host Session → Bool) (number : ℕ) (host : Host Session) (hosts : List (Host Session)) (b : Bool) → test host ≡ b

@@ -8,7 +8,7 @@ use Rattle.sc_state.specs.declared.net.Net.{Net}
 use Rattle.sc_state.specs.declared.session.Session.{Session}
 use Rattle.sc_grammar.specs.Written.{Bytes}
 use Rattle.sc_hosts.specs.Histories.{as_session}
-use Rattle.sc_hosts.specs.Steps.{first_host, unclaimed}
+use Rattle.sc_hosts.specs.Arrivals.{first_host, unclaimed}
 use Rattle.sc_arrivals.specs.HostTests.{claims, awaits}
 
 -- the first host with a transaction that the message belongs to

@@ -2,7 +2,7 @@
 
 ghost use Rattle.std.specs.Prelude.{◌≡◌, Some, OnOk};
 ghost use Rattle.sc_value.specs.Params.{same_bytes};
-ghost use Rattle.sc_hosts.specs.Steps.{bad_by, edge_answer};
+ghost use Rattle.sc_hosts.specs.Arrivals.{bad_by, edge_answer};
 ghost use Rattle.sc_hosts.specs.Words.{ack, does_not_exist, not_found};
 
 use crate::messages::{bad_message, edge_message};
@@ -13,7 +13,7 @@ use sc_transact::is_ack;
 use sc_value::{NoMemory, Place, Request};
 use std::alloc::Global;
 
-#[tactic(auto, unfolding(sc_hosts::specs::Steps::edge_answer))]
+#[tactic(auto, unfolding(sc_hosts::specs::Arrivals::edge_answer))]
 fn edge_answer(
     alloc: Global,
     config: &Config,
@@ -77,7 +77,7 @@ fn is_bad_ack(heads: &Answerable) -> bool
 
 /// A text that is no message, but a request that can be answered, gets 400 (RFC 3261 section
 /// 21.4.1).
-#[tactic(auto, unfolding(sc_hosts::specs::Steps::bad_by))]
+#[tactic(auto, unfolding(sc_hosts::specs::Arrivals::bad_by))]
 pub fn answer_bad(
     alloc: Global,
     config: &Config,
@@ -95,7 +95,7 @@ pub fn answer_bad(
 }
 
 /// A text that is no message gets 400 where it can be answered (RFC 3261 section 21.4.1).
-#[tactic(auto, unfolding(sc_hosts::specs::Steps::bad_by))]
+#[tactic(auto, unfolding(sc_hosts::specs::Arrivals::bad_by))]
 pub fn bad_by(
     alloc: Global,
     config: &Config,

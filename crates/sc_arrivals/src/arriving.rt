@@ -2,7 +2,7 @@
 
 ghost use Rattle.std.specs.Prelude.{◌≡◌, OnOk};
 ghost use Rattle.sc_hosts.specs.Histories.{as_session};
-ghost use Rattle.sc_hosts.specs.Steps.{arrived, unclaimed};
+ghost use Rattle.sc_hosts.specs.Arrivals.{arrived, unclaimed};
 ghost use Rattle.sc_arrivals.specs.Arriving.{untaken};
 
 use crate::answers::answer_unknown;
@@ -17,7 +17,7 @@ use sc_value::{Message, NoMemory, Place, Request, tag};
 use std::alloc::Global;
 
 // No transaction takes the request.
-#[tactic(auto, unfolding(sc_hosts::specs::Steps::unclaimed))]
+#[tactic(auto, unfolding(sc_hosts::specs::Arrivals::unclaimed))]
 fn unclaimed(
     alloc: Global,
     setup: &Setup,

@@ -5,7 +5,7 @@ ghost use Rattle.std.specs.Option.{option_copied};
 ghost use Rattle.sc_model.specs.Choices.{choice_of};
 ghost use Rattle.sc_hosts.specs.Histories.{as_session};
 ghost use Rattle.sc_hosts.specs.Routes.{position_of, popped_route, unrouted_initial};
-ghost use Rattle.sc_hosts.specs.Steps.{begins_by, initial_arrives};
+ghost use Rattle.sc_hosts.specs.Arrivals.{begins_by, initial_arrives};
 
 use crate::answers::{answer_not_found, answer_unknown};
 use crate::messages::take_request;
@@ -41,7 +41,7 @@ fn route_taken(
     }
 }
 
-#[tactic(auto, unfolding(sc_hosts::specs::Steps::begins_by))]
+#[tactic(auto, unfolding(sc_hosts::specs::Arrivals::begins_by))]
 fn begins_by(
     alloc: Global,
     setup: &Setup,
@@ -123,7 +123,7 @@ fn begins(
 
 /// A request without To tag, which no transaction takes, begins a session where the router has an
 /// application for it.
-#[tactic(auto, unfolding(sc_hosts::specs::Steps::initial_arrives))]
+#[tactic(auto, unfolding(sc_hosts::specs::Arrivals::initial_arrives))]
 pub fn initial_arrives(
     alloc: Global,
     setup: &Setup,

@@ -1,7 +1,7 @@
 //! The first host with a transaction that a message belongs to.
 
 ghost use Rattle.std.specs.Prelude.{◌≡◌, IfOk};
-ghost use Rattle.sc_hosts.specs.Steps.{first_host};
+ghost use Rattle.sc_hosts.specs.Arrivals.{first_host};
 ghost use Rattle.sc_arrivals.specs.Arriving.{first_for};
 ghost use Rattle.sc_arrivals.specs.HostTests.{claims, awaits};
 

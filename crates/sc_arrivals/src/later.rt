@@ -5,7 +5,7 @@ ghost use Rattle.std.specs.Prelude.{◌≡◌, option_and_then, IfOk, OnOk};
 ghost use Rattle.std.specs.Option.{option_copied};
 ghost use Rattle.sc_hosts.specs.Histories.{as_session};
 ghost use Rattle.sc_hosts.specs.Nets.{named_host};
-ghost use Rattle.sc_hosts.specs.Steps.{later_at, later_arrives};
+ghost use Rattle.sc_hosts.specs.Arrivals.{later_at, later_arrives};
 
 use crate::answers::answer_unknown;
 use crate::messages::take_request;
@@ -25,7 +25,7 @@ fn host_named(uri: Option<&Uri>, net: &Net<Session>) -> Result<Option<u32>, NoMe
     }
 }
 
-#[tactic(auto, unfolding(sc_hosts::specs::Steps::later_at))]
+#[tactic(auto, unfolding(sc_hosts::specs::Arrivals::later_at))]
 fn later_at(
     alloc: Global,
     setup: &Setup,
@@ -43,7 +43,7 @@ fn later_at(
 }
 
 /// A request with a To tag, which no transaction takes, goes to the session that it names.
-#[tactic(auto, unfolding(sc_hosts::specs::Steps::later_arrives))]
+#[tactic(auto, unfolding(sc_hosts::specs::Arrivals::later_arrives))]
 pub fn later_arrives(
     alloc: Global,
     setup: &Setup,

@@ -5,7 +5,7 @@ ghost use Rattle.sc_value.specs.declared.message.Message.{Message};
 ghost use Rattle.sc_model.specs.Names.{edge_tag};
 ghost use Rattle.sc_hosts.specs.Histories.{as_session};
 ghost use Rattle.sc_hosts.specs.Messages.{bad_response, own_response};
-ghost use Rattle.sc_hosts.specs.Steps.{taken_at};
+ghost use Rattle.sc_hosts.specs.Arrivals.{taken_at};
 
 use sc_messages::bad_response;
 use sc_net::taken_at;

@@ -6,7 +6,7 @@ ghost use Rattle.std.specs.Option.{option_copied};
 ghost use Rattle.sc_value.specs.Params.{same_bytes};
 ghost use Rattle.sc_grammar.specs.Written.{uri_text};
 ghost use Rattle.sc_model.specs.Dialogs.{contact_uri};
-ghost use Rattle.sc_hosts.specs.Refusals.{MOST_BRANCHES};
+ghost use Rattle.sc_hosts.specs.RefusalParts.{MOST_BRANCHES};
 ghost use Rattle.sc_branches.specs.Targets.{target_of, targets_of, has_text, with_new};
 ghost use Rattle.sc_hosts.specs.Branches.{is_redirect, sip_uri, contacts_of, was_tried, untried, added_targets};
 

@@ -23,7 +23,7 @@ pub fn is_askable(ask: &Inside) -> bool
     is_asked_method(ask.method.as_bytes()) && are_asked_fields(ask.fields.as_slice())
 }
 
-#[tactic(auto, unfolding(sc_model::specs::DialogRequests::is_asked_method, sc_model::specs::DialogRequests::cancel, sc_model::specs::Turns::ack))]
+#[tactic(auto, unfolding(sc_model::specs::DialogRequests::is_asked_method, sc_model::specs::DialogRequests::cancel, sc_model::specs::SessionStates::ack))]
 fn is_asked_method(method: &[u8]) -> bool
     ensures { result ≡ is_asked_method method.now }
 {
@@ -36,7 +36,7 @@ fn are_asked_fields(fields: &[Field]) -> bool
     fields.iter().all(|field| is_asked_field(field))
 }
 
-#[tactic(auto, unfolding(sc_model::specs::DialogRequests::is_asked_field, sc_model::specs::Turns::is_bad_field))]
+#[tactic(auto, unfolding(sc_model::specs::DialogRequests::is_asked_field, sc_model::specs::DialogRequests::is_bad_field))]
 fn is_asked_field(field: &Field) -> bool
     ensures { result ≡ is_asked_field field.now }
 {
@@ -64,7 +64,7 @@ pub fn next_request(alloc: Global, dialog: &Dialog, ask: &Inside) -> Result<Requ
 }
 
 /// The ACK to a 2xx, with this sequence number (RFC 3261 section 13.2.2.4).
-#[tactic(auto, unfolding(sc_model::specs::DialogRequests::ack_request, sc_model::specs::Turns::ack))]
+#[tactic(auto, unfolding(sc_model::specs::DialogRequests::ack_request, sc_model::specs::SessionStates::ack))]
 pub fn ack_request(
     alloc: Global,
     dialog: &Dialog,

@@ -5,7 +5,8 @@ ghost use Rattle.std.specs.List.{find};
 ghost use Rattle.std.specs.Option.{option_copied};
 ghost use Rattle.sc_value.specs.Lists.{change_first, remove_first};
 ghost use Rattle.sc_hosts.specs.Looking.{same_session, removed};
-ghost use Rattle.sc_hosts.specs.Refusals.{draft_in, awaits_ack};
+ghost use Rattle.sc_hosts.specs.RefusalParts.{draft_in};
+ghost use Rattle.sc_hosts.specs.Refusals.{awaits_ack};
 ghost use Rattle.sc_hosts.specs.Effects.{sent_view, with_view, sent, discarded, tidy, without_session, acked};
 
 use crate::looking::removed;

@@ -5,7 +5,7 @@ use Rattle.sc_terms.specs.declared.settings.Config.{Config}
 use Rattle.sc_state.specs.declared.orders.Order.TheVariants as orders
 use Rattle.sc_state.specs.declared.session.Kept.{Kept}
 use Rattle.sc_state.specs.declared.working.Working.{Working}
-use Rattle.sc_hosts.specs.Finishing.{in_view, drawn, passed_on}
+use Rattle.sc_hosts.specs.Acting.{in_view, drawn, passed_on}
 use Rattle.sc_hosts.specs.Words.{ack}
 use Rattle.sc_hosts.specs.Working.{giving, next_branch}
 use Rattle.sc_finish.specs.Passing.{passed, sends_on}

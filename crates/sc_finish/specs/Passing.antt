@@ -9,7 +9,7 @@ use Rattle.sc_state.specs.declared.orders.Order.TheVariants as orders
 use Rattle.sc_state.specs.declared.session.Kept.{Kept}
 use Rattle.sc_state.specs.declared.working.Working.{Working}
 use Rattle.sc_hosts.specs.Effects.{answered}
-use Rattle.sc_hosts.specs.Finishing.{in_view, sent_proxy}
+use Rattle.sc_hosts.specs.Acting.{in_view, sent_proxy}
 use Rattle.sc_hosts.specs.Messages.{on_branch, passed_request}
 use Rattle.sc_hosts.specs.Working.{answering, giving}
 

@@ -2,7 +2,7 @@
 
 ghost use Rattle.std.specs.Prelude.{◌≡◌, IfOk, OnOk};
 ghost use Rattle.std.specs.List.{fold};
-ghost use Rattle.sc_hosts.specs.Finishing.{started, acted, acts, all_act};
+ghost use Rattle.sc_hosts.specs.Acting.{started, acted, acts, all_act};
 ghost use Rattle.sc_hosts.specs.Branches.{new_branch, records_route};
 ghost use Rattle.sc_hosts.specs.Messages.{proxied_request};
 ghost use Rattle.sc_hosts.specs.Working.{next_branch};
@@ -111,7 +111,7 @@ fn all_started(
 }
 
 /// New branches, then what is forwarded, then CANCELs in the order of branches.
-#[tactic(auto, unfolding(sc_hosts::specs::Finishing::acted))]
+#[tactic(auto, unfolding(sc_hosts::specs::Acting::acted))]
 fn acted(
     alloc: Global,
     config: &Config,
@@ -133,7 +133,7 @@ fn acted(
     Ok(())
 }
 
-#[tactic(auto, unfolding(sc_hosts::specs::Finishing::acts))]
+#[tactic(auto, unfolding(sc_hosts::specs::Acting::acts))]
 fn acts(
     alloc: Global,
     config: &Config,
@@ -164,7 +164,7 @@ fn each_acts(
 
 /// All proxied requests act, in the order of their numbers; one whose SipSession the application ended
 /// does nothing.
-#[tactic(auto, unfolding(sc_hosts::specs::Finishing::all_act))]
+#[tactic(auto, unfolding(sc_hosts::specs::Acting::all_act))]
 pub fn all_act(alloc: Global, config: &Config, working: &mut Working) -> Result<(), NoMemory>
     ensures { OnOk result (working.new ≡ all_act config.now working.old) }
 {

@@ -3,9 +3,10 @@
 ghost use Rattle.std.specs.Prelude.{◌≡◌, ◌+◌, ◌++◌, ◌∷◌, [], IfOk, OnOk, map};
 ghost use Rattle.sc_value.specs.Lists.{change_first};
 ghost use Rattle.sc_hosts.specs.Looking.{same_request};
-ghost use Rattle.sc_hosts.specs.Preparing.{change_proxy, proxy_of};
+ghost use Rattle.sc_hosts.specs.PreparingResponses.{change_proxy};
+ghost use Rattle.sc_hosts.specs.Preparing.{proxy_of};
 ghost use Rattle.sc_hosts.specs.Working.{giving};
-ghost use Rattle.sc_hosts.specs.Finishing.{drawn, with_forwarded, rested_branch, rested, proxy_now};
+ghost use Rattle.sc_hosts.specs.Acting.{drawn, with_forwarded, rested_branch, rested, proxy_now};
 ghost use Rattle.sc_finish.specs.Acts.{branched};
 
 use sc_effects::{is_final, proxy_of, proxy_place};
@@ -58,7 +59,7 @@ pub fn with_branch(known: &mut Known, req: ReqId, branch: Branch) -> Result<(), 
     branched_in(&mut known.proxies.items, req, branch)
 }
 
-#[tactic(auto, unfolding(sc_hosts::specs::Finishing::with_forwarded))]
+#[tactic(auto, unfolding(sc_hosts::specs::Acting::with_forwarded))]
 fn with_forwarded(proxy: &mut Proxy, code: u16)
     ensures { proxy.new ≡ with_forwarded code proxy.old }
 {
@@ -84,7 +85,7 @@ pub fn note_forwarded(known: &mut Known, req: ReqId, code: u16)
     forwarded_in(&mut known.proxies.items, req, code);
 }
 
-#[tactic(auto, unfolding(sc_hosts::specs::Finishing::rested_branch))]
+#[tactic(auto, unfolding(sc_hosts::specs::Acting::rested_branch))]
 fn rested_branch(branch: &mut Branch)
     ensures { branch.new ≡ rested_branch branch.old }
 {
@@ -99,7 +100,7 @@ fn all_rested(branches: &mut [Branch])
     }
 }
 
-#[tactic(auto, unfolding(sc_hosts::specs::Finishing::rested))]
+#[tactic(auto, unfolding(sc_hosts::specs::Acting::rested))]
 fn rested(proxy: &mut Proxy)
     ensures { proxy.new ≡ rested proxy.old }
 {
@@ -126,7 +127,7 @@ pub fn rest(known: &mut Known, req: ReqId)
 }
 
 /// The proxied request as it is now.
-#[tactic(auto, unfolding(sc_hosts::specs::Finishing::proxy_now))]
+#[tactic(auto, unfolding(sc_hosts::specs::Acting::proxy_now))]
 pub fn proxy_now(alloc: Global, proxy: &Proxy, working: &Working) -> Result<Proxy, NoMemory>
     ensures { IfOk result (λ p. p ≡ proxy_now proxy.now working.now) }
 {

@@ -1,7 +1,7 @@
 //! What a proxied request leaves once it is over, and the CANCELs that it sends.
 
 ghost use Rattle.std.specs.Prelude.{◌≡◌, ◌∷◌, [], ◌++◌, OnOk, map};
-ghost use Rattle.sc_hosts.specs.Finishing.{is_over, closed_session, closes, sends_cancels, proxy_now};
+ghost use Rattle.sc_hosts.specs.Acting.{is_over, closed_session, closes, sends_cancels, proxy_now};
 ghost use Rattle.sc_finish.specs.Acts.{cancel_order};
 
 use crate::changing::proxy_now;
@@ -14,7 +14,7 @@ use sc_terms::{SessionView, State};
 use sc_value::{List, NoMemory, ReqId, SessId};
 use std::alloc::Global;
 
-#[tactic(auto, unfolding(sc_hosts::specs::Finishing::is_over))]
+#[tactic(auto, unfolding(sc_hosts::specs::Acting::is_over))]
 fn is_over(known: &Known, req: ReqId, original: SessId, session: &SessionView) -> bool
     ensures { result ≡ is_over known.now req original session.now }
 {
@@ -23,7 +23,7 @@ fn is_over(known: &Known, req: ReqId, original: SessId, session: &SessionView) -
             || (is_initial_state(session.state) && session.id.0 != original.0))
 }
 
-#[tactic(auto, unfolding(sc_hosts::specs::Finishing::closed_session))]
+#[tactic(auto, unfolding(sc_hosts::specs::Acting::closed_session))]
 fn closed_session(known: &Known, req: ReqId, original: SessId, session: &mut SessionView)
     ensures { session.new ≡ closed_session known.now req original session.old }
 {
@@ -41,7 +41,7 @@ fn all_closed(known: &Known, req: ReqId, original: SessId, sessions: &mut [Sessi
 }
 
 /// Once no branch is open and no target left, early dialogs end.
-#[tactic(auto, unfolding(sc_hosts::specs::Finishing::closes))]
+#[tactic(auto, unfolding(sc_hosts::specs::Acting::closes))]
 pub fn closes(proxy: &Proxy, working: &mut Working)
     ensures { working.new ≡ closes proxy.now working.old }
 {
@@ -73,7 +73,7 @@ fn add_cancels(orders: &mut List<Order>, branches: &[u64]) -> Result<(), NoMemor
 }
 
 /// A CANCEL to each branch that is to be cancelled, in their order.
-#[tactic(auto, unfolding(sc_hosts::specs::Finishing::sends_cancels, crate::specs::Acts::cancel_order))]
+#[tactic(auto, unfolding(sc_hosts::specs::Acting::sends_cancels, crate::specs::Acts::cancel_order))]
 pub fn sends_cancels(alloc: Global, proxy: &Proxy, working: &mut Working) -> Result<(), NoMemory>
     ensures { OnOk result (working.new ≡ sends_cancels proxy.now working.old) }
 {

@@ -5,7 +5,7 @@ ghost use Rattle.std.specs.List.{fold};
 ghost use Rattle.sc_hosts.specs.Looking.{request_in};
 ghost use Rattle.sc_hosts.specs.Messages.{bare_answer};
 ghost use Rattle.sc_hosts.specs.Words.{server_error};
-ghost use Rattle.sc_hosts.specs.Finishing.{without_left, drafts_ended, fault_at, faulted};
+ghost use Rattle.sc_hosts.specs.Acting.{without_left, drafts_ended, fault_at, faulted};
 ghost use Rattle.sc_finish.specs.Passing.{answers_alone};
 
 use sc_effects::{answered, removed, request_copy, tidy};
@@ -15,7 +15,7 @@ use sc_value::{List, NoMemory, ReqId, Text};
 use sc_work::{answering, is_owed};
 use std::alloc::Global;
 
-#[tactic(auto, unfolding(sc_hosts::specs::Finishing::without_left))]
+#[tactic(auto, unfolding(sc_hosts::specs::Acting::without_left))]
 fn without_left(view: &mut View, draft: &Draft)
     ensures { view.new ≡ without_left view.old draft.now }
 {
@@ -33,7 +33,7 @@ fn without_all(view: &mut View, drafts: &[Draft])
 }
 
 /// The drafts that were left end; an initial one takes its SipSession with it.
-#[tactic(auto, unfolding(sc_hosts::specs::Finishing::drafts_ended))]
+#[tactic(auto, unfolding(sc_hosts::specs::Acting::drafts_ended))]
 pub fn drafts_ended(working: &mut Working)
     ensures { working.new ≡ drafts_ended working.old }
 {
@@ -79,7 +79,7 @@ pub fn answers_alone(
     Ok(())
 }
 
-#[tactic(auto, unfolding(sc_hosts::specs::Finishing::fault_at, sc_hosts::specs::Messages::bare_answer, crate::specs::Passing::answers_alone))]
+#[tactic(auto, unfolding(sc_hosts::specs::Acting::fault_at, sc_hosts::specs::Messages::bare_answer, crate::specs::Passing::answers_alone))]
 fn fault_at(
     alloc: Global,
     config: &Config,
@@ -115,7 +115,7 @@ pub fn request_at(
 }
 
 /// After a fault the event's request is answered 500 where it was left without an answer.
-#[tactic(auto, unfolding(sc_hosts::specs::Finishing::faulted))]
+#[tactic(auto, unfolding(sc_hosts::specs::Acting::faulted))]
 pub fn faulted(
     alloc: Global,
     config: &Config,

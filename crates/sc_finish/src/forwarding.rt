@@ -6,7 +6,7 @@ ghost use Rattle.sc_value.specs.Lists.{change_first};
 ghost use Rattle.sc_model.specs.BestResponses.{best_response};
 ghost use Rattle.sc_model.specs.Dialogs.{tag_of};
 ghost use Rattle.sc_hosts.specs.Looking.{is_session, change_session};
-ghost use Rattle.sc_hosts.specs.Finishing.{forwarded_view, subscribed_tag, with_subscribed, forwards, passes, forwards_best, chooses};
+ghost use Rattle.sc_hosts.specs.Acting.{forwarded_view, subscribed_tag, with_subscribed, forwards, passes, forwards_best, chooses};
 
 use crate::changing::{give, note_forwarded};
 use sc_best::{best, forwarded};
@@ -19,7 +19,7 @@ use sc_value::{CloneIn, List, NoMemory, Response, SessId, Shared, Text, tag};
 use std::alloc::Global;
 
 /// The view once this response to a proxied request was forwarded in a SipSession.
-#[tactic(auto, unfolding(sc_hosts::specs::Finishing::forwarded_view))]
+#[tactic(auto, unfolding(sc_hosts::specs::Acting::forwarded_view))]
 fn forwarded_view(view: &mut View, sess: SessId, request: &Option<RequestView>, response: &Response)
     ensures { view.new ≡ forwarded_view sess request.now response.now view.old }
 {
@@ -30,7 +30,7 @@ fn forwarded_view(view: &mut View, sess: SessId, request: &Option<RequestView>, 
     }
 }
 
-#[tactic(auto, unfolding(sc_hosts::specs::Finishing::subscribed_tag))]
+#[tactic(auto, unfolding(sc_hosts::specs::Acting::subscribed_tag))]
 fn subscribed_tag(
     alloc: Global,
     session: &mut SessionView,
@@ -64,7 +64,7 @@ fn tag_in(
 }
 
 /// The 2xx to a SUBSCRIBE that is forwarded gives the SipSession its tag.
-#[tactic(auto, unfolding(sc_hosts::specs::Finishing::with_subscribed))]
+#[tactic(auto, unfolding(sc_hosts::specs::Acting::with_subscribed))]
 fn with_subscribed(
     alloc: Global,
     view: &mut View,
@@ -89,7 +89,7 @@ fn with_subscribed(
 }
 
 /// A response goes back to where the request came from, and moves the SipSession.
-#[tactic(auto, unfolding(sc_hosts::specs::Finishing::forwards))]
+#[tactic(auto, unfolding(sc_hosts::specs::Acting::forwards))]
 pub fn forwards(
     alloc: Global,
     proxy: &Proxy,
@@ -115,7 +115,7 @@ pub fn forwards(
 }
 
 /// What waits to be forwarded goes, where it can.
-#[tactic(auto, unfolding(sc_hosts::specs::Finishing::passes))]
+#[tactic(auto, unfolding(sc_hosts::specs::Acting::passes))]
 pub fn passes(
     alloc: Global,
     proxy: &Proxy,
@@ -151,7 +151,7 @@ fn best_response(
     }
 }
 
-#[tactic(auto, unfolding(sc_hosts::specs::Finishing::forwards_best))]
+#[tactic(auto, unfolding(sc_hosts::specs::Acting::forwards_best))]
 fn forwards_best(
     alloc: Global,
     proxy: &Proxy,
@@ -167,7 +167,7 @@ fn forwards_best(
 }
 
 /// The best of the final responses goes, where it can.
-#[tactic(auto, unfolding(sc_hosts::specs::Finishing::chooses))]
+#[tactic(auto, unfolding(sc_hosts::specs::Acting::chooses))]
 pub fn chooses(alloc: Global, proxy: &Proxy, working: &mut Working) -> Result<(), NoMemory>
     ensures { OnOk result (working.new ≡ chooses proxy.now working.old) }
 {

@@ -7,7 +7,7 @@ ghost use Rattle.sc_hosts.specs.Messages.{bare_answer, on_branch, passed_request
 ghost use Rattle.sc_hosts.specs.Preparing.{kept_of};
 ghost use Rattle.sc_hosts.specs.Words.{too_many_hops};
 ghost use Rattle.sc_hosts.specs.Working.{giving, next_branch, event_of};
-ghost use Rattle.sc_hosts.specs.Finishing.{hops_spent, sent_proxy, passed_on, passed_later, passed_request_of, is_request_event, passes_later};
+ghost use Rattle.sc_hosts.specs.Acting.{hops_spent, sent_proxy, passed_on, passed_later, passed_request_of, is_request_event, passes_later};
 ghost use Rattle.sc_finish.specs.Passing.{answers_alone, passed, sends_on};
 
 use crate::changing::{draw, give};
@@ -30,7 +30,7 @@ fn hops_answer(alloc: Global) -> Result<Answer, NoMemory>
     bare_answer(alloc, 483, b"Too Many Hops")
 }
 
-#[tactic(auto, unfolding(sc_hosts::specs::Finishing::hops_spent, sc_hosts::specs::Messages::bare_answer, crate::specs::Passing::answers_alone))]
+#[tactic(auto, unfolding(sc_hosts::specs::Acting::hops_spent, sc_hosts::specs::Messages::bare_answer, crate::specs::Passing::answers_alone))]
 fn hops_spent(
     alloc: Global,
     config: &Config,
@@ -47,7 +47,7 @@ fn hops_spent(
 }
 
 /// A proxy of one branch.
-#[tactic(auto, unfolding(sc_hosts::specs::Finishing::sent_proxy, sc_hosts::specs::Branches::new_proxy))]
+#[tactic(auto, unfolding(sc_hosts::specs::Acting::sent_proxy, sc_hosts::specs::Branches::new_proxy))]
 fn sent_proxy(alloc: Global, kept: &Kept, branch: u64) -> Result<Proxy, NoMemory>
     ensures { IfOk result (λ proxy. proxy ≡ sent_proxy kept.now branch) }
 {
@@ -129,7 +129,7 @@ fn passed_on(
     sends_on(alloc, kept, branch, sent, working)
 }
 
-#[tactic(auto, unfolding(sc_hosts::specs::Finishing::passed_later))]
+#[tactic(auto, unfolding(sc_hosts::specs::Acting::passed_later))]
 fn passed_later(
     alloc: Global,
     config: &Config,
@@ -162,7 +162,7 @@ fn kept_copy(alloc: Global, known: &Known, req: ReqId) -> Result<Option<Kept>, N
     }
 }
 
-#[tactic(auto, unfolding(sc_hosts::specs::Finishing::passed_request_of))]
+#[tactic(auto, unfolding(sc_hosts::specs::Acting::passed_request_of))]
 fn passed_request_of(
     alloc: Global,
     config: &Config,
@@ -180,7 +180,7 @@ fn passed_request_of(
     }
 }
 
-#[tactic(auto, unfolding(sc_hosts::specs::Finishing::is_request_event))]
+#[tactic(auto, unfolding(sc_hosts::specs::Acting::is_request_event))]
 fn is_request_event(event: &Queued) -> bool
     ensures { result ≡ is_request_event event.now }
 {
@@ -191,7 +191,7 @@ fn is_request_event(event: &Queued) -> bool
 }
 
 /// A later request that came on a proxied dialog is passed on, unless it has no hops left.
-#[tactic(auto, unfolding(sc_hosts::specs::Finishing::passes_later))]
+#[tactic(auto, unfolding(sc_hosts::specs::Acting::passes_later))]
 pub fn passes_later(
     alloc: Global,
     config: &Config,

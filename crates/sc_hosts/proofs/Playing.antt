@@ -20,7 +20,8 @@ use Rattle.sc_state.specs.declared.working.Prepared.{Prepared}
 use Rattle.sc_grammar.specs.Written.{Bytes}
 use Rattle.sc_model.specs.Records.{record_text, end_text}
 use Rattle.sc_model.specs.Settings.{Charters, charters_of}
-use Rattle.sc_hosts.specs.Charters.{Script, Done, played, servlet_script, listener_script, is_listened}
+use Rattle.sc_hosts.specs.Scripting.{Script, Done, played}
+use Rattle.sc_hosts.specs.Bringing.{servlet_script, listener_script, is_listened}
 use Rattle.sc_hosts.specs.Histories.{as_session}
 use Rattle.sc_hosts.specs.Runs.{start, after_step, shown, live_count}
 use Rattle.sc_hosts.specs.Steps.{live_at}
@@ -41,33 +42,30 @@ unfoldable pub step_taken : Setup → Played → Step → Played
 step_taken setup p step = let after : Net Session = after_step as_session setup p.net step in
     record { net = after; sent = p.sent ++ after.sent; steps = p.steps + 1 }
 
--- a servlet without a script plays this one
-abbrev pub Free : Type 0
-Free = View → Event → Script
-
-unfoldable pub script_or : Option Script → Script → Script
-script_or None other = other
-script_or (Some script) other = script
+-- without a script no call is made
+unfoldable pub script_or_done : Option Script → Script
+script_or_done None = Done
+script_or_done (Some script) = script
 
 unfoldable pub listener_plays : Option ListenerCharter → View → Event → Script
 listener_plays None view event = Done
-listener_plays (Some listener) view event = script_or (listener_script listener view event) Done
+listener_plays (Some listener) view event = script_or_done (listener_script listener view event)
 
-unfoldable pub script_at : Free → Option Charters → View → Option Event → Script
-script_at free None view event = Done
-script_at free (Some charters) view None = Done
-script_at free (Some charters) view (Some event) =
-    if is_listened event then listener_plays charters.1 view event else script_or (servlet_script charters.0 view event) (free view event)
+unfoldable pub script_at : Option Charters → View → Option Event → Script
+script_at None view event = Done
+script_at (Some charters) view None = Done
+script_at (Some charters) view (Some event) =
+    if is_listened event then listener_plays charters.1 view event else script_or_done (servlet_script charters.0 view event)
 
-unfoldable pub turn_on : Free → Setup → Played → AppId → Live Session → Option Waiting → Played
-turn_on free setup p app live None = p
-turn_on free setup p app live (Some waiting) =
+unfoldable pub turn_on : Setup → Played → AppId → Live Session → Option Waiting → Played
+turn_on setup p app live None = p
+turn_on setup p app live (Some waiting) =
     let seen : Prepared = shown as_session setup p.net app live waiting p.net.moment in
-    step_taken setup p (steps.Turn app waiting.number p.net.moment (played seen.view (script_at free (charters_of setup app.host) seen.view seen.event)) ends.Fine)
+    step_taken setup p (steps.Turn app waiting.number p.net.moment (played seen.view (script_at (charters_of setup app.host) seen.view seen.event)) ends.Fine)
 
-unfoldable pub turn_by : Free → Setup → Played → AppId → Option (Live Session) → Played
-turn_by free setup p app None = p
-turn_by free setup p app (Some live) = turn_on free setup p app live (slice_get live.inbox 0)
+unfoldable pub turn_by : Setup → Played → AppId → Option (Live Session) → Played
+turn_by setup p app None = p
+turn_by setup p app (Some live) = turn_on setup p app live (slice_get live.inbox 0)
 
 -- the session whose first event has the lowest number
 pub record Next : Type 0 where
@@ -85,32 +83,28 @@ unfoldable pub lowest : List Next → Option Next
 lowest [] = None
 lowest (next ∷ more) = Some (fold (λ a b. if nat_lt b.number a.number then b else a) next more)
 
-unfoldable pub run_on : Free → Setup → ℕ → Played → Option Next → Played
-run_on free setup fuel p None = p
-run_on free setup zero p (Some next) = p
-run_on free setup (suc fuel) p (Some next) =
-    let after : Played = turn_by free setup p next.app (live_at next.app p.net) in run_on free setup fuel after (lowest (nexts 0 after.net.hosts))
+unfoldable pub run_on : Setup → ℕ → Played → Option Next → Played
+run_on setup fuel p None = p
+run_on setup zero p (Some next) = p
+run_on setup (suc fuel) p (Some next) =
+    let after : Played = turn_by setup p next.app (live_at next.app p.net) in run_on setup fuel after (lowest (nexts 0 after.net.hosts))
 
 unfoldable pub drop_by : Setup → Played → AppId → Option (Live Session) → Played
 drop_by setup p app None = p
 drop_by setup p app (Some live) = step_taken setup p (steps.Withdraw app)
 
-unfoldable pub act : Free → Setup → Played → Act → Played
-act free setup p (Take step) = step_taken setup p step
-act free setup p Run = run_on free setup 200 p (lowest (nexts 0 p.net.hosts))
-act free setup p (Drop_of app) = drop_by setup p app (live_at app p.net)
-act free setup p (Turn_of app) = turn_by free setup p app (live_at app p.net)
+unfoldable pub act : Setup → Played → Act → Played
+act setup p (Take step) = step_taken setup p step
+act setup p Run = run_on setup 200 p (lowest (nexts 0 p.net.hosts))
+act setup p (Drop_of app) = drop_by setup p app (live_at app p.net)
+act setup p (Turn_of app) = turn_by setup p app (live_at app p.net)
 
-unfoldable pub run_of : Free → Setup → List Act → Played
-run_of free setup acts = fold (act free setup) (record { net = start setup 0 0; sent = []; steps = 0 }) acts
+unfoldable pub run_of : Setup → List Act → Played
+run_of setup acts = fold (act setup) (record { net = start setup 0 0; sent = []; steps = 0 }) acts
 
 unfoldable pub text_of : Played → Bytes
 text_of last = flat_map record_text last.sent ++ end_text last.steps (length last.sent) (live_count last.net)
 
--- the output of the run, where servlets without a script play this one
-unfoldable pub output_with : Free → Setup → List Act → Bytes
-output_with free setup acts = text_of (run_of free setup acts)
-
 -- the output of the run
 unfoldable pub output_of : Setup → List Act → Bytes
-output_of setup acts = output_with (λ view event. Done) setup acts
+output_of setup acts = text_of (run_of setup acts)

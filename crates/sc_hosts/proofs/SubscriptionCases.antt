@@ -4,7 +4,7 @@ use Rattle.sc_hosts.proofs.Trying.{Case, app, tuple, set_up}
 
 unfoldable pub subscription : Case
 subscription = record {
-  setup = set_up (record (app (codes "a0") 9 ((codes "presence") ∷ (codes "60") ∷ (codes "3600") ∷ (codes "open") ∷ [])) { expires = negsuc 0 } ∷ []) (record { method = (codes "SUBSCRIBE"); tuples = (tuple 0 ∷ []) } ∷ []);
+  setup = set_up (record (app (codes "a0") 11 ((codes "presence") ∷ (codes "60") ∷ (codes "3600") ∷ (codes "open") ∷ [])) { expires = negsuc 0 } ∷ []) (record { method = (codes "SUBSCRIBE"); tuples = (tuple 0 ∷ []) } ∷ []);
   script =
       codes "in c1 280\nSUBSCRIBE sip:p@home.test SIP/2.0\r\nVia: SIP/2.0/TCP 127.0.0.1:5090;branch=z9hG4bKa1\r\n"
       ++ codes "Max-Forwards: 70\r\nFrom: <sip:alice@home.test>;tag=a\r\nTo: <sip:bob@home.test>\r\nCall-ID: c5\r\nCSeq: 1 SUBSCRIBE\r\n"
@@ -31,7 +31,7 @@ subscription = record {
 
 unfoldable pub subscription_bad_event : Case
 subscription_bad_event = record {
-  setup = set_up (record (app (codes "a0") 9 ((codes "presence") ∷ (codes "60") ∷ (codes "3600") ∷ (codes "open") ∷ [])) { expires = negsuc 0 } ∷ []) (record { method = (codes "SUBSCRIBE"); tuples = (tuple 0 ∷ []) } ∷ []);
+  setup = set_up (record (app (codes "a0") 11 ((codes "presence") ∷ (codes "60") ∷ (codes "3600") ∷ (codes "open") ∷ [])) { expires = negsuc 0 } ∷ []) (record { method = (codes "SUBSCRIBE"); tuples = (tuple 0 ∷ []) } ∷ []);
   script =
       codes "in c1 264\nSUBSCRIBE sip:p@home.test SIP/2.0\r\nVia: SIP/2.0/TCP 127.0.0.1:5090;branch=z9hG4bKa1\r\n"
       ++ codes "Max-Forwards: 70\r\nFrom: <sip:alice@home.test>;tag=a\r\nTo: <sip:bob@home.test>\r\nCall-ID: c5\r\nCSeq: 1 SUBSCRIBE\r\n"
@@ -44,7 +44,7 @@ subscription_bad_event = record {
 
 unfoldable pub subscription_compact_event : Case
 subscription_compact_event = record {
-  setup = set_up (record (app (codes "a0") 9 ((codes "presence") ∷ (codes "60") ∷ (codes "3600") ∷ (codes "open") ∷ [])) { expires = negsuc 0 } ∷ []) (record { method = (codes "SUBSCRIBE"); tuples = (tuple 0 ∷ []) } ∷ []);
+  setup = set_up (record (app (codes "a0") 11 ((codes "presence") ∷ (codes "60") ∷ (codes "3600") ∷ (codes "open") ∷ [])) { expires = negsuc 0 } ∷ []) (record { method = (codes "SUBSCRIBE"); tuples = (tuple 0 ∷ []) } ∷ []);
   script =
       codes "in c1 276\nSUBSCRIBE sip:p@home.test SIP/2.0\r\nVia: SIP/2.0/TCP 127.0.0.1:5090;branch=z9hG4bKa1\r\n"
       ++ codes "Max-Forwards: 70\r\nFrom: <sip:alice@home.test>;tag=a\r\nTo: <sip:bob@home.test>\r\nCall-ID: c5\r\nCSeq: 1 SUBSCRIBE\r\n"
@@ -71,7 +71,7 @@ subscription_compact_event = record {
 
 unfoldable pub subscription_too_brief : Case
 subscription_too_brief = record {
-  setup = set_up (record (app (codes "a0") 9 ((codes "presence") ∷ (codes "60") ∷ (codes "3600") ∷ (codes "open") ∷ [])) { expires = negsuc 0 } ∷ []) (record { method = (codes "SUBSCRIBE"); tuples = (tuple 0 ∷ []) } ∷ []);
+  setup = set_up (record (app (codes "a0") 11 ((codes "presence") ∷ (codes "60") ∷ (codes "3600") ∷ (codes "open") ∷ [])) { expires = negsuc 0 } ∷ []) (record { method = (codes "SUBSCRIBE"); tuples = (tuple 0 ∷ []) } ∷ []);
   script =
       codes "in c1 279\nSUBSCRIBE sip:p@home.test SIP/2.0\r\nVia: SIP/2.0/TCP 127.0.0.1:5090;branch=z9hG4bKa1\r\n"
       ++ codes "Max-Forwards: 70\r\nFrom: <sip:alice@home.test>;tag=a\r\nTo: <sip:bob@home.test>\r\nCall-ID: c5\r\nCSeq: 1 SUBSCRIBE\r\n"

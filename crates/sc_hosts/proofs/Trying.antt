@@ -21,7 +21,7 @@ use Rattle.sc_syntax.specs.Messages.{message_of}
 use Rattle.sc_syntax.specs.UriParts.{Fault}
 use Rattle.sc_script.specs.ScriptTexts.{Fault as ScriptFault, script_of}
 use Rattle.sc_model.specs.Settings.{Charters}
-use Rattle.sc_hosts.proofs.Playing.{Act, Take, Run, Turn_of, Drop_of, Free, output_with}
+use Rattle.sc_hosts.proofs.Playing.{Act, Take, Run, Turn_of, Drop_of, output_of}
 
 -- ## Set-ups
 
@@ -29,7 +29,8 @@ use Rattle.sc_hosts.proofs.Playing.{Act, Take, Run, Turn_of, Drop_of, Free, outp
 unfoldable pub kinds : List Charters
 kinds =
     (charters.Answer, None) ∷ (charters.Block, None) ∷ (charters.Forward, None) ∷ (charters.Fork, None) ∷ (charters.Recorder, None)
-    ∷ (charters.B2b, None) ∷ (charters.Dial, None) ∷ (charters.Reverse, None) ∷ (charters.Ringer, Some listeners.ExtendOnce) ∷ (charters.Free, None) ∷ []
+    ∷ (charters.B2b, None) ∷ (charters.Dial, None) ∷ (charters.Reverse, None) ∷ (charters.Ringer, Some listeners.ExtendOnce) ∷ (charters.Early, None) ∷ (charters.Timed, None)
+    ∷ (charters.Notify, None) ∷ []
 
 -- an application of the kind at this place, with these parameters
 unfoldable pub app : Bytes → ℕ → List Bytes → AppEntry
@@ -83,9 +84,9 @@ pub record Case : Type 0 where
   pub script : Bytes
   pub output : Bytes
 
--- the run of the script writes this, where servlets without a script play this one
-unfoldable pub is_right : Free → Case → Bool
-is_right free case = same_bytes (output_with free case.setup (acts_in (script_of case.script))) case.output
+-- the run of the script writes this
+unfoldable pub is_right : Case → Bool
+is_right case = same_bytes (output_of case.setup (acts_in (script_of case.script))) case.output
 
-unfoldable pub are_right : Free → List Case → Bool
-are_right free cases = list_all (is_right free) cases
+unfoldable pub are_right : List Case → Bool
+are_right cases = list_all is_right cases

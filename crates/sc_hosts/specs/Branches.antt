@@ -19,7 +19,7 @@ use Rattle.sc_grammar.specs.Written.{uri_text}
 use Rattle.sc_model.specs.Dialogs.{contact_uri}
 use Rattle.sc_model.specs.SessionStates.{invite, is_final}
 use Rattle.sc_model.specs.Transactions.{is_success}
-use Rattle.sc_hosts.specs.Refusals.{MOST_BRANCHES}
+use Rattle.sc_hosts.specs.RefusalParts.{MOST_BRANCHES}
 
 -- ## Tests
 

@@ -1,5 +1,6 @@
--- Charters: the stated interfaces of the servlets and of the listener, as the calls that they make.
-use Rattle.std.specs.Prelude.{◌≡◌, ◌≢◌, ◌<◌, ℕ, ◌==◌, ◌^◌, List, [], ◌∷◌, Bool, true, false, not, ◌&&◌, Option, None, Some, Ok, Err, Result, is_some, option_map, option_and_then, unwrap_or, if◌then◌else◌, codes, decimal, pos}
+-- The charters of the applications that every container comes with (JSR 289 sections 6, 10, 12), as
+-- scripts of the calls that they make.
+use Rattle.std.specs.Prelude.{ℕ, ◌==◌, List, [], ◌∷◌, Bool, true, false, not, ◌&&◌, Option, None, Some, is_some, option_and_then, unwrap_or, if◌then◌else◌, codes, decimal, pos}
 use Rattle.std.specs.List.{find, slice_get, filter_map, list_any}
 use Rattle.std.specs.Option.{option_map_or}
 use Rattle.sc_value.specs.declared.ids.ReqId.{ReqId}
@@ -16,118 +17,16 @@ use Rattle.sc_terms.specs.declared.views.RequestView.{RequestView}
 use Rattle.sc_terms.specs.declared.views.Period.TheVariants.{Once}
 use Rattle.sc_terms.specs.declared.events.Event.{Event}
 use Rattle.sc_terms.specs.declared.events.Event.TheVariants as events
-use Rattle.sc_terms.specs.declared.charters.Charter.{Charter}
-use Rattle.sc_terms.specs.declared.charters.Charter.TheVariants as charters
-use Rattle.sc_terms.specs.declared.charters.ListenerCharter.{ListenerCharter}
-use Rattle.sc_terms.specs.declared.charters.ListenerCharter.TheVariants as listeners
-use Rattle.sc_terms.specs.declared.calls.Answer.{Answer}
 use Rattle.sc_terms.specs.declared.calls.Ask.{Ask}
-use Rattle.sc_terms.specs.declared.calls.Call.{Call}
 use Rattle.sc_terms.specs.declared.calls.Call.TheVariants as calls
 use Rattle.sc_terms.specs.declared.calls.CallAnswer.{CallAnswer}
 use Rattle.sc_terms.specs.declared.calls.CallAnswer.TheVariants as answers
-use Rattle.sc_terms.specs.declared.calls.CallRecord.{CallRecord}
 use Rattle.sc_terms.specs.declared.calls.ProxyOptions.{ProxyOptions}
-use Rattle.sc_terms.specs.declared.calls.Refusal.TheVariants as refusals
-use Rattle.sc_terms.specs.declared.calls.End.{End}
-use Rattle.sc_terms.specs.declared.calls.End.TheVariants as ends
-use Rattle.sc_state.specs.declared.working.Play.{Play}
 use Rattle.sc_grammar.specs.Written.{Bytes}
-use Rattle.sc_syntax.specs.Numbers.{number_below}
-use Rattle.sc_syntax.specs.Uris.{uri_of}
 use Rattle.sc_model.specs.SessionStates.{invite, is_final}
 use Rattle.sc_hosts.specs.Looking.{request_in, partner}
-use Rattle.sc_hosts.specs.Refusals.{MOST_CALLS}
-use Rattle.sc_hosts.specs.Effects.{begun, answer_of, after_listed}
 use Rattle.sc_hosts.specs.Words.{ack, options, ok, ringing, forbidden, too_many_hops, server_error}
-
--- ## Lists of calls
-
--- from here on each call has the answer that is right there
-unfoldable pub IsAnsweredFrom : Play → List CallRecord → Type 0
-IsAnsweredFrom play [] = Unit {0}
-IsAnsweredFrom play (made ∷ later) =
-    (play.listed < MOST_CALLS) × (made.answer ≡ answer_of play made.call) × IsAnsweredFrom (after_listed play made.call) later
-
--- a list of calls that a turn on this view takes
-abbrev pub IsAnswered : View → List CallRecord → Type 0
-IsAnswered view made = IsAnsweredFrom (begun view) made
-
--- ## Scripts: calls, each chosen with the answers before it
-
-pub data Script : Type 0 where
-  Done : Script
-  Make : Call → (CallAnswer → Script) → Script
-
--- the calls that the script makes, each with its answer
-unfoldable pub played_from : Play → Script → List CallRecord
-played_from play Done = []
-played_from play (Make call next) =
-    record { call = call; answer = answer_of play call } ∷ played_from (after_listed play call) (next (answer_of play call))
-
-abbrev pub played : View → Script → List CallRecord
-played view script = played_from (begun view) script
-
--- one call, and no more
-unfoldable pub only : Call → Script
-only call = Make call (λ answer. Done)
-
--- one call, and then these whatever it answers
-unfoldable pub then_make : Call → Script → Script
-then_make call script = Make call (λ answer. script)
-
--- the script for the number that the call gave; none where it was refused
-unfoldable pub with_number : (ℕ → Script) → CallAnswer → Script
-with_number next answers.Fine = Done
-with_number next (answers.Number n) = next n
-with_number next (answers.Refused refused) = Done
-
--- the script where there is something, none else
-unfoldable pub where_some : {A : Type 0} → Option A → (A → Script) → Script
-where_some None next = Done
-where_some (Some a) next = next a
-
--- ## Parts
-
--- `respond` with this code and reason, and nothing else
-unfoldable pub reply : ReqId → ℕ → Bytes → Call
-reply req code reason = calls.Respond req (record { code = code; reason = reason; fields = []; contact = []; body = [] })
-
--- an answer like a response that came
-unfoldable pub same_answer : Response → Answer
-same_answer response = record { code = response.code; reason = response.reason; fields = response.head.others; contact = []; body = response.head.body }
-
--- a decimal that fits 32 bits
-unfoldable pub small_number : Bytes → Option ℕ
-small_number text = number_below (2 ^ 32) text
-
-unfoldable pub readable : Bytes → Option Uri
-readable text = of_result (uri_of text)
-  where
-    of_result : {E : Type 0} → Result Uri E → Option Uri
-    of_result (Ok uri) = Some uri
-    of_result (Err fault) = None
-
-unfoldable pub param_at : View → ℕ → Option Bytes
-param_at view i = slice_get view.params i
-
-unfoldable pub uri_param : View → ℕ → Option Uri
-uri_param view i = option_and_then readable (param_at view i)
-
-unfoldable pub attribute : Bytes → View → Option Bytes
-attribute name view = option_map (λ field. field.value) (find (λ field. same_bytes field.name name) view.attributes)
-
-unfoldable pub is_no_hops : CallAnswer → Bool
-is_no_hops (answers.Refused refusals.NoHops) = true
-is_no_hops answer = false
-
-unfoldable pub is_bad_text : CallAnswer → Bool
-is_bad_text (answers.Refused (refusals.BadText n)) = true
-is_bad_text answer = false
-
-unfoldable pub is_refused : CallAnswer → Bool
-is_refused (answers.Refused refused) = true
-is_refused answer = false
+use Rattle.sc_hosts.specs.Scripting.{Script, only, then_make, with_number, where_some, reply, same_answer, small_number, readable, param_at, uri_param, attribute, is_no_hops, is_bad_text, is_refused, Done, Make}
 
 -- ## answer
 
@@ -306,49 +205,3 @@ extend_script view events.Expired =
     if is_some (attribute extended_name view) then Done
     else then_make (calls.SetAttribute extended_name extended_value) (only (calls.SetExpires (pos 3)))
 extend_script view event = Done
-
--- ## What a turn may bring
-
--- the script of a servlet of this charter; none where it makes any calls
-unfoldable pub servlet_script : Charter → View → Event → Option Script
-servlet_script charters.Answer view event = Some (answer_script event)
-servlet_script charters.Block view event = Some (block_script view event)
-servlet_script charters.Forward view event = Some (forward_script false view event)
-servlet_script charters.Fork view event = Some (fork_script view event)
-servlet_script charters.Recorder view event = Some (forward_script true view event)
-servlet_script charters.B2b view event = Some (b2b_script view event)
-servlet_script charters.Dial view event = Some (dial_script view event)
-servlet_script charters.Reverse view event = Some (reverse_script view event)
-servlet_script charters.Ringer view event = Some (ringer_script view event)
-servlet_script charters.Free view event = None
-
--- the script of a listener of this charter
-unfoldable pub listener_script : ListenerCharter → View → Event → Option Script
-listener_script listeners.ExtendOnce view event = Some (extend_script view event)
-listener_script listeners.Free view event = None
-
--- the calls are those of the script, and the turn ends well; without a script any will do
-unfoldable pub Plays : View → Option Script → List CallRecord → End → Type 0
-Plays view None made end = Unit {0}
-Plays view (Some script) made end = (made ≡ played view script) × (end ≡ ends.Fine)
-
--- the listener is told of the application session's own events, the servlet of all others
-unfoldable pub is_listened : Event → Bool
-is_listened events.Expired = true
-is_listened events.Ready = true
-is_listened event = false
-
--- nobody was called
-unfoldable pub IsSilent : List CallRecord → End → Type 0
-IsSilent made end = (made ≡ []) × (end ≡ ends.Fine)
-
--- what a servlet, or the listener where there is one, may do at an event
-unfoldable pub Called : Charter → Option ListenerCharter → View → Event → Bool → List CallRecord → End → Type 0
-Called charter listener view event false made end = IsAnswered view made × Plays view (servlet_script charter view event) made end
-Called charter None view event true made end = IsSilent made end
-Called charter (Some listener) view event true made end = IsAnswered view made × Plays view (listener_script listener view event) made end
-
--- what a turn may bring that showed this view and event. A turn that wants memory is never taken
-unfoldable pub Allowed : Charter → Option ListenerCharter → View → Option Event → List CallRecord → End → Type 0
-Allowed charter listener view None made end = IsSilent made end
-Allowed charter listener view (Some event) made end = (end ≢ ends.Starved) × Called charter listener view event (is_listened event) made end

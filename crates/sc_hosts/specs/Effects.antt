@@ -29,7 +29,8 @@ use Rattle.sc_model.specs.Records.{ip_text}
 use Rattle.sc_model.specs.SessionStates.{is_final}
 use Rattle.sc_model.specs.Settings.{moment_after}
 use Rattle.sc_hosts.specs.Looking.{same_session, is_timer, request_in, is_gone_in, is_proxy, change_request, change_session, linked_to, unlinked, removed}
-use Rattle.sc_hosts.specs.Refusals.{draft_in, awaits_ack, begun_by, is_set, refusal}
+use Rattle.sc_hosts.specs.RefusalParts.{draft_in}
+use Rattle.sc_hosts.specs.Refusals.{awaits_ack, begun_by, is_set, refusal}
 use Rattle.sc_hosts.specs.States.{after_response, ends_subscription}
 
 -- ## Which requests the view shows

@@ -1,30 +1,22 @@
 -- A turn ends: what the container does after its calls, in this order: drafts that were left, the answer
 -- to a fault, proxies, a later request that is passed on, and the end of what is ready (JSR 289 sections
 -- 6.1.2 and 6.2.4, RFC 3261 section 16).
-use Rattle.std.specs.Prelude.{ℕ, ◌+◌, ◌==◌, List, [], ◌∷◌, ◌++◌, Bool, true, false, not, ◌&&◌, ◌||◌, Option, None, Some, is_some, is_none, option_and_then, unwrap_or, if◌then◌else◌, length, map, filter, drop}
+use Rattle.std.specs.Prelude.{ℕ, ◌+◌, ◌==◌, List, [], ◌∷◌, ◌++◌, Bool, true, false, not, ◌&&◌, ◌||◌, Option, is_some, is_none, if◌then◌else◌, length, filter}
 use Rattle.std.specs.List.{list_any, list_all, flat_map, fold}
 use Rattle.std.specs.Option.{option_map_or}
-use Rattle.sc_value.specs.declared.ids.Directive.TheVariants.{Continue}
 use Rattle.sc_value.specs.declared.ids.ReqId.{ReqId}
 use Rattle.sc_value.specs.declared.ids.SessId.{SessId}
-use Rattle.sc_value.specs.declared.message.Request.{Request}
-use Rattle.sc_value.specs.declared.message.Response.{Response}
-use Rattle.sc_value.specs.declared.parts.Uri.{Uri}
 use Rattle.sc_value.specs.Params.{same_bytes}
 use Rattle.sc_terms.specs.declared.settings.Config.{Config}
 use Rattle.sc_terms.specs.declared.views.View.{View}
 use Rattle.sc_terms.specs.declared.views.RequestView.{RequestView}
 use Rattle.sc_terms.specs.declared.views.SessionView.{SessionView}
-use Rattle.sc_terms.specs.declared.views.State.TheVariants.{Terminated}
 use Rattle.sc_terms.specs.declared.calls.CallRecord.{CallRecord}
 use Rattle.sc_terms.specs.declared.calls.End.{End}
 use Rattle.sc_terms.specs.declared.calls.End.TheVariants as ends
 use Rattle.sc_state.specs.declared.orders.Order.{Order}
 use Rattle.sc_state.specs.declared.orders.Order.TheVariants as orders
 use Rattle.sc_state.specs.declared.orders.Outcome.{Outcome}
-use Rattle.sc_state.specs.declared.proxy.Branch.{Branch}
-use Rattle.sc_state.specs.declared.proxy.Passing.{Passing}
-use Rattle.sc_state.specs.declared.proxy.Proxy.{Proxy}
 use Rattle.sc_state.specs.declared.queue.Queued.{Queued}
 use Rattle.sc_state.specs.declared.queue.Queued.TheVariants as queued
 use Rattle.sc_state.specs.declared.queue.Waiting.{Waiting}
@@ -33,178 +25,19 @@ use Rattle.sc_state.specs.declared.session.Known.{Known}
 use Rattle.sc_state.specs.declared.session.Session.{Session}
 use Rattle.sc_state.specs.declared.session.Way.{Way}
 use Rattle.sc_state.specs.declared.session.Way.TheVariants.{Received, Sent}
-use Rattle.sc_state.specs.declared.working.Draft.{Draft}
 use Rattle.sc_state.specs.declared.working.Prepared.{Prepared}
 use Rattle.sc_state.specs.declared.working.Working.{Working}
 use Rattle.sc_grammar.specs.Written.{Bytes}
-use Rattle.sc_model.specs.BestResponses.{best_response}
-use Rattle.sc_model.specs.Dialogs.{tag_of, subscribe}
-use Rattle.sc_model.specs.Transactions.{is_success}
-use Rattle.sc_model.specs.SessionStates.{invite, is_final}
-use Rattle.sc_hosts.specs.Branches.{starting, new_branch, new_proxy, records_route, can_pass, can_choose, cancelled_now, is_exhausted}
-use Rattle.sc_hosts.specs.Effects.{answered, answered_in, tidy}
-use Rattle.sc_hosts.specs.Legs.{leg_of, is_of, FIRST_SESSION}
-use Rattle.sc_hosts.specs.Looking.{change_session, same_session, request_in, session_in, is_gone, is_early, is_confirmed, is_initial_state, is_terminated, is_proxy, is_uac, in_state, removed}
-use Rattle.sc_hosts.specs.Messages.{bare_answer, on_branch, own_response, proxied_request, passed_request}
-use Rattle.sc_hosts.specs.Preparing.{kept_of, own_tag_of, proxy_of, change_proxy, is_invalid, has_expired, prepared}
-use Rattle.sc_hosts.specs.Working.{answering, giving, is_owed, goodbyes, next_branch, event_of, worked_all}
-use Rattle.sc_hosts.specs.Words.{ack, does_not_exist, server_error, too_many_hops}
-
-abbrev pub in_view : View → Working → Working
-in_view view working = record working { play = record working.play { view = view } }
-
--- a branch is drawn
-abbrev pub drawn : View → View
-drawn view = record view { counter = view.counter + 1 }
-
--- ## Drafts that were left
-
-unfoldable pub without_left : View → Draft → View
-without_left view draft = if draft.initial then removed draft.sess view else view
-
-unfoldable pub drafts_ended : Working → Working
-drafts_ended working = in_view (tidy (fold without_left working.play.view working.play.drafts)) working
-
--- ## A fault: the event's request is answered 500 where it was left without an answer
-
-unfoldable pub fault_at : Config → Option RequestView → Working → Working
-fault_at config None working = working
-fault_at config (Some request) working =
-    if is_owed request && not request.proxied
-    then in_view (answered (Some request) 500 working.play.view) (answering config (Some request) (bare_answer 500 server_error) working) else working
-
-unfoldable pub faulted : Config → Option ReqId → End → Working → Working
-faulted config req ends.Fine working = working
-faulted config req ends.Fault working = fault_at config (option_and_then (request_in working.play.view) req) working
-faulted config req ends.Starved working = working
-
--- ## Proxies act
-
-abbrev pub in_proxy : ReqId → (Proxy → Proxy) → Working → Working
-in_proxy req change working = record working { known = change_proxy req change working.known }
-
--- a target gets its branch, and the router goes on behind the place of the application
-unfoldable pub started : Config → Proxy → Working → Uri → Working
-started config proxy working uri =
-    in_proxy proxy.req (λ p. record p { branches = p.branches ++ new_branch proxy (next_branch working) working.play.view.now ∷ []; targets = drop 1 p.targets })
-    (in_view (drawn working.play.view)
-    (giving (orders.Begin (next_branch working) Continue working.known.region (Some (working.known.order + 1))
-    (on_branch config working.play.view (next_branch working) (proxied_request config working.play.view (records_route proxy) uri proxy.request)) ∷ []) working))
-
--- the code of a final response that was forwarded first
-unfoldable pub with_forwarded : ℕ → Proxy → Proxy
-with_forwarded code proxy = if is_final code && is_none proxy.forwarded then record proxy { forwarded = Some code } else proxy
-
-unfoldable pub forwarded_view : SessId → Option RequestView → Response → View → View
-forwarded_view sess None response view = view
-forwarded_view sess (Some request) response view = tidy (answered_in sess request (is_some (tag_of response.head.to)) response.code view)
-
--- the 2xx to a SUBSCRIBE that is forwarded gives the SipSession its tag
-unfoldable pub subscribed_tag : Option Bytes → SessionView → SessionView
-subscribed_tag tag session = if is_none session.peer_tag then record session { peer_tag = tag } else session
-
-unfoldable pub with_subscribed : Proxy → SessId → Response → View → View
-with_subscribed proxy sess response view =
-    if is_some proxy.options && same_bytes proxy.request.method subscribe && is_success response.code
-    then change_session sess (subscribed_tag (tag_of response.head.to)) view else view
-
--- a response goes back to where the request came from, and moves the SipSession
-unfoldable pub forwards : Proxy → SessId → Response → Working → Working
-forwards proxy sess response working =
-    in_proxy proxy.req (with_forwarded response.code)
-    (in_view (forwarded_view sess (request_in working.play.view proxy.req) response (with_subscribed proxy sess response working.play.view))
-    (giving (orders.Respond proxy.event response ∷ []) working))
-
-unfoldable pub passes : Proxy → Option Passing → Working → Working
-passes proxy None working = working
-passes proxy (Some passing) working = if can_pass proxy passing.response then forwards proxy passing.sess passing.response working else working
-
-unfoldable pub forwards_best : Proxy → Option Response → Working → Working
-forwards_best proxy None working = working
-forwards_best proxy (Some response) working = forwards proxy proxy.sess response working
-
-unfoldable pub chooses : Proxy → Working → Working
-chooses proxy working = if can_choose proxy then forwards_best proxy (best_response proxy.candidates) working else working
-
--- once no branch is open and no target left, early dialogs end
-unfoldable pub is_over : Known → ReqId → SessId → SessionView → Bool
-is_over known req original session =
-    is_of known req session && (is_early session.state || (is_initial_state session.state && not (same_session session.id original)))
-
-unfoldable pub closed_session : Known → ReqId → SessId → SessionView → SessionView
-closed_session known req original session = if is_over known req original session then in_state Terminated session else session
-
-unfoldable pub closes : Proxy → Working → Working
-closes proxy working =
-    if is_exhausted proxy && is_some proxy.options
-    then in_view (record working.play.view { sessions = map (closed_session working.known proxy.req proxy.sess) working.play.view.sessions }) working else working
-
-unfoldable pub rested_branch : Branch → Branch
-rested_branch branch = record branch { cancelled = false }
-
-unfoldable pub rested : Proxy → Proxy
-rested proxy = record proxy { branches = map rested_branch proxy.branches; passing = None; heard_final = false }
-
--- the proxy as it is now
-unfoldable pub proxy_now : Proxy → Working → Proxy
-proxy_now proxy working = unwrap_or (proxy_of working.known proxy.req) proxy
-
-unfoldable pub sends_cancels : Proxy → Working → Working
-sends_cancels proxy working = giving (map (λ branch. orders.Cancel branch) (cancelled_now (proxy_now proxy working))) working
-
--- new branches, then what is forwarded, then CANCELs in the order of branches
-unfoldable pub acted : Config → Proxy → Working → Working
-acted config proxy working =
-    let begun : Working = fold (started config proxy) working (starting proxy) in
-    let passed : Working = passes (proxy_now proxy begun) proxy.passing begun in
-    let chosen : Working = chooses (proxy_now proxy passed) passed in
-    in_proxy proxy.req rested (closes (proxy_now proxy chosen) (sends_cancels proxy chosen))
-
--- a proxy whose SipSession the application ended does nothing
-unfoldable pub acts : Config → Working → Proxy → Working
-acts config working proxy = if is_invalid working.known proxy.sess then working else acted config proxy working
-
--- in order of the requests' numbers
-unfoldable pub all_act : Config → Working → Working
-all_act config working = fold (acts config) working working.known.proxies
-
--- ## A later request on a proxied dialog is passed on
-
-unfoldable pub hops_spent : Config → RequestView → Working → Working
-hops_spent config request working =
-    if is_owed request
-    then in_view (answered (Some request) 483 working.play.view) (answering config (Some request) (bare_answer 483 too_many_hops) working) else working
-
--- a proxy of one branch
-unfoldable pub sent_proxy : Kept → ℕ → Proxy
-sent_proxy kept branch =
-    record (new_proxy kept.id kept.sess (event_of kept.way) kept.request None) { branches = record { number = branch; ended = None; cancelled = false; due = None } ∷ [] }
-
-unfoldable pub passed_on : Config → Kept → Working → Working
-passed_on config kept working =
-    let sent : Request = on_branch config working.play.view (next_branch working) (passed_request kept.request) in
-    in_view (drawn working.play.view)
-    (if same_bytes kept.request.method ack then giving (orders.Acknowledge sent ∷ []) working
-    else giving (orders.Send (next_branch working) sent ∷ [])
-    (record working { known = record working.known { proxies = working.known.proxies ++ sent_proxy kept (next_branch working) ∷ [] } }))
-
-unfoldable pub passed_later : Config → RequestView → Option Kept → Working → Working
-passed_later config request None working = working
-passed_later config request (Some kept) working =
-    if request.initial || not request.proxied || is_invalid working.known request.sess then working
-    else (if request.hops == 0 then hops_spent config request working else passed_on config kept working)
-
-unfoldable pub passed_request_of : Config → Option RequestView → Working → Working
-passed_request_of config None working = working
-passed_request_of config (Some request) working = passed_later config request (kept_of working.known request.id) working
-
-unfoldable pub is_request_event : Queued → Bool
-is_request_event (queued.Request request) = true
-is_request_event event = false
-
-unfoldable pub passes_later : Config → Queued → Option ReqId → Working → Working
-passes_later config event req working =
-    if is_request_event event then passed_request_of config (option_and_then (request_in working.play.view) req) working else working
+use Rattle.sc_model.specs.SessionStates.{invite}
+use Rattle.sc_hosts.specs.Branches.{records_route}
+use Rattle.sc_hosts.specs.Effects.{tidy}
+use Rattle.sc_hosts.specs.Legs.{leg_of, FIRST_SESSION}
+use Rattle.sc_hosts.specs.Looking.{same_session, request_in, session_in, is_gone, is_confirmed, is_initial_state, is_terminated, is_proxy, is_uac, removed}
+use Rattle.sc_hosts.specs.Messages.{own_response}
+use Rattle.sc_hosts.specs.Preparing.{own_tag_of, proxy_of, has_expired, prepared}
+use Rattle.sc_hosts.specs.Working.{goodbyes, worked_all}
+use Rattle.sc_hosts.specs.Words.{ack, does_not_exist}
+use Rattle.sc_hosts.specs.Acting.{drawn, drafts_ended, faulted, all_act, passes_later}
 
 -- ## Readiness (JSR 289 sections 6.1.2.2 and 6.2.4)
 

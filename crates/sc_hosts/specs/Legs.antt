@@ -29,7 +29,7 @@ use Rattle.sc_model.specs.Settings.{app_of, params_in, expiry_in}
 use Rattle.sc_model.specs.Transactions.{is_success}
 use Rattle.sc_hosts.specs.Looking.{same_request, same_session, is_early, is_open_state, is_proxy, is_uac, change_session, in_state, session_count}
 use Rattle.sc_hosts.specs.Messages.{makes_dialog}
-use Rattle.sc_hosts.specs.Refusals.{MOST_SESSIONS}
+use Rattle.sc_hosts.specs.RefusalParts.{MOST_SESSIONS}
 use Rattle.sc_hosts.specs.Words.{ack}
 
 -- ## Legs

@@ -1,6 +1,6 @@
 -- Which refusal each call of a turn gets: the first that holds, in the order written. A call is judged
 -- by the view, by the drafts of its turn, and by how many calls were made.
-use Rattle.std.specs.Prelude.{ℕ, ◌+◌, ◌==◌, List, [], ◌∷◌, Bool, true, false, not, ◌||◌, ◌&&◌, Option, None, Some, is_some, is_none, option_map, nat_lt, nat_le, if◌then◌else◌, length, filter, min, position, sum_by}
+use Rattle.std.specs.Prelude.{ℕ, ◌+◌, ◌==◌, List, [], ◌∷◌, Bool, true, false, not, ◌||◌, ◌&&◌, Option, None, Some, is_some, is_none, option_map, nat_lt, nat_le, if◌then◌else◌, length, filter, sum_by}
 use Rattle.std.specs.List.{find, list_any}
 use Rattle.std.specs.Option.{option_or, option_map_or}
 use Rattle.sc_value.specs.declared.ids.ReqId.{ReqId}
@@ -8,9 +8,7 @@ use Rattle.sc_value.specs.declared.ids.SessId.{SessId}
 use Rattle.sc_value.specs.declared.ids.Directive.{Directive}
 use Rattle.sc_value.specs.declared.ids.Directive.TheVariants.{New, Continue, Reverse}
 use Rattle.sc_value.specs.declared.parts.Field.{Field}
-use Rattle.sc_value.specs.HeaderNames.{is_system_name}
 use Rattle.sc_value.specs.Params.{same_bytes}
-use Rattle.sc_value.specs.Tokens.{is_token, is_value, is_one_line}
 use Rattle.sc_terms.specs.declared.views.View.{View}
 use Rattle.sc_terms.specs.declared.views.RequestView.{RequestView}
 use Rattle.sc_terms.specs.declared.views.SessionView.{SessionView}
@@ -22,7 +20,6 @@ use Rattle.sc_terms.specs.declared.calls.Ask.{Ask}
 use Rattle.sc_terms.specs.declared.calls.Call.{Call}
 use Rattle.sc_terms.specs.declared.calls.Call.TheVariants as calls
 use Rattle.sc_terms.specs.declared.calls.ProxyOptions.{ProxyOptions}
-use Rattle.sc_terms.specs.declared.calls.Target.TheVariants as targets
 use Rattle.sc_terms.specs.declared.calls.Refusal.{Refusal}
 use Rattle.sc_terms.specs.declared.calls.Refusal.TheVariants.{NotYours, AlreadyAnswered, NotInitial, WrongState, AlreadyProxy, AlreadyLinked, NotLinked, Invalidated, Limit, SystemHeader, BadText, NoHops, NotSent}
 use Rattle.sc_terms.specs.declared.inside.Inside.{Inside}
@@ -30,121 +27,9 @@ use Rattle.sc_state.specs.declared.working.Draft.{Draft}
 use Rattle.sc_state.specs.declared.working.Play.{Play}
 use Rattle.sc_grammar.specs.Written.{Bytes}
 use Rattle.sc_model.specs.SessionStates.{invite}
-use Rattle.sc_hosts.specs.Looking.{same_session, request_in, session_in, timer_in, is_gone_in, is_initial_state, is_open_state, is_terminated, is_proxy, session_count, partner}
-use Rattle.sc_hosts.specs.Words.{ack, cancel, register, options}
-
--- ## Limits
-
-abbrev pub MOST_CALLS : ℕ
-MOST_CALLS = 256
-
-abbrev pub MOST_SESSIONS : ℕ
-MOST_SESSIONS = 64
-
-abbrev pub MOST_BRANCHES : ℕ
-MOST_BRANCHES = 32
-
-abbrev pub MOST_TIMERS : ℕ
-MOST_TIMERS = 64
-
-abbrev pub MOST_ATTRIBUTE_BYTES : ℕ
-MOST_ATTRIBUTE_BYTES = 4096
-
--- the first test that holds gives the refusal
-unfoldable pub first_of : List (Bool × Refusal) → Option Refusal
-first_of [] = None
-first_of ((test, refusal) ∷ rest) = if test then Some refusal else first_of rest
-
--- ## What a call names
-
-abbrev pub draft_in : Play → ℕ → Option Draft
-draft_in play number = find (λ draft. draft.number == number) play.drafts
-
--- the SipSession of a request or a draft, none where nothing has the number
-unfoldable pub session_of_request : Play → ReqId → Option SessId
-session_of_request play req = option_map (λ request. request.sess) (request_in play.view req)
-
-unfoldable pub session_of_draft : Play → ℕ → Option SessId
-session_of_draft play number = option_map (λ draft. draft.sess) (draft_in play number)
-
-unfoldable pub known_session : Play → SessId → Option SessId
-known_session play sess = option_map (λ session. session.id) (session_in play.view sess)
-
-unfoldable pub of_origin : Play → Option ReqId → List (Option SessId)
-of_origin play None = []
-of_origin play (Some req) = session_of_request play req ∷ []
-
--- the SipSessions that the call names by themselves, by a request or by a draft
-unfoldable pub named : Play → Call → List (Option SessId)
-named play (calls.Respond req answer) = session_of_request play req ∷ []
-named play (calls.CreateRequest ask) = of_origin play ask.origin
-named play (calls.CreateInDialog sess ask) = known_session play sess ∷ []
-named play (calls.B2bCreate req uri) = session_of_request play req ∷ []
-named play (calls.SetDirective draft directive origin) = session_of_draft play draft ∷ of_origin play origin
-named play (calls.Send draft) = session_of_draft play draft ∷ []
-named play (calls.Discard draft) = session_of_draft play draft ∷ []
-named play (calls.Ack sess body) = known_session play sess ∷ []
-named play (calls.Cancel req) = session_of_request play req ∷ []
-named play (calls.ProxyTo req uris how) = session_of_request play req ∷ []
-named play (calls.ProxyCancel req) = session_of_request play req ∷ []
-named play (calls.B2bRespond sess answer) = known_session play sess ∷ []
-named play (calls.Link a b) = known_session play a ∷ known_session play b ∷ []
-named play (calls.Unlink a) = known_session play a ∷ []
-named play (calls.StartTimer delay period info) = []
-named play (calls.CancelTimer id) = []
-named play (calls.SetAttribute name value) = []
-named play (calls.RemoveAttribute name) = []
-named play (calls.SetExpires minutes) = []
-named play (calls.SetReadyFlag (targets.Session sess) flag) = known_session play sess ∷ []
-named play (calls.SetReadyFlag targets.Application flag) = []
-named play (calls.InvalidateSession sess) = known_session play sess ∷ []
-named play calls.InvalidateApplication = []
-
--- some number names nothing, and then some SipSession that is named is gone
-unfoldable pub name_refusal : View → List (Option SessId) → Option Refusal
-name_refusal view names =
-    if list_any is_none names then Some NotYours
-    else (if list_any (λ name. option_map_or (is_gone_in view) name true) names then Some Invalidated
-    else None)
-
--- ## Texts (RFC 3261 sections 7.3 and 25.1)
-
--- the field's name is no token, or its value no header value
-unfoldable pub is_bad_field : Field → Bool
-is_bad_field field = not (is_token field.name) || not (is_value field.value)
-
--- the number of the first field out of form: 2 and more by its place
-unfoldable pub bad_field : List Field → Option Refusal
-bad_field fields = option_map (λ i. BadText (min (i + 2) 4294967295)) (position is_bad_field fields)
-
-unfoldable pub has_system_name : List Field → Bool
-has_system_name fields = list_any (λ field. is_system_name field.name) fields
-
--- a code outside 101 to 699, then a reason of more than one line, then a field
-unfoldable pub answer_text : Answer → Option Refusal
-answer_text answer =
-    option_or (first_of ((nat_lt answer.code 101 || nat_lt 699 answer.code, BadText 0) ∷ (not (is_one_line answer.reason), BadText 1) ∷ [])) (bad_field answer.fields)
-
--- a method that is no token, or is ACK or CANCEL
-unfoldable pub is_bad_method : Bytes → Bool
-is_bad_method method = not (is_token method) || same_bytes method ack || same_bytes method cancel
-
-unfoldable pub asked_text : Bytes → List Field → Option Refusal
-asked_text method fields = option_or (first_of ((is_bad_method method, BadText 0) ∷ [])) (bad_field fields)
-
--- an answer may carry a Contact of its own where it is a 3xx, a 485, a 200 to OPTIONS, or answers a
--- REGISTER (RFC 3261 sections 10.3, 11.2 and 21)
-unfoldable pub may_have_contact : Bytes → ℕ → Bool
-may_have_contact method code =
-    (nat_le 300 code && nat_lt code 400) || code == 485 || (code == 200 && same_bytes method options) || same_bytes method register
-
-unfoldable pub has_system_answer : Bytes → Answer → Bool
-has_system_answer method answer = has_system_name answer.fields || (not (length answer.contact == 0) && not (may_have_contact method answer.code))
-
-unfoldable pub has_system_ask : Ask → Bool
-has_system_ask ask = has_system_name ask.fields || (not (length ask.contact == 0) && not (same_bytes ask.method register))
-
--- ## Each call
+use Rattle.sc_hosts.specs.Looking.{same_session, request_in, session_in, timer_in, is_initial_state, is_open_state, is_terminated, is_proxy, session_count, partner}
+use Rattle.sc_hosts.specs.Words.{ack}
+use Rattle.sc_hosts.specs.RefusalParts.{MOST_CALLS, MOST_SESSIONS, MOST_BRANCHES, MOST_TIMERS, MOST_ATTRIBUTE_BYTES, first_of, draft_in, named, name_refusal, has_system_name, answer_text, asked_text, has_system_answer, has_system_ask}
 
 -- what `respond` refuses of a request
 unfoldable pub respond_refusal : RequestView → Answer → Option Refusal

@@ -18,7 +18,7 @@ use Rattle.sc_state.specs.declared.net.Net.{Net}
 use Rattle.sc_state.specs.declared.queue.Waiting.{Waiting}
 use Rattle.sc_state.specs.declared.working.Prepared.{Prepared}
 use Rattle.sc_model.specs.Settings.{Charters, charters_of}
-use Rattle.sc_hosts.specs.Charters.{Allowed}
+use Rattle.sc_hosts.specs.Bringing.{Allowed}
 use Rattle.sc_hosts.specs.Nets.{host_at, is_busy, deliver_first, weight}
 use Rattle.sc_hosts.specs.Preparing.{prepared}
 use Rattle.sc_hosts.specs.Sessions.{Form}

@@ -43,8 +43,10 @@ use Rattle.sc_hosts.specs.Effects.{new_call_id, new_tag, begun, after_listed}
 use Rattle.sc_hosts.specs.Legs.{leg_of, change_leg, new_leg, in_dialog}
 use Rattle.sc_hosts.specs.Looking.{same_session, request_in}
 use Rattle.sc_hosts.specs.Messages.{asked_request, leg_request, from_here, given_response, on_branch}
-use Rattle.sc_hosts.specs.Preparing.{kept_of, own_tag_of, proxy_of, change_proxy}
-use Rattle.sc_hosts.specs.Refusals.{awaits_ack, begun_by, draft_in, refusal}
+use Rattle.sc_hosts.specs.Preparing.{kept_of, own_tag_of, proxy_of}
+use Rattle.sc_hosts.specs.PreparingResponses.{change_proxy}
+use Rattle.sc_hosts.specs.Refusals.{awaits_ack, begun_by, refusal}
+use Rattle.sc_hosts.specs.RefusalParts.{draft_in}
 use Rattle.sc_hosts.specs.Words.{ack, server_error}
 
 -- as the calls begin

@@ -7,7 +7,7 @@ ghost use Rattle.std.specs.Option.{option_copied, option_map_or};
 ghost use Rattle.sc_value.specs.Lists.{change_first};
 ghost use Rattle.sc_hosts.specs.Looking.{is_session, same_request, session_count};
 ghost use Rattle.sc_hosts.specs.Legs.{Handling, claims, derived_leg, derived_session, handled_in, handling, handling_by, handling_of, is_of, is_subscribed, sessions_of, takes_tag};
-ghost use Rattle.sc_hosts.specs.Preparing.{is_invalid};
+ghost use Rattle.sc_hosts.specs.PreparingResponses.{is_invalid};
 ghost use Rattle.sc_legs.specs.Numbers.{is_from};
 ghost use Rattle.sc_legs.specs.Claims.{claims_of, with_peer_tag};
 
@@ -219,7 +219,7 @@ fn can_derive(session: &Session, sess: SessId) -> bool
 }
 
 // No SipSession has the tag.
-#[tactic(auto, unfolding(sc_hosts::specs::Legs::handling_of, sc_hosts::specs::Legs::handled_in, sc_hosts::specs::Preparing::is_invalid))]
+#[tactic(auto, unfolding(sc_hosts::specs::Legs::handling_of, sc_hosts::specs::Legs::handled_in, sc_hosts::specs::PreparingResponses::is_invalid))]
 fn handled_unclaimed(
     alloc: Global,
     session: &mut Session,

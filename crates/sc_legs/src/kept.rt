@@ -4,7 +4,7 @@ ghost use Rattle.std.specs.Prelude.{◌≡◌};
 ghost use Rattle.sc_value.specs.Lists.{change_first};
 ghost use Rattle.sc_hosts.specs.Branches.{stopped};
 ghost use Rattle.sc_hosts.specs.Looking.{same_request};
-ghost use Rattle.sc_hosts.specs.Preparing.{change_proxy};
+ghost use Rattle.sc_hosts.specs.PreparingResponses.{change_proxy};
 
 use sc_branches::stopped;
 use sc_effects::proxy_place;

@@ -3,7 +3,7 @@
 ghost use Rattle.std.specs.Prelude.{◌≡◌, ◌-◌, false, slice_get, option_and_then};
 ghost use Rattle.std.specs.Option.{option_copied, option_map_or};
 ghost use Rattle.sc_hosts.specs.Legs.{leg_of, new_leg};
-ghost use Rattle.sc_hosts.specs.Preparing.{is_invalid};
+ghost use Rattle.sc_hosts.specs.PreparingResponses.{is_invalid};
 
 use sc_state::{Known, Leg};
 use sc_value::{List, ReqId, SessId, Text};
@@ -61,7 +61,7 @@ pub fn caller_of(known: &Known, sess: SessId) -> Option<&Text>
 }
 
 /// Whether the application ended the SipSession by a call.
-#[tactic(auto, unfolding(sc_hosts::specs::Preparing::is_invalid))]
+#[tactic(auto, unfolding(sc_hosts::specs::PreparingResponses::is_invalid))]
 pub fn is_invalid(known: &Known, sess: SessId) -> bool
     ensures { result ≡ is_invalid known.now sess }
 {

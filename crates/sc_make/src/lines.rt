@@ -1,8 +1,7 @@
 //! The lines of the script.
 
 ghost use Rattle.std.specs.Prelude.{◌≡◌, ◌++◌, ◌∷◌, [], OnOk, decimal, length};
-ghost use Rattle.sc_model.specs.Generated.{run_line, end_line, tick_word, tick_line, arriving_text, arrives};
-ghost use Rattle.sc_model.specs.Scripts.{in_word};
+ghost use Rattle.sc_model.specs.Generated.{run_line, end_line, tick_word, tick_line, arriving_text, arrives, in_word};
 ghost use Rattle.sc_grammar.specs.Written.{written};
 ghost use Rattle.sc_value.specs.declared.message.Message.{Message};
 
@@ -34,7 +33,7 @@ fn put_arriving(text: &[u8], out: &mut Text) -> Result<(), NoMemory>
     out.append(b"\n")
 }
 
-#[tactic(auto, unfolding(sc_model::specs::Scripts::in_word))]
+#[tactic(auto, unfolding(sc_model::specs::Generated::in_word))]
 fn put_in_word(out: &mut Text) -> Result<(), NoMemory>
     ensures { OnOk result (out.new ≡ out.old ++ in_word) }
 {

@@ -2,8 +2,7 @@
 
 ghost use Rattle.std.specs.Prelude.{◌≡◌, ◌∷◌, [], None, IfOk};
 ghost use Rattle.sc_model.specs.Generated.{home, local, caller, called, tag_word, branch_word, valued, via_of, from_side, to_side, answered_side, caller_contact, route_of, head_of, later_of, invite_of, ack_of, bye_of};
-ghost use Rattle.sc_model.specs.SessionStates.{invite, bye};
-ghost use Rattle.sc_model.specs.Turns.{ack};
+ghost use Rattle.sc_model.specs.SessionStates.{ack, bye, invite};
 
 use crate::names::{answer_tag, branch_of, call_of, session_uri, user_uri, valued};
 use sc_value::{Address, CSeq, Contact, Head, List, NoMemory, Param, Request, Text, Uri, Via};
@@ -28,7 +27,7 @@ pub fn invite_of(alloc: Global, i: u64) -> Result<Request, NoMemory>
 }
 
 /// The ACK of call i.
-#[tactic(auto, unfolding(sc_model::specs::Generated::ack_of, sc_model::specs::Turns::ack))]
+#[tactic(auto, unfolding(sc_model::specs::Generated::ack_of, sc_model::specs::SessionStates::ack))]
 pub fn ack_of(alloc: Global, i: u64) -> Result<Request, NoMemory>
     ensures { IfOk result (λ r. r ≡ ack_of i) }
 {

@@ -7,9 +7,7 @@ use sc_value::NoMemory;
 #[derive(Debug, Clone, Copy, PartialEq, Eq)]
 pub enum MessageRefused {
     /// The text spells no message (RFC 3261 section 7). `at` is the place where it goes wrong, in
-    /// bytes from 0, and `kind` is what is wrong there; 1 is the start line. Until the whole
-    /// grammar is read each text that [`crate::read`] refuses has place 0 and kind 1; those of
-    /// [`crate::read_message`] are told there.
+    /// bytes from 0, and `kind` is what is wrong there: 1 to 12, as [`crate::read_message`] tells.
     Refused { at: usize, kind: u8 },
     /// There was no memory to read the text. It says nothing of the text.
     NoMemory,

@@ -1,8 +1,8 @@
-use crate::{MessageRefused, read, text_of, uri_text, write};
+use crate::{MessageRefused, read_message, text_of, uri_text, write};
 use sc_value::{Discard, Text, Uri};
 use std::test::Fail;
 
-// The one request that is read. It stands in a function, whose value no proof goes into.
+// It stands in a function, whose value no proof goes into.
 fn options() -> &'static [u8] {
     b"OPTIONS sip:alice@home.test SIP/2.0\r\nVia: SIP/2.0/TCP 127.0.0.1:5090;branch=z9hG4bKa1\r\nMax-Forwards: 70\r\nFrom: <sip:bob@home.test>;tag=b1\r\nTo: <sip:alice@home.test>\r\nCall-ID: c1\r\nCSeq: 1 OPTIONS\r\nContent-Length: 0\r\n\r\n"
 }
@@ -12,7 +12,7 @@ fn gives_the_text_back(rt: HostRuntime) -> Result<(), Fail> {
     let alloc = rt.alloc();
     let bytes = options();
     let mut out = Text::from_slice(alloc, b"+")?;
-    let message = read(alloc, bytes)?;
+    let message = read_message(alloc, bytes)?;
     let text = text_of(alloc, &message);
     let done = write(alloc, &message, &mut out);
     message.discard();
@@ -24,14 +24,14 @@ fn gives_the_text_back(rt: HostRuntime) -> Result<(), Fail> {
 }
 
 #[test]
-fn refuses_another_text(rt: HostRuntime) {
+fn refuses_a_text_without_an_empty_line(rt: HostRuntime) {
     let bytes = options();
-    let refused = match read(rt.alloc(), &bytes[..bytes.len() / 2]) {
+    let refused = match read_message(rt.alloc(), &bytes[..bytes.len() / 2]) {
         Ok(message) => {
             message.discard();
             false
         }
-        Err(cause) => cause == MessageRefused::Refused { at: 0, kind: 1 },
+        Err(cause) => cause == MessageRefused::Refused { at: 108, kind: 1 },
     };
     assert!(rt; refused);
 }

@@ -1,5 +1,4 @@
 pub mod BestFacts
-mod Cases
 mod ClientTables
 pub mod ClientTransactions
 mod DialogCases

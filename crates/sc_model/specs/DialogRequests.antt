@@ -1,17 +1,17 @@
 -- The requests that are made in a dialog (RFC 3261 sections 12.2.1.1 and 13.2.2.4).
-use Rattle.std.specs.Prelude.{ℕ, ◌+◌, List, [], Bool, not, ◌&&◌, codes, map}
+use Rattle.std.specs.Prelude.{ℕ, ◌+◌, List, [], Bool, not, ◌&&◌, ◌||◌, codes, map}
 use Rattle.std.specs.List.{list_all}
 use Rattle.sc_value.specs.declared.parts.Field.{Field}
 use Rattle.sc_value.specs.declared.message.Head.{Head}
 use Rattle.sc_value.specs.declared.message.Request.{Request}
 use Rattle.sc_value.specs.HeaderNames.{is_system_name}
 use Rattle.sc_value.specs.Params.{same_bytes}
-use Rattle.sc_value.specs.Tokens.{is_token}
+use Rattle.sc_value.specs.Tokens.{is_token, is_value}
 use Rattle.sc_terms.specs.declared.inside.Inside.{Inside}
 use Rattle.sc_grammar.specs.Written.{Bytes}
 use Rattle.sc_model.specs.Dialogs.{DialogState}
 use Rattle.sc_model.specs.Responses.{kept_field}
-use Rattle.sc_model.specs.Turns.{ack, is_bad_field}
+use Rattle.sc_model.specs.SessionStates.{ack}
 
 unfoldable pub cancel : Bytes
 cancel = codes "CANCEL"
@@ -19,6 +19,10 @@ cancel = codes "CANCEL"
 -- a method that an application may ask for: ACK and CANCEL have calls of their own
 unfoldable pub is_asked_method : Bytes → Bool
 is_asked_method method = is_token method && not (same_bytes method ack) && not (same_bytes method cancel)
+
+-- the field's name is no token, or its value no header value
+unfoldable pub is_bad_field : Field → Bool
+is_bad_field field = not (is_token field.name) || not (is_value field.value)
 
 -- the field is no header that the container sets itself, and is in form
 unfoldable pub is_asked_field : Field → Bool

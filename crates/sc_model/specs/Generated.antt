@@ -14,9 +14,7 @@ use Rattle.sc_value.specs.declared.message.Head.{Head}
 use Rattle.sc_value.specs.declared.message.Request.{Request}
 use Rattle.sc_value.specs.declared.message.Message.TheVariants as messages
 use Rattle.sc_grammar.specs.Written.{Bytes, written}
-use Rattle.sc_model.specs.Scripts.{in_word}
-use Rattle.sc_model.specs.SessionStates.{invite, bye}
-use Rattle.sc_model.specs.Turns.{ack}
+use Rattle.sc_model.specs.SessionStates.{ack, bye, invite}
 
 -- ## The names in it
 
@@ -145,6 +143,9 @@ unfoldable pub bye_of : ℕ → Request
 bye_of i = later_of i (codes "b") bye 2
 
 -- ## The lines
+
+unfoldable pub in_word : Bytes
+in_word = codes "in c1 "
 
 unfoldable pub run_line : Bytes
 run_line = codes "run\n"

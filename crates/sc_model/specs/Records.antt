@@ -4,11 +4,7 @@ use Rattle.std.specs.List.{flat_map}
 use Rattle.sc_value.specs.declared.ids.Place.{Place}
 use Rattle.sc_value.specs.declared.ids.Place.TheVariants.{Back, To}
 use Rattle.sc_value.specs.declared.message.Sent.{Sent}
-use Rattle.sc_terms.specs.declared.steps.Step.{Step}
 use Rattle.sc_grammar.specs.Written.{Bytes, written}
-use Rattle.sc_model.specs.Hosts.{live_count}
-use Rattle.sc_model.specs.Journals.{chained, all_sent}
-use Rattle.sc_parts.specs.declared.setup.Setup.{Setup}
 
 -- `a.b.c.d`
 unfoldable pub ip_text : List ℕ → Bytes
@@ -39,15 +35,3 @@ end_word = codes "end "
 -- `end STEPS SENT LIVE`, and a line feed
 unfoldable pub end_text : ℕ → ℕ → ℕ → Bytes
 end_text steps sent live = end_word ++ decimal steps ++ 32 ∷ [] ++ decimal sent ++ 32 ∷ [] ++ (decimal live ++ 10 ∷ [])
-
--- the records of all that a journal sends
-unfoldable pub journal_records : Setup → List Step → Bytes
-journal_records setup journal = records (all_sent setup 0 0 journal)
-
--- the last line: the steps, the sent messages and the live sessions
-unfoldable pub end_line : Setup → List Step → Bytes
-end_line setup journal = end_text (length journal) (length (all_sent setup 0 0 journal)) (live_count (chained setup 0 0 journal).net)
-
--- the whole output
-unfoldable pub output : Setup → List Step → Bytes
-output setup journal = journal_records setup journal ++ end_line setup journal

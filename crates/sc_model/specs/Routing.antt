@@ -1,6 +1,7 @@
--- The choice of the Default Application Router (JSR 289 appendix C) for a request from outside.
-use Rattle.std.specs.Prelude.{List, [], ◌∷◌, Option, option_and_then, option_map, unwrap_or, if◌then◌else◌, nat_eq, codes, drop}
-use Rattle.std.specs.List.{find, slice_get, starts_with}
+-- What the Default Application Router (JSR 289 appendix C) looks up for a request: the list of its
+-- method, and the subscriber that a tuple names.
+use Rattle.std.specs.Prelude.{List, [], ◌∷◌, Option, option_map, unwrap_or, if◌then◌else◌, nat_eq, codes, drop}
+use Rattle.std.specs.List.{find, starts_with}
 use Rattle.sc_value.specs.declared.parts.Contact.{Contact}
 use Rattle.sc_value.specs.declared.parts.Contact.TheVariants.{Star, At}
 use Rattle.sc_value.specs.declared.parts.Field.{Field}
@@ -9,8 +10,6 @@ use Rattle.sc_value.specs.HeaderNames.{from_name, to_name, contact_name, long_na
 use Rattle.sc_value.specs.Params.{same_name, same_bytes}
 use Rattle.sc_terms.specs.declared.settings.Dar.{Dar}
 use Rattle.sc_terms.specs.declared.settings.MethodList.{MethodList}
-use Rattle.sc_terms.specs.declared.settings.Tuple.{Tuple}
-use Rattle.sc_parts.specs.declared.chosen.Chosen.{Chosen}
 use Rattle.sc_grammar.specs.Written.{Bytes, uri_text}
 
 unfoldable pub dar_prefix : Bytes
@@ -45,11 +44,3 @@ subscriber_of text request = if starts_with nat_eq text dar_prefix then header_t
 -- the list of a method
 unfoldable pub list_of : Bytes → Dar → Option MethodList
 list_of method dar = find (λ list. same_bytes list.method method) dar.lists
-
--- what a tuple chooses
-unfoldable pub chosen : Request → Tuple → Chosen
-chosen request tuple = record { host = tuple.app; region = tuple.region; subscriber = subscriber_of tuple.subscriber request }
-
--- the first tuple of the method's list, none where the method has no list
-unfoldable pub next_choice : Dar → Request → Option Chosen
-next_choice dar request = option_map (chosen request) (option_and_then (λ list. slice_get list.tuples 0) (list_of request.method dar))

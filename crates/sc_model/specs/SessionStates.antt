@@ -12,6 +12,9 @@ invite = codes "INVITE"
 unfoldable pub bye : Bytes
 bye = codes "BYE"
 
+unfoldable pub ack : Bytes
+ack = codes "ACK"
+
 -- the code is final (RFC 3261 section 7.2)
 abbrev pub is_final : ℕ → Bool
 is_final code = nat_lt 199 code

@@ -3,7 +3,7 @@
 ghost use Rattle.std.specs.Prelude.{◌≡◌, Some, slice_get, IfOk, OnOk};
 ghost use Rattle.sc_value.specs.Lists.{change_nth};
 ghost use Rattle.sc_hosts.specs.Histories.{as_session};
-ghost use Rattle.sc_hosts.specs.Steps.{taken_at};
+ghost use Rattle.sc_hosts.specs.Arrivals.{taken_at};
 ghost use Rattle.sc_hosts.specs.Taking.{takes};
 ghost use Rattle.sc_net.specs.HostChanges.{host_after, told_after, net_after};
 

@@ -4,7 +4,7 @@ use Rattle.std.proofs.Common.{◌≡◌, ◌≢◌, ℕ, suc, ◌+◌, ◌<◌, 
 use Rattle.std.specs.List.{position_or_len, insert}
 use Rattle.std.proofs.lemmas.Bool.Decides.{nat_tests}
 use Rattle.sc_value.specs.declared.ids.SessId.{SessId}
-use Rattle.sc_hosts.specs.Preparing.{insert_session}
+use Rattle.sc_hosts.specs.PreparingResponses.{insert_session}
 use Rattle.sc_prepare.specs.Shown.{follows}
 
 placed : (sess : SessId) (xs : List SessId) (i : ℕ) → position (follows sess) xs ≡ Some i → (position_or_len (follows sess) xs ≡ i) × (i < length xs)

@@ -10,7 +10,7 @@ use Rattle.sc_state.specs.declared.session.Session.{Session}
 use Rattle.sc_state.specs.declared.working.Prepared.{Prepared}
 use Rattle.sc_hosts.specs.Legs.{change_leg, with_request}
 use Rattle.sc_hosts.specs.Looking.{is_proxy}
-use Rattle.sc_hosts.specs.Preparing.{next_id, received, showing}
+use Rattle.sc_hosts.specs.PreparingRequests.{next_id, received, showing}
 use Rattle.sc_prepare.specs.declared.shown.Shown.{Shown}
 
 -- the session with what is shown of it

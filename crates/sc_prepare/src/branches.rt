@@ -5,7 +5,7 @@ ghost use Rattle.sc_value.specs.Lists.{change_first};
 ghost use Rattle.sc_terms.specs.declared.events.Event.{Event};
 ghost use Rattle.sc_hosts.specs.Branches.{heard};
 ghost use Rattle.sc_hosts.specs.Looking.{is_request, same_request, session_in};
-ghost use Rattle.sc_hosts.specs.Preparing.{branch_placed, change_proxy, heard_in, prepared_branch, told, with_branches};
+ghost use Rattle.sc_hosts.specs.PreparingResponses.{branch_placed, change_proxy, heard_in, prepared_branch, told, with_branches};
 ghost use Rattle.sc_prepare.specs.Shown.{more_branches, prepared_as};
 
 use crate::copies::session_copy;
@@ -37,7 +37,7 @@ fn branch_event(
 }
 
 // What a supervising application is told.
-#[tactic(auto, unfolding(sc_hosts::specs::Preparing::told))]
+#[tactic(auto, unfolding(sc_hosts::specs::PreparingResponses::told))]
 fn told(
     alloc: Global,
     proxy: &Proxy,
@@ -84,7 +84,7 @@ fn more_in(requests: &mut [RequestView], req: ReqId, count: usize) -> Result<(),
 }
 
 // The view shows the targets that a 3xx added.
-#[tactic(auto, unfolding(sc_hosts::specs::Preparing::with_branches, crate::specs::Shown::more_branches))]
+#[tactic(auto, unfolding(sc_hosts::specs::PreparingResponses::with_branches, crate::specs::Shown::more_branches))]
 fn with_branches(
     alloc: Global,
     view: &mut View,
@@ -138,7 +138,7 @@ fn hear(
 }
 
 // The response is handled in this SipSession.
-#[tactic(auto, unfolding(sc_hosts::specs::Preparing::heard_in, sc_hosts::specs::Preparing::silent, sc_hosts::specs::Preparing::showing_in, sc_hosts::specs::Preparing::with_branches))]
+#[tactic(auto, unfolding(sc_hosts::specs::PreparingResponses::heard_in, sc_hosts::specs::PreparingRequests::silent, sc_hosts::specs::PreparingRequests::showing_in, sc_hosts::specs::PreparingResponses::with_branches))]
 fn heard_in(
     alloc: Global,
     session: &mut Session,
@@ -169,7 +169,7 @@ fn heard_in(
     Ok(showing_in(&session.view, sess, event, None, List::new(alloc)))
 }
 
-#[tactic(auto, unfolding(sc_hosts::specs::Preparing::branch_placed))]
+#[tactic(auto, unfolding(sc_hosts::specs::PreparingResponses::branch_placed))]
 fn placed_by(
     alloc: Global,
     session: &mut Session,
@@ -206,7 +206,7 @@ fn branch_placed(
 
 /// A response on a branch of a proxied request. A proxy whose SipSession the application ended does
 /// nothing any more.
-#[tactic(auto, unfolding(sc_hosts::specs::Preparing::prepared_branch, sc_hosts::specs::Preparing::silent))]
+#[tactic(auto, unfolding(sc_hosts::specs::PreparingResponses::prepared_branch, sc_hosts::specs::PreparingRequests::silent))]
 pub fn prepared_branch(
     alloc: Global,
     session: &mut Session,

@@ -53,7 +53,7 @@ fn terminated_order(
     one_response(alloc, invited.event, response)
 }
 
-#[tactic(auto, unfolding(sc_hosts::specs::Preparing::terminated, sc_hosts::specs::Preparing::showing_in))]
+#[tactic(auto, unfolding(sc_hosts::specs::Preparing::terminated, sc_hosts::specs::PreparingRequests::showing_in))]
 fn terminated_kept(
     alloc: Global,
     session: &mut Session,
@@ -69,7 +69,7 @@ fn terminated_kept(
 }
 
 // An INVITE without final response that isn't proxied is answered 487.
-#[tactic(auto, unfolding(sc_hosts::specs::Preparing::terminated, sc_hosts::specs::Preparing::showing_in))]
+#[tactic(auto, unfolding(sc_hosts::specs::Preparing::terminated, sc_hosts::specs::PreparingRequests::showing_in))]
 fn terminated(
     alloc: Global,
     session: &mut Session,
@@ -84,7 +84,7 @@ fn terminated(
     }
 }
 
-#[tactic(auto, unfolding(sc_hosts::specs::Preparing::cancelled_proxy, sc_hosts::specs::Preparing::showing_in, sc_hosts::specs::Preparing::silent))]
+#[tactic(auto, unfolding(sc_hosts::specs::Preparing::cancelled_proxy, sc_hosts::specs::PreparingRequests::showing_in, sc_hosts::specs::PreparingRequests::silent))]
 fn stopped_proxy(
     alloc: Global,
     session: &mut Session,
@@ -101,7 +101,7 @@ fn stopped_proxy(
 }
 
 // A proxied INVITE has its branches cancelled.
-#[tactic(auto, unfolding(sc_hosts::specs::Preparing::cancelled_proxy, sc_hosts::specs::Preparing::showing_in))]
+#[tactic(auto, unfolding(sc_hosts::specs::Preparing::cancelled_proxy, sc_hosts::specs::PreparingRequests::showing_in))]
 fn cancelled_proxy(
     alloc: Global,
     session: &mut Session,
@@ -115,7 +115,7 @@ fn cancelled_proxy(
     }
 }
 
-#[tactic(auto, unfolding(sc_hosts::specs::Preparing::cancelled_request, sc_hosts::specs::Preparing::showing_in))]
+#[tactic(auto, unfolding(sc_hosts::specs::Preparing::cancelled_request, sc_hosts::specs::PreparingRequests::showing_in))]
 fn cancelled_shown(
     alloc: Global,
     session: &mut Session,
@@ -133,7 +133,7 @@ fn cancelled_shown(
     Ok(shown_cancel(&session.view, invited, Some(invited.req), List::new(alloc)))
 }
 
-#[tactic(auto, unfolding(sc_hosts::specs::Preparing::cancelled_request, sc_hosts::specs::Preparing::showing_in))]
+#[tactic(auto, unfolding(sc_hosts::specs::Preparing::cancelled_request, sc_hosts::specs::PreparingRequests::showing_in))]
 fn cancelled_request(
     alloc: Global,
     session: &mut Session,
@@ -148,7 +148,7 @@ fn cancelled_request(
 }
 
 /// The INVITE of this event was cancelled.
-#[tactic(auto, unfolding(sc_hosts::specs::Preparing::prepared_cancel, sc_hosts::specs::Preparing::silent))]
+#[tactic(auto, unfolding(sc_hosts::specs::Preparing::prepared_cancel, sc_hosts::specs::PreparingRequests::silent))]
 pub fn prepared_cancel(alloc: Global, session: &mut Session, event: u64) -> Result<Shown, NoMemory>
     ensures { IfOk result (λ s. prepared_cancel session.old (find (is_invited event) session.old.known.invited) ≡ prepared_as session.new s) }
 {

@@ -5,7 +5,8 @@ ghost use Rattle.std.specs.List.{find};
 ghost use Rattle.std.specs.Option.{option_copied};
 ghost use Rattle.sc_hosts.specs.Branches.{has_branch};
 ghost use Rattle.sc_hosts.specs.Looking.{session_in, timer_in};
-ghost use Rattle.sc_hosts.specs.Preparing.{is_invited, is_sent_on, kept_of, proxy_of};
+ghost use Rattle.sc_hosts.specs.Preparing.{is_invited, kept_of, proxy_of};
+ghost use Rattle.sc_hosts.specs.PreparingResponses.{is_sent_on};
 
 use sc_branches::has_branch;
 use sc_effects::{kept_of, proxy_of};

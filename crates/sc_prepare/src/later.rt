@@ -2,7 +2,7 @@
 
 ghost use Rattle.std.specs.Prelude.{◌≡◌, IfOk};
 ghost use Rattle.sc_hosts.specs.Looking.{session_in};
-ghost use Rattle.sc_hosts.specs.Preparing.{prepared_request, refused, taken_in, too_low};
+ghost use Rattle.sc_hosts.specs.PreparingRequests.{prepared_request, refused, taken_in, too_low};
 ghost use Rattle.sc_prepare.specs.Shown.{prepared_as, taken_by};
 
 use crate::receiving::{next_id, numbered, received};
@@ -17,7 +17,7 @@ use sc_value::{Boxed, CloneIn, List, NoMemory, Request, SessId, Shared};
 use std::alloc::Global;
 
 // An answer of the container to a request that has a To tag; an ACK has none.
-#[tactic(auto, unfolding(sc_hosts::specs::Preparing::refused))]
+#[tactic(auto, unfolding(sc_hosts::specs::PreparingRequests::refused))]
 fn refused(
     alloc: Global,
     number: u64,
@@ -35,7 +35,7 @@ fn refused(
 }
 
 // A number that is too low: the answer counts in the SipSession like any other.
-#[tactic(auto, unfolding(sc_hosts::specs::Preparing::too_low, sc_hosts::specs::Preparing::silent, sc_hosts::specs::Words::server_error))]
+#[tactic(auto, unfolding(sc_hosts::specs::PreparingRequests::too_low, sc_hosts::specs::PreparingRequests::silent, sc_hosts::specs::Words::server_error))]
 fn too_low(
     alloc: Global,
     session: &mut Session,
@@ -53,7 +53,7 @@ fn too_low(
 }
 
 // The request is taken in a SipSession of this role.
-#[tactic(auto, unfolding(crate::specs::Shown::taken_by, sc_hosts::specs::Preparing::showing))]
+#[tactic(auto, unfolding(crate::specs::Shown::taken_by, sc_hosts::specs::PreparingRequests::showing))]
 fn taken_by(
     alloc: Global,
     session: &mut Session,
@@ -72,7 +72,7 @@ fn taken_by(
     Ok(showing(event, Some(req), List::new(alloc)))
 }
 
-#[tactic(auto, unfolding(sc_hosts::specs::Preparing::taken_in, sc_hosts::specs::Preparing::taken, crate::specs::Shown::taken_by, sc_hosts::specs::Preparing::silent))]
+#[tactic(auto, unfolding(sc_hosts::specs::PreparingRequests::taken_in, sc_hosts::specs::PreparingRequests::taken, crate::specs::Shown::taken_by, sc_hosts::specs::PreparingRequests::silent))]
 fn taken_in(
     alloc: Global,
     session: &mut Session,
@@ -100,7 +100,7 @@ fn taken_in(
 }
 
 /// A later request, in the SipSession whose dialog it is of, where there is one.
-#[tactic(auto, unfolding(sc_hosts::specs::Preparing::prepared_request, sc_hosts::specs::Preparing::silent, sc_hosts::specs::Words::does_not_exist))]
+#[tactic(auto, unfolding(sc_hosts::specs::PreparingRequests::prepared_request, sc_hosts::specs::PreparingRequests::silent, sc_hosts::specs::Words::does_not_exist))]
 pub fn prepared_request(
     alloc: Global,
     session: &mut Session,

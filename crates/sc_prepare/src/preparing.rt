@@ -4,7 +4,8 @@ ghost use Rattle.std.specs.Prelude.{◌≡◌, None, Some, IfOk};
 ghost use Rattle.std.specs.List.{find};
 ghost use Rattle.sc_state.specs.declared.queue.Queued.{Queued};
 ghost use Rattle.sc_hosts.specs.Branches.{has_branch};
-ghost use Rattle.sc_hosts.specs.Preparing.{is_sent_on, prepared, prepared_for, prepared_response};
+ghost use Rattle.sc_hosts.specs.PreparingResponses.{is_sent_on, prepared_response};
+ghost use Rattle.sc_hosts.specs.Preparing.{prepared, prepared_for};
 ghost use Rattle.sc_prepare.specs.Shown.{prepared_as};
 
 use crate::branches::prepared_branch;
@@ -24,7 +25,7 @@ use sc_value::{
 use std::alloc::Global;
 
 // The request that begins the application session.
-#[tactic(auto, unfolding(sc_hosts::specs::Preparing::prepared_for, sc_hosts::specs::Preparing::showing))]
+#[tactic(auto, unfolding(sc_hosts::specs::Preparing::prepared_for, sc_hosts::specs::PreparingRequests::showing))]
 fn initial(
     alloc: Global,
     config: &Config,
@@ -55,7 +56,7 @@ fn initial(
     Ok(showing(event, Some(req), List::new(alloc)))
 }
 
-#[tactic(auto, unfolding(sc_hosts::specs::Preparing::prepared_response))]
+#[tactic(auto, unfolding(sc_hosts::specs::PreparingResponses::prepared_response))]
 fn own_response(
     alloc: Global,
     session: &mut Session,
@@ -68,7 +69,7 @@ fn own_response(
     prepared_own(alloc, session, kept, response.get())
 }
 
-#[tactic(auto, unfolding(sc_hosts::specs::Preparing::prepared_response))]
+#[tactic(auto, unfolding(sc_hosts::specs::PreparingResponses::prepared_response))]
 fn proxied_response(
     alloc: Global,
     session: &mut Session,
@@ -81,7 +82,7 @@ fn proxied_response(
     prepared_branch(alloc, session, proxy, branch, response)
 }
 
-#[tactic(auto, unfolding(sc_hosts::specs::Preparing::prepared_response, sc_hosts::specs::Preparing::silent))]
+#[tactic(auto, unfolding(sc_hosts::specs::PreparingResponses::prepared_response, sc_hosts::specs::PreparingRequests::silent))]
 fn branch_response(
     alloc: Global,
     session: &mut Session,
@@ -111,7 +112,7 @@ fn prepared_response(
     }
 }
 
-#[tactic(auto, unfolding(sc_hosts::specs::Preparing::prepared_for, sc_hosts::specs::Preparing::showing))]
+#[tactic(auto, unfolding(sc_hosts::specs::Preparing::prepared_for, sc_hosts::specs::PreparingRequests::showing))]
 fn prepared_for(
     alloc: Global,
     config: &Config,

@@ -2,7 +2,7 @@
 
 ghost use Rattle.std.specs.Prelude.{◌≡◌, ◌+◌, ◌++◌, ◌∷◌, [], IfOk, OnOk};
 ghost use Rattle.sc_state.specs.declared.session.Way.{Way};
-ghost use Rattle.sc_hosts.specs.Preparing.{next_id, numbered, received, request_view, with_invited};
+ghost use Rattle.sc_hosts.specs.PreparingRequests.{next_id, numbered, received, request_view, with_invited};
 
 use sc_effects::ends_subscription;
 use sc_refusals::is_invite;
@@ -11,7 +11,7 @@ use sc_terms::{RequestView, View};
 use sc_value::{CloneIn, List, NoMemory, ReqId, Request, SessId, Shared, sum_u32};
 use std::alloc::Global;
 
-#[tactic(auto, unfolding(sc_hosts::specs::Preparing::request_view))]
+#[tactic(auto, unfolding(sc_hosts::specs::PreparingRequests::request_view))]
 fn request_view(
     alloc: Global,
     req: ReqId,
@@ -72,7 +72,7 @@ fn receive_view(
     Ok(())
 }
 
-#[tactic(auto, unfolding(sc_hosts::specs::Preparing::with_invited))]
+#[tactic(auto, unfolding(sc_hosts::specs::PreparingRequests::with_invited))]
 fn with_invited(
     known: &mut Known,
     number: u64,
@@ -127,7 +127,7 @@ fn receive_known(
 }
 
 /// A request is received in a SipSession under this event's number.
-#[tactic(auto, unfolding(sc_hosts::specs::Preparing::received))]
+#[tactic(auto, unfolding(sc_hosts::specs::PreparingRequests::received))]
 pub fn received(
     alloc: Global,
     session: &mut Session,

@@ -7,7 +7,7 @@ ghost use Rattle.sc_model.specs.Dialogs.{tag_of};
 ghost use Rattle.sc_model.specs.Transactions.{is_success};
 ghost use Rattle.sc_hosts.specs.Effects.{answered_in, tidy};
 ghost use Rattle.sc_hosts.specs.Looking.{change_request, request_in, session_in};
-ghost use Rattle.sc_hosts.specs.Preparing.{is_first_success, placed, prepared_own, responded, responded_in, settled_legs, with_success};
+ghost use Rattle.sc_hosts.specs.PreparingResponses.{is_first_success, placed, prepared_own, responded, responded_in, settled_legs, with_success};
 ghost use Rattle.sc_prepare.specs.Shown.{prepared_as};
 
 use crate::copies::session_copy;
@@ -48,7 +48,7 @@ fn has_success(answered: Option<u16>) -> bool
 }
 
 // The first 2xx of an initial INVITE.
-#[tactic(auto, unfolding(sc_hosts::specs::Preparing::is_first_success))]
+#[tactic(auto, unfolding(sc_hosts::specs::PreparingResponses::is_first_success))]
 fn is_first_success(request: &RequestView, response: &Response) -> bool
     ensures { result ≡ is_first_success request.now response.now }
 {
@@ -58,7 +58,7 @@ fn is_first_success(request: &RequestView, response: &Response) -> bool
         && !has_success(request.answered)
 }
 
-#[tactic(auto, unfolding(sc_hosts::specs::Preparing::settled_legs))]
+#[tactic(auto, unfolding(sc_hosts::specs::PreparingResponses::settled_legs))]
 fn settled_legs(
     alloc: Global,
     session: &mut Session,
@@ -93,7 +93,7 @@ fn responded_view(
 }
 
 // A response handled in this SipSession.
-#[tactic(auto, unfolding(sc_hosts::specs::Preparing::responded))]
+#[tactic(auto, unfolding(sc_hosts::specs::PreparingResponses::responded))]
 fn responded(
     alloc: Global,
     session: &mut Session,
@@ -116,7 +116,7 @@ fn responded(
 }
 
 // Nothing is shown of a SipSession that is gone, and nothing changes in it.
-#[tactic(auto, unfolding(sc_hosts::specs::Preparing::responded_in, sc_hosts::specs::Preparing::silent, sc_hosts::specs::Preparing::showing))]
+#[tactic(auto, unfolding(sc_hosts::specs::PreparingResponses::responded_in, sc_hosts::specs::PreparingRequests::silent, sc_hosts::specs::PreparingRequests::showing))]
 fn responded_in(
     alloc: Global,
     session: &mut Session,
@@ -135,7 +135,7 @@ fn responded_in(
     Ok(showing(event, None, List::new(alloc)))
 }
 
-#[tactic(auto, unfolding(sc_hosts::specs::Preparing::placed))]
+#[tactic(auto, unfolding(sc_hosts::specs::PreparingResponses::placed))]
 fn placed_by(
     alloc: Global,
     session: &mut Session,
@@ -187,7 +187,7 @@ fn own_shown(
 
 /// A response to a request of one's own. A request that the view shows no more has had its final
 /// response: it is then a further 2xx of a later INVITE.
-#[tactic(auto, unfolding(sc_hosts::specs::Preparing::prepared_own, sc_hosts::specs::Preparing::showing_in))]
+#[tactic(auto, unfolding(sc_hosts::specs::PreparingResponses::prepared_own, sc_hosts::specs::PreparingRequests::showing_in))]
 pub fn prepared_own(
     alloc: Global,
     session: &mut Session,

@@ -3,7 +3,7 @@
 ghost use Rattle.std.specs.Prelude.{◌≡◌, position, OnOk};
 ghost use Rattle.sc_value.specs.Lists.{change_first};
 ghost use Rattle.sc_hosts.specs.Looking.{is_request};
-ghost use Rattle.sc_hosts.specs.Preparing.{insert_session, with_success};
+ghost use Rattle.sc_hosts.specs.PreparingResponses.{insert_session, with_success};
 ghost use Rattle.sc_prepare.specs.Shown.{follows};
 
 use sc_effects::is_success;
@@ -42,7 +42,7 @@ fn insert_session(list: &mut List<SessId>, sess: SessId) -> Result<(), NoMemory>
     Ok(())
 }
 
-#[tactic(auto, unfolding(sc_hosts::specs::Preparing::with_success))]
+#[tactic(auto, unfolding(sc_hosts::specs::PreparingResponses::with_success))]
 fn with_success(
     request: &mut RequestView,
     sess: SessId,

@@ -8,7 +8,8 @@ ghost use Rattle.sc_hosts.specs.Branches.{ended_by, has_branch, to_cancel};
 ghost use Rattle.sc_hosts.specs.Looking.{is_timer, same_request, timer_in};
 ghost use Rattle.sc_hosts.specs.Messages.{own_response};
 ghost use Rattle.sc_hosts.specs.Words.{request_timeout};
-ghost use Rattle.sc_hosts.specs.Preparing.{change_proxy, fired, has_expired, prepared_branch_timer, prepared_expiry, prepared_timer, renewed, timed_out};
+ghost use Rattle.sc_hosts.specs.PreparingResponses.{change_proxy};
+ghost use Rattle.sc_hosts.specs.Preparing.{fired, has_expired, prepared_branch_timer, prepared_expiry, prepared_timer, renewed, timed_out};
 ghost use Rattle.sc_prepare.specs.Shown.{due_at, prepared_as};
 
 use crate::copies::{branch_copy, timer_copy};
@@ -73,7 +74,7 @@ fn fired(view: &mut View, timer: &TimerView, due: Option<u64>)
 }
 
 /// A servlet timer is due. One that isn't active any more is passed over.
-#[tactic(auto, unfolding(sc_hosts::specs::Preparing::prepared_timer, sc_hosts::specs::Preparing::silent, sc_hosts::specs::Preparing::showing))]
+#[tactic(auto, unfolding(sc_hosts::specs::Preparing::prepared_timer, sc_hosts::specs::PreparingRequests::silent, sc_hosts::specs::PreparingRequests::showing))]
 pub fn prepared_timer(alloc: Global, session: &mut Session, id: TimerId) -> Result<Shown, NoMemory>
     ensures { IfOk result (λ s. prepared_timer session.old (timer_in session.old.view id) ≡ prepared_as session.new s) }
 {
@@ -103,7 +104,7 @@ pub fn has_expired(view: &View) -> bool
 }
 
 /// The application session's expiry was due.
-#[tactic(auto, unfolding(sc_hosts::specs::Preparing::prepared_expiry, sc_hosts::specs::Preparing::silent, sc_hosts::specs::Preparing::showing))]
+#[tactic(auto, unfolding(sc_hosts::specs::Preparing::prepared_expiry, sc_hosts::specs::PreparingRequests::silent, sc_hosts::specs::PreparingRequests::showing))]
 pub fn prepared_expiry(alloc: Global, session: &Session) -> Shown
     ensures { prepared_expiry session.now ≡ prepared_as session.now result }
 {
@@ -215,7 +216,7 @@ fn is_ringing(ringing: &[u64], branch: u64) -> bool
     ringing.iter().any(|other| *other == branch)
 }
 
-#[tactic(auto, unfolding(sc_hosts::specs::Preparing::prepared_branch_timer, sc_hosts::specs::Preparing::silent))]
+#[tactic(auto, unfolding(sc_hosts::specs::Preparing::prepared_branch_timer, sc_hosts::specs::PreparingRequests::silent))]
 fn timed_proxy(
     alloc: Global,
     config: &Config,
@@ -236,7 +237,7 @@ fn timed_proxy(
 }
 
 /// The timer of a branch was due at this moment.
-#[tactic(auto, unfolding(sc_hosts::specs::Preparing::prepared_branch_timer, sc_hosts::specs::Preparing::silent))]
+#[tactic(auto, unfolding(sc_hosts::specs::Preparing::prepared_branch_timer, sc_hosts::specs::PreparingRequests::silent))]
 pub fn prepared_branch_timer(
     alloc: Global,
     config: &Config,

@@ -4,7 +4,8 @@ ghost use Rattle.std.specs.Prelude.{◌≡◌, ◌∷◌, [], not, ◌&&◌, ◌
 ghost use Rattle.std.specs.List.{find};
 ghost use Rattle.std.specs.Option.{option_copied};
 ghost use Rattle.sc_hosts.specs.Looking.{request_in, session_in};
-ghost use Rattle.sc_hosts.specs.Refusals.{respond_refusal, is_new, is_origin, is_sent_origin, create_refusal, dialog_refusal, linked_refusal, b2b_refusal, directive_refusal, send_refusal, draft_in};
+ghost use Rattle.sc_hosts.specs.Refusals.{respond_refusal, is_new, is_origin, is_sent_origin, create_refusal, dialog_refusal, linked_refusal, b2b_refusal, directive_refusal, send_refusal};
+ghost use Rattle.sc_hosts.specs.RefusalParts.{draft_in};
 
 use crate::looking::{
     is_ended, is_open_state, is_proxy, partner, request_in, session_count, session_in,
@@ -18,7 +19,7 @@ use sc_terms::{Answer, Ask, Inside, Refusal, RequestView, SessionView, State};
 use sc_value::{Directive, ReqId, SessId};
 
 /// The refusal of an answer to a request.
-#[tactic(auto, unfolding(sc_hosts::specs::Refusals::respond_refusal, sc_hosts::specs::Refusals::first_of))]
+#[tactic(auto, unfolding(sc_hosts::specs::Refusals::respond_refusal, sc_hosts::specs::RefusalParts::first_of))]
 pub fn respond_refusal(request: &RequestView, answer: &Answer) -> Option<Refusal>
     ensures { result ≡ respond_refusal request.now answer.now }
 {
@@ -72,7 +73,7 @@ fn is_sent_origin(play: &Play, origin: Option<ReqId>) -> bool
 }
 
 /// The refusal of a request of one's own.
-#[tactic(auto, unfolding(sc_hosts::specs::Refusals::create_refusal, sc_hosts::specs::Refusals::first_of))]
+#[tactic(auto, unfolding(sc_hosts::specs::Refusals::create_refusal, sc_hosts::specs::RefusalParts::first_of))]
 pub fn create_refusal(play: &Play, ask: &Ask) -> Option<Refusal>
     ensures { result ≡ create_refusal play.now ask.now }
 {
@@ -91,7 +92,7 @@ pub fn create_refusal(play: &Play, ask: &Ask) -> Option<Refusal>
     asked_text(ask.method.as_bytes(), ask.fields.as_slice())
 }
 
-#[tactic(auto, unfolding(sc_hosts::specs::Refusals::dialog_refusal, sc_hosts::specs::Refusals::first_of))]
+#[tactic(auto, unfolding(sc_hosts::specs::Refusals::dialog_refusal, sc_hosts::specs::RefusalParts::first_of))]
 fn asked_in(session: &SessionView, ask: &Inside) -> Option<Refusal>
     ensures { result ≡ dialog_refusal (Some session.now) ask.now }
 {
@@ -115,7 +116,7 @@ pub fn dialog_refusal(play: &Play, sess: SessId, ask: &Inside) -> Option<Refusal
     }
 }
 
-#[tactic(auto, unfolding(sc_hosts::specs::Refusals::b2b_refusal, sc_hosts::specs::Refusals::first_of, sc_hosts::specs::Refusals::linked_refusal))]
+#[tactic(auto, unfolding(sc_hosts::specs::Refusals::b2b_refusal, sc_hosts::specs::RefusalParts::first_of, sc_hosts::specs::Refusals::linked_refusal))]
 fn leg_refusal(play: &Play, request: &RequestView) -> Option<Refusal>
     ensures { result ≡ b2b_refusal play.now (Some request.now) }
 {
@@ -154,7 +155,7 @@ pub fn b2b_refusal(play: &Play, req: ReqId) -> Option<Refusal>
     }
 }
 
-#[tactic(auto, unfolding(sc_hosts::specs::Refusals::directive_refusal, sc_hosts::specs::Refusals::first_of))]
+#[tactic(auto, unfolding(sc_hosts::specs::Refusals::directive_refusal, sc_hosts::specs::RefusalParts::first_of))]
 fn directed(
     play: &Play,
     draft: &Draft,
@@ -185,7 +186,7 @@ pub fn directive_refusal(
     }
 }
 
-#[tactic(auto, unfolding(sc_hosts::specs::Refusals::send_refusal, sc_hosts::specs::Refusals::first_of))]
+#[tactic(auto, unfolding(sc_hosts::specs::Refusals::send_refusal, sc_hosts::specs::RefusalParts::first_of))]
 fn sent_refusal(play: &Play, draft: &Draft) -> Option<Refusal>
     ensures { result ≡ send_refusal play.now (Some draft.now) }
 {

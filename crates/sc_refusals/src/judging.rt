@@ -2,7 +2,8 @@ ghost use Rattle.std.specs.Prelude.{◌≡◌, ◌∷◌, [], ◌+◌, nat_lt, l
 ghost use Rattle.std.specs.Option.{option_or};
 ghost use Rattle.sc_terms.specs.declared.calls.Refusal.TheVariants.{Limit};
 ghost use Rattle.sc_hosts.specs.Looking.{request_in};
-ghost use Rattle.sc_hosts.specs.Refusals.{first_of, attribute_bytes, respond_refusal, own_refusal, refusal};
+ghost use Rattle.sc_hosts.specs.RefusalParts.{first_of};
+ghost use Rattle.sc_hosts.specs.Refusals.{attribute_bytes, respond_refusal, own_refusal, refusal};
 ghost use Rattle.std.specs.Option.{option_map_or};
 
 use crate::asking::{
@@ -29,7 +30,7 @@ pub const MOST_CALLS: u32 = 256;
 /// application session was ended in this turn, `NotYours` where a number names nothing, and
 /// `Invalidated` where a SipSession that is named, or that of a request or draft that is named, is
 /// gone. Then come the refusals of its own, in the order of the definition.
-#[tactic(auto, unfolding(sc_hosts::specs::Refusals::refusal, sc_hosts::specs::Refusals::first_of))]
+#[tactic(auto, unfolding(sc_hosts::specs::Refusals::refusal, sc_hosts::specs::RefusalParts::first_of))]
 pub fn refusal(play: &Play, call: &Call) -> Option<Refusal>
     ensures { result ≡ refusal play.now call.now }
 {
@@ -54,7 +55,7 @@ fn answer_refusal(view: &View, req: ReqId, answer: &Answer) -> Option<Refusal>
     }
 }
 
-#[tactic(auto, unfolding(sc_hosts::specs::Refusals::first_of))]
+#[tactic(auto, unfolding(sc_hosts::specs::RefusalParts::first_of))]
 fn attribute_refusal(view: &View, name: &[u8], value: &[u8]) -> Option<Refusal>
     ensures { result ≡ first_of ((nat_lt 4096 (attribute_bytes name.now view.entry.now.attributes + length name.now + length value.now), Limit 4096) ∷ []) }
 {

@@ -6,7 +6,8 @@ ghost use Rattle.std.specs.Option.{option_copied, option_or};
 ghost use Rattle.sc_terms.specs.declared.calls.Refusal.TheVariants.{NotLinked, NotSent, NotYours, BadText, Limit};
 ghost use Rattle.sc_value.specs.Params.{same_bytes};
 ghost use Rattle.sc_hosts.specs.Looking.{request_in, session_in, partner, timer_in, same_session};
-ghost use Rattle.sc_hosts.specs.Refusals.{first_of, awaits_ack, cancel_refusal, begun_by, b2b_respond_refusal, link_refusal, linked_refusal, is_zero_period, is_set, own_refusal};
+ghost use Rattle.sc_hosts.specs.RefusalParts.{first_of};
+ghost use Rattle.sc_hosts.specs.Refusals.{awaits_ack, cancel_refusal, begun_by, b2b_respond_refusal, link_refusal, linked_refusal, is_zero_period, is_set, own_refusal};
 
 use crate::asking::respond_refusal;
 use crate::looking::{has_session, is_ended, partner, request_in, session_in, timer_in};
@@ -31,7 +32,7 @@ pub fn is_unacked(view: &View, sess: SessId) -> bool
         .any(|request| awaits_ack(request, sess))
 }
 
-#[tactic(auto, unfolding(sc_hosts::specs::Refusals::cancel_refusal, sc_hosts::specs::Refusals::first_of))]
+#[tactic(auto, unfolding(sc_hosts::specs::Refusals::cancel_refusal, sc_hosts::specs::RefusalParts::first_of))]
 fn cancelled(view: &View, request: &RequestView) -> Option<Refusal>
     ensures { result ≡ cancel_refusal view.entry.now (Some request.now) }
 {
@@ -117,7 +118,7 @@ fn already_linked(view: &View, a: SessId, b: SessId) -> Option<Refusal>
 }
 
 /// The refusal of a link.
-#[tactic(auto, unfolding(sc_hosts::specs::Refusals::link_refusal, sc_hosts::specs::Refusals::first_of))]
+#[tactic(auto, unfolding(sc_hosts::specs::Refusals::link_refusal, sc_hosts::specs::RefusalParts::first_of))]
 pub fn link_refusal(view: &View, a: SessId, b: SessId) -> Option<Refusal>
     ensures { result ≡ link_refusal view.entry.now a b }
 {
@@ -131,7 +132,7 @@ pub fn link_refusal(view: &View, a: SessId, b: SessId) -> Option<Refusal>
 }
 
 /// The refusal to take a link away.
-#[tactic(auto, unfolding(sc_hosts::specs::Refusals::first_of))]
+#[tactic(auto, unfolding(sc_hosts::specs::RefusalParts::first_of))]
 pub fn unlink_refusal(view: &View, a: SessId) -> Option<Refusal>
     ensures { result ≡ first_of ((is_none (partner view.entry.now a), NotLinked) ∷ []) }
 {
@@ -142,7 +143,7 @@ pub fn unlink_refusal(view: &View, a: SessId) -> Option<Refusal>
 }
 
 /// The refusal of an ACK.
-#[tactic(auto, unfolding(sc_hosts::specs::Refusals::first_of))]
+#[tactic(auto, unfolding(sc_hosts::specs::RefusalParts::first_of))]
 pub fn ack_refusal(view: &View, sess: SessId) -> Option<Refusal>
     ensures { result ≡ first_of ((not (list_any (awaits_ack sess) view.entry.now.requests), NotSent) ∷ []) }
 {
@@ -163,7 +164,7 @@ fn is_zero_period(period: Period) -> bool
 }
 
 /// The refusal of a timer.
-#[tactic(auto, unfolding(sc_hosts::specs::Refusals::first_of))]
+#[tactic(auto, unfolding(sc_hosts::specs::RefusalParts::first_of))]
 pub fn timer_refusal(view: &View, period: Period) -> Option<Refusal>
     ensures { result ≡ first_of ((is_zero_period period, BadText 1) ∷ (nat_le 64 (length view.entry.now.timers), Limit 64) ∷ []) }
 {
@@ -177,7 +178,7 @@ pub fn timer_refusal(view: &View, period: Period) -> Option<Refusal>
 }
 
 /// The refusal to end a timer.
-#[tactic(auto, unfolding(sc_hosts::specs::Refusals::first_of))]
+#[tactic(auto, unfolding(sc_hosts::specs::RefusalParts::first_of))]
 pub fn cancel_timer_refusal(view: &View, id: TimerId) -> Option<Refusal>
     ensures { result ≡ first_of ((is_none (timer_in view.entry.now id), NotYours) ∷ []) }
 {
@@ -196,7 +197,7 @@ pub fn is_set(name: &[u8], fields: &[Field]) -> bool
 }
 
 /// The refusal to remove an attribute.
-#[tactic(auto, unfolding(sc_hosts::specs::Refusals::first_of))]
+#[tactic(auto, unfolding(sc_hosts::specs::RefusalParts::first_of))]
 pub fn remove_refusal(view: &View, name: &[u8]) -> Option<Refusal>
     ensures { result ≡ first_of ((not (is_set name.now view.entry.now.attributes), NotYours) ∷ []) }
 {

@@ -3,7 +3,7 @@
 ghost use Rattle.std.specs.Prelude.{◌≡◌, ◌∷◌, [], ◌==◌, position, option_map, None, Some};
 ghost use Rattle.std.specs.List.{find};
 ghost use Rattle.std.specs.Option.{option_copied};
-ghost use Rattle.sc_hosts.specs.Refusals.{draft_in, session_of_request, session_of_draft, known_session, name_refusal, of_origin, named};
+ghost use Rattle.sc_hosts.specs.RefusalParts.{draft_in, session_of_request, session_of_draft, known_session, name_refusal, of_origin, named};
 
 use crate::looking::{is_gone_in, request_in, session_in};
 use sc_state::{Draft, Play};
@@ -34,7 +34,7 @@ pub fn draft_in(play: &Play, number: u32) -> Option<&Draft>
     draft_among(play.drafts.as_slice(), number)
 }
 
-#[tactic(auto, unfolding(sc_hosts::specs::Refusals::session_of_request))]
+#[tactic(auto, unfolding(sc_hosts::specs::RefusalParts::session_of_request))]
 fn session_of_request(play: &Play, req: ReqId) -> Option<SessId>
     ensures { result ≡ session_of_request play.now req }
 {
@@ -44,7 +44,7 @@ fn session_of_request(play: &Play, req: ReqId) -> Option<SessId>
     }
 }
 
-#[tactic(auto, unfolding(sc_hosts::specs::Refusals::session_of_draft))]
+#[tactic(auto, unfolding(sc_hosts::specs::RefusalParts::session_of_draft))]
 fn session_of_draft(play: &Play, draft: u32) -> Option<SessId>
     ensures { result ≡ session_of_draft play.now draft }
 {
@@ -54,7 +54,7 @@ fn session_of_draft(play: &Play, draft: u32) -> Option<SessId>
     }
 }
 
-#[tactic(auto, unfolding(sc_hosts::specs::Refusals::known_session))]
+#[tactic(auto, unfolding(sc_hosts::specs::RefusalParts::known_session))]
 fn known_session(play: &Play, sess: SessId) -> Option<SessId>
     ensures { result ≡ known_session play.now sess }
 {
@@ -65,7 +65,7 @@ fn known_session(play: &Play, sess: SessId) -> Option<SessId>
 }
 
 // One name: it names something, whose SipSession is there.
-#[tactic(auto, unfolding(sc_hosts::specs::Refusals::name_refusal))]
+#[tactic(auto, unfolding(sc_hosts::specs::RefusalParts::name_refusal))]
 fn name_refusal(view: &View, name: Option<SessId>) -> Option<Refusal>
     ensures { result ≡ name_refusal view.entry.now (name ∷ []) }
 {
@@ -81,7 +81,7 @@ fn name_refusal(view: &View, name: Option<SessId>) -> Option<Refusal>
 }
 
 // Two names: both name something, and then both SipSessions are there.
-#[tactic(auto, unfolding(sc_hosts::specs::Refusals::name_refusal))]
+#[tactic(auto, unfolding(sc_hosts::specs::RefusalParts::name_refusal))]
 fn names_refusal(view: &View, first: Option<SessId>, second: Option<SessId>) -> Option<Refusal>
     ensures { result ≡ name_refusal view.entry.now (first ∷ second ∷ []) }
 {
@@ -94,7 +94,7 @@ fn names_refusal(view: &View, first: Option<SessId>, second: Option<SessId>) -> 
     None
 }
 
-#[tactic(auto, unfolding(sc_hosts::specs::Refusals::of_origin, sc_hosts::specs::Refusals::name_refusal))]
+#[tactic(auto, unfolding(sc_hosts::specs::RefusalParts::of_origin, sc_hosts::specs::RefusalParts::name_refusal))]
 fn origin_refusal(play: &Play, origin: Option<ReqId>) -> Option<Refusal>
     ensures { result ≡ name_refusal play.now.view (of_origin play.now origin) }
 {
@@ -104,7 +104,7 @@ fn origin_refusal(play: &Play, origin: Option<ReqId>) -> Option<Refusal>
     }
 }
 
-#[tactic(auto, unfolding(sc_hosts::specs::Refusals::of_origin))]
+#[tactic(auto, unfolding(sc_hosts::specs::RefusalParts::of_origin))]
 fn directed_refusal(play: &Play, draft: u32, origin: Option<ReqId>) -> Option<Refusal>
     ensures { result ≡ name_refusal play.now.view (session_of_draft play.now draft ∷ of_origin play.now origin) }
 {
@@ -137,7 +137,7 @@ fn draft_named(play: &Play, draft: u32) -> Option<Refusal>
 }
 
 // The names of a call that makes a request, or does something with a draft or a SipSession.
-#[tactic(auto, unfolding(sc_hosts::specs::Refusals::named, sc_hosts::specs::Refusals::name_refusal))]
+#[tactic(auto, unfolding(sc_hosts::specs::RefusalParts::named, sc_hosts::specs::RefusalParts::name_refusal))]
 pub fn named_refusal(play: &Play, call: &Call) -> Option<Refusal>
     ensures { result ≡ name_refusal play.now.view (named play.now call.now) }
 {

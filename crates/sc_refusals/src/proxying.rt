@@ -4,7 +4,8 @@ ghost use Rattle.std.specs.Prelude.{◌≡◌, ◌∷◌, [], ◌+◌, ◌==◌,
 ghost use Rattle.std.specs.Option.{option_copied, option_or};
 ghost use Rattle.sc_hosts.specs.Looking.{request_in, session_in};
 ghost use Rattle.sc_terms.specs.declared.calls.Refusal.TheVariants.{NotYours, NotInitial, AlreadyAnswered, AlreadyProxy, NoHops, BadText, Limit};
-ghost use Rattle.sc_hosts.specs.Refusals.{branch_count, first_of, is_begun, state_refusal, proxy_refusal, proxy_cancel_refusal};
+ghost use Rattle.sc_hosts.specs.Refusals.{branch_count, is_begun, state_refusal, proxy_refusal, proxy_cancel_refusal};
+ghost use Rattle.sc_hosts.specs.RefusalParts.{first_of};
 
 use crate::looking::{is_begun, request_in, session_in};
 use crate::sums::passes_branches;
@@ -33,7 +34,7 @@ fn begun_refusal(view: &View, request: &RequestView) -> Option<Refusal>
 }
 
 // The refusals of a request that can't be proxied, before its targets are looked at.
-#[tactic(auto, unfolding(sc_hosts::specs::Refusals::first_of))]
+#[tactic(auto, unfolding(sc_hosts::specs::RefusalParts::first_of))]
 fn unproxied(request: &RequestView) -> Option<Refusal>
     ensures { result ≡ first_of ((not request.now.received, NotYours) ∷ (not request.now.initial, NotInitial) ∷ (is_some request.now.answered && not request.now.proxied, AlreadyAnswered) ∷ (is_some request.now.answered, AlreadyProxy) ∷ []) }
 {
@@ -53,7 +54,7 @@ fn unproxied(request: &RequestView) -> Option<Refusal>
 }
 
 // The refusals of so many targets with these options.
-#[tactic(auto, unfolding(sc_hosts::specs::Refusals::first_of))]
+#[tactic(auto, unfolding(sc_hosts::specs::RefusalParts::first_of))]
 fn targets_refusal(
     view: &View,
     request: &RequestView,
@@ -117,7 +118,7 @@ pub fn proxy_refusal(
     }
 }
 
-#[tactic(auto, unfolding(sc_hosts::specs::Refusals::proxy_cancel_refusal, sc_hosts::specs::Refusals::first_of))]
+#[tactic(auto, unfolding(sc_hosts::specs::Refusals::proxy_cancel_refusal, sc_hosts::specs::RefusalParts::first_of))]
 fn stopped(request: &RequestView) -> Option<Refusal>
     ensures { result ≡ proxy_cancel_refusal (Some request.now) }
 {

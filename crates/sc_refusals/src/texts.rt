@@ -7,7 +7,7 @@ ghost use Rattle.sc_value.specs.HeaderNames.{is_system_name};
 ghost use Rattle.sc_value.specs.Params.{same_bytes};
 ghost use Rattle.sc_model.specs.SessionStates.{invite};
 ghost use Rattle.sc_hosts.specs.Words.{ack, cancel, options, register};
-ghost use Rattle.sc_hosts.specs.Refusals.{is_bad_field, bad_field, has_system_name, answer_text, is_bad_method, asked_text, may_have_contact, has_system_answer, has_system_ask};
+ghost use Rattle.sc_hosts.specs.RefusalParts.{is_bad_field, bad_field, has_system_name, answer_text, is_bad_method, asked_text, may_have_contact, has_system_answer, has_system_ask};
 
 use sc_terms::{Answer, Ask, Refusal};
 use sc_value::{Field, is_one_line, is_system_name, is_token, is_value};
@@ -49,7 +49,7 @@ fn is_register(method: &[u8]) -> bool
     method == b"REGISTER".as_slice()
 }
 
-#[tactic(auto, unfolding(sc_hosts::specs::Refusals::may_have_contact))]
+#[tactic(auto, unfolding(sc_hosts::specs::RefusalParts::may_have_contact))]
 fn may_have_contact(method: &[u8], code: u16) -> bool
     ensures { result ≡ may_have_contact method.now code }
 {
@@ -60,7 +60,7 @@ fn may_have_contact(method: &[u8], code: u16) -> bool
 }
 
 /// Whether a field has the name of a header that the container sets itself.
-#[tactic(auto, unfolding(sc_hosts::specs::Refusals::has_system_name))]
+#[tactic(auto, unfolding(sc_hosts::specs::RefusalParts::has_system_name))]
 pub fn has_system_name(fields: &[Field]) -> bool
     ensures { result ≡ has_system_name fields.now }
 {
@@ -70,7 +70,7 @@ pub fn has_system_name(fields: &[Field]) -> bool
 }
 
 /// Whether an answer to a request of this method has a header that the container sets itself.
-#[tactic(auto, unfolding(sc_hosts::specs::Refusals::has_system_answer))]
+#[tactic(auto, unfolding(sc_hosts::specs::RefusalParts::has_system_answer))]
 pub fn has_system_answer(method: &[u8], answer: &Answer) -> bool
     ensures { result ≡ has_system_answer method.now answer.now }
 {
@@ -79,7 +79,7 @@ pub fn has_system_answer(method: &[u8], answer: &Answer) -> bool
 }
 
 /// Whether a request of one's own has a header that the container sets itself.
-#[tactic(auto, unfolding(sc_hosts::specs::Refusals::has_system_ask))]
+#[tactic(auto, unfolding(sc_hosts::specs::RefusalParts::has_system_ask))]
 pub fn has_system_ask(ask: &Ask) -> bool
     ensures { result ≡ has_system_ask ask.now }
 {
@@ -87,7 +87,7 @@ pub fn has_system_ask(ask: &Ask) -> bool
         || (!ask.contact.is_empty() && !is_register(ask.method.as_bytes()))
 }
 
-#[tactic(auto, unfolding(sc_hosts::specs::Refusals::is_bad_field))]
+#[tactic(auto, unfolding(sc_hosts::specs::RefusalParts::is_bad_field))]
 fn is_bad_field(field: &Field) -> bool
     ensures { result ≡ is_bad_field field.now }
 {
@@ -111,7 +111,7 @@ fn text_number(at: usize) -> u32
     }
 }
 
-#[tactic(auto, unfolding(sc_hosts::specs::Refusals::bad_field))]
+#[tactic(auto, unfolding(sc_hosts::specs::RefusalParts::bad_field))]
 fn bad_field(fields: &[Field]) -> Option<Refusal>
     ensures { result ≡ bad_field fields.now }
 {
@@ -122,7 +122,7 @@ fn bad_field(fields: &[Field]) -> Option<Refusal>
 }
 
 /// The refusal of an answer's code, reason or fields, None exactly where all are in form.
-#[tactic(auto, unfolding(sc_hosts::specs::Refusals::answer_text, sc_hosts::specs::Refusals::first_of))]
+#[tactic(auto, unfolding(sc_hosts::specs::RefusalParts::answer_text, sc_hosts::specs::RefusalParts::first_of))]
 pub fn answer_text(answer: &Answer) -> Option<Refusal>
     ensures { result ≡ answer_text answer.now }
 {
@@ -135,7 +135,7 @@ pub fn answer_text(answer: &Answer) -> Option<Refusal>
     bad_field(answer.fields.as_slice())
 }
 
-#[tactic(auto, unfolding(sc_hosts::specs::Refusals::is_bad_method))]
+#[tactic(auto, unfolding(sc_hosts::specs::RefusalParts::is_bad_method))]
 fn is_bad_method(method: &[u8]) -> bool
     ensures { result ≡ is_bad_method method.now }
 {
@@ -143,7 +143,7 @@ fn is_bad_method(method: &[u8]) -> bool
 }
 
 /// The refusal of the method or the fields that a request is made with.
-#[tactic(auto, unfolding(sc_hosts::specs::Refusals::asked_text, sc_hosts::specs::Refusals::first_of))]
+#[tactic(auto, unfolding(sc_hosts::specs::RefusalParts::asked_text, sc_hosts::specs::RefusalParts::first_of))]
 pub fn asked_text(method: &[u8], fields: &[Field]) -> Option<Refusal>
     ensures { result ≡ asked_text method.now fields.now }
 {

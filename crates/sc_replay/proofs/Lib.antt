@@ -1,16 +1,12 @@
 pub mod Accepted
 pub mod Checks
 pub mod CommandLaws
-pub mod Choosing
 pub mod Drivings
 pub mod Endings
-pub mod Playings
 pub mod Ranges
 pub mod Readings
 pub mod Replayings
-pub mod Runnings
 pub mod Settled
-pub mod Startings
 pub mod TableLengths
 pub mod Words
 pub mod Writings

@@ -5,10 +5,12 @@ use Rattle.std.proofs.lemmas.Grind.{flat_map-append}
 use Rattle.std.proofs.lemmas.List.{append-nil}
 use Rattle.sc_value.specs.declared.message.Sent.{Sent}
 use Rattle.sc_edge.specs.Taking.{Takes, TakesPart, Takes_none, Takes_then, TakesPart_then, TakesPart_front}
-use Rattle.sc_model.specs.Hosts.{live_count}
-use Rattle.sc_model.specs.Records.{record_text, records, end_text, output, journal_records, end_line}
+use Rattle.sc_model.specs.Records.{record_text, records, end_text}
+use Rattle.sc_hosts.specs.Histories.{as_session}
+use Rattle.sc_hosts.specs.Runs.{chained, live_count}
+use Rattle.sc_runs.specs.Outputs.{output, journal_records, end_line}
 use Rattle.sc_switch.specs.Standing.{Known, net_of}
-use Rattle.sc_replay.specs.Playing.{IsUntaken}
+use Rattle.sc_follow.specs.Moving.{IsUntaken}
 
 records-append : (first rest : List Sent) → records (first ++ rest) ≡ records first ++ records rest
 unfolding records
@@ -66,28 +68,28 @@ put_part a b c all first left rest sent all_is left_is before now =
     (TakesPart_then a b c (records first) (record_text sent ++ records rest) before (TakesPart_front b c (record_text sent) (records rest) now))
 
 -- the records of all that was sent, and the last line, are the whole output
-pub output_of : (known : Known) (steps sent live : ℕ) → IsUntaken known → steps ≡ length known.journal → sent ≡ length known.left → live ≡ live_count (net_of known)
-    → records known.left ++ end_text steps sent live ≡ output known.setup known.journal
-unfolding output journal_records end_line
-output_of known steps sent live untaken steps_is sent_is live_is = rw (steps_is, sent_is, live_is, untaken) refl
+pub output_of : (known : Known) (steps sent live : ℕ) → known.epoch ≡ 0 → known.began ≡ 0 → IsUntaken known → steps ≡ length known.journal → sent ≡ length known.left → live ≡ live_count (net_of known)
+    → records known.left ++ end_text steps sent live ≡ output as_session known.setup known.journal
+unfolding output journal_records end_line IsUntaken net_of
+output_of known steps sent live epoch began untaken steps_is sent_is live_is = rw (steps_is, sent_is, live_is, untaken, epoch, began) refl
 
 -- the records, and then the line
-pub ended : (a b c : Option (List ℕ)) (known : Known) (steps sent live : ℕ) → IsUntaken known → steps ≡ length known.journal → sent ≡ length known.left → live ≡ live_count (net_of known)
-    → Takes a b (records known.left) → Takes b c (end_text steps sent live) → Takes a c (output known.setup known.journal)
-ended a b c known steps sent live untaken steps_is sent_is live_is first second =
-    subst (λ (bytes : List ℕ). Takes a c bytes) (output_of known steps sent live untaken steps_is sent_is live_is) (Takes_then a b c (records known.left) (end_text steps sent live) first second)
+pub ended : (a b c : Option (List ℕ)) (known : Known) (steps sent live : ℕ) → known.epoch ≡ 0 → known.began ≡ 0 → IsUntaken known → steps ≡ length known.journal → sent ≡ length known.left → live ≡ live_count (net_of known)
+    → Takes a b (records known.left) → Takes b c (end_text steps sent live) → Takes a c (output as_session known.setup known.journal)
+ended a b c known steps sent live epoch began untaken steps_is sent_is live_is first second =
+    subst (λ (bytes : List ℕ). Takes a c bytes) (output_of known steps sent live epoch began untaken steps_is sent_is live_is) (Takes_then a b c (records known.left) (end_text steps sent live) first second)
 
 -- the records, and then a part of the line
-pub ended_part : (a b c : Option (List ℕ)) (known : Known) (steps sent live : ℕ) → IsUntaken known → steps ≡ length known.journal → sent ≡ length known.left → live ≡ live_count (net_of known)
-    → Takes a b (records known.left) → TakesPart b c (end_text steps sent live) → TakesPart a c (output known.setup known.journal)
-ended_part a b c known steps sent live untaken steps_is sent_is live_is first second =
-    subst (λ (bytes : List ℕ). TakesPart a c bytes) (output_of known steps sent live untaken steps_is sent_is live_is) (TakesPart_then a b c (records known.left) (end_text steps sent live) first second)
+pub ended_part : (a b c : Option (List ℕ)) (known : Known) (steps sent live : ℕ) → known.epoch ≡ 0 → known.began ≡ 0 → IsUntaken known → steps ≡ length known.journal → sent ≡ length known.left → live ≡ live_count (net_of known)
+    → Takes a b (records known.left) → TakesPart b c (end_text steps sent live) → TakesPart a c (output as_session known.setup known.journal)
+ended_part a b c known steps sent live epoch began untaken steps_is sent_is live_is first second =
+    subst (λ (bytes : List ℕ). TakesPart a c bytes) (output_of known steps sent live epoch began untaken steps_is sent_is live_is) (TakesPart_then a b c (records known.left) (end_text steps sent live) first second)
 
 -- a part of the records
-pub cut_part : (a b : Option (List ℕ)) (known : Known) (steps sent live : ℕ) → IsUntaken known → steps ≡ length known.journal → sent ≡ length known.left → live ≡ live_count (net_of known)
-    → TakesPart a b (records known.left) → TakesPart a b (output known.setup known.journal)
-cut_part a b known steps sent live untaken steps_is sent_is live_is part =
-    subst (λ (bytes : List ℕ). TakesPart a b bytes) (output_of known steps sent live untaken steps_is sent_is live_is) (TakesPart_front a b (records known.left) (end_text steps sent live) part)
+pub cut_part : (a b : Option (List ℕ)) (known : Known) (steps sent live : ℕ) → known.epoch ≡ 0 → known.began ≡ 0 → IsUntaken known → steps ≡ length known.journal → sent ≡ length known.left → live ≡ live_count (net_of known)
+    → TakesPart a b (records known.left) → TakesPart a b (output as_session known.setup known.journal)
+cut_part a b known steps sent live epoch began untaken steps_is sent_is live_is part =
+    subst (λ (bytes : List ℕ). TakesPart a b bytes) (output_of known steps sent live epoch began untaken steps_is sent_is live_is) (TakesPart_front a b (records known.left) (end_text steps sent live) part)
 
 pub on_ok : {A E P Q : Type 0} (r : Result A E) → (P → Q) → OnOk r P → OnOk r Q
 on_ok (Ok a) f p = f p
@@ -100,16 +102,16 @@ on_err (Err e) f p = f p
 -- ## Without the last line
 
 -- all records of what the journal sends
-pub cut_whole : (a b : Option (List ℕ)) (known : Known) → IsUntaken known → Takes a b (records known.left) → Takes a b (journal_records known.setup known.journal)
-unfolding journal_records
-cut_whole a b known untaken takes = subst (λ (sent : List Sent). Takes a b (records sent)) untaken takes
+pub cut_whole : (a b : Option (List ℕ)) (known : Known) → known.epoch ≡ 0 → known.began ≡ 0 → IsUntaken known → Takes a b (records known.left) → Takes a b (journal_records as_session known.setup known.journal)
+unfolding journal_records IsUntaken
+cut_whole a b known epoch began untaken takes = subst (λ (sent : List Sent). Takes a b (records sent)) (rw (epoch, began) at untaken) takes
 
 -- a part of them
-pub cut_front : (a b : Option (List ℕ)) (known : Known) → IsUntaken known → TakesPart a b (records known.left) → TakesPart a b (journal_records known.setup known.journal)
-unfolding journal_records
-cut_front a b known untaken takes = subst (λ (sent : List Sent). TakesPart a b (records sent)) untaken takes
+pub cut_front : (a b : Option (List ℕ)) (known : Known) → known.epoch ≡ 0 → known.began ≡ 0 → IsUntaken known → TakesPart a b (records known.left) → TakesPart a b (journal_records as_session known.setup known.journal)
+unfolding journal_records IsUntaken
+cut_front a b known epoch began untaken takes = subst (λ (sent : List Sent). TakesPart a b (records sent)) (rw (epoch, began) at untaken) takes
 
 -- which is a part of the output
-pub cut_output : (a b : Option (List ℕ)) (known : Known) → IsUntaken known → TakesPart a b (records known.left) → TakesPart a b (output known.setup known.journal)
+pub cut_output : (a b : Option (List ℕ)) (known : Known) → known.epoch ≡ 0 → known.began ≡ 0 → IsUntaken known → TakesPart a b (records known.left) → TakesPart a b (output as_session known.setup known.journal)
 unfolding output
-cut_output a b known untaken takes = TakesPart_front a b (journal_records known.setup known.journal) (end_line known.setup known.journal) (cut_front a b known untaken takes)
+cut_output a b known epoch began untaken takes = TakesPart_front a b (journal_records as_session known.setup known.journal) (end_line as_session known.setup known.journal) (cut_front a b known epoch began untaken takes)

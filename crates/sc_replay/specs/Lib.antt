@@ -2,9 +2,6 @@ pub mod Accepting
 pub mod Checking
 pub mod Commands
 pub mod Making
-pub mod Choosing
-pub mod Playing
 pub mod Putting
 pub mod Replaying
 pub mod Running
-pub mod Starting

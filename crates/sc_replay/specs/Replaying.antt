@@ -11,13 +11,15 @@ use Rattle.sc_dar.specs.Tables.{table_of}
 use Rattle.sc_journal.specs.Kept.{Kept}
 use Rattle.sc_edge.specs.Shelving.{GivesAll}
 use Rattle.sc_edge.specs.Taking.{Takes, TakesPart}
-use Rattle.sc_model.specs.Journals.{IsLawful, HasNoRoom, step_size}
-use Rattle.sc_model.specs.Records.{journal_records, output}
-use Rattle.sc_model.specs.Scripts.{IsScript, Follows, Upto}
+use Rattle.sc_hosts.specs.Histories.{as_session}
+use Rattle.sc_hosts.specs.Runs.{IsLawful}
+use Rattle.sc_runs.specs.Following.{Follows, Upto}
+use Rattle.sc_runs.specs.Outputs.{journal_records, output}
+use Rattle.sc_script.specs.ScriptTexts.{script_of}
 use Rattle.sc_model.specs.Settings.{Charters}
 use Rattle.sc_switch.specs.declared.ran.Status.{Status}
 use Rattle.sc_switch.specs.declared.ran.Status.TheVariants as statuses
-use Rattle.sc_replay.specs.Starting.{IsRunnable}
+use Rattle.sc_follow.specs.Leading.{IsDueWithoutRoom}
 
 -- ## The words
 
@@ -80,34 +82,30 @@ IsTableFault names (Some text) line kind = table_of text names ≡ Err (record {
 unfoldable pub IsTableRefused : List Bytes → Option Bytes → Option Bytes → ℕ → ℕ → Type 0
 IsTableRefused names told_config told_dar line kind = (config : Config) × TellsConfig names told_config config × IsTableFault (app_names config) told_dar line kind
 
--- a text that is told says no script
-unfoldable pub TellsNoScript : Option Bytes → Type 0
-TellsNoScript None = Unit {0}
-TellsNoScript (Some text) = (lines : List Line) → IsScript text lines → ⊥
+-- a script that is told has this first fault
+unfoldable pub IsScriptFault : Option Bytes → ℕ → ℕ → Type 0
+IsScriptFault None at kind = Unit {0}
+IsScriptFault (Some text) at kind = script_of text ≡ Err (record { at = at; kind = kind })
 
 -- the lines are those of a script, of the text that is told where one is
 pub record TellsScript (told : Option Bytes) (lines : List Line) : Type 0 where
   pub text : Bytes
   pub told_is : GivesAll text told
-  pub script_is : IsScript text lines
-
--- the script is none that is read, or it can't be run with these settings
-unfoldable pub IsUnrun : Setup → Option Bytes → Type 0
-IsUnrun setup told = TellsNoScript told ⊎ (IsRunnable setup.config setup.dar → ⊥)
+  pub script_is : script_of text ≡ Ok lines
 
 -- ## When each status comes
 
 -- of a run with these settings: `read` and `write` say that the shelf's and the sink's count of faults rose
 unfoldable pub ComesIn : Setup → Option Bytes → Type 0 → Type 0 → Status → Type 0
-ComesIn setup told read write statuses.Done = IsRunnable setup.config setup.dar
+ComesIn setup told read write statuses.Done = Unit {0}
 ComesIn setup told read write statuses.Usage = ⊥
 ComesIn setup told read write (statuses.Config kind key) = ⊥
 ComesIn setup told read write (statuses.Dar line kind) = ⊥
-ComesIn setup told read write statuses.JournalFull = IsRunnable setup.config setup.dar
+ComesIn setup told read write statuses.JournalFull = Unit {0}
 ComesIn setup told read write statuses.NoMemory = Unit {0}
-ComesIn setup told read write (statuses.Script at kind) = IsUnrun setup told × (at ≡ 0) × (kind ≡ 8)
+ComesIn setup told read write (statuses.Script at kind) = IsScriptFault told at kind
 ComesIn setup told read write statuses.Read = read
-ComesIn setup told read write statuses.Write = IsRunnable setup.config setup.dar × write
+ComesIn setup told read write statuses.Write = write
 
 -- of a call whose settings were not accepted
 unfoldable pub IsUnset : List Bytes → Option Bytes → Option Bytes → Type 0 → Status → Type 0
@@ -125,23 +123,15 @@ IsUnset names config dar read statuses.Write = ⊥
 
 -- the journal follows the lines of the script
 unfoldable pub Replays : Setup → Option Bytes → List Step → Type 0
-Replays setup told journal = (lines : List Line) × TellsScript told lines × Follows setup lines journal
+Replays setup told journal = (lines : List Line) × TellsScript told lines × Follows as_session setup lines journal
 
 -- it follows them so far
 unfoldable pub ReplaysPart : Setup → Option Bytes → List Step → Type 0
-ReplaysPart setup told journal = (lines : List Line) × TellsScript told lines × Upto setup lines journal
-
--- the lines ask for a lawful step that the journal has no room for
-unfoldable pub IsDueWithoutRoom : Setup → List Line → List Step → Type 0
-IsDueWithoutRoom setup lines journal =
-    (step : Step)
-    × IsLawful setup 0 0 (journal ++ step ∷ [])
-    × Upto setup lines (journal ++ step ∷ [])
-    × HasNoRoom setup.config.journal_steps setup.config.journal_bytes journal (step_size step)
+ReplaysPart setup told journal = (lines : List Line) × TellsScript told lines × Upto as_session setup lines journal
 
 -- it follows them up to a step without room
 unfoldable pub ReplaysFull : Setup → Option Bytes → List Step → Type 0
-ReplaysFull setup told journal = (lines : List Line) × TellsScript told lines × Upto setup lines journal × IsDueWithoutRoom setup lines journal
+ReplaysFull setup told journal = (lines : List Line) × TellsScript told lines × Upto as_session setup lines journal × IsDueWithoutRoom setup lines journal
 
 -- no step was taken, and the sink took nothing
 unfoldable pub LeavesNothing : Option Bytes → Option Bytes → List Step → Type 0
@@ -150,16 +140,16 @@ LeavesNothing old new journal = (journal ≡ []) × (new ≡ old)
 -- what is left at each status, in the journal and of the output in the sink: `old` and `new` are what
 -- it took before and after
 unfoldable pub Leaves : Setup → Option Bytes → Type 0 → Option Bytes → Option Bytes → Status → List Step → Type 0
-Leaves setup told write old new statuses.Done journal = Replays setup told journal × Takes old new (output setup journal)
+Leaves setup told write old new statuses.Done journal = Replays setup told journal × Takes old new (output as_session setup journal)
 Leaves setup told write old new statuses.Usage journal = ⊥
 Leaves setup told write old new (statuses.Config kind key) journal = ⊥
 Leaves setup told write old new (statuses.Dar line kind) journal = ⊥
 Leaves setup told write old new statuses.JournalFull journal =
-    ReplaysFull setup told journal × (Takes old new (journal_records setup journal) ⊎ (write × TakesPart old new (journal_records setup journal)))
-Leaves setup told write old new statuses.NoMemory journal = (ReplaysPart setup told journal × TakesPart old new (output setup journal)) ⊎ LeavesNothing old new journal
+    ReplaysFull setup told journal × (Takes old new (journal_records as_session setup journal) ⊎ (write × TakesPart old new (journal_records as_session setup journal)))
+Leaves setup told write old new statuses.NoMemory journal = (ReplaysPart setup told journal × TakesPart old new (output as_session setup journal)) ⊎ LeavesNothing old new journal
 Leaves setup told write old new (statuses.Script at kind) journal = LeavesNothing old new journal
 Leaves setup told write old new statuses.Read journal = LeavesNothing old new journal
-Leaves setup told write old new statuses.Write journal = Replays setup told journal × TakesPart old new (output setup journal)
+Leaves setup told write old new statuses.Write journal = Replays setup told journal × TakesPart old new (output as_session setup journal)
 
 -- ## How a call ends
 
@@ -171,5 +161,5 @@ Ends names kinds told read write old new status (Some journal) =
     (setup : Setup)
     × TellsSetup names kinds told setup
     × ComesIn setup told.script read write status
-    × IsLawful setup 0 0 journal.items
+    × IsLawful as_session setup 0 0 journal.items
     × Leaves setup told.script write old new status journal.items

@@ -7,9 +7,11 @@ use Rattle.sc_parts.specs.declared.setup.Setup.{Setup}
 use Rattle.sc_grammar.specs.Written.{Bytes}
 use Rattle.sc_journal.specs.Kept.{Kept}
 use Rattle.sc_edge.specs.Taking.{Takes, TakesPart}
-use Rattle.sc_model.specs.Journals.{IsLawful}
-use Rattle.sc_model.specs.Records.{journal_records, output}
-use Rattle.sc_model.specs.Scripts.{IsScript, Follows, Upto}
+use Rattle.sc_hosts.specs.Histories.{as_session}
+use Rattle.sc_hosts.specs.Runs.{IsLawful}
+use Rattle.sc_runs.specs.Following.{Follows, Upto}
+use Rattle.sc_runs.specs.Outputs.{journal_records, output}
+use Rattle.sc_follow.specs.Leading.{IsDueWithoutRoom}
 use Rattle.sc_switch.specs.declared.refused.StepRefused.{StepRefused}
 use Rattle.sc_switch.specs.declared.refused.StepRefused.TheVariants as refused
 use Rattle.sc_switch.specs.declared.ran.Ran.{Ran}
@@ -20,42 +22,14 @@ use Rattle.sc_replay.specs.declared.running.RunRefused.{RunRefused}
 use Rattle.sc_replay.specs.declared.running.RunRefused.TheVariants as runs
 use Rattle.sc_replay.specs.declared.reading.ScriptUnread.{ScriptUnread}
 use Rattle.sc_replay.specs.declared.reading.ScriptUnread.TheVariants as unread
-use Rattle.sc_replay.specs.Playing.{IsUntaken}
-use Rattle.sc_replay.specs.Replaying.{IsDueWithoutRoom, TellsNoScript, IsConfigFault, IsTableFault, ComesIn, Leaves}
-
--- a switch that took no step and gave no lease
-pub record IsNew (known : Known) : Type 0 where
-  pub journal_is : known.journal ≡ []
-  pub left_is : known.left ≡ []
-  pub kept_is : known.kept ≡ None
-  pub leases_is : known.leases ≡ 0
-
--- a switch that took the first message of a script, and nothing else
-pub record IsArrived (known : Known) : Type 0 where
-  pub free : known.kept ≡ None
-  pub few : known.leases ≤ length known.journal
-  pub untaken : IsUntaken known
-
--- the line brings a message
-unfoldable pub IsArrival : Line → Type 0
-IsArrival (lines.In place text) = Unit {0}
-IsArrival line = ⊥
-
--- the lines are those of a script
-abbrev pub IsSomeScript : List Line → Type 0
-IsSomeScript lines = (text : Bytes) × IsScript text lines
-
--- why the lines were not followed to their end
-unfoldable pub IsStoppedIn : Setup → List Line → List Step → StepRefused → Type 0
-IsStoppedIn setup lines journal refused.NoMemory = Upto setup lines journal
-IsStoppedIn setup lines journal (refused.JournalFull steps bytes) = Upto setup lines journal × IsDueWithoutRoom setup lines journal
+use Rattle.sc_replay.specs.Replaying.{IsScriptFault, IsConfigFault, IsTableFault, ComesIn, Leaves}
 
 -- why the output isn't whole; `write` says that the sink's count of faults rose
 unfoldable pub IsCutShort : Setup → List Line → Type 0 → Option Bytes → Option Bytes → List Step → RunRefused → Type 0
 IsCutShort setup lines write old new journal runs.JournalFull =
-    Upto setup lines journal × IsDueWithoutRoom setup lines journal × (Takes old new (journal_records setup journal) ⊎ (write × TakesPart old new (journal_records setup journal)))
-IsCutShort setup lines write old new journal runs.NoMemory = Upto setup lines journal × TakesPart old new (output setup journal)
-IsCutShort setup lines write old new journal runs.Write = write × Follows setup lines journal × TakesPart old new (output setup journal)
+    Upto as_session setup lines journal × IsDueWithoutRoom setup lines journal × (Takes old new (journal_records as_session setup journal) ⊎ (write × TakesPart old new (journal_records as_session setup journal)))
+IsCutShort setup lines write old new journal runs.NoMemory = Upto as_session setup lines journal × TakesPart old new (output as_session setup journal)
+IsCutShort setup lines write old new journal runs.Write = write × Follows as_session setup lines journal × TakesPart old new (output as_session setup journal)
 
 -- why the bytes were not put to their end
 unfoldable pub IsUnput : Type 0 → Option Bytes → Option Bytes → Bytes → RunRefused → Type 0
@@ -65,14 +39,14 @@ IsUnput write old new bytes runs.Write = write × TakesPart old new bytes
 
 -- what was put of the records of a run that found no room in the journal
 unfoldable pub IsPutWithoutEnd : Setup → Type 0 → Option Bytes → Option Bytes → List Step → RunRefused → Type 0
-IsPutWithoutEnd setup write old new journal runs.JournalFull = Takes old new (journal_records setup journal) ⊎ (write × TakesPart old new (journal_records setup journal))
-IsPutWithoutEnd setup write old new journal runs.NoMemory = TakesPart old new (output setup journal)
+IsPutWithoutEnd setup write old new journal runs.JournalFull = Takes old new (journal_records as_session setup journal) ⊎ (write × TakesPart old new (journal_records as_session setup journal))
+IsPutWithoutEnd setup write old new journal runs.NoMemory = TakesPart old new (output as_session setup journal)
 IsPutWithoutEnd setup write old new journal runs.Write = ⊥
 
 -- why there are no lines; `read` says that the shelf's count of faults rose
 unfoldable pub IsUnread : Option Bytes → Type 0 → ScriptUnread → Type 0
 IsUnread told read unread.Failed = read
-IsUnread told read (unread.Refused at kind) = TellsNoScript told × (at ≡ 0) × (kind ≡ 8)
+IsUnread told read (unread.Refused at kind) = IsScriptFault told at kind
 IsUnread told read unread.NoMemory = Unit {0}
 
 -- why there are no settings
@@ -104,5 +78,5 @@ pub record IsRan (setup : Setup) (told : Option Bytes) (read write : Type 0) (ol
   pub journal : Kept Step
   pub journal_is : ran.journal ≡ Some journal
   pub comes : ComesIn setup told read write ran.status
-  pub lawful : IsLawful setup 0 0 journal.items
+  pub lawful : IsLawful as_session setup 0 0 journal.items
   pub leaves : Leaves setup told write old new ran.status journal.items

@@ -6,13 +6,11 @@ mod accepting;
 mod checking;
 mod commanding;
 mod making;
-mod playing;
 mod putting;
 mod reading;
 mod replaying;
 mod running;
 mod settings;
-mod starting;
 mod writing;
 
 pub use checking::check;

@@ -7,7 +7,7 @@ ghost use Rattle.sc_replay.specs.Replaying.{TellsScript};
 ghost use Rattle.sc_replay.specs.Running.{IsUnread};
 
 use sc_edge::{Shelf, Shelved};
-use sc_script::{ScriptRefused, read};
+use sc_script::{ScriptRefused, read_lines};
 use sc_terms::Line;
 use sc_value::{List, NoMemory, Text};
 use std::alloc::Global;
@@ -20,7 +20,7 @@ const LONGEST: usize = 67_108_864;
 pub enum ScriptUnread {
     /// The shelf failed.
     Failed,
-    /// The text is no script, from this byte on.
+    /// The text is no script: the first fault, by its place and kind.
     Refused { at: usize, kind: u8 },
     /// Want of memory.
     NoMemory,
@@ -42,9 +42,9 @@ pub fn read_text<F: Shelf>(alloc: Global, name: &String, max: usize, shelf: &mut
 ///
 /// # Errors
 ///
-/// `Failed` only where the shelf counted a fault; `Refused` only where its text is no script; and
+/// `Failed` only where the shelf counted a fault; `Refused` with the first fault of its text; and
 /// `NoMemory`.
-#[tactic(auto, unfolding(crate::specs::Running::IsUnread), using(crate::proofs::Readings::none_longer))]
+#[tactic(auto, unfolding(crate::specs::Running::IsUnread), using(crate::proofs::Readings::told_longer))]
 pub fn read_script<F: Shelf>(
     alloc: Global,
     name: &String,
@@ -56,19 +56,22 @@ pub fn read_script<F: Shelf>(
 {
     match read_text(alloc, name, LONGEST, shelf) {
         Shelved::Got(text) => lines_of(alloc, &text),
-        Shelved::Long => Err(ScriptUnread::Refused { at: 0, kind: 8 }),
+        Shelved::Long => Err(ScriptUnread::Refused {
+            at: LONGEST,
+            kind: 7,
+        }),
         Shelved::Failed => Err(ScriptUnread::Failed),
         Shelved::NoMemory => Err(ScriptUnread::NoMemory),
     }
 }
 
 /// The lines of a script's text.
-#[tactic(auto, unfolding(crate::specs::Running::IsUnread), using(crate::proofs::Readings::none_told))]
+#[tactic(auto, unfolding(crate::specs::Running::IsUnread, sc_script::specs::Reading::Gives), using(crate::proofs::Readings::told_lines, crate::proofs::Readings::told_fault))]
 fn lines_of(alloc: Global, text: &Text) -> Result<List<Line>, ScriptUnread>
     ensures found { (told : Option (List ℕ)) → GivesAll text.now told → IfOk result (λ lines. TellsScript told lines) }
     ensures unread { (told : Option (List ℕ)) → GivesAll text.now told → IfErr result (λ cause. IsUnread told ⊥ cause) }
 {
-    match read(alloc, text.as_bytes()) {
+    match read_lines(alloc, text.as_bytes()) {
         Ok(lines) => Ok(lines),
         Err(ScriptRefused::Refused { at, kind }) => Err(ScriptUnread::Refused { at, kind }),
         Err(ScriptRefused::NoMemory) => Err(ScriptUnread::NoMemory),

@@ -1,20 +1,19 @@
 //! The command `replay`.
 
 ghost use Rattle.std.specs.Prelude.{◌≡◌, ◌↔◌, ◌≤◌, [], true, None, IfSome, is_some, get_or, map, option_map, string_bytes, IsTrue};
-ghost use Rattle.sc_calls.specs.Stated.{both_charters};
+ghost use Rattle.sc_servlets.specs.Stated.{both_charters};
 ghost use Rattle.sc_edge.specs.Faults.{Rose};
 ghost use Rattle.sc_model.specs.Settings.{IsSetup};
-ghost use Rattle.sc_replay.specs.Starting.{IsRunnable};
 ghost use Rattle.sc_replay.specs.Replaying.{IsReplay, ComesIn, Ends, Leaves, told_by};
-ghost use Rattle.sc_replay.specs.Running.{IsNew, IsRan};
+ghost use Rattle.sc_follow.specs.Leading.{IsNew};
+ghost use Rattle.sc_replay.specs.Running.{IsRan};
 
 use crate::reading::{ScriptUnread, read_script};
 use crate::running::{RunRefused, drive};
 use crate::settings::{Settings, read_settings};
-use crate::starting::is_runnable;
-use sc_calls::Catalogue;
 use sc_edge::{Shelf, Sink};
 use sc_journal::Journal;
+use sc_servlets::Catalogue;
 use sc_switch::{Ran, Status, Switch};
 use sc_value::NoMemory;
 use std::alloc::Global;
@@ -32,8 +31,7 @@ use std::alloc::Global;
 /// - `Dar`: the routing table is refused, with the first fault as `sc_dar::read` tells it.
 /// - `JournalFull`: a step was due that the journal had no room for. The records are put without the
 ///   last line.
-/// - `Script`, at 0 of kind 8: the text is no script that can be run, which today is one alone, or the
-///   router doesn't send its request to an application at once.
+/// - `Script`: the script is refused, with the first fault as `sc_script::read_lines` tells it.
 /// - `Read`, `Write`: only where the shelf's, the sink's count of faults rose in this call.
 /// - `NoMemory`: want of memory, at any place.
 ///
@@ -112,9 +110,8 @@ fn replay_over<F: Shelf, K: Sink>(
     ensures began { result.began ≡ 0 }
 {
     let Settings { config, dar } = settings;
-    let runnable = is_runnable(&dar);
     match Switch::new(alloc, config, dar, apps) {
-        Ok(switch) => replay_on(alloc, switch, runnable, name, shelf, apps, out),
+        Ok(switch) => replay_on(alloc, switch, name, shelf, apps, out),
         Err(NoMemory) => not_started(alloc),
     }
 }
@@ -139,13 +136,11 @@ fn not_started(alloc: Global) -> Ran
 fn replay_on<F: Shelf, K: Sink>(
     alloc: Global,
     mut switch: Switch,
-    runnable: bool,
     name: &String,
     shelf: &mut F,
     apps: &Catalogue,
     out: &mut K,
 ) -> Ran
-    requires runnable { IsTrue runnable ↔ IsRunnable switch.setup.config switch.setup.dar }
     requires new { IsNew switch }
     requires right { IsSetup switch.setup }
     requires kinds { switch.setup.kinds ≡ map (λ k. both_charters (stated (k.servlet.vtable, k.servlet.value)) (option_map (λ l. listens (l.vtable, l.value)) k.listener)) apps.now.kinds }
@@ -154,7 +149,7 @@ fn replay_on<F: Shelf, K: Sink>(
     ensures epoch { result.epoch ≡ 0 }
     ensures began { result.began ≡ 0 }
 {
-    let status = run_script(alloc, &mut switch, runnable, name, shelf, apps, out);
+    let status = run_script(alloc, &mut switch, name, shelf, apps, out);
     let _ = switch.journal();
     Ran {
         status,
@@ -165,37 +160,32 @@ fn replay_on<F: Shelf, K: Sink>(
 }
 
 /// Reads the script of this name and runs it.
-#[tactic(auto, unfolding(crate::specs::Replaying::Leaves, crate::specs::Replaying::LeavesNothing, crate::specs::Replaying::ComesIn, crate::specs::Running::IsUnread), using(crate::proofs::Replayings::no_script))]
+#[tactic(auto, unfolding(crate::specs::Replaying::Leaves, crate::specs::Replaying::LeavesNothing, crate::specs::Replaying::ComesIn, crate::specs::Running::IsUnread))]
 fn run_script<F: Shelf, K: Sink>(
     alloc: Global,
     switch: &mut Switch,
-    runnable: bool,
     name: &String,
     shelf: &mut F,
     apps: &Catalogue,
     out: &mut K,
 ) -> Status
-    requires runnable { IsTrue runnable ↔ IsRunnable switch.old.setup.config switch.old.setup.dar }
     requires new { IsNew switch.old }
     requires right { IsSetup switch.old.setup }
     requires kinds { switch.old.setup.kinds ≡ map (λ k. both_charters (stated (k.servlet.vtable, k.servlet.value)) (option_map (λ l. listens (l.vtable, l.value)) k.listener)) apps.now.kinds }
     ensures setup { switch.new.setup ≡ switch.old.setup }
+    ensures epoch { switch.new.epoch ≡ 0 }
+    ensures began { switch.new.began ≡ 0 }
     ensures later { F.faults shelf.old ≤ F.faults shelf.new }
     ensures comes { ComesIn switch.old.setup (F.holds shelf.old (string_bytes name.now)) (Rose (F.faults shelf.old) (F.faults shelf.new)) (Rose (K.faults out.old) (K.faults out.new)) result }
     ensures leaves { Leaves switch.old.setup (F.holds shelf.old (string_bytes name.now)) (Rose (K.faults out.old) (K.faults out.new)) (K.took out.old) (K.took out.new) result switch.new.journal }
 {
     match read_script(alloc, name, shelf) {
-        Ok(lines) => {
-            if !runnable {
-                return Status::Script { at: 0, kind: 8 };
-            }
-            match drive(alloc, switch, lines.as_slice(), apps, out) {
-                Ok(()) => Status::Done,
-                Err(RunRefused::JournalFull) => Status::JournalFull,
-                Err(RunRefused::NoMemory) => Status::NoMemory,
-                Err(RunRefused::Write) => Status::Write,
-            }
-        }
+        Ok(lines) => match drive(alloc, switch, lines.as_slice(), apps, out) {
+            Ok(()) => Status::Done,
+            Err(RunRefused::JournalFull) => Status::JournalFull,
+            Err(RunRefused::NoMemory) => Status::NoMemory,
+            Err(RunRefused::Write) => Status::Write,
+        },
         Err(ScriptUnread::Failed) => Status::Read,
         Err(ScriptUnread::Refused { at, kind }) => Status::Script { at, kind },
         Err(ScriptUnread::NoMemory) => Status::NoMemory,

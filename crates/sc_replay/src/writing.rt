@@ -3,8 +3,10 @@
 ghost use Rattle.std.specs.Prelude.{◌≡◌, ◌≤◌, [], Err, OnOk, OnErr};
 ghost use Rattle.sc_edge.specs.Faults.{Rose};
 ghost use Rattle.sc_edge.specs.Taking.{Takes, TakesPart};
-ghost use Rattle.sc_model.specs.Records.{end_text, output, record_text, records};
-ghost use Rattle.sc_replay.specs.Playing.{IsUntaken};
+ghost use Rattle.sc_model.specs.Records.{end_text, record_text, records};
+ghost use Rattle.sc_hosts.specs.Histories.{as_session};
+ghost use Rattle.sc_runs.specs.Outputs.{output};
+ghost use Rattle.sc_follow.specs.Moving.{IsUntaken};
 
 use sc_edge::{Sink, put_all};
 use sc_script::{write_end, write_sent};
@@ -32,12 +34,14 @@ pub fn put_output<K: Sink>(
     switch: &mut Switch,
     out: &mut K,
 ) -> Result<(), WriteRefused>
+    requires epoch { switch.old.epoch ≡ 0 }
+    requires began { switch.old.began ≡ 0 }
     requires untaken { IsUntaken switch.old }
     ensures later { K.faults out.old ≤ K.faults out.new }
     ensures same { switch.new ≡ record switch.old { left = switch.new.left } }
-    ensures ok { OnOk result (Takes (K.took out.old) (K.took out.new) (output switch.old.setup switch.old.journal)) }
+    ensures ok { OnOk result (Takes (K.took out.old) (K.took out.new) (output as_session switch.old.setup switch.old.journal)) }
     ensures failed { result ≡ Err WriteRefused.Failed → Rose (K.faults out.old) (K.faults out.new) }
-    ensures part { OnErr result (TakesPart (K.took out.old) (K.took out.new) (output switch.old.setup switch.old.journal)) }
+    ensures part { OnErr result (TakesPart (K.took out.old) (K.took out.new) (output as_session switch.old.setup switch.old.journal)) }
 {
     let steps = switch.journal().len();
     let sent = switch.untaken();

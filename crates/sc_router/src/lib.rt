@@ -2,7 +2,7 @@
 //! which route it leaves.
 #![tactic(auto)]
 
-mod choice;
+mod lists;
 mod own;
 mod returning;
 mod routing;
@@ -10,8 +10,7 @@ mod subscriber;
 #[cfg(test)]
 mod tests;
 
-pub use choice::next_choice;
 pub use own::{ip_text, is_own};
 pub use routing::next;
-pub use sc_parts::{Choice, Chosen};
+pub use sc_parts::Choice;
 pub use sc_value::Directive;

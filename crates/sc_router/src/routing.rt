@@ -5,7 +5,7 @@ ghost use Rattle.std.specs.Option.{option_copied};
 ghost use Rattle.sc_parts.specs.declared.choice.Choice.TheVariants.{Send};
 ghost use Rattle.sc_model.specs.Choices.{tuples_of, is_opposite, next_order, app_of, by_route, routed, exhausted, choice_at, choice_in, choice_of};
 
-use crate::choice::list_of;
+use crate::lists::list_of;
 use crate::own::{is_home, is_own};
 use crate::returning::way_back;
 use crate::subscriber::subscriber_of;

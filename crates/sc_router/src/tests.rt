@@ -1,11 +1,11 @@
 use crate::{Choice, Directive, next};
-use sc_message_text::read;
+use sc_message_text::read_message;
 use sc_terms::{Config, Dar, MethodList, Modifier, Tuple};
 use sc_value::{Discard, List, Message, NoMemory, Region, Text};
 use std::alloc::Global;
 use std::test::Fail;
 
-// The one request that is read. It stands in a function, whose value no proof goes into.
+// It stands in a function, whose value no proof goes into.
 fn options() -> &'static [u8] {
     b"OPTIONS sip:alice@home.test SIP/2.0\r\nVia: SIP/2.0/TCP 127.0.0.1:5090;branch=z9hG4bKa1\r\nMax-Forwards: 70\r\nFrom: <sip:bob@home.test>;tag=b1\r\nTo: <sip:alice@home.test>\r\nCall-ID: c1\r\nCSeq: 1 OPTIONS\r\nContent-Length: 0\r\n\r\n"
 }
@@ -81,7 +81,7 @@ fn host(
 #[test]
 fn chooses(rt: HostRuntime) -> Result<(), Fail> {
     let alloc = rt.alloc();
-    let message = read(alloc, options())?;
+    let message = read_message(alloc, options())?;
     let begun = host(alloc, &message, Directive::New, None);
     let ended = host(alloc, &message, Directive::Continue, Some(1));
     message.discard();

@@ -1,3 +1,2 @@
-pub mod FirstScript
 pub mod Reading
 pub mod ScriptTexts

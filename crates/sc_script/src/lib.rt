@@ -5,7 +5,6 @@
 mod cuts;
 mod numbers;
 mod places;
-mod reading;
 mod records;
 mod refused;
 mod rows;
@@ -14,7 +13,6 @@ mod scripts;
 mod tests;
 
 pub use numbers::decimal_upto;
-pub use reading::read;
 pub use records::{write_end, write_sent};
 pub use refused::ScriptRefused;
 pub use scripts::read_lines;

@@ -6,8 +6,7 @@ use sc_value::NoMemory;
 #[derive(Debug, Clone, Copy, PartialEq, Eq)]
 pub enum ScriptRefused {
     /// The text is no script that can be run. `at` is the place where it goes wrong, in bytes from
-    /// 0, and `kind` is what is wrong there; 8 is a script that is not run yet. Until all scripts
-    /// are read each refused text has place 0 and kind 8.
+    /// 0, and `kind` is what is wrong there: 1 to 7, as [`crate::read_lines`] tells.
     Refused { at: usize, kind: u8 },
     /// There was no memory to read the text. It says nothing of the text.
     NoMemory,

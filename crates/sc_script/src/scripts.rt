@@ -1,12 +1,11 @@
 //! The lines of whole scripts.
 
-ghost use Rattle.std.specs.Prelude.{◌≡◌, ◌≤◌, ◌<◌, ◌+◌, ℕ, [], ◌∷◌, ◌++◌, Result, drop, length, IfOk};
+ghost use Rattle.std.specs.Prelude.{◌≡◌, ◌≤◌, ◌<◌, ◌+◌, ℕ, [], ◌∷◌, ◌++◌, Result, drop, length, IfOk, OnOk};
 ghost use Rattle.sc_terms.specs.declared.steps.Line.{Line};
 ghost use Rattle.sc_script.specs.ScriptTexts.{is_end, row_with, row_by, row_at, moment_after, lines_in, script_of};
 ghost use Rattle.sc_script.specs.Reading.{Says, Gives, Adds};
 
 use crate::cuts::cut;
-use crate::reading::put_line;
 use crate::refused::ScriptRefused;
 use crate::rows::{RowRefused, line_of};
 use sc_terms::Line;
@@ -76,6 +75,14 @@ fn add_lines(alloc: Global, bytes: &[u8], lines: &mut List<Line>) -> Result<(), 
         at: bytes.len(),
         kind: NO_END,
     })
+}
+
+// Puts a line at the end of a list.
+fn put_line(line: Line, lines: &mut List<Line>) -> Result<(), NoMemory>
+    ensures { OnOk result (lines.new ≡ lines.old ++ line ∷ []) }
+{
+    lines.push(line)?;
+    Ok(())
 }
 
 fn rest_of(bytes: &[u8], at: usize) -> &[u8]

@@ -1,33 +1,12 @@
-use crate::{ScriptRefused, read, read_lines, write_end, write_sent};
+use crate::{ScriptRefused, read_lines, write_end, write_sent};
 use sc_terms::Line;
 use sc_value::{Discard, List, Place, Sent, Text};
 use std::alloc::Global;
 use std::test::Fail;
 
-// The one script that is read. It stands in a function, whose value no proof goes into.
-fn script() -> &'static [u8] {
-    b"in c1 217\nOPTIONS sip:alice@home.test SIP/2.0\r\nVia: SIP/2.0/TCP 127.0.0.1:5090;branch=z9hG4bKa1\r\nMax-Forwards: 70\r\nFrom: <sip:bob@home.test>;tag=b1\r\nTo: <sip:alice@home.test>\r\nCall-ID: c1\r\nCSeq: 1 OPTIONS\r\nContent-Length: 0\r\n\r\n\nrun\nend\n"
-}
-
-// Its one message.
+// It stands in a function, whose value no proof goes into.
 fn options() -> &'static [u8] {
     b"OPTIONS sip:alice@home.test SIP/2.0\r\nVia: SIP/2.0/TCP 127.0.0.1:5090;branch=z9hG4bKa1\r\nMax-Forwards: 70\r\nFrom: <sip:bob@home.test>;tag=b1\r\nTo: <sip:alice@home.test>\r\nCall-ID: c1\r\nCSeq: 1 OPTIONS\r\nContent-Length: 0\r\n\r\n"
-}
-
-fn are_expected(lines: &List<Line>) -> bool {
-    match lines.as_slice() {
-        [Line::In(Place::Back(1), text), Line::Run, Line::End] => text.as_bytes() == options(),
-        _ => false,
-    }
-}
-
-#[test]
-fn reads_the_one_script(rt: HostRuntime) {
-    let right = match read(rt.alloc(), script()) {
-        Ok(lines) => are_expected(&lines),
-        Err(_) => false,
-    };
-    assert!(rt; right);
 }
 
 // A script of four lines, the first with a line feed among its bytes.
@@ -55,10 +34,9 @@ fn reads_lines(rt: HostRuntime) {
 
 #[test]
 fn refuses_a_script_that_is_cut(rt: HostRuntime) {
-    let script = script();
-    let refused = match read(rt.alloc(), &script[..script.len().saturating_sub(1)]) {
+    let refused = match read_lines(rt.alloc(), b"run\nend") {
         Ok(_) => false,
-        Err(cause) => cause == ScriptRefused::Refused { at: 0, kind: 8 },
+        Err(cause) => cause == ScriptRefused::Refused { at: 7, kind: 6 },
     };
     assert!(rt; refused);
 }
@@ -67,7 +45,7 @@ fn refuses_a_script_that_is_cut(rt: HostRuntime) {
 fn writes_a_run(rt: HostRuntime) -> Result<(), Fail> {
     let alloc = rt.alloc();
     let mut out = Text::new(alloc);
-    let message = sc_message_text::read(alloc, options())?;
+    let message = sc_message_text::read_message(alloc, options())?;
     let mut sent = Sent {
         place: Place::Back(1),
         message,

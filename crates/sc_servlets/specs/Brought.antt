@@ -7,7 +7,8 @@ use Rattle.sc_terms.specs.declared.charters.ListenerCharter.{ListenerCharter}
 use Rattle.sc_terms.specs.declared.calls.CallRecord.{CallRecord}
 use Rattle.sc_terms.specs.declared.calls.End.{End}
 use Rattle.sc_terms.specs.declared.calls.End.TheVariants as ends
-use Rattle.sc_hosts.specs.Charters.{IsAnswered, IsSilent, Plays, is_listened, listener_script, servlet_script}
+use Rattle.sc_hosts.specs.Scripting.{IsAnswered}
+use Rattle.sc_hosts.specs.Bringing.{IsSilent, Plays, is_listened, listener_script, servlet_script}
 
 -- what a servlet of this charter promises of its turn on this view
 unfoldable pub Promises : Charter → View → Event → List CallRecord → End → Type 0

@@ -3,7 +3,7 @@
 ghost use Rattle.std.specs.Prelude.{◌≡◌, ◌<◌, [], true, false, map, length, Option, None, Some, option_map};
 ghost use Rattle.std.specs.List.{slice_get};
 ghost use Rattle.sc_servlets.specs.Stated.{both_charters, servlet_at, listener_at};
-ghost use Rattle.sc_hosts.specs.Charters.{is_listened};
+ghost use Rattle.sc_hosts.specs.Bringing.{is_listened};
 ghost use Rattle.sc_servlets.specs.Brought.{Meets, ServletAllowed, ListenerAllowed, Promises, ListenerPromises, IsBrought, called_servlet, called_listener};
 
 use crate::{Catalogue, Done, Kind, Lease, Listener};
@@ -94,7 +94,7 @@ fn made_of(alloc: Global, kind: &Kind, shown: View, event: &Option<Event>) -> Ma
 }
 
 /// Whether the listener is told of the event, which is `Expired` or `Ready`, and not the servlet.
-#[tactic(auto, unfolding(sc_hosts::specs::Charters::is_listened))]
+#[tactic(auto, unfolding(sc_hosts::specs::Bringing::is_listened))]
 pub fn is_listened(event: &Event) -> bool
     ensures { result ≡ is_listened event.now }
 {
@@ -210,7 +210,7 @@ fn servlet_turn(kind: &Kind, turn: &mut Turn, event: &Event) -> End
 }
 
 /// The listener's turn at `Expired` or at `Ready`, as its trait promises it.
-#[tactic(auto, unfolding(sc_hosts::specs::Charters::is_listened))]
+#[tactic(auto, unfolding(sc_hosts::specs::Bringing::is_listened))]
 fn listener_turn(listener: &Box<dyn Listener>, turn: &mut Turn, event: &Event) -> End
     requires told { is_listened event.now ≡ true }
     requires calls { turn.old.calls ≡ [] }

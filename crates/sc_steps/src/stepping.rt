@@ -4,7 +4,8 @@ ghost use Rattle.std.specs.Prelude.{◌≡◌, [], OnOk};
 ghost use Rattle.sc_terms.specs.declared.steps.Step.TheVariants as steps;
 ghost use Rattle.sc_hosts.specs.Histories.{as_session};
 ghost use Rattle.sc_hosts.specs.Runs.{after_step};
-ghost use Rattle.sc_hosts.specs.Steps.{bad_by, stepped};
+ghost use Rattle.sc_hosts.specs.Arrivals.{bad_by};
+ghost use Rattle.sc_hosts.specs.Steps.{stepped};
 
 use crate::endings::withdrawn;
 use crate::turning::turns;
@@ -23,7 +24,7 @@ fn nothing_sent(alloc: Global, net: &mut Net<Session>)
     net.sent = List::new(alloc);
 }
 
-#[tactic(auto, unfolding(sc_hosts::specs::Steps::bad_by))]
+#[tactic(auto, unfolding(sc_hosts::specs::Arrivals::bad_by))]
 fn bad_arrived(
     alloc: Global,
     config: &Config,

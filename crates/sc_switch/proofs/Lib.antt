@@ -1,7 +1,5 @@
-pub mod Counts
-pub mod Nets
-pub mod Runs
+pub mod Fitting
+pub mod Nexts
+pub mod Sames
 pub mod Sendings
-pub mod Small
 pub mod Standings
-pub mod TurnSteps

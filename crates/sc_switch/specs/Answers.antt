@@ -1,15 +1,22 @@
 -- What the calls of a switch answer, and what they change.
-use Rattle.std.specs.Prelude.{◌≡◌, ℕ, ◌+◌, ◌≤◌, ◌⊎◌, [], ◌∷◌, ◌++◌, true, false, Option, None, Some}
+use Rattle.std.specs.Prelude.{◌≡◌, ℕ, ◌+◌, ◌≤◌, ◌⊎◌, [], ◌∷◌, ◌++◌, Bool, true, false, Option, None, Some, is_some}
+use Rattle.std.specs.List.{find}
+use Rattle.sc_value.specs.declared.ids.AppId.{AppId}
 use Rattle.sc_terms.specs.declared.steps.Step.{Step}
-use Rattle.sc_calls.specs.declared.lease.Lease.{Lease}
-use Rattle.sc_calls.specs.declared.done.Done.{Done}
-use Rattle.sc_model.specs.Hosts.{sent_by}
-use Rattle.sc_model.specs.Journals.{HasNoRoom}
+use Rattle.sc_terms.specs.declared.steps.Step.TheVariants as steps
+use Rattle.sc_servlets.specs.declared.lease.Lease.{Lease}
+use Rattle.sc_servlets.specs.declared.done.Done.{Done}
+use Rattle.sc_model.specs.JournalSizes.{HasNoRoom}
+use Rattle.sc_hosts.specs.Histories.{as_session}
+use Rattle.sc_hosts.specs.Runs.{after_step}
+use Rattle.sc_hosts.specs.Steps.{live_at}
+use Rattle.sc_runs.specs.Next.{Next}
+use Rattle.sc_runs.specs.Following.{first_number}
 use Rattle.sc_switch.specs.declared.refused.Committed.{Committed}
 use Rattle.sc_switch.specs.declared.refused.Committed.TheVariants as committed
 use Rattle.sc_switch.specs.declared.refused.StepRefused.{StepRefused}
 use Rattle.sc_switch.specs.declared.refused.StepRefused.TheVariants as refused
-use Rattle.sc_switch.specs.Standing.{Known, net_of, IsLeaseOf, next_free, is_live_lease, Fits, step_of}
+use Rattle.sc_switch.specs.Standing.{Known, net_of, IsLeaseOf, next_free, is_leased, is_live_lease, has_number, without_app, without_number, Fits, step_of}
 
 -- the number of the last lease that is given
 abbrev pub LAST_LEASE : ℕ
@@ -27,22 +34,42 @@ RefusesRight old size refused.NoMemory = Unit {0}
 
 -- the step stands at the end of the journal, and what it sends is left to be taken
 abbrev pub with_step : Known → Step → Known
-with_step old step = record old { journal = old.journal ++ step ∷ []; left = old.left ++ sent_by old.setup (net_of old) step }
+with_step old step = record old { journal = old.journal ++ step ∷ []; left = old.left ++ (after_step as_session old.setup (net_of old) step).sent }
 
--- a lease is given of the next event that no lease shows, at the last moment; none where there is
--- none, or after the last number
+-- the leases of the ended session end with it
+unfoldable pub Withdraws : Known → Known → AppId → Bool → Type 0
+Withdraws old new app true = (is_some (live_at app (net_of old)) ≡ true) × (new ≡ record (with_step old (steps.Withdraw app)) { kept = without_app app old.kept })
+Withdraws old new app false = (is_some (live_at app (net_of old)) ≡ false) × (new ≡ old)
+
+-- a lease is given of this event, at the last moment
+pub record IsGiven (old new : Known) (lease : Lease) : Type 0 where
+  pub new_is : new ≡ record old { kept = old.kept ++ lease ∷ []; leases = old.leases + 1 }
+  pub number_is : lease.number ≡ old.leases + 1
+  pub lease_is : IsLeaseOf old.setup (net_of old) lease
+  pub now_is : lease.shown.now ≡ (net_of old).moment
+
+-- a lease is given of the event with the lowest number among the first ones of the sessions without a
+-- lease; none where there is none, or after the last number
 unfoldable pub Leased : Known → Known → Option Lease → Type 0
 Leased old new None = (new ≡ old) × ((next_free (net_of old) old.kept ≡ None) ⊎ (LAST_LEASE ≤ old.leases))
-Leased old new (Some lease) =
-    (new ≡ record old { kept = Some lease; leases = old.leases + 1 })
-    × (lease.number ≡ old.leases + 1)
-    × (next_free (net_of old) old.kept ≡ Some (record { app = lease.app; number = lease.event_number }))
-    × IsLeaseOf old.setup (net_of old) lease
-    × (lease.shown.now ≡ (net_of old).now)
+Leased old new (Some lease) = (next_free (net_of old) old.kept ≡ Some (record { app = lease.app; number = lease.event_number })) × IsGiven old new lease
+
+-- a lease is given of the first event of this session; none where it doesn't live, no event waits for it or
+-- it is leased, or after the last number
+unfoldable pub LeasedOf : AppId → Known → Known → Option Lease → Type 0
+LeasedOf app old new None =
+    (new ≡ old) × ((first_number (live_at app (net_of old)) ≡ None) ⊎ ((is_leased old.kept app ≡ true) ⊎ (LAST_LEASE ≤ old.leases)))
+LeasedOf app old new (Some lease) =
+    (lease.app ≡ app) × (first_number (live_at app (net_of old)) ≡ Some lease.event_number) × (is_leased old.kept app ≡ false) × IsGiven old new lease
+
+-- a brought turn is refused as `JournalFull` where it fits and the journal has no room for its step
+unfoldable pub RefusesTurn : Known → Done → ℕ → StepRefused → Type 0
+RefusesTurn old done size (refused.JournalFull steps bytes) = RefusesRight old size (refused.JournalFull steps bytes) × Fits old.setup (net_of old) old.kept done
+RefusesTurn old done size refused.NoMemory = Unit {0}
 
 -- what became of a brought turn
 unfoldable pub Received : Known → Known → Done → Committed → Type 0
-Received old new done committed.Taken = Fits old.setup old.kept done × (new ≡ record (with_step old (step_of done)) { kept = None })
+Received old new done committed.Taken = Fits old.setup (net_of old) old.kept done × (new ≡ record (with_step old (step_of done)) { kept = without_number done.lease.number old.kept })
 Received old new done (committed.Gone number) = (number ≡ done.lease.number) × (is_live_lease old.kept number ≡ false) × (new ≡ old)
 Received old new done (committed.Other number) =
-    (number ≡ done.lease.number) × (is_live_lease old.kept number ≡ true) × (Fits old.setup old.kept done → ⊥) × (new ≡ record old { kept = None })
+    (number ≡ done.lease.number) × (is_live_lease old.kept number ≡ true) × (Fits old.setup (net_of old) old.kept done → ⊥) × (new ≡ record old { kept = without_number number old.kept })

@@ -1,42 +1,70 @@
--- The lease that is offered in a phase.
-use Rattle.std.specs.Prelude.{◌≡◌, ◌<◌, ℕ, Option, None, Some, option_map, length}
+-- What is lent out, and what a brought turn is to the live leases.
+use Rattle.std.specs.Prelude.{◌≡◌, ℕ, ◌+◌, List, [], ◌∷◌, Bool, true, false, Option, None, Some, if◌then◌else◌}
+use Rattle.std.specs.List.{fold}
+use Rattle.sc_value.specs.declared.ids.AppId.{AppId}
 use Rattle.sc_parts.specs.declared.setup.Setup.{Setup}
-use Rattle.sc_parts.specs.declared.waiting.Waiting.{Waiting}
-use Rattle.sc_calls.specs.declared.lease.Lease.{Lease}
-use Rattle.sc_model.specs.Histories.{prepared, shown_event}
-use Rattle.sc_model.specs.Settings.{app_of}
-use Rattle.sc_switch.specs.declared.phase.Living.{Living}
-use Rattle.sc_switch.specs.declared.phase.Phase.{Phase}
-use Rattle.sc_switch.specs.declared.phase.Phase.TheVariants as phases
-use Rattle.sc_switch.specs.Phases.{IsSmall}
+use Rattle.sc_state.specs.declared.host.Host.{Host}
+use Rattle.sc_state.specs.declared.host.Live.{Live}
+use Rattle.sc_state.specs.declared.net.Net.{Net}
+use Rattle.sc_state.specs.declared.session.Session.{Session}
+use Rattle.sc_state.specs.declared.working.Prepared.{Prepared}
+use Rattle.sc_servlets.specs.declared.lease.Lease.{Lease}
+use Rattle.sc_servlets.specs.declared.done.Done.{Done}
+use Rattle.sc_hosts.specs.Steps.{live_at}
+use Rattle.sc_runs.specs.Following.{first_number}
+use Rattle.sc_runs.specs.Next.{Next, next_of, earlier}
+use Rattle.sc_switch.specs.declared.called.Judged.{Judged}
+use Rattle.sc_switch.specs.declared.called.Judged.TheVariants as judged
+use Rattle.sc_switch.specs.Standing.{IsLeaseOf, is_leased, is_live_lease, Fits}
 
--- so many steps the journal takes at most
-abbrev pub MOST_STEPS : ℕ
-MOST_STEPS = 1000000
-
--- the phase can be shown
-unfoldable pub IsOfferable : Setup → Phase → Type 0
-IsOfferable setup phases.Idle = Unit {0}
-IsOfferable setup (phases.Living living) = (living.app.host < length setup.config.app) × IsSmall MOST_STEPS living.session.view
-IsOfferable setup (phases.Over over) = Unit {0}
-
--- the lease of this event
-pub record IsOffer (setup : Setup) (living : Living) (number : ℕ) (waiting : Waiting) (lease : Lease) : Type 0 where
+-- the lease of the first event of a session, of this number, at the last moment
+pub record IsOffer (setup : Setup) (net : Net Session) (app : AppId) (number : ℕ) (lease : Lease) : Type 0 where
   pub number_is : lease.number ≡ number
-  pub app_is : lease.app ≡ living.app
-  pub event_is : lease.event_number ≡ waiting.number
-  pub kind_is : option_map (λ app. app.kind) (app_of setup.config living.app.host) ≡ Some lease.kind
-  pub shown_is : lease.shown ≡ (prepared living.session waiting 0).view
-  pub shown_event_is : lease.event ≡ Some (shown_event living.session.view waiting.event)
+  pub app_is : lease.app ≡ app
+  pub first_is : first_number (live_at app net) ≡ Some lease.event_number
+  pub now_is : lease.shown.now ≡ net.moment
+  pub shows : IsLeaseOf setup net lease
 
-unfoldable pub OffersOf : Setup → Living → ℕ → Option Waiting → Option Lease → Type 0
-OffersOf setup living number None None = Unit {0}
-OffersOf setup living number None (Some lease) = ⊥
-OffersOf setup living number (Some waiting) None = ⊥
-OffersOf setup living number (Some waiting) (Some lease) = IsOffer setup living number waiting lease
+-- the lease that is offered of a session; none where it doesn't live or no event waits for it
+unfoldable pub Offers : Setup → Net Session → AppId → ℕ → Option Lease → Type 0
+Offers setup net app number None = first_number (live_at app net) ≡ None
+Offers setup net app number (Some lease) = IsOffer setup net app number lease
 
--- the lease of the event that waits, none where none does
-unfoldable pub Offers : Setup → Phase → ℕ → Option Lease → Type 0
-Offers setup phases.Idle number lease = lease ≡ None
-Offers setup (phases.Living living) number lease = OffersOf setup living number living.waiting lease
-Offers setup (phases.Over over) number lease = lease ≡ None
+-- the parts of a lease
+pub record IsMade (number : ℕ) (app : AppId) (kind event now : ℕ) (shown : Prepared) (lease : Lease) : Type 0 where
+  pub number_is : lease.number ≡ number
+  pub app_is : lease.app ≡ app
+  pub kind_is : lease.kind ≡ kind
+  pub event_number_is : lease.event_number ≡ event
+  pub now_is : lease.shown.now ≡ now
+  pub shown_is : lease.shown ≡ shown.view
+  pub event_is : lease.event ≡ shown.event
+
+-- ## The next event without a lease
+
+-- the lower of the one so far and the next
+unfoldable pub better : Option Next → Next → Option Next
+better None next = Some next
+better (Some best) next = Some (earlier best next)
+
+-- the same, where the next one isn't leased
+unfoldable pub with_next : List Lease → Option Next → Option Next → Option Next
+with_next kept best None = best
+with_next kept best (Some next) = if is_leased kept next.app then best else better best next
+
+unfoldable pub with_live : List Lease → ℕ → Option Next → Live Session → Option Next
+with_live kept number best live = with_next kept best (next_of number live)
+
+unfoldable pub with_host : List Lease → ℕ → Option Next → Host Session → Option Next
+with_host kept number best host = fold (with_live kept number) best host.sessions
+
+unfoldable pub with_hosts : List Lease → ℕ → Option Next → List (Host Session) → Option Next
+with_hosts kept number best [] = best
+with_hosts kept number best (host ∷ hosts) = with_hosts kept (number + 1) (with_host kept number best host) hosts
+
+-- ## What a brought turn is
+
+unfoldable pub Judges : Setup → Net Session → List Lease → Done → Judged → Type 0
+Judges setup net kept done judged.Fits = Fits setup net kept done
+Judges setup net kept done judged.Gone = is_live_lease kept done.lease.number ≡ false
+Judges setup net kept done judged.Other = (is_live_lease kept done.lease.number ≡ true) × (Fits setup net kept done → ⊥)

@@ -1,105 +1,149 @@
-//! Whom a lease calls, and whether a brought turn is its.
+//! Whom a lease calls, and whether a brought turn is that of a live lease.
 
-ghost use Rattle.std.specs.Prelude.{◌≡◌, ◌↔◌, Option, Some, option_and_then, slice_get, IsTrue};
-ghost use Rattle.std.specs.Option.{option_copied};
-ghost use Rattle.sc_model.specs.Charters.{called_servlet, called_listener};
-ghost use Rattle.sc_model.specs.Settings.{app_of, charters_of};
-ghost use Rattle.sc_model.specs.Hosts.{servlet_at, listener_at};
-ghost use Rattle.sc_switch.specs.Standing.{servlet_of, listener_of, is_live_lease, Fits};
-ghost use Rattle.sc_switch.specs.Judging.{Judges};
+ghost use Rattle.std.specs.Prelude.{◌≡◌, ◌↔◌, filter, position, Option, Some, slice_get, IsTrue, IfOk};
+ghost use Rattle.std.specs.Option.{option_copied, option_and_then};
+ghost use Rattle.std.specs.List.{find};
+ghost use Rattle.sc_model.specs.Settings.{charters_of};
+ghost use Rattle.sc_servlets.specs.Brought.{called_servlet, called_listener};
+ghost use Rattle.sc_servlets.specs.Stated.{servlet_at, listener_at};
+ghost use Rattle.sc_switch.specs.Standing.{servlet_of, listener_of, has_number, has_other_number, is_of_other, is_live_lease, without_app, without_number};
+ghost use Rattle.sc_switch.specs.Offering.{Judges};
 
-use sc_calls::{Done, Lease, is_told};
+use crate::leasing::{app_of, shows};
 use sc_parts::Setup;
-use sc_terms::{AppEntry, Charter, Event, ListenerCharter};
-use sc_value::Same;
+use sc_servlets::{Done, Lease, is_listened};
+use sc_state::{Net, Session};
+use sc_terms::{Charter, Event, ListenerCharter};
+use sc_transact::is_same_app;
+use sc_value::{AppId, List, NoMemory, Same};
+use std::alloc::Global;
 
-/// What a brought turn is to the live lease.
+/// What a brought turn is to the live leases.
+#[derive(Clone, Copy, Debug, PartialEq, Eq)]
 pub enum Judged {
-    /// The turn of the live lease.
+    /// The turn of a live lease.
     Fits,
     /// No lease of its number is live.
     Gone,
-    /// Another lease, or others called, under the number of the live one.
+    /// Another lease, or others called, under the number of a live one; or that one shows no longer
+    /// what there is.
     Other,
 }
 
-/// Judges a brought turn by the live lease.
-#[tactic(auto, unfolding(crate::specs::Standing::is_live_lease))]
-pub fn judge(setup: &Setup, kept: &Option<Lease>, done: &Done) -> Judged
-    ensures { Judges setup.now kept.now done.now result }
+/// Judges a brought turn by the live leases.
+#[tactic(auto, unfolding(crate::specs::Offering::Judges, crate::specs::Standing::is_live_lease))]
+pub fn judge(
+    alloc: Global,
+    setup: &Setup,
+    net: &Net<Session>,
+    kept: &[Lease],
+    done: &Done,
+) -> Result<Judged, NoMemory>
+    ensures { IfOk result (λ judged. Judges setup.now net.now kept.now done.now judged) }
 {
-    match kept {
-        Some(lease) => judge_by(setup, lease, done),
-        None => Judged::Gone,
+    match lease_of(kept, done.lease.number) {
+        Some(lease) => judge_by(alloc, setup, net, kept, lease, done),
+        None => Ok(Judged::Gone),
     }
 }
 
-#[tactic(auto, unfolding(crate::specs::Standing::is_live_lease))]
-fn judge_by(setup: &Setup, lease: &Lease, done: &Done) -> Judged
-    ensures { Judges setup.now (Some lease.now) done.now result }
+/// The live lease of this number.
+#[tactic(auto, using(sc_value::proofs::ListFacts::find_position, sc_value::proofs::ListFacts::find_none))]
+fn lease_of(kept: &[Lease], number: u64) -> Option<&Lease>
+    ensures { option_copied result ≡ find (has_number number) kept.now }
 {
-    if lease.number != done.lease.number {
-        return Judged::Gone;
+    match lease_place(kept, number) {
+        Some(at) => Some(&kept[at]),
+        None => None,
     }
-    if lease.same(&done.lease) && calls_right(setup, done) {
-        return Judged::Fits;
+}
+
+fn lease_place(kept: &[Lease], number: u64) -> Option<usize>
+    ensures { result ≡ position (has_number number) kept.now }
+{
+    kept.iter().position(|lease| lease.number == number)
+}
+
+#[tactic(auto, unfolding(crate::specs::Offering::Judges, crate::specs::Standing::is_live_lease))]
+fn judge_by(
+    alloc: Global,
+    setup: &Setup,
+    net: &Net<Session>,
+    kept: &[Lease],
+    lease: &Lease,
+    done: &Done,
+) -> Result<Judged, NoMemory>
+    requires { find (has_number done.now.lease.number) kept.now ≡ Some lease.now }
+    ensures { IfOk result (λ judged. Judges setup.now net.now kept.now done.now judged) }
+{
+    if !lease.same(&done.lease) {
+        return Ok(Judged::Other);
     }
-    Judged::Other
+    if !calls_right(setup, done) {
+        return Ok(Judged::Other);
+    }
+    if shows(alloc, setup, net, &done.lease)? {
+        Ok(Judged::Fits)
+    } else {
+        Ok(Judged::Other)
+    }
 }
 
 /// Whether those were called whom the lease calls.
 fn calls_right(setup: &Setup, done: &Done) -> bool
-    ensures { IsTrue result ↔ ((done.now.charter ≡ servlet_of setup.now done.now.lease.app.host done.now.lease.event) × (done.now.listener ≡ listener_of setup.now done.now.lease.app.host done.now.lease.event)) }
+    ensures { IsTrue result ↔ ((done.now.charter ≡ servlet_of setup.now done.now.lease) × (done.now.listener ≡ listener_of setup.now done.now.lease)) }
 {
-    let host = done.lease.app.host;
-    done.charter == servlet_of(setup, host, &done.lease.event)
-        && done.listener == listener_of(setup, host, &done.lease.event)
+    done.charter == servlet_of(setup, &done.lease)
+        && done.listener == listener_of(setup, &done.lease)
 }
 
-/// The charter of the servlet that an event of a host calls.
+/// The charter of the servlet that a lease calls.
 #[tactic(auto, unfolding(crate::specs::Standing::servlet_of))]
-fn servlet_of(setup: &Setup, host: u32, event: &Option<Event>) -> Option<Charter>
-    ensures { result ≡ servlet_of setup.now host event.now }
+fn servlet_of(setup: &Setup, lease: &Lease) -> Option<Charter>
+    ensures { result ≡ servlet_of setup.now lease.now }
 {
-    match event {
-        Some(event) => servlet_at(charters_of(setup, host), event),
-        None => None,
-    }
+    let (servlet, _) = charters_of(setup, lease.app.host)?;
+    called_servlet(&lease.event, servlet)
 }
 
-/// The charter of the listener that an event of a host calls.
+/// The charter of the listener that a lease calls.
 #[tactic(auto, unfolding(crate::specs::Standing::listener_of))]
-fn listener_of(setup: &Setup, host: u32, event: &Option<Event>) -> Option<ListenerCharter>
-    ensures { result ≡ listener_of setup.now host event.now }
+fn listener_of(setup: &Setup, lease: &Lease) -> Option<ListenerCharter>
+    ensures { result ≡ listener_of setup.now lease.now }
+{
+    let (_, listener) = charters_of(setup, lease.app.host)?;
+    called_listener(&lease.event, listener)
+}
+
+/// The servlet's charter, where the event calls it.
+#[tactic(auto, unfolding(sc_servlets::specs::Brought::called_servlet))]
+fn called_servlet(event: &Option<Event>, servlet: Charter) -> Option<Charter>
+    ensures { result ≡ called_servlet event.now servlet }
 {
     match event {
-        Some(event) => listener_at(charters_of(setup, host), event),
+        Some(event) => {
+            if is_listened(event) {
+                None
+            } else {
+                Some(servlet)
+            }
+        }
         None => None,
     }
 }
 
-/// Of an application's charters the servlet's, where the event calls it.
-#[tactic(auto, unfolding(sc_model::specs::Hosts::servlet_at, sc_model::specs::Charters::called_servlet))]
-fn servlet_at(
-    charters: Option<(Charter, Option<ListenerCharter>)>,
-    event: &Event,
-) -> Option<Charter>
-    ensures { result ≡ servlet_at charters event.now }
-{
-    let (servlet, _) = charters?;
-    if is_told(event) { None } else { Some(servlet) }
-}
-
-/// Of an application's charters the listener's, where the event calls it.
-#[tactic(auto, unfolding(sc_model::specs::Hosts::listener_at, sc_model::specs::Charters::called_listener))]
-fn listener_at(
-    charters: Option<(Charter, Option<ListenerCharter>)>,
-    event: &Event,
+/// The listener's charter, where the event calls it.
+#[tactic(auto, unfolding(sc_servlets::specs::Brought::called_listener))]
+fn called_listener(
+    event: &Option<Event>,
+    listener: Option<ListenerCharter>,
 ) -> Option<ListenerCharter>
-    ensures { result ≡ listener_at charters event.now }
+    ensures { result ≡ called_listener event.now listener }
 {
-    let (_, listener) = charters?;
-    if is_told(event) { listener } else { None }
+    match event {
+        Some(event) => { if is_listened(event) { listener } else { None } }
+        None => None,
+    }
 }
 
 /// The charters of a host's application.
@@ -123,9 +167,44 @@ fn kind_at(
     kinds.get(kind)
 }
 
-/// The application of a host.
-pub fn app_of(setup: &Setup, host: u32) -> Option<&AppEntry>
-    ensures { option_copied result ≡ app_of setup.now.config host }
+#[tactic(auto, unfolding(crate::specs::Standing::has_other_number))]
+fn has_other_number(number: u64, lease: &Lease) -> bool
+    ensures { result ≡ has_other_number number lease.now }
 {
-    setup.config.app.as_slice().get(host as usize)
+    lease.number != number
+}
+
+fn retain_others(number: u64, kept: &mut Vec<Lease>)
+    ensures { kept.new.items ≡ filter (has_other_number number) kept.old.items }
+{
+    kept.retain(|lease| has_other_number(number, lease));
+}
+
+/// Ends the lease of this number.
+#[tactic(auto, unfolding(crate::specs::Standing::without_number))]
+pub fn end_lease(number: u64, kept: &mut List<Lease>)
+    ensures { kept.new ≡ without_number number kept.old }
+{
+    retain_others(number, &mut kept.items);
+}
+
+#[tactic(auto, unfolding(crate::specs::Standing::is_of_other))]
+fn is_of_other(app: AppId, lease: &Lease) -> bool
+    ensures { result ≡ is_of_other app lease.now }
+{
+    !is_same_app(lease.app, app)
+}
+
+fn retain_of_others(app: AppId, kept: &mut Vec<Lease>)
+    ensures { kept.new.items ≡ filter (is_of_other app) kept.old.items }
+{
+    kept.retain(|lease| is_of_other(app, lease));
+}
+
+/// Ends the leases of a session.
+#[tactic(auto, unfolding(crate::specs::Standing::without_app))]
+pub fn end_leases(app: AppId, kept: &mut List<Lease>)
+    ensures { kept.new ≡ without_app app kept.old }
+{
+    retain_of_others(app, &mut kept.items);
 }

@@ -1,103 +1,251 @@
-//! Lending out the turn of the event that waits.
+//! Lending out turns, and whether a lease still shows what there is.
 
-ghost use Rattle.std.specs.Prelude.{◌≡◌, ◌<◌, length, IfOk};
-ghost use Rattle.sc_switch.specs.Offering.{IsOfferable, Offers, OffersOf, IsOffer, MOST_STEPS};
-ghost use Rattle.sc_switch.specs.Phases.{IsSmall};
-ghost use Rattle.sc_model.specs.Histories.{prepared, shown_event};
+ghost use Rattle.std.specs.Prelude.{◌≡◌, ◌≤◌, ◌<◌, ◌^◌, ◌↔◌, IfOk, IsTrue, Option, Some, option_map, slice_get, true};
+ghost use Rattle.std.specs.Option.{option_copied};
+ghost use Rattle.sc_hosts.specs.Histories.{as_session};
+ghost use Rattle.sc_hosts.specs.Runs.{shown};
+ghost use Rattle.sc_hosts.specs.Steps.{live_at};
+ghost use Rattle.sc_model.specs.Settings.{app_of};
+ghost use Rattle.sc_servlets.specs.Ranges.{is_numbered_below};
+ghost use Rattle.sc_switch.specs.Standing.{IsLeaseOf, ShowsFirst, IsTimely, IsShown};
+ghost use Rattle.sc_switch.specs.Offering.{Offers, IsOffer, IsMade};
 
-use crate::called::app_of;
-use crate::phase::{Living, Phase};
-use sc_app_session::{prepare, shown_event};
-use sc_calls::{Event, Lease, View};
-use sc_parts::{Session, Setup, Waiting};
-use sc_value::{CloneIn, Discard, NoMemory};
+use sc_parts::Setup;
+use sc_prepare::prepared;
+use sc_servlets::Lease;
+use sc_state::{Live, Net, Prepared, Session, Waiting};
+use sc_steps::{live_at, ringing_at};
+use sc_terms::{AppEntry, SessionView, View};
+use sc_value::{AppId, CloneIn, NoMemory, Same};
 use std::alloc::Global;
 
-/// The lease of the event that waits, None exactly where none does.
-#[tactic(auto, unfolding(crate::specs::Offering::IsOfferable, crate::specs::Offering::Offers))]
+/// The application of a host.
+pub fn app_of(setup: &Setup, host: u32) -> Option<&AppEntry>
+    ensures { option_copied result ≡ app_of setup.now.config host }
+{
+    setup.config.app.as_slice().get(host as usize)
+}
+
+/// What the first event of a session shows at a moment.
+#[tactic(auto, unfolding(sc_hosts::specs::Runs::shown, sc_hosts::specs::Histories::as_session))]
+fn shown(
+    alloc: Global,
+    setup: &Setup,
+    net: &Net<Session>,
+    app: AppId,
+    live: &Live<Session>,
+    waiting: &Waiting,
+    now: u64,
+) -> Result<Prepared, NoMemory>
+    ensures { IfOk result (λ p. p ≡ shown as_session setup.now net.now app live.now waiting.now now) }
+{
+    let ringing = ringing_at(alloc, app, net)?;
+    let session = live.session.get().clone_in(alloc)?;
+    prepared(
+        alloc,
+        &setup.config,
+        ringing.as_slice(),
+        session,
+        waiting,
+        now,
+    )
+}
+
+/// Whether the number of each SipSession is below 2^31.
+#[tactic(auto, unfolding(sc_servlets::specs::Ranges::is_numbered_below))]
+fn are_small(sessions: &[SessionView]) -> bool
+    ensures { result ≡ is_numbered_below (2 ^ 31) sessions.now }
+{
+    sessions.iter().all(|session| session.id.0 < 2_147_483_648)
+}
+
+/// Whether the numbers of a view are in the ranges of a lease.
+fn is_in_range(view: &View) -> bool
+    ensures moment { IsTrue result → view.entry.now.now ≤ 2 ^ 63 }
+    ensures counter { IsTrue result → view.entry.now.counter < 2 ^ 62 }
+    ensures requests { IsTrue result → view.entry.now.next_request < 2 ^ 31 }
+    ensures timers { IsTrue result → view.entry.now.next_timer < 2 ^ 31 }
+    ensures sessions { IsTrue result → is_numbered_below (2 ^ 31) view.entry.now.sessions ≡ true }
+{
+    view.now <= 9_223_372_036_854_775_808
+        && view.counter < 4_611_686_018_427_387_904
+        && view.next_request < 2_147_483_648
+        && view.next_timer < 2_147_483_648
+        && are_small(view.sessions.as_slice())
+}
+
+/// The lease that shows this, at this moment. `NoMemory` too where its numbers are out of the ranges
+/// of a lease.
+fn lease_of(
+    number: u64,
+    app: AppId,
+    kind: usize,
+    event_number: u64,
+    now: u64,
+    shown: Prepared,
+) -> Result<Lease, NoMemory>
+    ensures { IfOk result (λ lease. IsMade number app kind event_number now shown lease) }
+{
+    if shown.view.now != now || !is_in_range(&shown.view) {
+        drop(shown);
+        return Err(NoMemory);
+    }
+    let Prepared {
+        view,
+        known,
+        event,
+        orders,
+        ..
+    } = shown;
+    drop(known);
+    drop(orders);
+    Ok(Lease {
+        number,
+        app,
+        kind,
+        event_number,
+        shown: view,
+        event,
+    })
+}
+
+/// The lease of the first event of a session, at the last moment; None exactly where the session
+/// doesn't live or no event waits for it.
+#[tactic(auto, unfolding(crate::specs::Offering::Offers, sc_runs::specs::Following::first_number))]
 pub fn offer(
     alloc: Global,
     setup: &Setup,
-    phase: &Phase,
+    net: &Net<Session>,
+    app: AppId,
     number: u64,
 ) -> Result<Option<Lease>, NoMemory>
-    requires { IsOfferable setup.now phase.now }
-    ensures { IfOk result (λ lease. Offers setup.now phase.now number lease) }
+    ensures { IfOk result (λ lease. Offers setup.now net.now app number lease) }
 {
-    match phase {
-        Phase::Living(living) => offer_of(alloc, setup, living, number),
-        Phase::Idle | Phase::Over(_) => Ok(None),
-    }
-}
-
-#[tactic(auto, unfolding(crate::specs::Offering::OffersOf))]
-fn offer_of(
-    alloc: Global,
-    setup: &Setup,
-    living: &Living,
-    number: u64,
-) -> Result<Option<Lease>, NoMemory>
-    requires within { living.now.app.host < length setup.now.config.app }
-    requires small { IsSmall MOST_STEPS living.now.session.view }
-    ensures { IfOk result (λ lease. OffersOf setup.now living.now number living.now.waiting lease) }
-{
-    match &living.waiting {
-        Some(waiting) => Ok(Some(lease_of(alloc, setup, living, waiting, number)?)),
+    match live_at(app, net) {
+        Some(live) => offer_of(alloc, setup, net, app, live, number),
         None => Ok(None),
     }
 }
 
-fn lease_of(
+#[tactic(auto, unfolding(crate::specs::Offering::Offers, sc_runs::specs::Following::first_number))]
+fn offer_of(
     alloc: Global,
     setup: &Setup,
-    living: &Living,
+    net: &Net<Session>,
+    app: AppId,
+    live: &Live<Session>,
+    number: u64,
+) -> Result<Option<Lease>, NoMemory>
+    requires { live_at app net.now ≡ Some live.now }
+    ensures { IfOk result (λ lease. Offers setup.now net.now app number lease) }
+{
+    match live.inbox.as_slice().first() {
+        Some(waiting) => Ok(Some(offer_first(alloc, setup, net, app, live, waiting, number)?)),
+        None => Ok(None),
+    }
+}
+
+fn offer_first(
+    alloc: Global,
+    setup: &Setup,
+    net: &Net<Session>,
+    app: AppId,
+    live: &Live<Session>,
     waiting: &Waiting,
     number: u64,
 ) -> Result<Lease, NoMemory>
-    requires within { living.now.app.host < length setup.now.config.app }
-    requires small { IsSmall MOST_STEPS living.now.session.view }
-    ensures { IfOk result (λ lease. IsOffer setup.now living.now number waiting.now lease) }
+    requires live { live_at app net.now ≡ Some live.now }
+    requires first { slice_get live.now.inbox 0 ≡ Some waiting.now }
+    ensures { IfOk result (λ lease. IsOffer setup.now net.now app number lease) }
 {
-    let kind = setup.config.app.items[living.app.host as usize].kind;
-    let shown = shown_view(alloc, &living.session, waiting)?;
-    match shown_event(alloc, &living.session.view, &waiting.event) {
-        Ok(event) => Ok(Lease {
-            number,
-            app: living.app,
-            kind,
-            event_number: waiting.number,
-            shown,
-            event: Some(event),
-        }),
-        Err(cause) => {
-            shown.discard();
-            Err(cause)
-        }
+    if net.moment < live.since {
+        return Err(NoMemory);
+    }
+    let kind = match app_of(setup, app.host) {
+        Some(entry) => entry.kind,
+        None => return Err(NoMemory),
+    };
+    let shown = shown(alloc, setup, net, app, live, waiting, net.moment)?;
+    lease_of(number, app, kind, waiting.number, net.moment, shown)
+}
+
+/// Whether a lease shows the first event of its session, which lives.
+#[tactic(auto, unfolding(crate::specs::Standing::IsLeaseOf, crate::specs::Standing::ShowsOf))]
+pub fn shows(
+    alloc: Global,
+    setup: &Setup,
+    net: &Net<Session>,
+    lease: &Lease,
+) -> Result<bool, NoMemory>
+    ensures { IfOk result (λ b. IsTrue b ↔ IsLeaseOf setup.now net.now lease.now) }
+{
+    match live_at(lease.app, net) {
+        Some(live) => shows_live(alloc, setup, net, lease, live),
+        None => Ok(false),
     }
 }
 
-/// What the turn of an event shows.
-#[tactic(auto, using(crate::proofs::Small::prepared_moment))]
-fn shown_view(alloc: Global, session: &Session, waiting: &Waiting) -> Result<View, NoMemory>
-    requires { IsSmall MOST_STEPS session.now.view }
-    ensures shown { IfOk result (λ view. view ≡ (prepared session.now waiting.now 0).view) }
-    ensures small { IfOk result (λ view. IsSmall 1000001 view) }
-    ensures moment { IfOk result (λ view. view.now ≡ 0) }
+#[tactic(auto, unfolding(crate::specs::Standing::ShowsFirst))]
+fn shows_live(
+    alloc: Global,
+    setup: &Setup,
+    net: &Net<Session>,
+    lease: &Lease,
+    live: &Live<Session>,
+) -> Result<bool, NoMemory>
+    ensures { IfOk result (λ b. IsTrue b ↔ ShowsFirst setup.now net.now lease.now live.now (slice_get live.now.inbox 0)) }
 {
-    let mut shown = session.clone_in(alloc)?;
-    match prepare(alloc, &mut shown, waiting, 0) {
-        Ok(()) => Ok(view_of(shown)),
-        Err(cause) => {
-            shown.discard();
-            Err(cause)
-        }
+    match live.inbox.as_slice().first() {
+        Some(waiting) => shows_first(alloc, setup, net, lease, live, waiting),
+        None => Ok(false),
     }
 }
 
-fn view_of(session: Session) -> View
-    ensures { result ≡ session.view }
+fn shows_first(
+    alloc: Global,
+    setup: &Setup,
+    net: &Net<Session>,
+    lease: &Lease,
+    live: &Live<Session>,
+    waiting: &Waiting,
+) -> Result<bool, NoMemory>
+    ensures { IfOk result (λ b. IsTrue b ↔ (IsTimely setup.now net.now lease.now live.now waiting.now × IsShown (shown as_session setup.now net.now lease.now.app live.now waiting.now lease.now.shown.now) lease.now)) }
 {
-    let Session { view, received } = session;
-    drop(received);
-    view
+    if !is_timely(setup, net, lease, live, waiting) {
+        return Ok(false);
+    }
+    let shown = shown(alloc, setup, net, lease.app, live, waiting, lease.shown.now)?;
+    Ok(is_shown(&shown, lease))
+}
+
+fn is_timely(
+    setup: &Setup,
+    net: &Net<Session>,
+    lease: &Lease,
+    live: &Live<Session>,
+    waiting: &Waiting,
+) -> bool
+    ensures { IsTrue result ↔ IsTimely setup.now net.now lease.now live.now waiting.now }
+{
+    waiting.number == lease.event_number
+        && is_kind(setup, lease)
+        && live.since <= lease.shown.now
+        && lease.shown.now <= net.moment
+}
+
+/// Whether the lease's kind is that of its application.
+fn is_kind(setup: &Setup, lease: &Lease) -> bool
+    ensures { IsTrue result ↔ (option_map (λ app. app.kind) (app_of setup.now.config lease.now.app.host) ≡ Some lease.now.kind) }
+{
+    match app_of(setup, lease.app.host) {
+        Some(entry) => entry.kind == lease.kind,
+        None => false,
+    }
+}
+
+#[tactic(auto, unfolding(crate::specs::Standing::IsShown))]
+fn is_shown(shown: &Prepared, lease: &Lease) -> bool
+    ensures { IsTrue result ↔ IsShown shown.now lease.now }
+{
+    shown.view.same(&lease.shown) && shown.event.same(&lease.event)
 }

@@ -2,20 +2,20 @@
 //! commits what they bring. Each accepted step stands in its journal.
 #![tactic(auto)]
 
-mod arriving;
 mod called;
-mod committing;
+mod copying;
+mod counting;
 mod leasing;
-mod phase;
+mod next;
 mod ran;
 mod refused;
-mod sending;
 mod sizes;
+mod starting;
+mod stepping;
 mod switch;
-mod turning;
 
+pub use next::Next;
 pub use ran::{Ran, Status};
 pub use refused::{CommitRefused, Committed, StepRefused};
 pub use sc_journal::Journal;
-pub use sc_terms::{AppEntry, Config, Dar, HostEntry, MethodList, Modifier, Step, Tuple};
 pub use switch::Switch;

@@ -1,4 +1,4 @@
-use sc_calls::Done;
+use sc_servlets::Done;
 use std::alloc::AllocError;
 
 /// Why a step was refused. Nothing is changed and no message is sent.

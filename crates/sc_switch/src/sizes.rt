@@ -2,7 +2,7 @@
 
 ghost use Rattle.std.specs.Prelude.{◌≡◌, ℕ, ◌+◌, min, length, sum_by, Option};
 ghost use Rattle.std.specs.Option.{option_copied};
-ghost use Rattle.sc_model.specs.Journals.{option_size, param_size, sip_uri_size, uri_size, address_size, contact_size, field_size, answer_size, ask_size, inside_size, option_uri_size, call_size, record_size};
+ghost use Rattle.sc_model.specs.JournalSizes.{option_size, param_size, sip_uri_size, uri_size, address_size, contact_size, field_size, answer_size, ask_size, inside_size, option_uri_size, call_size, record_size};
 
 use sc_terms::{Answer, Ask, Call, CallRecord, Inside};
 use sc_value::{Address, Contact, Field, Param, SipUri, Text, Uri};
@@ -33,7 +33,7 @@ fn length_of(text: &Text) -> u64
     text.len() as u64
 }
 
-#[tactic(auto, unfolding(sc_model::specs::Journals::option_size))]
+#[tactic(auto, unfolding(sc_model::specs::JournalSizes::option_size))]
 fn option_size(text: &Option<Text>) -> u64
     ensures { result ≡ min (option_size text.now) u64.MAX }
 {
@@ -46,13 +46,13 @@ fn option_size(text: &Option<Text>) -> u64
 impl Measured for Param {
     ghost size = { param_size };
 
-    #[tactic(auto, unfolding(sc_model::specs::Journals::param_size))]
+    #[tactic(auto, unfolding(sc_model::specs::JournalSizes::param_size))]
     fn size(&self) -> u64 {
         length_of(&self.name).saturating_add(option_size(&self.value))
     }
 }
 
-#[tactic(auto, unfolding(sc_model::specs::Journals::sip_uri_size))]
+#[tactic(auto, unfolding(sc_model::specs::JournalSizes::sip_uri_size))]
 fn sip_uri_size(uri: &SipUri) -> u64
     ensures { result ≡ min (sip_uri_size uri.now) u64.MAX }
 {
@@ -66,7 +66,7 @@ fn sip_uri_size(uri: &SipUri) -> u64
 impl Measured for Uri {
     ghost size = { uri_size };
 
-    #[tactic(auto, unfolding(sc_model::specs::Journals::uri_size))]
+    #[tactic(auto, unfolding(sc_model::specs::JournalSizes::uri_size))]
     fn size(&self) -> u64 {
         match self {
             Uri::Sip(uri) => sip_uri_size(uri),
@@ -75,7 +75,7 @@ impl Measured for Uri {
     }
 }
 
-#[tactic(auto, unfolding(sc_model::specs::Journals::address_size))]
+#[tactic(auto, unfolding(sc_model::specs::JournalSizes::address_size))]
 fn address_size(address: &Address) -> u64
     ensures { result ≡ min (address_size address.now) u64.MAX }
 {
@@ -87,7 +87,7 @@ fn address_size(address: &Address) -> u64
 impl Measured for Contact {
     ghost size = { contact_size };
 
-    #[tactic(auto, unfolding(sc_model::specs::Journals::contact_size))]
+    #[tactic(auto, unfolding(sc_model::specs::JournalSizes::contact_size))]
     fn size(&self) -> u64 {
         match self {
             Contact::Star => 0,
@@ -99,13 +99,13 @@ impl Measured for Contact {
 impl Measured for Field {
     ghost size = { field_size };
 
-    #[tactic(auto, unfolding(sc_model::specs::Journals::field_size))]
+    #[tactic(auto, unfolding(sc_model::specs::JournalSizes::field_size))]
     fn size(&self) -> u64 {
         length_of(&self.name).saturating_add(length_of(&self.value))
     }
 }
 
-#[tactic(auto, unfolding(sc_model::specs::Journals::answer_size))]
+#[tactic(auto, unfolding(sc_model::specs::JournalSizes::answer_size))]
 fn answer_size(answer: &Answer) -> u64
     ensures { result ≡ min (answer_size answer.now) u64.MAX }
 {
@@ -118,7 +118,7 @@ fn answer_size(answer: &Answer) -> u64
         .saturating_add(length_of(&answer.body))
 }
 
-#[tactic(auto, unfolding(sc_model::specs::Journals::ask_size))]
+#[tactic(auto, unfolding(sc_model::specs::JournalSizes::ask_size))]
 fn ask_size(ask: &Ask) -> u64
     ensures { result ≡ min (ask_size ask.now) u64.MAX }
 {
@@ -131,7 +131,7 @@ fn ask_size(ask: &Ask) -> u64
         .saturating_add(length_of(&ask.body))
 }
 
-#[tactic(auto, unfolding(sc_model::specs::Journals::inside_size))]
+#[tactic(auto, unfolding(sc_model::specs::JournalSizes::inside_size))]
 fn inside_size(ask: &Inside) -> u64
     ensures { result ≡ min (inside_size ask.now) u64.MAX }
 {
@@ -140,7 +140,7 @@ fn inside_size(ask: &Inside) -> u64
         .saturating_add(length_of(&ask.body))
 }
 
-#[tactic(auto, unfolding(sc_model::specs::Journals::option_uri_size))]
+#[tactic(auto, unfolding(sc_model::specs::JournalSizes::option_uri_size))]
 fn option_uri_size(uri: &Option<Uri>) -> u64
     ensures { result ≡ min (option_uri_size uri.now) u64.MAX }
 {
@@ -156,7 +156,7 @@ fn attribute_size(name: &Text, value: &Text) -> u64
     length_of(name).saturating_add(length_of(value))
 }
 
-#[tactic(auto, unfolding(sc_model::specs::Journals::call_size))]
+#[tactic(auto, unfolding(sc_model::specs::JournalSizes::call_size))]
 fn call_size(call: &Call) -> u64
     ensures { result ≡ min (call_size call.now) u64.MAX }
 {
@@ -177,7 +177,7 @@ fn call_size(call: &Call) -> u64
 impl Measured for CallRecord {
     ghost size = { record_size };
 
-    #[tactic(auto, unfolding(sc_model::specs::Journals::record_size))]
+    #[tactic(auto, unfolding(sc_model::specs::JournalSizes::record_size))]
     fn size(&self) -> u64 {
         call_size(&self.call)
     }

@@ -1,27 +1,33 @@
 //! The switch itself.
 
-ghost use Rattle.std.specs.Prelude.{◌≡◌, ◌<◌, ◌≤◌, ◌+◌, ◌++◌, ◌∷◌, [], Ok, None, Some, Option, length, map, option_map, option_to_list, IfOk, IfErr, IfSome, IfNone, OnOk, OnErr};
-ghost use Rattle.std.specs.Option.{option_copied};
-ghost use Rattle.sc_calls.specs.Stated.{both_charters};
+ghost use Rattle.std.specs.Prelude.{◌≡◌, ◌+◌, ◌<◌, ◌≤◌, ◌^◌, ◌∷◌, [], ◌++◌, Ok, List, map, min, length, Option, option_map, IfOk, IfErr, OnOk, OnErr, IfSome, IfNone, IsErr, is_some, true};
+ghost use Rattle.sc_servlets.specs.Stated.{both_charters};
+ghost use Rattle.sc_value.specs.declared.message.Sent.{Sent};
 ghost use Rattle.sc_grammar.specs.Written.{written};
-ghost use Rattle.sc_model.specs.Hosts.{MayArrive, sent_by, live_count, waiting_count};
-ghost use Rattle.sc_model.specs.Journals.{IsLawful, all_sent, step_size};
+ghost use Rattle.sc_model.specs.JournalSizes.{step_size};
 ghost use Rattle.sc_model.specs.Settings.{IsSetup};
-ghost use Rattle.sc_switch.specs.Standing.{Known, net_of, lease_count, Fits, step_of};
-ghost use Rattle.sc_switch.specs.Answers.{Leased, Received, RefusesRight, IsFullFor, with_step, LAST_LEASE};
+ghost use Rattle.sc_hosts.specs.Histories.{as_session};
+ghost use Rattle.sc_hosts.specs.Steps.{live_at};
+ghost use Rattle.sc_hosts.specs.Runs.{HasVia, IsAllowed, IsLawful, all_sent, live_count, waiting_count};
+ghost use Rattle.sc_switch.specs.Standing.{Known, net_of, Fits, next_free, step_of};
+ghost use Rattle.sc_switch.specs.Answers.{IsGiven, Leased, LeasedOf, Received, RefusesRight, RefusesTurn, IsFullFor, Withdraws, with_step, LAST_LEASE};
+ghost use Rattle.sc_switch.specs.Offering.{Judges, Offers};
 
-use crate::arriving::{Arrival, plan_arrival};
-use crate::called::{Judged, judge};
-use crate::committing::{plan_commit, step_of};
+use crate::called::{Judged, end_lease, end_leases, judge};
 use crate::leasing::offer;
-use crate::phase::{Living, Phase, set_phase};
+use crate::next::{Next, is_leased, next_free};
 use crate::refused::{CommitRefused, Committed, StepRefused};
-use crate::sending::send_orders;
-use sc_calls::{Catalogue, Charter, Done, Kind, Lease, ListenerCharter};
+use crate::sizes::total;
+use crate::starting::{kinds_of, start_net};
+use crate::stepping::{Stepped, plan_step, plan_turn, send_all};
 use sc_journal::Journal;
+use sc_message_text::text_of;
 use sc_parts::Setup;
-use sc_terms::{Config, Dar, Step};
-use sc_value::{CloneIn, Discard, List, Message, NoMemory, Place, Sent};
+use sc_servlets::{Catalogue, Done, Lease};
+use sc_state::{Net, Session};
+use sc_steps::live_at;
+use sc_terms::{Bad, Config, Dar, End, Step};
+use sc_value::{AppId, CloneIn, Discard, List, Message, NoMemory, Place, Sent};
 use std::alloc::Global;
 use std::collections::VecDeque;
 use std::marker::Model;
@@ -31,12 +37,20 @@ use std::marker::Model;
 #[derive(Drop)]
 pub struct Switch {
     setup: Setup,
+    epoch: u32,
+    /// The first moment of the epoch.
+    began: u64,
     journal: Journal<Step>,
-    phase: Phase,
+    /// The net after the journal, with nothing sent.
+    net: Net<Session>,
+    /// How many application sessions live.
+    live: u64,
+    /// How many events wait.
+    waiting: u64,
     /// What was sent and not taken yet.
     left: VecDeque<Sent>,
-    /// The live lease.
-    kept: Option<Lease>,
+    /// The live leases, in the order in which they were given.
+    kept: List<Lease>,
     /// The number of the last lease.
     leases: u64,
 }
@@ -46,17 +60,24 @@ impl Model for Switch {
 
     ghost Value = { Known };
 
-    ghost view = { λ s. record { setup = s.setup; journal = s.journal.items; left = s.left.items; kept = s.kept; leases = s.leases } };
+    ghost view = { λ s. record { setup = s.setup; epoch = s.epoch; began = s.began; journal = s.journal.items; left = s.left.items; kept = s.kept; leases = s.leases } };
 
-    ghost invariant = { λ s. IsSwitch s.setup s.journal s.phase s.left.items s.kept };
+    ghost invariant = { λ s. IsSwitch s.setup s.epoch s.began s.journal s.net s.live s.waiting s.left.items };
 }
 
 /// The number of the last lease that is given.
 const LAST: u64 = 9_223_372_036_854_775_807;
 
+/// A step that was refused, handed back.
+#[derive(Drop)]
+struct Untaken {
+    step: Step,
+    cause: StepRefused,
+}
+
 impl Switch {
     /// A switch over these settings, this table and the charters of the catalogue's kinds, with an
-    /// empty journal.
+    /// empty journal of epoch 0, which begins at moment 0.
     pub fn new(
         alloc: Global,
         config: Config,
@@ -64,10 +85,10 @@ impl Switch {
         apps: &Catalogue,
     ) -> Result<Switch, NoMemory>
         requires { IsSetup (record { config = config; dar = dar; kinds = map (λ k. both_charters (stated (k.servlet.vtable, k.servlet.value)) (option_map (λ l. listens (l.vtable, l.value)) k.listener)) apps.now.kinds }) }
-        ensures { IfOk result (λ s. s ≡ record { setup = record { config = config; dar = dar; kinds = map (λ k. both_charters (stated (k.servlet.vtable, k.servlet.value)) (option_map (λ l. listens (l.vtable, l.value)) k.listener)) apps.now.kinds }; journal = []; left = []; kept = None; leases = 0 }) }
+        ensures { IfOk result (λ s. s ≡ record { setup = record { config = config; dar = dar; kinds = map (λ k. both_charters (stated (k.servlet.vtable, k.servlet.value)) (option_map (λ l. listens (l.vtable, l.value)) k.listener)) apps.now.kinds }; epoch = 0; began = 0; journal = []; left = []; kept = []; leases = 0 }) }
     {
         match kinds_of(alloc, apps) {
-            Ok(kinds) => Ok(switch_of(alloc, Setup { config, dar, kinds })),
+            Ok(kinds) => switch_of(alloc, Setup { config, dar, kinds }),
             Err(cause) => {
                 drop(config);
                 drop(dar);
@@ -76,41 +97,155 @@ impl Switch {
         }
     }
 
-    /// Takes a message that came from a place. Until more of them are understood this is the first
-    /// request of a run: an OPTIONS without Route and without To tag, for which the table has an
-    /// application.
+    /// Takes a step of so many bytes: all is made before the first change.
+    fn take(&mut self, alloc: Global, step: Step, bytes: u64) -> Result<(), Untaken>
+        requires allowed { IsAllowed as_session self.old.setup (net_of self.old) step }
+        requires size { bytes ≡ min (step_size step) u64.MAX }
+        ensures ok { OnOk result (self.new ≡ with_step self.old step) }
+        ensures room { OnOk result (¬ (IsFullFor self.old (step_size step))) }
+        ensures refused { IfErr result (λ untaken. RefusesRight self.old (step_size step) untaken.cause) }
+        ensures back { IfErr result (λ untaken. untaken.step ≡ step) }
+        ensures err { OnErr result (self.new ≡ self.old) }
+    {
+        match plan_step(
+            alloc,
+            &self.setup,
+            &self.net,
+            &mut self.journal,
+            &mut self.left,
+            &step,
+            bytes,
+        ) {
+            Ok(
+                Stepped {
+                    net,
+                    sent,
+                    live,
+                    waiting,
+                },
+            ) => {
+                self.journal.put(step, bytes);
+                send_all(&mut self.left, sent);
+                set_net(&mut self.net, net);
+                self.live = live;
+                self.waiting = waiting;
+                Ok(())
+            }
+            Err(cause) => Err(Untaken { step, cause }),
+        }
+    }
+
+    /// Takes a message that came from a place.
     ///
     /// # Errors
     ///
-    /// `JournalFull` only where the journal has no room for the step, and `NoMemory`; nothing is
-    /// then changed.
+    /// `JournalFull` exactly where the journal has no room for the step, but for want of memory, and
+    /// `NoMemory`; nothing is then changed.
+    #[tactic(auto, unfolding(sc_hosts::specs::Runs::IsAllowed, sc_model::specs::JournalSizes::step_size, crate::specs::Answers::RefusesRight))]
     pub fn arrive(
         &mut self,
         alloc: Global,
         from: Place,
         message: Message,
     ) -> Result<(), StepRefused>
-        requires { MayArrive self.old.setup (net_of self.old) message }
+        requires { HasVia message }
         ensures ok { OnOk result (self.new ≡ with_step self.old (Step.In from message)) }
         ensures room { OnOk result (¬ (IsFullFor self.old (length (written message)))) }
         ensures refused { IfErr result (λ cause. RefusesRight self.old (length (written message)) cause) }
         ensures err { OnErr result (self.new ≡ self.old) }
     {
-        match plan_arrival(alloc, &self.setup, &mut self.journal, from, &message) {
-            Ok(Arrival { living, bytes }) => {
-                self.journal.put(Step::In(from, message), bytes);
-                set_phase(&mut self.phase, Phase::Living(living));
-                Ok(())
-            }
-            Err(cause) => {
+        match text_size(alloc, &message) {
+            Ok(bytes) => told(self.take(alloc, Step::In(from, message), bytes)),
+            Err(NoMemory) => {
                 message.discard();
-                Err(cause)
+                Err(StepRefused::NoMemory)
             }
         }
     }
 
-    /// Lends out the turn of the event with the lowest number whose session no lease has: None
-    /// exactly where there is none, or after the lease of the greatest number.
+    /// Takes a text from a place that is no message.
+    ///
+    /// # Errors
+    ///
+    /// As of `arrive`; the step has no bytes.
+    #[tactic(auto, unfolding(sc_hosts::specs::Runs::IsAllowed, sc_model::specs::JournalSizes::step_size))]
+    pub fn hear_bad(&mut self, alloc: Global, from: Place, bad: Bad) -> Result<(), StepRefused>
+        ensures ok { OnOk result (self.new ≡ with_step self.old (Step.Bad from bad)) }
+        ensures room { OnOk result (¬ (IsFullFor self.old 0)) }
+        ensures refused { IfErr result (λ cause. RefusesRight self.old 0 cause) }
+        ensures err { OnErr result (self.new ≡ self.old) }
+    {
+        told(self.take(alloc, Step::Bad(from, bad), 0))
+    }
+
+    /// A place is lost: what was sent there as a request ends.
+    ///
+    /// # Errors
+    ///
+    /// As of `arrive`; the step has no bytes.
+    #[tactic(auto, unfolding(sc_hosts::specs::Runs::IsAllowed, sc_model::specs::JournalSizes::step_size))]
+    pub fn lost(&mut self, alloc: Global, at: Place) -> Result<(), StepRefused>
+        ensures ok { OnOk result (self.new ≡ with_step self.old (Step.Lost at)) }
+        ensures room { OnOk result (¬ (IsFullFor self.old 0)) }
+        ensures refused { IfErr result (λ cause. RefusesRight self.old 0 cause) }
+        ensures err { OnErr result (self.new ≡ self.old) }
+    {
+        told(self.take(alloc, Step::Lost(at), 0))
+    }
+
+    /// The clock reaches a moment, in milliseconds, which isn't below the last one.
+    ///
+    /// # Errors
+    ///
+    /// As of `arrive`; the step has no bytes.
+    #[tactic(auto, unfolding(sc_hosts::specs::Runs::IsAllowed, sc_model::specs::JournalSizes::step_size))]
+    pub fn tick(&mut self, alloc: Global, now: u64) -> Result<(), StepRefused>
+        requires later { (net_of self.old).moment ≤ now }
+        requires within { now ≤ 2 ^ 63 }
+        ensures ok { OnOk result (self.new ≡ with_step self.old (Step.Tick now)) }
+        ensures room { OnOk result (¬ (IsFullFor self.old 0)) }
+        ensures refused { IfErr result (λ cause. RefusesRight self.old 0 cause) }
+        ensures err { OnErr result (self.new ≡ self.old) }
+    {
+        told(self.take(alloc, Step::Tick(now), 0))
+    }
+
+    /// Whether the application session lives.
+    fn lives(&self, app: AppId) -> bool
+        ensures { result ≡ is_some (live_at app (net_of self.now)) }
+    {
+        lives_in(app, &self.net)
+    }
+
+    /// Ends an application session; false exactly where it doesn't live, which is no step.
+    ///
+    /// # Errors
+    ///
+    /// As of `arrive`; the step has no bytes.
+    #[tactic(auto, unfolding(crate::specs::Answers::Withdraws, sc_hosts::specs::Runs::IsAllowed, sc_model::specs::JournalSizes::step_size))]
+    pub fn withdraw(&mut self, alloc: Global, app: AppId) -> Result<bool, StepRefused>
+        ensures ok { IfOk result (λ lived. Withdraws self.old self.new app lived) }
+        ensures room { result ≡ Ok true → ¬ (IsFullFor self.old 0) }
+        ensures lives { OnErr result (is_some (live_at app (net_of self.old)) ≡ true) }
+        ensures refused { IfErr result (λ cause. RefusesRight self.old 0 cause) }
+        ensures err { OnErr result (self.new ≡ self.old) }
+    {
+        if !self.lives(app) {
+            return Ok(false);
+        }
+        match told(self.take(alloc, Step::Withdraw(app), 0)) {
+            Ok(()) => {
+                end_leases(app, &mut self.kept);
+                Ok(true)
+            }
+            Err(cause) => Err(cause),
+        }
+    }
+
+    /// Lends out the turn of the event with the lowest number among the first ones of the sessions
+    /// that have no lease: None exactly where there is none, or after the lease of the greatest
+    /// number.
+    #[tactic(auto, unfolding(crate::specs::Answers::Leased))]
     pub fn lease(&mut self, alloc: Global) -> Result<Option<Lease>, NoMemory>
         ensures leased { IfOk result (λ lease. Leased self.old self.new lease) }
         ensures err { OnErr result (self.new ≡ self.old) }
@@ -118,66 +253,160 @@ impl Switch {
         if self.leases >= LAST {
             return Ok(None);
         }
-        if self.kept.is_some() {
-            return Ok(None);
-        }
-        match offer(alloc, &self.setup, &self.phase, self.leases + 1) {
-            Ok(Some(lease)) => match lease.clone_in(alloc) {
-                Ok(copy) => {
-                    set_lease(&mut self.kept, Some(copy));
-                    self.leases += 1;
-                    Ok(Some(lease))
-                }
-                Err(cause) => {
-                    lease.discard();
-                    Err(cause)
-                }
-            },
-            Ok(None) => Ok(None),
-            Err(cause) => Err(cause),
+        match self.next()? {
+            Some(next) => Ok(Some(self.lend_next(alloc, next)?)),
+            None => Ok(None),
         }
     }
 
-    /// Takes a turn that was made, where it is that of the live lease and of those whom that lease
+    fn next(&self) -> Result<Option<Next>, NoMemory>
+        ensures { IfOk result (λ next. next ≡ next_free (net_of self.now) self.now.kept) }
+    {
+        next_free(&self.net, self.kept.as_slice())
+    }
+
+    /// Lends out the turn of this event.
+    fn lend_next(&mut self, alloc: Global, next: Next) -> Result<Lease, NoMemory>
+        requires few { self.old.leases < LAST_LEASE }
+        ensures given { IfOk result (λ lease. IsGiven self.old self.new lease) }
+        ensures next { IfOk result (λ lease. next ≡ record { app = lease.app; number = lease.event_number }) }
+        ensures err { OnErr result (self.new ≡ self.old) }
+    {
+        match self.offered(alloc, next.app)? {
+            Some(lease) => {
+                if lease.event_number != next.number {
+                    lease.discard();
+                    return Err(NoMemory);
+                }
+                self.lend(alloc, lease)
+            }
+            None => Err(NoMemory),
+        }
+    }
+
+    /// The lease of the first event of a session, with the next number.
+    fn offered(&self, alloc: Global, app: AppId) -> Result<Option<Lease>, NoMemory>
+        requires { self.now.leases < LAST_LEASE }
+        ensures { IfOk result (λ lease. Offers self.now.setup (net_of self.now) app (self.now.leases + 1) lease) }
+    {
+        offer(alloc, &self.setup, &self.net, app, self.leases + 1)
+    }
+
+    /// Keeps a copy of a lease that is given.
+    fn lend(&mut self, alloc: Global, lease: Lease) -> Result<Lease, NoMemory>
+        requires few { self.old.leases < LAST_LEASE }
+        ensures ok { IfOk result (λ given. (given ≡ lease) × (self.new ≡ record self.old { kept = self.old.kept ++ lease ∷ []; leases = self.old.leases + 1 })) }
+        ensures err { OnErr result (self.new ≡ self.old) }
+    {
+        match keep_copy(alloc, &lease, &mut self.kept) {
+            Ok(()) => {
+                self.leases += 1;
+                Ok(lease)
+            }
+            Err(NoMemory) => {
+                lease.discard();
+                Err(NoMemory)
+            }
+        }
+    }
+
+    /// Lends out the turn of the first event of this session: None exactly where it doesn't live, no
+    /// event waits for it or it has a lease, or after the lease of the greatest number.
+    #[tactic(auto, unfolding(crate::specs::Answers::LeasedOf, crate::specs::Offering::Offers))]
+    pub fn lease_of(&mut self, alloc: Global, app: AppId) -> Result<Option<Lease>, NoMemory>
+        ensures leased { IfOk result (λ lease. LeasedOf app self.old self.new lease) }
+        ensures err { OnErr result (self.new ≡ self.old) }
+    {
+        if self.leases >= LAST {
+            return Ok(None);
+        }
+        if is_leased(self.kept.as_slice(), app) {
+            return Ok(None);
+        }
+        match self.offered(alloc, app)? {
+            Some(lease) => Ok(Some(self.lend(alloc, lease)?)),
+            None => Ok(None),
+        }
+    }
+
+    /// Takes a turn that was made, where it is that of a live lease and of those whom that lease
     /// calls.
     ///
     /// # Errors
     ///
-    /// `JournalFull` only where the journal has no room for the step; `NoMemory` for want of
-    /// memory, and where the turn ended as `Starved`. The turn is handed back, its lease stays live,
-    /// and nothing is changed.
-    #[tactic(auto, unfolding(crate::specs::Answers::Received))]
+    /// `JournalFull` exactly where the turn fits and the journal has no room for the step, but for
+    /// want of memory; `NoMemory` for want of memory, and where the turn ended as `Starved`. The turn
+    /// is handed back, its lease stays live, and nothing is changed.
+    #[tactic(auto, unfolding(crate::specs::Answers::Received, crate::specs::Answers::RefusesTurn))]
     pub fn commit(&mut self, alloc: Global, done: Done) -> Result<Committed, CommitRefused>
         ensures ok { IfOk result (λ answer. Received self.old self.new done answer) }
         ensures room { result ≡ Ok Committed.Taken → ¬ (IsFullFor self.old (step_size (step_of done))) }
         ensures err { OnErr result (self.new ≡ self.old) }
-        ensures refused { IfErr result (λ refused. RefusesRight self.old (step_size (step_of done)) refused.cause) }
-        ensures fits { OnErr result (Fits self.old.setup self.old.kept done) }
+        ensures refused { IfErr result (λ refused. RefusesTurn self.old done (step_size (step_of done)) refused.cause) }
         ensures back { IfErr result (λ refused. refused.done ≡ done) }
     {
-        match judge(&self.setup, &self.kept, &done) {
-            Judged::Fits => self.take(alloc, done),
-            Judged::Gone => Ok(gone(done)),
-            Judged::Other => Ok(end_lease(&mut self.kept, done)),
+        match self.judged(alloc, &done) {
+            Ok(Judged::Fits) => self.take_turn(alloc, done),
+            Ok(Judged::Gone) => Ok(gone(done)),
+            Ok(Judged::Other) => {
+                let number = number_of(done);
+                end_lease(number, &mut self.kept);
+                Ok(Committed::Other(number))
+            }
+            Err(NoMemory) => Err(CommitRefused {
+                done,
+                cause: StepRefused::NoMemory,
+            }),
         }
     }
 
-    /// Takes the turn of the live lease, as `commit`.
-    #[tactic(auto, unfolding(crate::specs::Answers::Received))]
-    fn take(&mut self, alloc: Global, done: Done) -> Result<Committed, CommitRefused>
-        requires { Fits self.old.setup self.old.kept done }
+    fn judged(&self, alloc: Global, done: &Done) -> Result<Judged, NoMemory>
+        ensures { IfOk result (λ judged. Judges self.now.setup (net_of self.now) self.now.kept done.now judged) }
+    {
+        judge(alloc, &self.setup, &self.net, self.kept.as_slice(), done)
+    }
+
+    /// Takes the turn of a live lease, as `commit`.
+    #[tactic(auto, unfolding(crate::specs::Answers::Received, crate::specs::Answers::RefusesTurn))]
+    fn take_turn(&mut self, alloc: Global, done: Done) -> Result<Committed, CommitRefused>
+        requires { Fits self.old.setup (net_of self.old) self.old.kept done }
         ensures ok { IfOk result (λ answer. Received self.old self.new done answer) }
         ensures room { OnOk result (¬ (IsFullFor self.old (step_size (step_of done)))) }
         ensures err { OnErr result (self.new ≡ self.old) }
-        ensures refused { IfErr result (λ refused. RefusesRight self.old (step_size (step_of done)) refused.cause) }
+        ensures refused { IfErr result (λ refused. RefusesTurn self.old done (step_size (step_of done)) refused.cause) }
         ensures back { IfErr result (λ refused. refused.done ≡ done) }
     {
-        match plan_commit(alloc, &mut self.journal, &mut self.left, &self.phase, &done) {
-            Ok(plan) => {
-                self.journal.put(step_of(done), plan.bytes);
-                send_orders(&mut self.left, plan.server, plan.orders);
-                set_phase(&mut self.phase, plan.next);
-                set_lease(&mut self.kept, None);
+        if let End::Starved = done.end {
+            return Err(CommitRefused {
+                done,
+                cause: StepRefused::NoMemory,
+            });
+        }
+        let bytes = total(done.calls.as_slice());
+        match plan_turn(
+            alloc,
+            &self.setup,
+            &self.net,
+            &mut self.journal,
+            &mut self.left,
+            &done,
+            bytes,
+        ) {
+            Ok(
+                Stepped {
+                    net,
+                    sent,
+                    live,
+                    waiting,
+                },
+            ) => {
+                let number = done.lease.number;
+                self.journal.put(step_of(done), bytes);
+                send_all(&mut self.left, sent);
+                set_net(&mut self.net, net);
+                self.live = live;
+                self.waiting = waiting;
+                end_lease(number, &mut self.kept);
                 Ok(Committed::Taken)
             }
             Err(cause) => Err(CommitRefused { done, cause }),
@@ -197,57 +426,45 @@ impl Switch {
     pub fn untaken(&self) -> u64
         ensures { result ≡ length self.now.left }
     {
-        let _ = &self.phase;
         self.left.len() as u64
     }
 
-    /// The journal: it is within its limit of steps and lawful, and all that it sends is what was
-    /// taken and then what is left.
+    /// The journal: it is lawful, and all that it sends is what was taken and then what is left.
     pub fn journal(&self) -> &Journal<Step>
         ensures journal { result.now.items ≡ self.now.journal }
         ensures within { length self.now.journal ≤ self.now.setup.config.journal_steps }
-        ensures lawful { IsLawful self.now.setup 0 0 self.now.journal }
-        ensures sent { (taken : List Sent) × (all_sent self.now.setup 0 0 self.now.journal ≡ taken ++ self.now.left) }
+        ensures lawful { IsLawful as_session self.now.setup self.now.epoch self.now.began self.now.journal }
+        ensures sent { (taken : List Sent) × (all_sent as_session self.now.setup self.now.epoch self.now.began self.now.journal ≡ taken ++ self.now.left) }
     {
-        let _ = &self.phase;
         &self.journal
     }
 
     /// The last moment, in milliseconds.
     pub fn now(&self) -> u64
-        ensures { result ≡ (net_of self.now).now }
+        ensures { result ≡ (net_of self.now).moment }
     {
-        let _ = &self.phase;
-        0
+        self.net.moment
     }
 
     /// How many application sessions live.
     pub fn live(&self) -> u64
         ensures { result ≡ live_count (net_of self.now) }
     {
-        match &self.phase {
-            Phase::Living(_) => 1,
-            Phase::Idle => 0,
-            Phase::Over(_) => 0,
-        }
+        self.live
     }
 
     /// How many events wait, those that are leased too.
     pub fn waiting(&self) -> u64
         ensures { result ≡ waiting_count (net_of self.now) }
     {
-        match &self.phase {
-            Phase::Living(living) => waiting_in(living),
-            Phase::Idle => 0,
-            Phase::Over(_) => 0,
-        }
+        self.waiting
     }
 
     /// How many leases are live.
     pub fn leases(&self) -> u64
-        ensures { result ≡ lease_count self.now.kept }
+        ensures { result ≡ length self.now.kept }
     {
-        lease_count(&self.kept)
+        self.kept.len() as u64
     }
 
     /// Ends the switch and hands out its journal.
@@ -257,106 +474,127 @@ impl Switch {
         let Switch {
             setup,
             journal,
-            phase,
+            net,
             left,
             kept,
             ..
         } = self;
         drop(setup);
-        drop(phase);
+        drop(net);
         drop(left);
         drop(kept);
         journal
     }
 }
 
+/// Whether the application session lives in a net.
+fn lives_in(app: AppId, net: &Net<Session>) -> bool
+    ensures { result ≡ is_some (live_at app net.now) }
+{
+    live_at(app, net).is_some()
+}
+
+/// How many bytes the written text of a message has.
+fn text_size(alloc: Global, message: &Message) -> Result<u64, NoMemory>
+    ensures { IfOk result (λ size. size ≡ min (length (written message.now)) u64.MAX) }
+{
+    let text = text_of(alloc, message)?;
+    Ok(text.len() as u64)
+}
+
+/// Lets go of a step that was refused.
+fn told(taken: Result<(), Untaken>) -> Result<(), StepRefused>
+    ensures ok { OnOk result (taken ≡ Ok tt) }
+    ensures err { IfErr result (λ cause. IfErr taken (λ untaken. untaken.cause ≡ cause)) }
+    ensures is_err { OnErr result (IsErr taken) }
+{
+    match taken {
+        Ok(()) => Ok(()),
+        Err(Untaken { step, cause }) => {
+            step.discard();
+            Err(cause)
+        }
+    }
+}
+
+fn set_net(net: &mut Net<Session>, next: Net<Session>)
+    ensures { net.new ≡ next }
+{
+    *net = next;
+}
+
+fn keep_copy(alloc: Global, lease: &Lease, kept: &mut List<Lease>) -> Result<(), NoMemory>
+    ensures ok { OnOk result (kept.new ≡ kept.old ++ lease.now ∷ []) }
+    ensures err { OnErr result (kept.new ≡ kept.old) }
+{
+    let copy = lease.clone_in(alloc)?;
+    kept.push(copy)?;
+    Ok(())
+}
+
+/// The step of a turn that was made.
+#[tactic(auto, unfolding(crate::specs::Standing::step_of))]
+fn step_of(done: Done) -> Step
+    ensures { result ≡ step_of done }
+{
+    let Done {
+        lease,
+        calls,
+        end,
+        ..
+    } = done;
+    let step = Step::Turn {
+        app: lease.app,
+        event: lease.event_number,
+        now: lease.shown.now,
+        calls,
+        end,
+    };
+    lease.discard();
+    step
+}
+
 /// Lets a turn go whose lease isn't live.
 fn gone(done: Done) -> Committed
     ensures { result ≡ Committed.Gone done.lease.number }
 {
-    let number = done.lease.number;
-    done.discard();
-    Committed::Gone(number)
+    Committed::Gone(number_of(done))
 }
 
-/// Lets a turn go that isn't that of the live lease of its number, and ends that lease.
-fn end_lease(kept: &mut Option<Lease>, done: Done) -> Committed
-    ensures kept { kept.new ≡ None }
-    ensures answer { result ≡ Committed.Other done.lease.number }
+/// Lets a turn go; the number of its lease.
+fn number_of(done: Done) -> u64
+    ensures { result ≡ done.lease.number }
 {
     let number = done.lease.number;
     done.discard();
-    set_lease(kept, None);
-    Committed::Other(number)
+    number
 }
 
-fn set_lease(kept: &mut Option<Lease>, lease: Option<Lease>)
-    ensures { kept.new ≡ lease }
-{
-    *kept = lease;
-}
-
-#[tactic(auto, unfolding(crate::specs::Standing::lease_count))]
-fn lease_count(kept: &Option<Lease>) -> u64
-    ensures { result ≡ lease_count kept.now }
-{
-    match kept {
-        Some(_) => 1,
-        None => 0,
-    }
-}
-
-fn waiting_in(living: &Living) -> u64
-    ensures { result ≡ length (option_to_list living.now.waiting) }
-{
-    match &living.waiting {
-        Some(_) => 1,
-        None => 0,
-    }
-}
-
-/// The charters of each kind of a catalogue.
-fn kinds_of(
-    alloc: Global,
-    apps: &Catalogue,
-) -> Result<List<(Charter, Option<ListenerCharter>)>, NoMemory>
-    ensures { IfOk result (λ kinds. kinds ≡ map (λ k. both_charters (stated (k.servlet.vtable, k.servlet.value)) (option_map (λ l. listens (l.vtable, l.value)) k.listener)) apps.now.kinds) }
-{
-    let mut kinds = List::new(alloc);
-    add_kinds(apps.kinds.as_slice(), &mut kinds)?;
-    Ok(kinds)
-}
-
-fn add_kinds(
-    kinds: &[Kind],
-    all: &mut List<(Charter, Option<ListenerCharter>)>,
-) -> Result<(), NoMemory>
-    ensures { OnOk result (all.new ≡ all.old ++ map (λ k. both_charters (stated (k.servlet.vtable, k.servlet.value)) (option_map (λ l. listens (l.vtable, l.value)) k.listener)) kinds.now) }
-{
-    match kinds {
-        [first, rest @ ..] => {
-            all.push(first.charters())?;
-            add_kinds(rest, all)
-        }
-        [] => Ok(()),
-    }
-}
-
-fn switch_of(alloc: Global, setup: Setup) -> Switch
+fn switch_of(alloc: Global, setup: Setup) -> Result<Switch, NoMemory>
     requires { IsSetup setup }
-    ensures { result ≡ record { setup = setup; journal = []; left = []; kept = None; leases = 0 } }
+    ensures { IfOk result (λ s. s ≡ record { setup = setup; epoch = 0; began = 0; journal = []; left = []; kept = []; leases = 0 }) }
 {
     let journal = Journal::new(
         alloc,
         setup.config.journal_steps,
         setup.config.journal_bytes,
     );
-    Switch {
-        setup,
-        journal,
-        phase: Phase::Idle,
-        left: VecDeque::new(alloc),
-        kept: None,
-        leases: 0,
+    match start_net(alloc, &setup, 0, 0) {
+        Ok(net) => Ok(Switch {
+            setup,
+            epoch: 0,
+            began: 0,
+            journal,
+            net,
+            live: 0,
+            waiting: 0,
+            left: VecDeque::new(alloc),
+            kept: List::new(alloc),
+            leases: 0,
+        }),
+        Err(NoMemory) => {
+            drop(setup);
+            Err(NoMemory)
+        }
     }
 }

@@ -19,6 +19,12 @@ pub enum Charter {
     Reverse,
     /// It rings, and answers after a while.
     Ringer,
+    /// It gives a reliable provisional response, and answers when its PRACK comes (RFC 3262).
+    Early,
+    /// It grants session timers, and refreshes or ends its sessions by them (RFC 4028).
+    Timed,
+    /// It takes subscriptions and notifies their states (RFC 6665).
+    Notify,
     /// It makes any calls.
     Free,
 }

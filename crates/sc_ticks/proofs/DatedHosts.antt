@@ -5,7 +5,7 @@ use Rattle.std.proofs.Math.ListN.{drop_of_length-le}
 use Rattle.sc_state.specs.declared.host.Host.{Host}
 use Rattle.sc_state.specs.declared.session.Session.{Session}
 use Rattle.sc_hosts.specs.Histories.{as_session}
-use Rattle.sc_hosts.specs.Steps.{Dated, host_dated, hosts_dated}
+use Rattle.sc_hosts.specs.Ticks.{Dated, host_dated, hosts_dated}
 
 pub dated_next : (out : List Dated) (number : ℕ) (hosts : List (Host Session)) (i : ℕ) (d : Host Session) → i < length hosts
     → (out ++ host_dated as_session number (get_or hosts i d)) ++ hosts_dated as_session (number + 1) (drop (i + 1) hosts) ≡ out ++ hosts_dated as_session number (drop i hosts)

@@ -18,7 +18,7 @@ use Rattle.sc_model.proofs.RisingKeys.{marked, rises}
 use Rattle.sc_state.specs.declared.net.Net.{Net}
 use Rattle.sc_state.specs.declared.session.Session.{Session}
 use Rattle.sc_hosts.specs.Histories.{as_session}
-use Rattle.sc_hosts.specs.Steps.{Dated, same_entry, all_dated, due_items}
+use Rattle.sc_hosts.specs.Ticks.{Dated, same_entry, all_dated, due_items}
 use Rattle.sc_ticks.specs.Firsts.{kept_first, kept_firsts}
 
 -- ## Keys that are the same, and keys that aren't

@@ -20,7 +20,7 @@ use Rattle.sc_state.specs.declared.net.Net.{Net}
 use Rattle.sc_state.specs.declared.session.Session.{Session}
 use Rattle.sc_model.specs.Timers.{DueEntry, due_order, in_order}
 use Rattle.sc_model.proofs.DueLaws.{total, exact}
-use Rattle.sc_hosts.specs.Steps.{client_key, clients_of, clients_to, has_key, lost, passes}
+use Rattle.sc_hosts.specs.Ticks.{client_key, clients_of, clients_to, has_key, lost, passes}
 use Rattle.sc_hosts.specs.Transacting.{goes_to}
 use Rattle.sc_hosts.specs.Words.{unavailable}
 use Rattle.sc_ticks.specs.Lost.{kept_client, by_key, lost_by, lost_at}

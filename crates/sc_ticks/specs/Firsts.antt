@@ -2,7 +2,7 @@
 use Rattle.std.specs.Prelude.{ℕ, List, [], ◌∷◌, if◌then◌else◌}
 use Rattle.std.specs.BTreeMap.{insert_entry}
 use Rattle.sc_model.specs.Timers.{DueEntry, due_order, is_due}
-use Rattle.sc_hosts.specs.Steps.{Dated}
+use Rattle.sc_hosts.specs.Ticks.{Dated}
 
 -- one item before those that are kept
 unfoldable pub kept_first : ℕ → Dated → List (DueEntry × Dated) → List (DueEntry × Dated)

@@ -5,7 +5,7 @@ use Rattle.sc_state.specs.declared.host.Fired.{Fired}
 use Rattle.sc_state.specs.declared.host.Live.{Live}
 use Rattle.sc_state.specs.declared.session.Session.{Session}
 use Rattle.sc_hosts.specs.Sessions.{SessionEntry}
-use Rattle.sc_hosts.specs.Steps.{DueItem, Of_session, Of_client, Of_server, Dated, dated, is_fired}
+use Rattle.sc_hosts.specs.Ticks.{DueItem, Of_session, Of_client, Of_server, Dated, dated, is_fired}
 use Rattle.sc_ticks.specs.declared.due.Item.{Item}
 use Rattle.sc_ticks.specs.declared.due.Item.TheVariants as items
 

@@ -8,7 +8,7 @@ use Rattle.sc_state.specs.declared.host.Client.{Client}
 use Rattle.sc_state.specs.declared.net.Net.{Net}
 use Rattle.sc_state.specs.declared.session.Session.{Session}
 use Rattle.sc_model.specs.Timers.{DueEntry, due_order}
-use Rattle.sc_hosts.specs.Steps.{client_key, passes}
+use Rattle.sc_hosts.specs.Ticks.{client_key, passes}
 use Rattle.sc_hosts.specs.Words.{unavailable}
 
 -- one client transaction before those that are kept: of two of one key the first stands

@@ -3,7 +3,7 @@
 ghost use Rattle.std.specs.Prelude.{◌≡◌, ◌++◌, if◌then◌else◌, Some, IfOk, OnOk};
 ghost use Rattle.std.specs.List.{flat_map};
 ghost use Rattle.sc_hosts.specs.Histories.{as_session};
-ghost use Rattle.sc_hosts.specs.Steps.{dated, client_dated, server_dated, is_fired, live_dated, host_dated, hosts_dated, all_dated};
+ghost use Rattle.sc_hosts.specs.Ticks.{dated, client_dated, server_dated, is_fired, live_dated, host_dated, hosts_dated, all_dated};
 ghost use Rattle.sc_hosts.specs.Transacting.{is_cancel_client};
 ghost use Rattle.sc_ticks.specs.Items.{item_of, entry_dated};
 
@@ -35,7 +35,7 @@ pub struct Dated {
 }
 
 impl Model for Dated {
-    ghost use Rattle.sc_hosts.specs.Steps.{Dated as Seen};
+    ghost use Rattle.sc_hosts.specs.Ticks.{Dated as Seen};
     ghost use Rattle.sc_ticks.specs.Items.{item_of};
 
     ghost Value = { Seen };
@@ -43,7 +43,7 @@ impl Model for Dated {
     ghost view = { λ d. record { entry = d.key; item = item_of d.item } };
 }
 
-#[tactic(auto, unfolding(sc_hosts::specs::Steps::dated))]
+#[tactic(auto, unfolding(sc_hosts::specs::Ticks::dated))]
 fn put_dated(
     app: AppId,
     number: u64,
@@ -69,7 +69,7 @@ fn client_timer(client: &Client) -> u64
     if is_cancel_client(client) { 4 } else { 3 }
 }
 
-#[tactic(auto, unfolding(sc_hosts::specs::Steps::client_dated))]
+#[tactic(auto, unfolding(sc_hosts::specs::Ticks::client_dated))]
 fn put_client(alloc: Global, client: &Shared<Client>, out: &mut List<Dated>) -> Result<(), NoMemory>
     ensures { OnOk result (out.new ≡ out.old ++ client_dated client.now) }
 {
@@ -93,7 +93,7 @@ fn put_clients(
     Ok(())
 }
 
-#[tactic(auto, unfolding(sc_hosts::specs::Steps::server_dated))]
+#[tactic(auto, unfolding(sc_hosts::specs::Ticks::server_dated))]
 fn put_server(alloc: Global, server: &Shared<Server>, out: &mut List<Dated>) -> Result<(), NoMemory>
     ensures { OnOk result (out.new ≡ out.old ++ server_dated server.now) }
 {
@@ -117,7 +117,7 @@ fn put_servers(
     Ok(())
 }
 
-#[tactic(auto, unfolding(sc_hosts::specs::Steps::is_fired))]
+#[tactic(auto, unfolding(sc_hosts::specs::Ticks::is_fired))]
 fn is_fired(fired: &[Fired], due: u64, number: u64) -> bool
     ensures { result ≡ is_fired fired.now due number }
 {
@@ -158,7 +158,7 @@ fn put_entries(
     Ok(())
 }
 
-#[tactic(auto, unfolding(sc_hosts::specs::Steps::live_dated, crate::specs::Items::entry_dated, sc_hosts::specs::Histories::as_session))]
+#[tactic(auto, unfolding(sc_hosts::specs::Ticks::live_dated, crate::specs::Items::entry_dated, sc_hosts::specs::Histories::as_session))]
 fn put_live(
     alloc: Global,
     host: u32,
@@ -189,7 +189,7 @@ fn put_sessions(
     Ok(())
 }
 
-#[tactic(auto, unfolding(sc_hosts::specs::Steps::host_dated))]
+#[tactic(auto, unfolding(sc_hosts::specs::Ticks::host_dated))]
 fn put_host(
     alloc: Global,
     number: u32,
@@ -216,7 +216,7 @@ fn put_hosts(alloc: Global, hosts: &[Host<Session>], out: &mut List<Dated>) -> R
 }
 
 /// All that runs in a net.
-#[tactic(auto, unfolding(sc_hosts::specs::Steps::all_dated))]
+#[tactic(auto, unfolding(sc_hosts::specs::Ticks::all_dated))]
 pub fn all_dated(alloc: Global, net: &Net<Session>) -> Result<List<Dated>, NoMemory>
     ensures { IfOk result (λ all. all ≡ all_dated as_session net.now) }
 {

@@ -6,7 +6,7 @@ ghost use Rattle.std.specs.List.{fold};
 ghost use Rattle.sc_parts.specs.declared.transactions.ClientItem.{ClientItem};
 ghost use Rattle.sc_hosts.specs.Histories.{as_session};
 ghost use Rattle.sc_hosts.specs.Nets.{change_host, queue_for};
-ghost use Rattle.sc_hosts.specs.Steps.{mark_fired, passes, fires, ticked};
+ghost use Rattle.sc_hosts.specs.Ticks.{mark_fired, passes, fires, ticked};
 ghost use Rattle.sc_hosts.specs.Words.{request_timeout};
 
 use crate::due::{Dated, Item};
@@ -50,7 +50,7 @@ fn client_fires(
     passes(alloc, config, item, b"Request Timeout", client, net)
 }
 
-#[tactic(auto, unfolding(sc_hosts::specs::Steps::fires))]
+#[tactic(auto, unfolding(sc_hosts::specs::Ticks::fires))]
 fn fires(
     alloc: Global,
     config: &Config,
@@ -88,7 +88,7 @@ fn all_fired(
 
 /// Time passes: all that is due at this moment takes place, by due moment, host, serial and
 /// number. The events of sessions are queued, and the timers of transactions pass them.
-#[tactic(auto, unfolding(sc_hosts::specs::Steps::ticked))]
+#[tactic(auto, unfolding(sc_hosts::specs::Ticks::ticked))]
 pub fn ticked(
     alloc: Global,
     config: &Config,

@@ -3,7 +3,7 @@
 ghost use Rattle.std.specs.Prelude.{◌≡◌, IfOk, OnOk};
 ghost use Rattle.std.specs.BTreeMap.{values};
 ghost use Rattle.sc_hosts.specs.Histories.{as_session};
-ghost use Rattle.sc_hosts.specs.Steps.{due_items};
+ghost use Rattle.sc_hosts.specs.Ticks.{due_items};
 ghost use Rattle.sc_ticks.specs.Firsts.{kept_first, kept_firsts};
 
 use crate::due::{Dated, all_dated};

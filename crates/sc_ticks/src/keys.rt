@@ -2,7 +2,7 @@
 
 ghost use Rattle.std.specs.Prelude.{◌≡◌, if◌then◌else◌, IfOk};
 ghost use Rattle.sc_model.specs.Timers.{in_order};
-ghost use Rattle.sc_hosts.specs.Steps.{client_key};
+ghost use Rattle.sc_hosts.specs.Ticks.{client_key};
 ghost use Rattle.sc_hosts.specs.Transacting.{is_cancel_client};
 
 use crate::numbers::numbered;
@@ -20,7 +20,7 @@ fn cancel_place(client: &Client) -> u64
 }
 
 /// The key of a client transaction: its session, and its branch with whether it is a CANCEL's.
-#[tactic(auto, unfolding(sc_hosts::specs::Steps::client_key))]
+#[tactic(auto, unfolding(sc_hosts::specs::Ticks::client_key))]
 pub fn client_key(client: &Client) -> Result<DueKey, NoMemory>
     ensures { IfOk result (λ key. key ≡ client_key client.now) }
 {

@@ -5,7 +5,7 @@ ghost use Rattle.std.specs.List.{flat_map, fold};
 ghost use Rattle.std.specs.Option.{option_copied};
 ghost use Rattle.sc_parts.specs.declared.transactions.ClientItem.{ClientItem};
 ghost use Rattle.sc_model.specs.Timers.{in_order};
-ghost use Rattle.sc_hosts.specs.Steps.{client_key, clients_of, lost, passes};
+ghost use Rattle.sc_hosts.specs.Ticks.{client_key, clients_of, lost, passes};
 ghost use Rattle.sc_hosts.specs.Transacting.{goes_to};
 ghost use Rattle.sc_hosts.specs.Words.{unavailable};
 ghost use Rattle.sc_ticks.specs.Lost.{by_key, kept_client, lost_at, lost_by};
@@ -47,7 +47,7 @@ fn put_all_clients(
     Ok(())
 }
 
-#[tactic(auto, unfolding(sc_hosts::specs::Steps::clients_of))]
+#[tactic(auto, unfolding(sc_hosts::specs::Ticks::clients_of))]
 fn clients_of(alloc: Global, net: &Net<Session>) -> Result<List<Shared<Client>>, NoMemory>
     ensures { IfOk result (λ clients. clients ≡ clients_of net.now) }
 {

@@ -3,7 +3,7 @@
 ghost use Rattle.std.specs.Prelude.{◌≡◌, OnOk};
 ghost use Rattle.sc_value.specs.Lists.{change_first, change_nth};
 ghost use Rattle.sc_hosts.specs.Nets.{change_host};
-ghost use Rattle.sc_hosts.specs.Steps.{mark_fired};
+ghost use Rattle.sc_hosts.specs.Ticks.{mark_fired};
 ghost use Rattle.sc_hosts.specs.Taking.{is_live};
 ghost use Rattle.sc_ticks.specs.Items.{with_fired};
 
@@ -44,7 +44,7 @@ fn mark_in(
     }
 }
 
-#[tactic(auto, unfolding(sc_hosts::specs::Steps::mark_fired, crate::specs::Items::with_fired))]
+#[tactic(auto, unfolding(sc_hosts::specs::Ticks::mark_fired, crate::specs::Items::with_fired))]
 fn mark_fired(alloc: Global, key: DueKey, host: &mut Host<Session>) -> Result<(), NoMemory>
     ensures { OnOk result (host.new ≡ mark_fired key host.old) }
 {

@@ -6,7 +6,7 @@ ghost use Rattle.sc_state.specs.declared.queue.Queued.{Queued};
 ghost use Rattle.sc_model.specs.Names.{edge_tag};
 ghost use Rattle.sc_hosts.specs.Messages.{own_response, without_via};
 ghost use Rattle.sc_hosts.specs.Nets.{change_host, queue_for};
-ghost use Rattle.sc_hosts.specs.Steps.{own_telling, told_at, passes};
+ghost use Rattle.sc_hosts.specs.Ticks.{own_telling, told_at, passes};
 ghost use Rattle.sc_hosts.specs.Transacting.{pass_server};
 
 use sc_messages::without_via;
@@ -33,7 +33,7 @@ fn telling(
 }
 
 // What a transaction tells by itself reaches its session without Vias.
-#[tactic(auto, unfolding(sc_hosts::specs::Steps::own_telling))]
+#[tactic(auto, unfolding(sc_hosts::specs::Ticks::own_telling))]
 fn own_telling(
     alloc: Global,
     config: &Config,
@@ -68,7 +68,7 @@ fn tell(
 }
 
 // The transaction of a CANCEL tells nobody anything.
-#[tactic(auto, unfolding(sc_hosts::specs::Steps::told_at))]
+#[tactic(auto, unfolding(sc_hosts::specs::Ticks::told_at))]
 fn told_at(
     alloc: Global,
     config: &Config,
@@ -90,7 +90,7 @@ fn told_at(
 }
 
 /// An item that isn't a message passes a client transaction.
-#[tactic(auto, unfolding(sc_hosts::specs::Steps::passes))]
+#[tactic(auto, unfolding(sc_hosts::specs::Ticks::passes))]
 pub fn passes(
     alloc: Global,
     config: &Config,

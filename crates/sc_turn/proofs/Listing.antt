@@ -5,9 +5,9 @@ use Rattle.sc_terms.specs.declared.views.View.{View}
 use Rattle.sc_terms.specs.declared.calls.Call.{Call}
 use Rattle.sc_terms.specs.declared.calls.CallRecord.{CallRecord}
 use Rattle.sc_state.specs.declared.working.Play.{Play}
-use Rattle.sc_hosts.specs.Charters.{IsAnsweredFrom}
+use Rattle.sc_hosts.specs.Scripting.{IsAnsweredFrom}
 use Rattle.sc_hosts.specs.Effects.{begun, answer_of, after_listed, after_calls}
-use Rattle.sc_hosts.specs.Refusals.{MOST_CALLS}
+use Rattle.sc_hosts.specs.RefusalParts.{MOST_CALLS}
 use Rattle.sc_turn.specs.Working.{IsWorking, record_of}
 
 abbrev step : Play → CallRecord → Play

@@ -9,9 +9,10 @@ use Rattle.sc_terms.specs.declared.calls.End.TheVariants as ends
 use Rattle.sc_terms.specs.declared.calls.Refusal.{Refusal}
 use Rattle.sc_terms.specs.declared.calls.Refusal.TheVariants.{NoMemory}
 use Rattle.sc_state.specs.declared.working.Play.{Play}
-use Rattle.sc_hosts.specs.Charters.{IsAnswered}
+use Rattle.sc_hosts.specs.Scripting.{IsAnswered}
 use Rattle.sc_hosts.specs.Effects.{after_calls, accepted, answer_of}
-use Rattle.sc_hosts.specs.Refusals.{MOST_CALLS, refusal}
+use Rattle.sc_hosts.specs.RefusalParts.{MOST_CALLS}
+use Rattle.sc_hosts.specs.Refusals.{refusal}
 
 -- a turn in the hands of a servlet or a listener
 pub record Working : Type 0 where

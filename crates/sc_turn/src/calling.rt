@@ -3,7 +3,7 @@
 ghost use Rattle.std.specs.Prelude.{◌≡◌, ◌+◌, ◌<◌, nat_le, false, OnErr, IfOk};
 ghost use Rattle.sc_terms.specs.declared.calls.CallAnswer.TheVariants.{Number};
 ghost use Rattle.sc_hosts.specs.Effects.{answer_of, accepted};
-ghost use Rattle.sc_hosts.specs.Refusals.{MOST_CALLS};
+ghost use Rattle.sc_hosts.specs.RefusalParts.{MOST_CALLS};
 ghost use Rattle.sc_turn.specs.Working.{play_of, after_made, after_starved, Answers};
 
 use crate::Turn;

@@ -1,5 +1,5 @@
 ghost use Rattle.std.specs.Prelude.{◌≡◌, [], false, IfOk, IfErr};
-ghost use Rattle.sc_hosts.specs.Charters.{IsAnswered};
+ghost use Rattle.sc_hosts.specs.Scripting.{IsAnswered};
 ghost use Rattle.sc_turn.specs.Working.{play_of, end_of};
 
 use sc_effects::begun;

@@ -6,7 +6,8 @@ ghost use Rattle.sc_value.specs.Lists.{change_first};
 ghost use Rattle.sc_state.specs.declared.proxy.Proxy.{Proxy};
 ghost use Rattle.sc_hosts.specs.Branches.{new_proxy, with_targets};
 ghost use Rattle.sc_hosts.specs.Looking.{same_request};
-ghost use Rattle.sc_hosts.specs.Preparing.{change_proxy, kept_of};
+ghost use Rattle.sc_hosts.specs.PreparingResponses.{change_proxy};
+ghost use Rattle.sc_hosts.specs.Preparing.{kept_of};
 ghost use Rattle.sc_hosts.specs.Working.{cancels, event_of, proxies, proxies_first, giving};
 
 use sc_branches::{new_proxy, with_targets};

@@ -10,7 +10,8 @@ ghost use Rattle.sc_model.specs.Dialogs.{Passed};
 ghost use Rattle.sc_hosts.specs.Legs.{change_leg, in_dialog};
 ghost use Rattle.sc_hosts.specs.Messages.{from_here, on_branch};
 ghost use Rattle.sc_hosts.specs.Preparing.{kept_of};
-ghost use Rattle.sc_hosts.specs.Refusals.{awaits_ack, draft_in};
+ghost use Rattle.sc_hosts.specs.Refusals.{awaits_ack};
+ghost use Rattle.sc_hosts.specs.RefusalParts.{draft_in};
 ghost use Rattle.sc_hosts.specs.Working.{router_state, next_branch, keeps_sent, sends_later, dialog_in, sends_in, sends_written, is_written, forgets, sends_initial, sends, ack_with, acknowledges};
 ghost use Rattle.sc_work.specs.Pieces.{begins, with_first};
 

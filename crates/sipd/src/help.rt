@@ -22,8 +22,8 @@ applications and how many tuples they have. make writes a script of N calls, N
 from 1 to 1000.
 
 CONFIG is a TOML text with the container's settings and its applications, each
-of the kind `answer`. DAR is the table of the Default Application Router. Today
-one script is read, examples/options/script.
+of a kind: answer, block, forward, fork, recorder, b2b, dial, reverse, ringer.
+DAR is the table of the Default Application Router.
 
 The exit status, and the line on standard error:
    0                          all was read and written

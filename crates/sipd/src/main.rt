@@ -3,12 +3,12 @@
 
 mod endings;
 mod help;
+mod kinds;
 
 use endings::{exit_status, write_line};
-use sc_apps::Answers;
-use sc_calls::Catalogue;
-use sc_edge::{FileShelf, OutSink, put_all};
-use sc_replay::{Command, Status, check, command_of, make, replay};
+use kinds::run_with_kinds;
+use sc_edge::{OutSink, put_all};
+use sc_replay::{Command, Status, command_of, make};
 use sc_value::Text;
 use std::env;
 use std::io::{self, ErrorKind, Write};
@@ -50,29 +50,11 @@ fn put(rt: &HostRuntime, text: &str) -> Status {
     }
 }
 
-/// Runs the command that the words are, over files and standard output, with the one kind of
-/// application that this program has. Words of another form are left to `replay`, which refuses them.
+/// Runs the command that the words are.
 fn run_command(rt: &HostRuntime, words: &[String]) -> Status {
-    let alloc = rt.alloc();
-    let mut out = OutSink::new(rt);
-    let command = command_of(words);
-    if let Command::Make = command {
-        return make(alloc, words, &mut out).status;
-    }
-    let mut apps = Catalogue::new(alloc);
-    let Ok(name) = Text::from_slice(alloc, b"answer") else {
-        return Status::NoMemory;
-    };
-    let Ok(servlet) = Box::new(alloc, Answers) else {
-        return Status::NoMemory;
-    };
-    if apps.add(name, servlet, None).is_err() {
-        return Status::NoMemory;
-    }
-    let mut shelf = FileShelf::new(rt, alloc);
-    match command {
-        Command::Check => check(alloc, words, &mut shelf, &apps, &mut out).status,
-        _ => replay(alloc, words, &mut shelf, &apps, &mut out).status,
+    match command_of(words) {
+        Command::Make => make(rt.alloc(), words, &mut OutSink::new(rt)).status,
+        command => run_with_kinds(rt, words, command).unwrap_or(Status::NoMemory),
     }
 }
 

@@ -1,5 +1,5 @@
 use Rattle.std.proofs.Common.{◌≡◌, drop}
-use Rattle.sc_hosts.specs.Steps.{first_host}
+use Rattle.sc_hosts.specs.Arrivals.{first_host}
 use Rattle.sc_arrivals.specs.HostTests.{awaits}
 use Rattle.sc_arrivals.proofs.finding.awaiting_host.Given as goal
 

@@ -1,6 +1,6 @@
 use Rattle.std.proofs.Common.{◌≡◌, take}
 use Rattle.std.specs.List.{fold}
-use Rattle.sc_hosts.specs.Finishing.{acts}
+use Rattle.sc_hosts.specs.Acting.{acts}
 use Rattle.sc_finish.proofs.acting.each_acts.Given as goal
 
 abbrev pub invariant-loop-proxy : goal.invariant-loop-proxy

@@ -1,4 +1,4 @@
-use Rattle.sc_hosts.specs.Finishing.{rested_branch}
+use Rattle.sc_hosts.specs.Acting.{rested_branch}
 use Rattle.sc_branches.proofs.Mapping.{mapped_next}
 use Rattle.sc_finish.proofs.changing.all_rested.Goals as goal
 

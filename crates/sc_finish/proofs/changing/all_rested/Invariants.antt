@@ -1,5 +1,5 @@
 use Rattle.std.proofs.Common.{◌≡◌, ◌++◌, take, drop, map}
-use Rattle.sc_hosts.specs.Finishing.{rested_branch}
+use Rattle.sc_hosts.specs.Acting.{rested_branch}
 use Rattle.sc_finish.proofs.changing.all_rested.Given as goal
 
 abbrev pub invariant-loop-branch : goal.invariant-loop-branch

@@ -1,5 +1,5 @@
 use Rattle.std.proofs.Common.{arith}
-use Rattle.sc_hosts.specs.Finishing.{closed_session}
+use Rattle.sc_hosts.specs.Acting.{closed_session}
 use Rattle.sc_effects.proofs.Steps.{map_step}
 use Rattle.sc_finish.proofs.closing.all_closed.Goals as goal
 

@@ -1,5 +1,5 @@
 use Rattle.std.proofs.Common.{◌≡◌, ◌++◌, map, take, drop}
-use Rattle.sc_hosts.specs.Finishing.{closed_session}
+use Rattle.sc_hosts.specs.Acting.{closed_session}
 use Rattle.sc_finish.proofs.closing.all_closed.Given as goal
 
 abbrev pub invariant-loop-i : goal.invariant-loop-i

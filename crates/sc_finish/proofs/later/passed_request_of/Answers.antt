@@ -1,4 +1,4 @@
-use Rattle.sc_hosts.specs.Finishing.{passed_request_of}
+use Rattle.sc_hosts.specs.Acting.{passed_request_of}
 use Rattle.sc_finish.proofs.later.passed_request_of.Goals as goal
 
 pub returns-in_ok-kept-in-Some : goal.returns-in_ok-kept-in-Some

@@ -1,11 +1,8 @@
 use Rattle.std.proofs.Common.{ap, sym, subst}
 use Rattle.sc_parts.specs.declared.setup.Setup.{Setup}
 use Rattle.sc_model.specs.Settings.{IsSetup}
-use Rattle.sc_replay.proofs.Replayings.{made_new, made_runnable, made_setup, ran_not, ran_for, the_journal}
+use Rattle.sc_replay.proofs.Replayings.{made_new, made_setup, ran_not, ran_for, the_journal}
 use Rattle.sc_replay.proofs.replaying.replay_over.Goals as goal
-
-pub replay_on-requires-clause-runnable : goal.replay_on-requires-clause-runnable
-replay_on-requires-clause-runnable g c = made_runnable _ _ _ c.in-Ok.ensures (c.is_runnable-runnable.ensures _)
 
 pub replay_on-requires-clause-new : goal.replay_on-requires-clause-new
 replay_on-requires-clause-new g c = made_new _ _ c.in-Ok.ensures

@@ -1,8 +1,5 @@
-use Rattle.sc_replay.proofs.Replayings.{left_done, left_full, left_part, left_cut, comes_write, comes_unrun, started}
+use Rattle.sc_replay.proofs.Replayings.{left_done, left_full, left_part, left_cut, comes_write}
 use Rattle.sc_replay.proofs.replaying.run_script.Goals as goal
-
-pub drive-requires-clause-started : goal.drive-requires-clause-started
-drive-requires-clause-started g c = started c.args.switch.now c.requires.new (c.requires.runnable.0 c.if-not-runnable.false)
 
 pub returns-in-Ok-drive-clause-leaves : goal.returns-in-Ok-drive-clause-leaves
 returns-in-Ok-drive-clause-leaves g c =
@@ -18,11 +15,8 @@ returns-in-Err-NoMemory-drive-clause-leaves g c =
 
 pub returns-in-Ok-clause-comes : goal.returns-in-Ok-clause-comes
 returns-in-Ok-clause-comes g c =
-    comes_write c.args.switch.now.setup _ _ _ _ _ c.as_slice.result.now c.drive.new.switch.journal (c.requires.runnable.0 c.if-not-runnable.false) (rw c.in-Err-Write.field-0-is at c.in-Err-Write.ensures.cut)
+    comes_write c.args.switch.now.setup _ _ _ _ _ c.as_slice.result.now c.drive.new.switch.journal (rw c.in-Err-Write.field-0-is at c.in-Err-Write.ensures.cut)
 
 pub returns-in-Ok-clause-leaves : goal.returns-in-Ok-clause-leaves
 returns-in-Ok-clause-leaves g c =
     left_cut c.args.switch.now.setup _ _ _ _ c.in-Ok.lines c.drive.new.switch.journal c.in-Ok.ensures.found (rw (c.as_slice.ensures, c.in-Err-Write.field-0-is) at c.in-Err-Write.ensures.cut)
-
-pub returns-then-not-runnable-clause-comes : goal.returns-then-not-runnable-clause-comes
-returns-then-not-runnable-clause-comes g c = comes_unrun c.args.switch.now.setup _ _ _ c.args.runnable c.if-not-runnable.true c.requires.runnable.1

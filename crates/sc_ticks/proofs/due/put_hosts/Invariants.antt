@@ -1,6 +1,6 @@
 use Rattle.std.proofs.Common.{◌≡◌, ◌++◌, drop}
 use Rattle.sc_hosts.specs.Histories.{as_session}
-use Rattle.sc_hosts.specs.Steps.{hosts_dated}
+use Rattle.sc_hosts.specs.Ticks.{hosts_dated}
 use Rattle.sc_ticks.proofs.due.put_hosts.Given as goal
 
 abbrev pub invariant-loop-host : goal.invariant-loop-host

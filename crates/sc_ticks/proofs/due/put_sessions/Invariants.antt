@@ -1,7 +1,7 @@
 use Rattle.std.proofs.Common.{◌≡◌, ◌++◌, take}
 use Rattle.std.specs.List.{flat_map}
 use Rattle.sc_hosts.specs.Histories.{as_session}
-use Rattle.sc_hosts.specs.Steps.{live_dated}
+use Rattle.sc_hosts.specs.Ticks.{live_dated}
 use Rattle.sc_ticks.proofs.due.put_sessions.Given as goal
 
 abbrev pub invariant-loop-live : goal.invariant-loop-live

@@ -1,7 +1,7 @@
 use Rattle.std.proofs.Common.{◌≡◌}
 use Rattle.std.specs.BTreeMap.{values}
 use Rattle.std.specs.List.{fold}
-use Rattle.sc_hosts.specs.Steps.{fires}
+use Rattle.sc_hosts.specs.Ticks.{fires}
 use Rattle.sc_ticks.proofs.firing.all_fired.Given as goal
 
 abbrev pub invariant-loop-dated : goal.invariant-loop-dated

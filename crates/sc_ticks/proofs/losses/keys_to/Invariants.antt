@@ -1,5 +1,5 @@
 use Rattle.std.proofs.Common.{◌≡◌, take, filter, map}
-use Rattle.sc_hosts.specs.Steps.{client_key}
+use Rattle.sc_hosts.specs.Ticks.{client_key}
 use Rattle.sc_hosts.specs.Transacting.{goes_to}
 use Rattle.sc_ticks.proofs.losses.keys_to.Given as goal
 

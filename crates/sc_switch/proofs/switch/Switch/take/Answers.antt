@@ -1,35 +1,30 @@
-use Rattle.std.proofs.Common.{subst}
-use Rattle.sc_model.specs.Journals.{step_size}
-use Rattle.sc_switch.specs.Standing.{Known, step_of}
-use Rattle.sc_switch.specs.Answers.{RefusesRight}
-use Rattle.sc_switch.proofs.Standings.{held_lease, IsSwitch-committed, received_taken, not_full-turn, refuses_right, turn_size}
+use Rattle.std.proofs.Common.{◌∙◌, ap, subst, refl}
+use Rattle.sc_model.specs.JournalSizes.{step_size}
+use Rattle.sc_switch.specs.Standing.{Known, net_of}
+use Rattle.sc_switch.specs.Answers.{RefusesRight, with_step}
+use Rattle.sc_switch.proofs.Standings.{IsSwitch-step, known_step, not_full, refuses_right}
 use Rattle.sc_switch.proofs.switch.Switch.take.Goals as goal
 
-pub plan_commit-requires-clause-held : goal.plan_commit-requires-clause-held
-plan_commit-requires-clause-held c = held_lease _ _ _ _ _ c.args.done.lease c.self.invariant (rw (← c.self.view_is) at c.requires).lease_is
-
-pub plan_commit-requires-clause-within : goal.plan_commit-requires-clause-within
-plan_commit-requires-clause-within c = c.self.invariant.within
+pub plan_step-requires : goal.plan_step-requires
+plan_step-requires c = record { within = c.self.invariant.within }
 
 pub invariant_of-self : goal.invariant_of-self
+unfolding net_of
 invariant_of-self c =
-    rw c.set_lease.ensures
-    (IsSwitch-committed c.self.inside.setup c.self.inside.journal c.plan_commit.new.journal c.put.new.self c.self.inside.phase c.set_phase.new.phase c.self.inside.left.items c.send_orders.new.left.items c.self.inside.kept c.args.done c.in-Ok.plan
-    c.self.invariant (rw (← c.self.view_is) at c.requires) c.in-Ok.ensures.planned c.plan_commit.ensures.same c.in-Ok.ensures.room c.in-Ok.ensures.bytes (rw c.step_of.ensures at c.put.ensures) (rw c.plan_commit.ensures.same_left at c.send_orders.ensures) c.set_phase.ensures)
+    IsSwitch-step _ _ _ _ c.plan_step.new.journal c.put.new.self _ c.set_net.new.net _ _ _ _ _ c.send_all.new.left.items c.args.step c.in-Ok.field-0 c.args.bytes
+    c.self.invariant c.in-Ok.ensures.stepped (rw (← c.self.view_is) at c.requires.allowed) c.plan_step.ensures.same c.in-Ok.ensures.room c.requires.size c.put.ensures (rw c.plan_step.ensures.same_left at c.send_all.ensures) c.set_net.ensures refl refl
 
 pub returns-in-Ok-clause-ok : goal.returns-in-Ok-clause-ok
 returns-in-Ok-clause-ok c =
-    let put = rw c.step_of.ensures at c.put.ensures in
-    let sent = rw c.plan_commit.ensures.same_left at c.send_orders.ensures in
-    rw (← c.self.view_is, c.set_lease.ensures)
-    (received_taken c.self.inside.setup c.self.inside.journal c.plan_commit.new.journal c.put.new.self c.self.inside.phase c.self.inside.left.items c.send_orders.new.left.items c.self.inside.kept c.self.inside.leases c.args.done c.in-Ok.plan
-    c.self.invariant (rw (← c.self.view_is) at c.requires) c.in-Ok.ensures.planned c.plan_commit.ensures.same put sent)
+    known_step _ _ _ _ c.plan_step.new.journal c.put.new.self _ _ _ _ c.send_all.new.left.items c.self.inside.kept c.self.inside.leases c.args.step c.in-Ok.field-0 c.args.bytes
+    c.self.invariant c.in-Ok.ensures.stepped c.plan_step.ensures.same c.put.ensures (rw c.plan_step.ensures.same_left at c.send_all.ensures)
+    ∙ ap (λ (k : Known). with_step k c.args.step) c.self.view_is
 
 pub returns-in-Ok-clause-room : goal.returns-in-Ok-clause-room
 returns-in-Ok-clause-room c =
-    λ full. not_full-turn c.self.inside.setup c.self.inside.journal c.plan_commit.new.journal c.self.inside.phase c.self.inside.left.items c.self.inside.kept c.args.done c.in-Ok.plan.bytes c.self.invariant c.plan_commit.ensures.same c.in-Ok.ensures.room c.in-Ok.ensures.bytes (rw (← c.self.view_is) at full)
+    λ full. not_full _ _ _ _ c.plan_step.new.journal _ _ _ _ c.args.step c.args.bytes c.self.invariant c.plan_step.ensures.same c.in-Ok.ensures.room c.requires.size (rw (← c.self.view_is) at full)
 
 pub returns-in-Err-clause-refused : goal.returns-in-Err-clause-refused
 returns-in-Err-clause-refused c =
-    let size = step_size (step_of c.args.done) in
-    subst (λ (k : Known). RefusesRight k size c.in-Err.cause) c.self.view_is (refuses_right c.self.inside.setup c.self.inside.journal c.self.inside.phase c.self.inside.left.items c.self.inside.kept c.self.inside.leases size _ c.in-Err.cause c.self.invariant (turn_size c.args.done) c.in-Err.ensures.refused)
+    subst (λ (k : Known). RefusesRight k (step_size c.args.step) c.in-Err.cause) c.self.view_is
+    (refuses_right _ _ _ _ _ _ _ _ c.self.inside.kept c.self.inside.leases c.args.step c.args.bytes c.in-Err.cause c.self.invariant c.requires.size c.in-Err.ensures.refused)

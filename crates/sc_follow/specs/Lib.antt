@@ -1,0 +1,4 @@
+pub mod Leading
+pub mod Moving
+pub mod Playing
+pub mod Streaming

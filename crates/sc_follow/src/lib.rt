@@ -1,0 +1,11 @@
+//! A switch takes the steps that the lines of a script say.
+#![tactic(auto)]
+
+mod following;
+mod hearing;
+mod lines;
+mod playing;
+mod stepping;
+mod streams;
+
+pub use following::follow;

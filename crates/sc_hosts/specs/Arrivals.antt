@@ -1,0 +1,103 @@
+-- A message or a text comes from outside.
+use Rattle.std.specs.Prelude.{ℕ, ◌+◌, List, [], ◌∷◌, Bool, Option, None, Some, is_some, option_and_then, if◌then◌else◌}
+use Rattle.sc_value.specs.declared.ids.Place.{Place}
+use Rattle.sc_value.specs.declared.message.Message.{Message}
+use Rattle.sc_value.specs.declared.message.Message.TheVariants as messages
+use Rattle.sc_value.specs.declared.message.Request.{Request}
+use Rattle.sc_value.specs.declared.message.Response.{Response}
+use Rattle.sc_value.specs.declared.parts.Address.{Address}
+use Rattle.sc_value.specs.Params.{same_bytes}
+use Rattle.sc_terms.specs.declared.settings.Config.{Config}
+use Rattle.sc_terms.specs.declared.steps.Answerable.{Answerable}
+use Rattle.sc_parts.specs.declared.choice.Choice.{Choice}
+use Rattle.sc_parts.specs.declared.choice.Choice.TheVariants as choices
+use Rattle.sc_parts.specs.declared.setup.Setup.{Setup}
+use Rattle.sc_state.specs.declared.host.Host.{Host}
+use Rattle.sc_state.specs.declared.host.Peer.TheVariants as peers
+use Rattle.sc_state.specs.declared.net.Net.{Net}
+use Rattle.sc_state.specs.declared.net.Note.{Note}
+use Rattle.sc_grammar.specs.Written.{Bytes}
+use Rattle.sc_model.specs.Choices.{choice_of}
+use Rattle.sc_model.specs.Dialogs.{tag_of}
+use Rattle.sc_model.specs.Names.{edge_tag}
+use Rattle.sc_hosts.specs.Messages.{bad_response, own_response}
+use Rattle.sc_hosts.specs.Nets.{host_at, placed, put, named_host}
+use Rattle.sc_hosts.specs.Routes.{position_of, unrouted_initial, popped_route}
+use Rattle.sc_hosts.specs.Sessions.{Form}
+use Rattle.sc_hosts.specs.Taking.{claim_of, is_claimed, is_never_initial, own_uri, takes}
+use Rattle.sc_hosts.specs.Transacting.{method_of, client_for}
+use Rattle.sc_hosts.specs.Words.{ack, cancel, does_not_exist, not_found}
+
+-- ## A message comes from outside
+
+-- the first host of which the test holds
+unfoldable pub first_host : {S : Type 0} → (Host S → Bool) → ℕ → List (Host S) → Option ℕ
+first_host test number [] = None
+first_host test number (host ∷ hosts) = if test host then Some number else first_host test (number + 1) hosts
+
+-- the host takes it
+unfoldable pub host_takes : {S : Type 0} → Form S → Setup → Place → Option Note → Message → ℕ → Option (Host S) → Net S → Net S
+host_takes form setup from noted message number None net = net
+host_takes form setup from noted message number (Some host) net =
+    placed number (takes form setup.config net.epoch number (peers.Outside from) net.moment noted message net.count host) net
+
+unfoldable pub taken_at : {S : Type 0} → Form S → Setup → Place → Option Note → Message → ℕ → Net S → Net S
+taken_at form setup from noted message number net = host_takes form setup from noted message number (host_at number net) net
+
+-- an answer outside any session; an ACK gets none
+unfoldable pub edge_answer : {S : Type 0} → Config → Place → ℕ → Bytes → Request → Net S → Net S
+edge_answer config from code reason request net =
+    if same_bytes (method_of request) ack then net
+    else put 0 (peers.Outside from) (messages.Response (own_response (edge_tag config.salt) code reason request)) None net
+
+-- a request without To tag begins a session where the router has an application for it
+unfoldable pub begins_by : {S : Type 0} → Form S → Setup → Place → Request → Option Address → Choice → Net S → Net S
+begins_by form setup from request popped (choices.App host order region subscriber route) net =
+    taken_at form setup from (Some (record { order = order; region = region; subscriber = subscriber; popped = if is_some route then route else popped })) (messages.Request request) host net
+begins_by form setup from request popped (choices.Send routes) net = edge_answer setup.config from 404 not_found request net
+begins_by form setup from request popped choices.Onward net = edge_answer setup.config from 404 not_found request net
+begins_by form setup from request popped choices.NotFound net = edge_answer setup.config from 404 not_found request net
+
+unfoldable pub initial_arrives : {S : Type 0} → Form S → Setup → Place → Request → Net S → Net S
+initial_arrives form setup from request net =
+    if same_bytes (method_of request) ack then net
+    else (if is_never_initial request then edge_answer setup.config from 481 does_not_exist request net
+    else begins_by form setup from (unrouted_initial setup.config request) (popped_route setup.config request)
+    (choice_of setup.config setup.dar (unrouted_initial setup.config request) (position_of setup.config request).region (position_of setup.config request).directive (position_of setup.config request).state) net)
+
+unfoldable pub later_at : {S : Type 0} → Form S → Setup → Place → Request → Option ℕ → Net S → Net S
+later_at form setup from request None net = edge_answer setup.config from 481 does_not_exist request net
+later_at form setup from request (Some number) net = taken_at form setup from None (messages.Request request) number net
+
+-- by the own URI with which it comes
+unfoldable pub later_arrives : {S : Type 0} → Form S → Setup → Place → Request → Net S → Net S
+later_arrives form setup from request net =
+    later_at form setup from request (option_and_then (λ uri. named_host uri net) (own_uri setup.config request)) net
+
+unfoldable pub unclaimed : {S : Type 0} → Form S → Setup → Place → Request → Net S → Net S
+unclaimed form setup from request net =
+    if same_bytes (method_of request) cancel then edge_answer setup.config from 481 does_not_exist request net
+    else (if is_some (tag_of request.head.to) then later_arrives form setup from request net
+    else initial_arrives form setup from request net)
+
+-- a transaction takes it first
+unfoldable pub request_by : {S : Type 0} → Form S → Setup → Place → Request → Option ℕ → Net S → Net S
+request_by form setup from request None net = unclaimed form setup from request net
+request_by form setup from request (Some number) net = taken_at form setup from None (messages.Request request) number net
+
+unfoldable pub response_by : {S : Type 0} → Form S → Setup → Place → Response → Option ℕ → Net S → Net S
+response_by form setup from response None net = net
+response_by form setup from response (Some number) net = taken_at form setup from None (messages.Response response) number net
+
+unfoldable pub arrived : {S : Type 0} → Form S → Setup → Place → Message → Net S → Net S
+arrived form setup from (messages.Request request) net =
+    request_by form setup from request (first_host (λ host. is_claimed (claim_of (peers.Outside from) request host)) 0 net.hosts) net
+arrived form setup from (messages.Response response) net =
+    response_by form setup from response (first_host (λ host. is_some (client_for setup.config.salt net.epoch (peers.Outside from) response host)) 0 net.hosts) net
+
+-- ## A text that is no message: 400 where it can be answered (RFC 3261 section 21.4.1)
+
+unfoldable pub bad_by : {S : Type 0} → Config → Place → Option Answerable → Net S → Net S
+bad_by config from None net = net
+bad_by config from (Some heads) net =
+    if same_bytes heads.cseq.method ack then net else put 0 (peers.Outside from) (messages.Response (bad_response config.salt heads)) None net

@@ -1,0 +1,79 @@
+-- The charters of servlets for reliable provisional responses (RFC 3262), session timers (RFC 4028) and
+-- event notification (RFC 6665), as the calls that they make. What they remember stands in attributes.
+use Rattle.std.specs.Prelude.{ℕ, ◌-◌, ◌==◌, List, [], Bool, not, ◌&&◌, ◌||◌, Option, None, Some, is_some, option_map, option_and_then, if◌then◌else◌, codes, decimal, length, map, slice_get, filter}
+use Rattle.std.specs.List.{find, list_any}
+use Rattle.sc_value.specs.declared.ids.ReqId.{ReqId}
+use Rattle.sc_value.specs.declared.ids.SessId.{SessId}
+use Rattle.sc_value.specs.declared.parts.Field.{Field}
+use Rattle.sc_value.specs.declared.message.Request.{Request}
+use Rattle.sc_value.specs.Params.{same_bytes, same_name}
+use Rattle.sc_terms.specs.declared.views.View.{View}
+use Rattle.sc_terms.specs.declared.calls.Call.{Call}
+use Rattle.sc_terms.specs.declared.calls.Call.TheVariants as calls
+use Rattle.sc_grammar.specs.Written.{Bytes}
+use Rattle.sc_syntax.specs.Blanks.{trimmed}
+use Rattle.sc_syntax.specs.Cuts.{pieces}
+use Rattle.sc_syntax.specs.Numbers.{number_of}
+use Rattle.sc_hosts.specs.Scripting.{Script, Done, Make, only, with_number, where_some, attribute, is_refused}
+use Rattle.sc_hosts.specs.Looking.{timer_in}
+
+-- ## Texts
+
+abbrev pub text_is : Bytes → Bytes → Bool
+text_is a b = same_bytes a b
+
+-- a decimal without leading zero
+unfoldable pub strict_number : Bytes → Option ℕ
+strict_number text = option_and_then (λ n. if same_bytes (decimal n) text then Some n else None) (number_of text)
+
+-- the value of the first header of this name
+unfoldable pub field_of : Bytes → Request → Option Bytes
+field_of name request = option_map (λ field. field.value) (find (λ field. same_name field.name name) request.head.others)
+
+-- the items between commas
+unfoldable pub items_of : Bytes → List Bytes
+items_of value = map trimmed (pieces 44 value)
+
+-- the words between blanks
+unfoldable pub words_of : Bytes → List Bytes
+words_of value = filter (λ word. not (length word == 0)) (pieces 32 (map (λ b. if b == 9 then 32 else b) value))
+
+unfoldable pub supported_word : Bytes
+supported_word = codes "Supported"
+
+unfoldable pub require_word : Bytes
+require_word = codes "Require"
+
+-- a Supported or Require header has this option (RFC 3261 sections 20.32 and 20.37)
+unfoldable pub lists_option : Bytes → Request → Bool
+lists_option option request =
+    list_any (λ field. (same_name field.name supported_word || same_name field.name require_word) && list_any (same_name option) (items_of field.value)) request.head.others
+
+-- ## Calls
+
+unfoldable pub answer_with : ReqId → ℕ → Bytes → List Field → Call
+answer_with req code reason fields = calls.Respond req (record { code = code; reason = reason; fields = fields; contact = []; body = [] })
+
+unfoldable pub field : Bytes → Bytes → Field
+field name value = record { name = name; value = value }
+
+-- the script goes on where the call was accepted
+unfoldable pub accepted_then : Call → Script → Script
+accepted_then call script = Make call (λ answer. if is_refused answer then Done else script)
+
+-- a request is made in a dialog and sent; then the script goes on
+unfoldable pub send_in : SessId → Bytes → List Field → Bytes → Script → Script
+send_in sess method fields body script =
+    Make (calls.CreateInDialog sess (record { method = method; fields = fields; body = body }))
+    (with_number (λ draft. accepted_then (calls.Send draft) script))
+
+-- what was answered is dropped where there is such an attribute
+unfoldable pub remove_then : Bytes → View → Script → Script
+remove_then name view script = if is_some (attribute name view) then accepted_then (calls.RemoveAttribute name) script else script
+
+unfoldable pub cancel_then : ℕ → View → Script → Script
+cancel_then timer view script =
+    if is_some (timer_in view (record { 0 = timer })) then accepted_then (calls.CancelTimer (record { 0 = timer })) script else script
+
+unfoldable pub cancel_first_timer : View → Script
+cancel_first_timer view = where_some (slice_get view.timers 0) (λ timer. only (calls.CancelTimer timer.id))

@@ -1,0 +1,104 @@
+-- What a turn shows of a request that came: what an application session becomes before its servlet is
+-- called.
+use Rattle.std.specs.Prelude.{ℕ, ◌+◌, List, [], ◌∷◌, ◌++◌, Bool, true, false, Option, None, Some, if◌then◌else◌}
+use Rattle.sc_value.specs.declared.ids.ReqId.{ReqId}
+use Rattle.sc_value.specs.declared.ids.SessId.{SessId}
+use Rattle.sc_value.specs.declared.message.Request.{Request}
+use Rattle.sc_value.specs.Params.{same_bytes}
+use Rattle.sc_terms.specs.declared.events.Event.{Event}
+use Rattle.sc_terms.specs.declared.events.Event.TheVariants as events
+use Rattle.sc_terms.specs.declared.views.RequestView.{RequestView}
+use Rattle.sc_terms.specs.declared.views.SessionView.{SessionView}
+use Rattle.sc_state.specs.declared.orders.Order.{Order}
+use Rattle.sc_state.specs.declared.orders.Order.TheVariants as orders
+use Rattle.sc_state.specs.declared.session.Known.{Known}
+use Rattle.sc_state.specs.declared.session.Session.{Session}
+use Rattle.sc_state.specs.declared.session.Way.TheVariants.{Received}
+use Rattle.sc_state.specs.declared.working.Prepared.{Prepared}
+use Rattle.sc_grammar.specs.Written.{Bytes}
+use Rattle.sc_model.specs.SessionStates.{invite}
+use Rattle.sc_hosts.specs.Effects.{answered}
+use Rattle.sc_hosts.specs.Legs.{change_leg, leg_of, is_low, with_request}
+use Rattle.sc_hosts.specs.Looking.{request_in, session_in, is_gone_in, is_proxy}
+use Rattle.sc_hosts.specs.Messages.{own_response}
+use Rattle.sc_hosts.specs.States.{ends_subscription}
+use Rattle.sc_hosts.specs.Words.{ack, does_not_exist, server_error}
+
+-- ## What nobody is called for
+
+unfoldable pub silent : Session → List Order → Prepared
+silent session given = record { view = session.view; known = session.known; event = None; req = None; orders = given }
+
+unfoldable pub showing : Session → Event → Option ReqId → List Order → Prepared
+showing session event req given = record { view = session.view; known = session.known; event = Some event; req = req; orders = given }
+
+-- shown where the SipSession is there
+unfoldable pub showing_in : Session → SessId → Event → Option ReqId → List Order → Prepared
+showing_in session sess event req given =
+    record { view = session.view; known = session.known; event = if is_gone_in session.view sess then None else Some event; req = req; orders = given }
+
+-- ## Requests
+
+-- the next request gets its number
+abbrev pub next_id : Session → ReqId
+next_id session = record { 0 = session.view.next_request }
+
+unfoldable pub request_view : ReqId → SessId → Bool → Bool → Request → RequestView
+request_view req sess initial passed request = record {
+  id = req;
+  sess = sess;
+  method = request.method;
+  received = true;
+  initial = initial;
+  hops = request.hops;
+  answered = None;
+  proxied = passed;
+  branches = 0;
+  unacked = [];
+  ends = ends_subscription request.method request.head.others;
+}
+
+abbrev pub numbered : Session → Session
+numbered session = record session { view = record session.view { next_request = session.view.next_request + 1 } }
+
+unfoldable pub with_invited : ℕ → ReqId → SessId → Request → Known → Known
+with_invited number req sess request known =
+    if same_bytes request.method invite then record known { invited = known.invited ++ record { event = number; req = req; sess = sess } ∷ [] } else known
+
+-- the request is there, with its number
+unfoldable pub received : Session → ℕ → SessId → Bool → Bool → Request → Session
+received session number sess initial passed request = record {
+  view = record (numbered session).view { requests = session.view.requests ++ request_view (next_id session) sess initial passed request ∷ [] };
+  known = with_invited number (next_id session) sess request (record session.known {
+    kept = session.known.kept ++ record { id = next_id session; sess = sess; way = Received number; request = request } ∷ [];
+  });
+}
+
+-- ## A later request
+
+-- an answer of the container to a request that has a To tag; an ACK has none
+unfoldable pub refused : ℕ → ℕ → Bytes → Request → List Order
+refused number code reason request =
+    if same_bytes request.method ack then [] else orders.Respond number (own_response [] code reason request) ∷ []
+
+-- a number that is too low: the answer counts in the SipSession like any other
+unfoldable pub too_low : Session → ℕ → SessId → Request → Prepared
+too_low session number sess request =
+    let after : Session = record (received session number sess false false request) {
+      view = answered (request_in (received session number sess false false request).view (next_id session)) 500 (received session number sess false false request).view;
+    } in silent after (refused number 500 server_error request)
+
+unfoldable pub taken : Session → ℕ → SessionView → Request → Prepared
+taken session number found request =
+    let after : Session = received session number found.id false (is_proxy found.role) request in
+    showing (record after { known = change_leg found.id (with_request request) after.known })
+    (events.Request (next_id session) found.id request) (Some (next_id session)) []
+
+unfoldable pub taken_in : Session → ℕ → SessId → Option SessionView → Request → Prepared
+taken_in session number sess None request = silent (numbered session) []
+taken_in session number sess (Some found) request =
+    if is_low (leg_of session.known sess) request then too_low session number sess request else taken session number found request
+
+unfoldable pub prepared_request : Session → ℕ → Request → Option SessId → Prepared
+prepared_request session number request None = silent (numbered session) (refused number 481 does_not_exist request)
+prepared_request session number request (Some sess) = taken_in session number sess (session_in session.view sess) request

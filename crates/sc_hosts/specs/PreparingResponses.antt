@@ -1,0 +1,123 @@
+-- What a turn shows of a response that came.
+use Rattle.std.specs.Prelude.{ℕ, ◌+◌, ◌==◌, List, [], ◌∷◌, Bool, false, not, ◌&&◌, Option, None, Some, is_some, nat_lt, if◌then◌else◌, length}
+use Rattle.std.specs.Option.{option_map_or}
+use Rattle.sc_value.specs.declared.ids.ReqId.{ReqId}
+use Rattle.sc_value.specs.declared.ids.SessId.{SessId}
+use Rattle.sc_value.specs.declared.message.Response.{Response}
+use Rattle.sc_value.specs.Lists.{change_first}
+use Rattle.sc_value.specs.Params.{same_bytes}
+use Rattle.sc_terms.specs.declared.events.Event.{Event}
+use Rattle.sc_terms.specs.declared.events.Event.TheVariants as events
+use Rattle.sc_terms.specs.declared.views.View.{View}
+use Rattle.sc_terms.specs.declared.views.RequestView.{RequestView}
+use Rattle.sc_terms.specs.declared.views.SessionView.{SessionView}
+use Rattle.sc_state.specs.declared.proxy.Proxy.{Proxy}
+use Rattle.sc_state.specs.declared.session.Kept.{Kept}
+use Rattle.sc_state.specs.declared.session.Known.{Known}
+use Rattle.sc_state.specs.declared.session.Session.{Session}
+use Rattle.sc_state.specs.declared.session.Way.{Way}
+use Rattle.sc_state.specs.declared.session.Way.TheVariants.{Received, Sent}
+use Rattle.sc_state.specs.declared.working.Prepared.{Prepared}
+use Rattle.sc_model.specs.Dialogs.{tag_of}
+use Rattle.sc_model.specs.SessionStates.{invite}
+use Rattle.sc_model.specs.Transactions.{is_success, is_failure}
+use Rattle.sc_hosts.specs.Branches.{is_supervised, is_told_whole, heard, added_targets}
+use Rattle.sc_hosts.specs.Effects.{answered_in, tidy}
+use Rattle.sc_hosts.specs.Legs.{change_leg, leg_of, with_answer, handling, handled_in, overtaken, without_derived}
+use Rattle.sc_hosts.specs.Looking.{same_request, request_in, session_in, is_gone_in, change_request}
+use Rattle.sc_hosts.specs.PreparingRequests.{silent, showing, showing_in}
+
+-- ## A response to a request of one's own
+
+abbrev pub is_sent_on : ℕ → Kept → Bool
+is_sent_on branch kept = is_way branch kept.way
+  where
+    is_way : ℕ → Way → Bool
+    is_way branch (Received event) = false
+    is_way branch (Sent number) = number == branch
+
+-- the SipSessions whose 2xx waits for an ACK, in order
+unfoldable pub insert_session : SessId → List SessId → List SessId
+insert_session sess [] = sess ∷ []
+insert_session sess (s ∷ ss) = if s.0 == sess.0 then s ∷ ss else (if nat_lt sess.0 s.0 then sess ∷ s ∷ ss else (s ∷ insert_session sess ss))
+
+unfoldable pub with_success : SessId → Response → RequestView → RequestView
+with_success sess response request =
+    if same_bytes request.method invite && is_success response.code then record request { unacked = insert_session sess request.unacked } else request
+
+-- the first 2xx of an initial INVITE
+unfoldable pub is_first_success : RequestView → Response → Bool
+is_first_success request response =
+    request.initial && same_bytes request.method invite && is_success response.code && not (option_map_or is_success request.answered false)
+
+unfoldable pub settled_legs : RequestView → SessId → Response → Session → Session
+settled_legs request sess response session =
+    if is_first_success request response then overtaken request.id sess session
+    else (if request.initial && is_failure response.code then without_derived request.id request.sess session else session)
+
+-- a response handled in this SipSession
+unfoldable pub responded : Kept → RequestView → Response → SessId → Session → Session
+responded kept request response sess session =
+    let after : Session = settled_legs request sess response session in record {
+      view = tidy (change_request request.id (with_success sess response) (answered_in sess request (is_some (tag_of response.head.to)) response.code after.view));
+      known = change_leg sess (with_answer kept.request response) after.known;
+    }
+
+-- the SipSession of a response, which may be a derived one
+unfoldable pub placed : Session → Kept → RequestView → Response → Option SessionView → SessId × Session
+placed session kept request response None = (request.sess, session)
+placed session kept request response (Some original) =
+    if request.initial then handled_in session request.id original (handling session request.id original kept.request response) else (request.sess, session)
+
+-- nothing is shown of a SipSession that is gone, and nothing changes in it
+unfoldable pub responded_in : Kept → RequestView → Response → SessId × Session → Prepared
+responded_in kept request response (sess, session) =
+    if is_gone_in session.view sess then silent session []
+    else showing (responded kept request response sess session) (events.Response kept.id sess response) None []
+
+-- a request that the view shows no more has had its final response: a further 2xx of a later INVITE
+unfoldable pub prepared_own : Session → Kept → Response → Option RequestView → Prepared
+prepared_own session kept response None = showing_in session kept.sess (events.Response kept.id kept.sess response) None []
+prepared_own session kept response (Some request) =
+    responded_in kept request response (placed session kept request response (session_in session.view request.sess))
+
+-- ## A response on a branch of a proxied request
+
+abbrev pub change_proxy : ReqId → (Proxy → Proxy) → Known → Known
+change_proxy req change known = record known { proxies = change_first (λ proxy. same_request proxy.req req) change known.proxies }
+
+unfoldable pub told : Proxy → ℕ → Response → SessId → Event
+told proxy branch response sess =
+    if is_told_whole branch response proxy then events.Response proxy.req sess response else events.Branch proxy.req sess response
+
+-- the view shows the targets that a 3xx added
+unfoldable pub with_branches : Proxy → Response → View → View
+with_branches proxy response view =
+    change_request proxy.req (λ request. record request { branches = request.branches + length (added_targets proxy response) }) view
+
+unfoldable pub is_invalid : Known → SessId → Bool
+is_invalid known sess = option_map_or (λ leg. leg.invalidated) (leg_of known sess) false
+
+unfoldable pub heard_in : Proxy → ℕ → Response → SessId × Session → Prepared
+heard_in proxy branch response (sess, session) =
+    let after : Session = record {
+      view = with_branches proxy response session.view;
+      known = change_proxy proxy.req (heard branch sess response session.view.now) (change_leg sess (with_answer proxy.request response) session.known);
+    } in
+    if is_supervised proxy then showing_in after sess (told proxy branch response sess) None [] else silent after []
+
+unfoldable pub branch_placed : Session → Proxy → Response → Option SessionView → SessId × Session
+branch_placed session proxy response None = (proxy.sess, session)
+branch_placed session proxy response (Some original) =
+    if is_some proxy.options then handled_in session proxy.req original (handling session proxy.req original proxy.request response) else (proxy.sess, session)
+
+-- a proxy whose SipSession the application ended does nothing any more
+unfoldable pub prepared_branch : Session → Proxy → ℕ → Response → Prepared
+prepared_branch session proxy branch response =
+    if is_invalid session.known proxy.sess then silent session []
+    else heard_in proxy branch response (branch_placed session proxy response (session_in session.view proxy.sess))
+
+unfoldable pub prepared_response : Session → ℕ → Response → Option Kept → Option Proxy → Prepared
+prepared_response session branch response (Some kept) proxy = prepared_own session kept response (request_in session.view kept.id)
+prepared_response session branch response None (Some proxy) = prepared_branch session proxy branch response
+prepared_response session branch response None None = silent session []

@@ -1,0 +1,178 @@
+-- The charter of a servlet for event notification (RFC 6665), as the calls that it makes. What it
+-- remembers stands in attributes.
+use Rattle.std.specs.Prelude.{ℕ, ◌+◌, ◌-◌, ◌*◌, ◌/◌, ◌==◌, List, [], ◌∷◌, ◌++◌, Bool, true, false, not, ◌&&◌, ◌||◌, Option, None, Some, option_map, option_and_then, unwrap_or, if◌then◌else◌, codes, decimal, min, nat_lt, nat_le, slice_get}
+use Rattle.std.specs.List.{find, filter_map}
+use Rattle.std.specs.Option.{option_map_or}
+use Rattle.sc_value.specs.declared.ids.ReqId.{ReqId}
+use Rattle.sc_value.specs.declared.ids.SessId.{SessId}
+use Rattle.sc_value.specs.declared.ids.TimerId.{TimerId}
+use Rattle.sc_value.specs.declared.parts.Field.{Field}
+use Rattle.sc_value.specs.declared.message.Request.{Request}
+use Rattle.sc_value.specs.Params.{same_bytes, same_name}
+use Rattle.sc_terms.specs.declared.views.View.{View}
+use Rattle.sc_terms.specs.declared.views.Period.TheVariants.{Once}
+use Rattle.sc_terms.specs.declared.events.Event.{Event}
+use Rattle.sc_terms.specs.declared.events.Event.TheVariants as events
+use Rattle.sc_terms.specs.declared.calls.Call.{Call}
+use Rattle.sc_terms.specs.declared.calls.Call.TheVariants as calls
+use Rattle.sc_grammar.specs.Written.{Bytes}
+use Rattle.sc_syntax.specs.Blanks.{trimmed}
+use Rattle.sc_syntax.specs.Cuts.{before, pieces}
+use Rattle.sc_syntax.specs.Numbers.{number_of}
+use Rattle.sc_model.specs.Dialogs.{subscribe, notify}
+use Rattle.sc_model.specs.Transactions.{is_failure}
+use Rattle.sc_hosts.specs.Scripting.{Script, Done, Make, only, then_make, with_number, where_some, reply, attribute, small_number}
+use Rattle.sc_hosts.specs.Charters.{reply_ok}
+use Rattle.sc_hosts.specs.Words.{ok, server_error}
+use Rattle.sc_hosts.specs.HelperParts.{strict_number, field_of, answer_with, field, accepted_then, send_in, remove_then, cancel_then}
+use Rattle.sc_hosts.specs.Offers.{after_word}
+
+-- a package, with the least and the longest time of a subscription in seconds, and the state's body
+pub record Rule : Type 0 where
+  pub event_package : Bytes
+  pub least : ℕ
+  pub longest : ℕ
+  pub body : Bytes
+
+unfoldable pub rule_with : Bytes → Option ℕ → Option ℕ → Bytes → Option Rule
+rule_with event_package (Some least) (Some longest) body =
+    if nat_le 1 least && nat_le least 3600 && nat_le least longest && nat_le longest 4000000
+    then Some (record { event_package = event_package; least = least; longest = longest; body = body }) else None
+rule_with event_package (Some least) None body = None
+rule_with event_package None longest body = None
+
+unfoldable pub rule_in : List Bytes → Option Rule
+rule_in (event_package ∷ least ∷ longest ∷ []) = rule_with event_package (small_number least) (small_number longest) []
+rule_in (event_package ∷ least ∷ longest ∷ body ∷ more) = rule_with event_package (small_number least) (small_number longest) body
+rule_in params = None
+
+unfoldable pub is_event : Field → Bool
+is_event field = same_name field.name (codes "Event") || same_name field.name (codes "o")
+
+unfoldable pub event_value : Request → Option Bytes
+event_value request = option_map (λ field. field.value) (find is_event request.head.others)
+
+unfoldable pub names_package : Rule → Request → Bool
+names_package rule request = option_map_or (λ value. same_bytes (trimmed (before 59 value)) rule.event_package) (event_value request) false
+
+-- for how many seconds a subscription is asked
+unfoldable pub asked_seconds : Rule → Request → ℕ
+asked_seconds rule request = unwrap_or (option_and_then number_of (field_of (codes "Expires") request)) rule.longest
+
+pub record Subscription : Type 0 where
+  pub active : Bool
+  pub due : ℕ
+  pub timer : ℕ
+
+unfoldable pub letter_of : Bytes → Option Bool
+letter_of word = if same_bytes word (codes "A") then Some true else (if same_bytes word (codes "P") then Some false else None)
+
+unfoldable pub subscription_in : List Bytes → Option Subscription
+subscription_in (letter ∷ d ∷ t ∷ []) =
+    option_and_then (λ active. option_and_then (λ due. option_map (λ timer. record { active = active; due = due; timer = timer }) (strict_number t)) (strict_number d)) (letter_of letter)
+subscription_in words = None
+
+unfoldable pub sub_name : SessId → Bytes
+sub_name sess = codes "sub" ++ decimal sess.0
+
+unfoldable pub ev_name : SessId → Bytes
+ev_name sess = codes "ev" ++ decimal sess.0
+
+unfoldable pub subscription_of : View → SessId → Option Subscription
+subscription_of view sess = option_and_then (λ text. subscription_in (pieces 32 text)) (attribute (sub_name sess) view)
+
+unfoldable pub sub_text : ℕ → ℕ → Bytes
+sub_text due timer = codes "A " ++ decimal due ++ codes " " ++ decimal timer
+
+unfoldable pub state_word : Bool → Bytes
+state_word true = codes "active"
+state_word false = codes "pending"
+
+unfoldable pub timeout_state : Bytes
+timeout_state = codes "terminated;reason=timeout"
+
+-- a NOTIFY with this event and this state
+unfoldable pub notifies : SessId → Bytes → Bytes → Bytes → Script
+notifies sess event state body = send_in sess notify (field (codes "Event") event ∷ field (codes "Subscription-State") state ∷ []) body Done
+
+-- the old timer is cancelled
+unfoldable pub without_timer : View → Option Subscription → Script → Script
+without_timer view None script = script
+without_timer view (Some old) script = cancel_then old.timer view script
+
+unfoldable pub is_pending : Option Subscription → Bool
+is_pending None = false
+is_pending (Some old) = not old.active
+
+unfoldable pub subscribed_for : View → Rule → SessId → Bytes → ℕ → Option Subscription → Script
+subscribed_for view rule sess event seconds old =
+    if seconds == 0
+    then without_timer view old (remove_then (sub_name sess) view (remove_then (ev_name sess) view (notifies sess event timeout_state [])))
+    else without_timer view old (Make (calls.StartTimer (seconds * 1000) Once (sub_name sess)) (with_number (λ t.
+    accepted_then (calls.SetAttribute (sub_name sess) (sub_text (view.now + seconds * 1000) t))
+    (accepted_then (calls.SetAttribute (ev_name sess) event)
+    (notifies sess event (state_word (not (is_pending old)) ++ codes ";expires=" ++ decimal seconds) (if is_pending old then [] else rule.body))))))
+
+unfoldable pub accepts : View → Rule → ReqId → SessId → Request → Script
+accepts view rule req sess request =
+    if not (names_package rule request) then only (answer_with req 489 (codes "Bad Event") (field (codes "Allow-Events") rule.event_package ∷ []))
+    else (if nat_lt 0 (asked_seconds rule request) && nat_lt (asked_seconds rule request) rule.least
+    then only (answer_with req 423 (codes "Interval Too Brief") (field (codes "Min-Expires") (decimal rule.least) ∷ []))
+    else accepted_then (answer_with req 200 ok (field (codes "Expires") (decimal (min (asked_seconds rule request) rule.longest)) ∷ []))
+    (subscribed_for view rule sess (unwrap_or (event_value request) []) (min (asked_seconds rule request) rule.longest) (subscription_of view sess)))
+
+-- how many seconds are left, rounded up
+unfoldable pub seconds_left : ℕ → ℕ → ℕ
+seconds_left due now = ((due - now) + 999) / 1000
+
+unfoldable pub event_of : View → SessId → Bytes
+event_of view sess = unwrap_or (attribute (ev_name sess) view) []
+
+unfoldable pub changes : View → SessId → Bytes → Subscription → Script
+changes view sess body sub =
+    notifies sess (event_of view sess) (state_word sub.active ++ codes ";expires=" ++ decimal (seconds_left sub.due view.now)) (if sub.active then body else [])
+
+pub record NamedSub : Type 0 where
+  pub sess : SessId
+  pub sub : Subscription
+
+unfoldable pub named_sub : TimerId → Field → Option NamedSub
+named_sub id field =
+    option_and_then (λ s. option_and_then (λ sub. if sub.timer == id.0 then Some (record { sess = record { 0 = s }; sub = sub }) else None) (subscription_in (pieces 32 field.value)))
+    (option_and_then strict_number (after_word (codes "sub") field.name))
+
+unfoldable pub ended_sub : View → NamedSub → Script
+ended_sub view named =
+    cancel_then named.sub.timer view (remove_then (sub_name named.sess) view (remove_then (ev_name named.sess) view
+    (notifies named.sess (event_of view named.sess) timeout_state [])))
+
+unfoldable pub failed_sub : View → SessId → Subscription → Script
+failed_sub view sess sub =
+    cancel_then sub.timer view (remove_then (sub_name sess) view (remove_then (ev_name sess) view (only (calls.InvalidateSession sess))))
+
+-- the answer where the parameters make no rule
+unfoldable pub accepts_by : View → Option Rule → Call → ReqId → SessId → Request → Script
+accepts_by view None otherwise req sess request = only otherwise
+accepts_by view (Some rule) otherwise req sess request =
+    if same_bytes request.method subscribe then accepts view rule req sess request else only (reply req 200 ok)
+
+unfoldable pub info_word : Bytes
+info_word = codes "INFO"
+
+unfoldable pub notify_request : View → Option Rule → ReqId → SessId → Request → Script
+notify_request view rule req sess request =
+    if same_bytes request.method subscribe then accepts_by view rule (reply req 200 ok) req sess request
+    else (if same_bytes request.method info_word
+    then then_make (reply req 200 ok) (where_some (subscription_of view sess) (changes view sess request.head.body))
+    else reply_ok req request)
+
+unfoldable pub notify_script : View → Event → Script
+notify_script view (events.Initial req sess region subscriber popped request) = accepts_by view (rule_in view.params) (reply req 500 server_error) req sess request
+notify_script view (events.Request req sess request) = notify_request view (rule_in view.params) req sess request
+notify_script view (events.Response req sess response) =
+    if same_bytes response.head.cseq.method notify && is_failure response.code then where_some (subscription_of view sess) (failed_sub view sess) else Done
+notify_script view (events.Branch req sess response) = Done
+notify_script view (events.Cancelled req sess) = Done
+notify_script view (events.Timer id info) = where_some (slice_get (filter_map (named_sub id) view.attributes) 0) (ended_sub view)
+notify_script view events.Expired = Done
+notify_script view events.Ready = Done

@@ -1,0 +1,125 @@
+-- A place is lost, and time passes.
+use Rattle.std.specs.Prelude.{ℕ, ◌+◌, ◌*◌, ◌==◌, List, [], ◌∷◌, ◌++◌, Bool, ◌&&◌, Option, None, Some, if◌then◌else◌, map, filter}
+use Rattle.std.specs.List.{find, list_any, filter_map, flat_map, fold}
+use Rattle.sc_value.specs.declared.ids.AppId.{AppId}
+use Rattle.sc_value.specs.declared.ids.Place.{Place}
+use Rattle.sc_value.specs.declared.message.Response.{Response}
+use Rattle.sc_value.specs.Lists.{change_first}
+use Rattle.sc_terms.specs.declared.settings.Config.{Config}
+use Rattle.sc_parts.specs.declared.transactions.ClientItem.{ClientItem}
+use Rattle.sc_parts.specs.declared.transactions.ClientItem.TheVariants as client_items
+use Rattle.sc_parts.specs.declared.transactions.ServerItem.TheVariants as server_items
+use Rattle.sc_state.specs.declared.host.Client.{Client}
+use Rattle.sc_state.specs.declared.host.Fired.{Fired}
+use Rattle.sc_state.specs.declared.host.Host.{Host}
+use Rattle.sc_state.specs.declared.host.Live.{Live}
+use Rattle.sc_state.specs.declared.host.Server.{Server}
+use Rattle.sc_state.specs.declared.net.Net.{Net}
+use Rattle.sc_state.specs.declared.queue.Queued.{Queued}
+use Rattle.sc_state.specs.declared.queue.Queued.TheVariants as queued
+use Rattle.sc_grammar.specs.Written.{Bytes}
+use Rattle.sc_model.specs.Names.{edge_tag}
+use Rattle.sc_model.specs.Timers.{DueEntry, in_order, is_due}
+use Rattle.sc_hosts.specs.Messages.{own_response, without_via}
+use Rattle.sc_hosts.specs.Nets.{change_host, queue_for}
+use Rattle.sc_hosts.specs.Sessions.{Form, entries_of}
+use Rattle.sc_hosts.specs.Taking.{is_live}
+use Rattle.sc_hosts.specs.Transacting.{due_of_client, due_of_server, goes_to, is_cancel_client, is_same_app, out_of_client, pass_client, pass_server}
+use Rattle.sc_hosts.specs.Words.{request_timeout, unavailable}
+
+-- what a transaction tells by itself reaches its session without Vias
+unfoldable pub own_telling : Config → ℕ → Bytes → Client → Response
+own_telling config code reason client = without_via (own_response (edge_tag config.salt) code reason client.request)
+
+unfoldable pub told_at : {S : Type 0} → Config → Client → Bytes → Option ℕ → Net S → Net S
+told_at config client reason None net = net
+told_at config client reason (Some code) net =
+    if is_cancel_client client then net else queue_for client.app (queued.Response client.branch (own_telling config code reason client)) net
+
+-- an item that isn't a message passes a client transaction
+unfoldable pub passes : {S : Type 0} → Config → ClientItem → Bytes → Net S → Client → Net S
+passes config item reason net client =
+    told_at config client reason (out_of_client client item).tell
+    (change_host client.app.host (pass_client client.app client.branch (is_cancel_client client) item) net)
+
+-- the client transactions whose request went to a place, by host, serial and branch
+unfoldable pub client_key : Client → DueEntry
+client_key client = record { due = 0; app = client.app; number = 2 * client.branch + (if is_cancel_client client then 1 else 0) }
+
+unfoldable pub has_key : DueEntry → Client → Bool
+has_key key client = is_same_app client.app key.app && (client_key client).number == key.number
+
+unfoldable pub clients_of : {S : Type 0} → Net S → List Client
+clients_of net = flat_map (λ host. host.clients) net.hosts
+
+unfoldable pub clients_to : {S : Type 0} → Place → Net S → List Client
+clients_to place net =
+    filter_map (λ key. find (has_key key) (clients_of net)) (in_order (map client_key (filter (λ client. goes_to place client.peer) (clients_of net))))
+
+unfoldable pub lost : {S : Type 0} → Config → Place → Net S → Net S
+lost config place net = fold (passes config client_items.PlaceLost unavailable) net (clients_to place net)
+
+-- what is due in a net
+pub data DueItem : Type 0 where
+  Of_session : (app : AppId) → (event : Queued) → DueItem
+  Of_client : (client : Client) → DueItem
+  Of_server : (server : Server) → DueItem
+
+pub record Dated : Type 0 where
+  pub entry : DueEntry
+  pub item : DueItem
+
+unfoldable pub dated : AppId → ℕ → DueItem → Option ℕ → List Dated
+dated app number item None = []
+dated app number item (Some due) = record { entry = record { due = due; app = app; number = number }; item = item } ∷ []
+
+unfoldable pub client_dated : Client → List Dated
+client_dated client = dated client.app (8 * client.branch + (if is_cancel_client client then 4 else 3)) (Of_client client) (due_of_client client)
+
+unfoldable pub server_dated : Server → List Dated
+server_dated server = dated server.app (8 * server.event + 5) (Of_server server) (due_of_server server)
+
+unfoldable pub is_fired : List Fired → ℕ → ℕ → Bool
+is_fired fired due number = list_any (λ f. f.due == due && f.number == number) fired
+
+unfoldable pub live_dated : {S : Type 0} → Form S → ℕ → Live S → List Dated
+live_dated form host live =
+    flat_map (λ entry. if is_fired live.fired entry.due entry.number then []
+    else dated (record { host = host; serial = live.serial }) entry.number (Of_session (record { host = host; serial = live.serial }) entry.event) (Some entry.due))
+    (entries_of (form.read live.session))
+
+unfoldable pub host_dated : {S : Type 0} → Form S → ℕ → Host S → List Dated
+host_dated form number host =
+    flat_map client_dated host.clients ++ flat_map server_dated host.servers ++ flat_map (live_dated form number) host.sessions
+
+unfoldable pub hosts_dated : {S : Type 0} → Form S → ℕ → List (Host S) → List Dated
+hosts_dated form number [] = []
+hosts_dated form number (host ∷ hosts) = host_dated form number host ++ hosts_dated form (number + 1) hosts
+
+-- all that runs in a net
+unfoldable pub all_dated : {S : Type 0} → Form S → Net S → List Dated
+all_dated form net = hosts_dated form 0 net.hosts
+
+unfoldable pub same_entry : DueEntry → DueEntry → Bool
+same_entry a b = a.due == b.due && is_same_app a.app b.app && a.number == b.number
+
+-- what is due at a moment, by due moment, host, serial and number
+unfoldable pub due_items : {S : Type 0} → Form S → ℕ → Net S → List Dated
+due_items form now net =
+    filter_map (λ entry. find (λ d. same_entry d.entry entry) (all_dated form net)) (in_order (filter (is_due now) (map (λ d. d.entry) (all_dated form net))))
+
+-- the entry has had its event
+unfoldable pub mark_fired : {S : Type 0} → DueEntry → Host S → Host S
+mark_fired entry host = record host {
+  sessions = change_first (is_live entry.app.serial) (λ live. record live { fired = live.fired ++ record { due = entry.due; number = entry.number } ∷ [] }) host.sessions;
+}
+
+unfoldable pub fires : {S : Type 0} → Config → ℕ → Net S → DueEntry → DueItem → Net S
+fires config now net entry (Of_session app event) = queue_for app event (change_host app.host (mark_fired entry) net)
+fires config now net entry (Of_client client) = passes config (client_items.MomentCame now) request_timeout net client
+fires config now net entry (Of_server server) = change_host server.app.host (pass_server server.event (server_items.MomentCame now)) net
+
+-- a tick sends no message itself
+unfoldable pub ticked : {S : Type 0} → Form S → Config → ℕ → Net S → Net S
+ticked form config now net =
+    fold (λ net d. fires config now net d.entry d.item) (record net { moment = now }) (due_items form now net)

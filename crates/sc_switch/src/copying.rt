@@ -1,0 +1,54 @@
+//! Copies of the net: its transactions and sessions get one more owner each.
+
+ghost use Rattle.std.specs.Prelude.{◌≡◌, ◌++◌, ◌∷◌, [], IfOk, OnOk};
+
+use sc_state::{Entry, Net, Session};
+use sc_value::{CloneIn, List, NoMemory};
+use std::alloc::Global;
+
+/// A copy of a net, with nothing sent.
+pub fn copy_net(alloc: Global, net: &Net<Session>) -> Result<Net<Session>, NoMemory>
+    ensures { IfOk result (λ copy. copy ≡ record net.now { sent = [] }) }
+{
+    let hosts = net.hosts.clone_in(alloc)?;
+    let wire = copy_wire(alloc, net.wire.as_slice())?;
+    Ok(Net {
+        hosts,
+        wire,
+        epoch: net.epoch,
+        moment: net.moment,
+        count: net.count,
+        sent: List::new(alloc),
+    })
+}
+
+fn copy_wire(alloc: Global, entries: &[Entry]) -> Result<List<Entry>, NoMemory>
+    ensures { IfOk result (λ copies. copies ≡ entries.now) }
+{
+    let mut copies = List::new(alloc);
+    add_entries(alloc, entries, &mut copies)?;
+    Ok(copies)
+}
+
+fn add_entries(alloc: Global, entries: &[Entry], copies: &mut List<Entry>) -> Result<(), NoMemory>
+    ensures { OnOk result (copies.new ≡ copies.old ++ entries.now) }
+{
+    for entry in entries {
+        add_entry(alloc, entry, copies)?;
+    }
+    Ok(())
+}
+
+fn add_entry(alloc: Global, entry: &Entry, copies: &mut List<Entry>) -> Result<(), NoMemory>
+    ensures { OnOk result (copies.new ≡ copies.old ++ entry.now ∷ []) }
+{
+    let message = entry.message.clone_in(alloc)?;
+    let note = entry.note.clone_in(alloc)?;
+    copies.push(Entry {
+        sender: entry.sender,
+        receiver: entry.receiver,
+        message,
+        note,
+    })?;
+    Ok(())
+}

@@ -1,0 +1,42 @@
+//! The kinds of applications that the program has.
+
+use sc_apps::{BuiltIn, ExtendsOnce};
+use sc_edge::{FileShelf, OutSink};
+use sc_replay::{Command, Status, check, replay};
+use sc_servlets::{Catalogue, Listener};
+use sc_value::{NoMemory, Text};
+
+/// Runs a command over files and standard output with all kinds, each under the name by which a
+/// configuration asks for it. Words of another form are left to `replay`, which refuses them.
+pub fn run_with_kinds(
+    rt: &HostRuntime,
+    words: &[String],
+    command: Command,
+) -> Result<Status, NoMemory> {
+    let alloc = rt.alloc();
+    let mut apps = Catalogue::new(alloc);
+    for kind in BuiltIn::all() {
+        let name = Text::from_slice(alloc, kind.name())?;
+        let servlet = Box::new(alloc, kind)?;
+        let listener: Option<Box<dyn Listener>> = if kind.is_extended() {
+            Some(Box::new(alloc, ExtendsOnce)?)
+        } else {
+            None
+        };
+        match apps.add(name, servlet, listener) {
+            Ok(()) => {}
+            Err(_) => return Err(NoMemory),
+        }
+    }
+    Ok(run_with(rt, words, command, &apps))
+}
+
+fn run_with(rt: &HostRuntime, words: &[String], command: Command, apps: &Catalogue) -> Status {
+    let alloc = rt.alloc();
+    let mut out = OutSink::new(rt);
+    let mut shelf = FileShelf::new(rt, alloc);
+    match command {
+        Command::Check => check(alloc, words, &mut shelf, apps, &mut out).status,
+        _ => replay(alloc, words, &mut shelf, apps, &mut out).status,
+    }
+}
