@@ -1,4 +1,3 @@
-pub mod Accepted
 pub mod Checks
 pub mod CommandLaws
 pub mod Drivings

@@ -1,5 +1,5 @@
 -- What `check` promises.
-use Rattle.std.specs.Prelude.{◌≡◌, ℕ, ◌⊎◌, Option, Some, None, List, [], ◌∷◌, ◌++◌, length, sum_by, codes, decimal, if◌then◌else◌}
+use Rattle.std.specs.Prelude.{◌≡◌, ℕ, Option, Some, None, List, [], ◌∷◌, ◌++◌, length, sum_by, codes, decimal, if◌then◌else◌}
 use Rattle.sc_value.specs.Params.{same_bytes}
 use Rattle.sc_terms.specs.declared.settings.Config.{Config}
 use Rattle.sc_terms.specs.declared.settings.Dar.{Dar}
@@ -10,7 +10,7 @@ use Rattle.sc_journal.specs.Kept.{Kept}
 use Rattle.sc_switch.specs.declared.ran.Ran.{Ran}
 use Rattle.sc_switch.specs.declared.ran.Status.{Status}
 use Rattle.sc_switch.specs.declared.ran.Status.TheVariants as statuses
-use Rattle.sc_replay.specs.Accepting.{TellsConfig, TellsDar, IsNoConfig, IsNoDar, app_names}
+use Rattle.sc_replay.specs.Replaying.{TellsConfig, TellsTable, IsUnset, app_names}
 use Rattle.sc_replay.specs.Putting.{IsPut}
 
 -- CONFIG and DAR of `check CONFIG DAR`, none of other words
@@ -31,24 +31,18 @@ ok_line apps tuples = ok_word ++ decimal apps ++ 32 ∷ [] ++ decimal tuples ++ 
 
 -- ## How it ends
 
--- the configuration was refused, or it was accepted and the routing table was refused; the shelf holds
--- `configs` and `dars` under their names
-unfoldable pub IsNotAccepted : List Bytes → Option Bytes → Option Bytes → Type 0 → Status → Type 0
-IsNotAccepted kinds configs dars read status =
-    IsNoConfig kinds configs read status ⊎ ((config : Config) × TellsConfig kinds configs config × IsNoDar (app_names config) dars read status)
-
--- both were accepted, and the line was put
+-- both were accepted, of what the shelf holds under their names, and the line was put
 pub record IsAccepted (kinds : List Bytes) (configs dars : Option Bytes) (write : Type 0) (old new : Option Bytes) (status : Status) : Type 0 where
   pub config : Config
   pub dar : Dar
   pub config_is : TellsConfig kinds configs config
-  pub dar_is : TellsDar (app_names config) dars dar
+  pub table_is : TellsTable (app_names config) dars dar
   pub put : IsPut write old new (ok_line (length config.app) (tuple_count dar.lists)) status
 
 -- the journal is there, and empty, exactly where both were accepted; else the sink took nothing
 unfoldable pub Checks : List Bytes → Option Bytes → Option Bytes → Type 0 → Type 0 → Option Bytes → Option Bytes → Status → Option (Kept Step) → Type 0
 Checks kinds configs dars read write old new status (Some journal) = (journal.items ≡ []) × IsAccepted kinds configs dars write old new status
-Checks kinds configs dars read write old new status None = (new ≡ old) × IsNotAccepted kinds configs dars read status
+Checks kinds configs dars read write old new status None = (new ≡ old) × IsUnset kinds configs dars read status
 
 -- how the call ends for these words
 unfoldable pub ChecksWords : Option (Bytes × Bytes) → List Bytes → (Bytes → Option Bytes) → Type 0 → Type 0 → Option Bytes → Option Bytes → Ran → Type 0
@@ -61,9 +55,3 @@ ChecksWords None kinds holds read write old new ran = (ran.status ≡ statuses.U
 unfoldable pub HasNoSteps : Option (Kept Step) → Type 0
 HasNoSteps None = ⊥
 HasNoSteps (Some journal) = journal.items ≡ []
-
--- the same as `Checks`, the configuration being accepted
-unfoldable pub ChecksTable : Config → Option Bytes → Type 0 → Type 0 → Option Bytes → Option Bytes → Status → Option (Kept Step) → Type 0
-ChecksTable config dars read write old new status (Some journal) =
-    (journal.items ≡ []) × (dar : Dar) × TellsDar (app_names config) dars dar × IsPut write old new (ok_line (length config.app) (tuple_count dar.lists)) status
-ChecksTable config dars read write old new status None = (new ≡ old) × IsNoDar (app_names config) dars read status

@@ -1,4 +1,3 @@
-pub mod Accepting
 pub mod Checking
 pub mod Commands
 pub mod Making

@@ -1,20 +1,20 @@
 //! The command `check`.
 
-ghost use Rattle.std.specs.Prelude.{◌≡◌, ◌≤◌, ◌++◌, ◌⊎◌, [], None, Option, IsTrue, OnOk, length, map, string_bytes};
+ghost use Rattle.std.specs.Prelude.{◌≡◌, ◌≤◌, ◌++◌, [], OnOk, length, map, string_bytes};
 ghost use Rattle.std.specs.List.{All};
 ghost use Rattle.std.specs.Option.{option_map};
 ghost use Rattle.sc_edge.specs.Faults.{Rose};
-ghost use Rattle.sc_replay.specs.Checking.{ChecksWords, Checks, ChecksTable, HasNoSteps, checked_names, ok_line, ok_word, tuple_count};
+ghost use Rattle.sc_replay.specs.Checking.{ChecksWords, Checks, HasNoSteps, checked_names, ok_line, ok_word, tuple_count};
 ghost use Rattle.sc_replay.specs.Putting.{IsPut};
 
-use crate::accepting::{read_config, read_dar};
 use crate::commanding::is_word;
 use crate::putting::{ended, put_whole};
+use crate::settings::read_settings;
 use sc_edge::{Shelf, Sink};
 use sc_journal::Journal;
 use sc_servlets::Catalogue;
 use sc_switch::{Ran, Status};
-use sc_terms::{Config, Dar, MethodList};
+use sc_terms::MethodList;
 use sc_value::{NoMemory, Text, write_u64};
 use std::alloc::Global;
 
@@ -77,29 +77,15 @@ fn check_named<F: Shelf, K: Sink>(
     ensures epoch { result.epoch ≡ 0 }
     ensures began { result.began ≡ 0 }
 {
-    match read_config(alloc, config, shelf, apps.names()) {
-        Ok(config) => check_table(alloc, &config, dar, shelf, out),
-        Err(status) => ended(status),
-    }
-}
-
-/// Checks the routing table of this name, the configuration being accepted.
-fn check_table<F: Shelf, K: Sink>(
-    alloc: Global,
-    config: &Config,
-    dar: &String,
-    shelf: &mut F,
-    out: &mut K,
-) -> Ran
-    ensures checks { ChecksTable config.now (F.holds shelf.old (string_bytes dar.now)) (Rose (F.faults shelf.old) (F.faults shelf.new)) (Rose (K.faults out.old) (K.faults out.new)) (K.took out.old) (K.took out.new) result.status result.journal }
-    ensures later { F.faults shelf.old ≤ F.faults shelf.new }
-    ensures epoch { result.epoch ≡ 0 }
-    ensures began { result.began ≡ 0 }
-{
-    match read_dar(alloc, dar, shelf, config) {
-        Ok(dar) => accepted(
+    match read_settings(alloc, config, dar, shelf, apps.names()) {
+        Ok(settings) => accepted(
             alloc,
-            put_ok(alloc, config.app.len(), dar.lists.as_slice(), out),
+            put_ok(
+                alloc,
+                settings.config.app.len(),
+                settings.dar.lists.as_slice(),
+                out,
+            ),
         ),
         Err(status) => ended(status),
     }

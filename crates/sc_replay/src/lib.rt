@@ -2,7 +2,6 @@
 //! settings alone, and `make` writes a script.
 #![tactic(auto)]
 
-mod accepting;
 mod checking;
 mod commanding;
 mod making;

@@ -1,6 +1,7 @@
 //! Reading the configuration and the routing table.
 
-ghost use Rattle.std.specs.Prelude.{◌≡◌, ◌≤◌, ◌++◌, ℕ, List, [], Option, IfOk, IfErr, OnOk, map, string_bytes};
+ghost use Rattle.std.specs.Prelude.{◌≡◌, ◌≤◌, ◌++◌, ℕ, List, [], Option, IfOk, IfErr, OnOk, length, map, string_bytes};
+ghost use Rattle.std.specs.List.{All};
 ghost use Rattle.sc_edge.specs.Faults.{Rose};
 ghost use Rattle.sc_edge.specs.Shelving.{GivesAll};
 ghost use Rattle.sc_replay.specs.Replaying.{TellsConfig, TellsTable, IsUnset, app_names};
@@ -42,6 +43,8 @@ pub fn read_settings<F: Shelf>(
 ) -> Result<Settings, Status>
     ensures config { IfOk result (λ settings. TellsConfig kinds.now (F.holds shelf.old (string_bytes config.now)) settings.config) }
     ensures table { IfOk result (λ settings. TellsTable (app_names settings.config) (F.holds shelf.old (string_bytes dar.now)) settings.dar) }
+    ensures lists { IfOk result (λ settings. length settings.dar.lists ≤ 65537) }
+    ensures tuples { IfOk result (λ settings. All (λ list. length list.tuples ≤ 64) settings.dar.lists) }
     ensures unset { IfErr result (λ status. IsUnset kinds.now (F.holds shelf.old (string_bytes config.now)) (F.holds shelf.old (string_bytes dar.now)) (Rose (F.faults shelf.old) (F.faults shelf.new)) status) }
     ensures same { (n : List ℕ) → F.holds shelf.new n ≡ F.holds shelf.old n }
     ensures later { F.faults shelf.old ≤ F.faults shelf.new }
@@ -61,6 +64,8 @@ fn with_table<F: Shelf>(
 ) -> Result<Settings, Status>
     ensures config { IfOk result (λ settings. settings.config ≡ config) }
     ensures table { IfOk result (λ settings. TellsTable (app_names config) (F.holds shelf.old (string_bytes name.now)) settings.dar) }
+    ensures lists { IfOk result (λ settings. length settings.dar.lists ≤ 65537) }
+    ensures tuples { IfOk result (λ settings. All (λ list. length list.tuples ≤ 64) settings.dar.lists) }
     ensures unread { IfErr result (λ status. IsTableUnread (app_names config) (F.holds shelf.old (string_bytes name.now)) (Rose (F.faults shelf.old) (F.faults shelf.new)) status) }
     ensures same { (n : List ℕ) → F.holds shelf.new n ≡ F.holds shelf.old n }
     ensures later { F.faults shelf.old ≤ F.faults shelf.new }
@@ -127,6 +132,8 @@ fn read_table<F: Shelf>(
     apps: &[AppEntry],
 ) -> Result<Dar, Status>
     ensures found { IfOk result (λ dar. TellsTable (map (λ app. app.name) apps.now) (F.holds shelf.old (string_bytes name.now)) dar) }
+    ensures lists { IfOk result (λ dar. length dar.lists ≤ 65537) }
+    ensures tuples { IfOk result (λ dar. All (λ list. length list.tuples ≤ 64) dar.lists) }
     ensures unread { IfErr result (λ status. IsTableUnread (map (λ app. app.name) apps.now) (F.holds shelf.old (string_bytes name.now)) (Rose (F.faults shelf.old) (F.faults shelf.new)) status) }
     ensures same { (n : List ℕ) → F.holds shelf.new n ≡ F.holds shelf.old n }
     ensures later { F.faults shelf.old ≤ F.faults shelf.new }
@@ -143,6 +150,8 @@ fn read_table<F: Shelf>(
 #[tactic(auto, unfolding(crate::specs::Running::IsTableUnread))]
 fn table_of(alloc: Global, text: &Text, apps: &[AppEntry]) -> Result<Dar, Status>
     ensures found { (told : Option (List ℕ)) → GivesAll text.now told → IfOk result (λ dar. TellsTable (map (λ app. app.name) apps.now) told dar) }
+    ensures lists { IfOk result (λ dar. length dar.lists ≤ 65537) }
+    ensures tuples { IfOk result (λ dar. All (λ list. length list.tuples ≤ 64) dar.lists) }
     ensures unread { (told : Option (List ℕ)) → GivesAll text.now told → IfErr result (λ status. IsTableUnread (map (λ app. app.name) apps.now) told ⊥ status) }
 {
     match names_of(alloc, apps) {
@@ -152,9 +161,11 @@ fn table_of(alloc: Global, text: &Text, apps: &[AppEntry]) -> Result<Dar, Status
 }
 
 /// The routing table of a text, for applications of these names.
-#[tactic(auto, unfolding(crate::specs::Running::IsTableUnread), using(crate::proofs::Settled::table_fault))]
+#[tactic(auto, unfolding(crate::specs::Running::IsTableUnread), using(crate::proofs::Settled::table_fault, crate::proofs::TableLengths::few_lists))]
 fn table_for(alloc: Global, text: &Text, names: &List<Text>) -> Result<Dar, Status>
     ensures found { (told : Option (List ℕ)) → GivesAll text.now told → IfOk result (λ dar. TellsTable names.now told dar) }
+    ensures lists { IfOk result (λ dar. length dar.lists ≤ 65537) }
+    ensures tuples { IfOk result (λ dar. All (λ list. length list.tuples ≤ 64) dar.lists) }
     ensures unread { (told : Option (List ℕ)) → GivesAll text.now told → IfErr result (λ status. IsTableUnread names.now told ⊥ status) }
 {
     match sc_dar::read(alloc, text.as_bytes(), names) {

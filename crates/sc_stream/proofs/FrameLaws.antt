@@ -14,7 +14,7 @@ use Rattle.sc_stream.proofs.FrontLaws.{front_stays, front_within, front_none, fr
 -- ## Line ends that are skipped
 
 -- only two bytes count
-break_alike : (b c : ℕ) (x y : Bytes) → begins_break (b ∷ c ∷ x) ≡ begins_break (b ∷ c ∷ y)
+pub break_alike : (b c : ℕ) (x y : Bytes) → begins_break (b ∷ c ∷ x) ≡ begins_break (b ∷ c ∷ y)
 unfolding begins_break begins
 break_alike b c x y = refl
 

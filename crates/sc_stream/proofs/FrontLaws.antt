@@ -28,7 +28,7 @@ unfolding is_end begins_break begins
 short_end b c d = ap (λ t. begins_break (b ∷ c ∷ d ∷ []) && t) (and_false (begins 13 (d ∷ []))) ∙ and_false (begins_break (b ∷ c ∷ d ∷ []))
 
 -- only four bytes count
-end_alike : (b c d e : ℕ) (x y : Bytes) → is_end Empty (b ∷ c ∷ d ∷ e ∷ x) ≡ is_end Empty (b ∷ c ∷ d ∷ e ∷ y)
+pub end_alike : (b c d e : ℕ) (x y : Bytes) → is_end Empty (b ∷ c ∷ d ∷ e ∷ x) ≡ is_end Empty (b ∷ c ∷ d ∷ e ∷ y)
 unfolding is_end begins_break begins
 end_alike b c d e x y = refl
 
@@ -68,7 +68,7 @@ take_on zero t more = let none : ◌≡◌ {A = ℕ} (0 - length t) 0 = omega ar
 take_on (suc n) [] more = let all : ◌≡◌ {A = ℕ} (suc n - 0) (suc n) = omega arith in rw all refl
 take_on (suc n) (b ∷ bs) more = let less : ◌≡◌ {A = ℕ} (suc n - suc (length bs)) (n - length bs) = omega arith in rw less (ap (λ t. b ∷ t) (take_on n bs more))
 
-limit_stays : (text more : Bytes) → is_some (end_of Empty (take 65535 text)) ≡ true → end_of Empty (take 65535 (text ++ more)) ≡ end_of Empty (take 65535 text)
+pub limit_stays : (text more : Bytes) → is_some (end_of Empty (take 65535 text)) ≡ true → end_of Empty (take 65535 (text ++ more)) ≡ end_of Empty (take 65535 text)
 limit_stays text more h = ap (end_of Empty) (take_on 65535 text more) ∙ end_stays (take 65535 text) (take (65535 - length text) more) h
 
 fits_more : (n : ℕ) (text more : Bytes) → nat_le n (length text) ≡ true → nat_le n (length (text ++ more)) ≡ true
@@ -80,7 +80,7 @@ past_more text more h = let len = length-append text more in grind (arith, nat_t
 le_of : (a b : ℕ) → nat_le a b ≡ true → a ≤ b
 le_of a b h = grind (arith, nat_tests, h)
 
-gt_of : (a b : ℕ) → nat_le a b ≡ false → b ≤ a
+pub gt_of : (a b : ℕ) → nat_le a b ≡ false → b ≤ a
 gt_of a b h = grind (arith, nat_tests, h)
 
 -- ## Head and body
@@ -128,16 +128,16 @@ end_room (b ∷ c ∷ d ∷ e ∷ r) = elim (is_end Empty (b ∷ c ∷ d ∷ e �
   | false ↦ head_room (end_of Empty (c ∷ d ∷ e ∷ r)) (length (c ∷ d ∷ e ∷ r)) (end_room (c ∷ d ∷ e ∷ r))
 ]
 
-room_in : (text : Bytes) (end : ℕ) → end_of Empty (take 65535 text) ≡ Some end → end + 4 ≤ length text
+pub room_in : (text : Bytes) (end : ℕ) → end_of Empty (take 65535 text) ≡ Some end → end + 4 ≤ length text
 room_in text end h =
     let here : end + 4 ≤ length (take 65535 text) = subst (λ o. IfSome o (λ e. e + 4 ≤ length (take 65535 text))) h (end_room (take 65535 text)) in
     let len = length-take 65535 text in omega (arith, here, len)
 
 -- by the place of the empty line
-abbrev by_end : Bytes → Option ℕ → Front
+abbrev pub by_end : Bytes → Option ℕ → Front
 by_end text o = option_map_or (λ end. headed text (take end text) (message_in (take end text) [])) o (if nat_le (length text) 65535 then Open else Long)
 
-front_is : (text : Bytes) → front_of text ≡ by_end text (end_of Empty (take 65535 text))
+pub front_is : (text : Bytes) → front_of text ≡ by_end text (end_of Empty (take 65535 text))
 unfolding front_of
 front_is text = refl
 

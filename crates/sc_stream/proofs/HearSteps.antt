@@ -1,5 +1,6 @@
 -- What is heard of a stream.
-use Rattle.std.proofs.Common.{◌≡◌, ℕ, true, false, cond, List, [], ◌∷◌, Option, ◌+◌, ◌-◌, ◌≤◌, length, take, drop, refl, sym, ap, subst, ◌∙◌, arith}
+use Rattle.std.proofs.Common.{◌≡◌, ℕ, true, false, cond, List, [], ◌∷◌, Option, Result, Ok, ◌+◌, ◌-◌, ◌≤◌, length, take, drop, refl, sym, ap, subst, ◌∙◌, arith}
+use Rattle.std.specs.Prelude.{IfOk}
 use Rattle.std.proofs.lemmas.Bool.{false≢true}
 use Rattle.std.proofs.lemmas.List.{drop-drop, length-drop, take_rest}
 use Rattle.sc_value.specs.declared.message.Message.{Message}
@@ -9,7 +10,7 @@ use Rattle.sc_syntax.specs.declared.front.Front.TheVariants as fronts
 use Rattle.sc_syntax.specs.Bytes.{Bytes}
 use Rattle.sc_syntax.specs.Hosts.{begins}
 use Rattle.sc_syntax.specs.Lines.{begins_break}
-use Rattle.sc_syntax.specs.Fronts.{behind_breaks, front_of}
+use Rattle.sc_syntax.specs.Fronts.{behind_breaks}
 use Rattle.sc_stream.specs.declared.streams.Heard.{Heard}
 use Rattle.sc_stream.specs.declared.streams.Heard.TheVariants as heard
 use Rattle.sc_stream.specs.Frames.{front_behind, Splits, len_of}
@@ -19,7 +20,7 @@ use Rattle.sc_stream.proofs.FrameLaws.{splits_given}
 
 -- ## Line ends before a message
 
-skip_none : (text : Bytes) → begins_break text ≡ false → behind_breaks text ≡ text
+pub skip_none : (text : Bytes) → begins_break text ≡ false → behind_breaks text ≡ text
 unfolding behind_breaks
 skip_none [] h = refl
 skip_none (b ∷ []) h = refl
@@ -54,27 +55,25 @@ skip_room text place h within =
 
 -- ## What is heard
 
-pub rest_is : (kept : Bytes) (skipped : ℕ) → drop skipped kept ≡ behind_breaks kept → take (length kept - skipped) (drop skipped kept) ≡ behind_breaks kept
-rest_is kept skipped h = take_rest kept skipped ∙ h
+-- what was read, by the arm of a match
+pub front_here : {E : Type 0} (read : Result Front E) (found front seen : Front) → read ≡ Ok found → found ≡ front → IfOk read (λ front. front ≡ seen) → front ≡ seen
+front_here {E} read found front seen is same h = sym same ∙ subst (λ r. IfOk r (λ front. front ≡ seen)) is h
 
-pub front_is : (kept rest : Bytes) (front : Front) → rest ≡ behind_breaks kept → front ≡ front_of rest → front_behind kept ≡ front
-front_is kept rest front is h = sym (h ∙ ap front_of is)
-
-pub room_in : (kept rest : Bytes) (skipped len : ℕ) (message : Message) → skipped ≤ length kept → rest ≡ behind_breaks kept → drop skipped kept ≡ behind_breaks kept → fronts.Whole len message ≡ front_of rest → skipped + len ≤ length kept
-room_in kept rest skipped len message most is behind h =
-    let few : len ≤ length rest = subst (λ n. n ≤ length rest) (sym (ap len_of h)) (front_within rest) in
-    let same : length rest ≡ length kept - skipped = ap length (is ∙ sym behind) ∙ length-drop skipped kept in
+pub room_in : (text : Bytes) (breaks len : ℕ) (message : Message) → breaks ≤ length text → drop breaks text ≡ behind_breaks text → fronts.Whole len message ≡ front_behind text → breaks + len ≤ length text
+room_in text breaks len message most behind h =
+    let few : len ≤ length (behind_breaks text) = subst (λ n. n ≤ length (behind_breaks text)) (sym (ap len_of h)) (front_within (behind_breaks text)) in
+    let same : length (behind_breaks text) ≡ length text - breaks = ap length (sym behind) ∙ length-drop breaks text in
     omega (arith, few, same, most)
 
-pub message_heard : (kept rest : Bytes) (skipped len : ℕ) (message : Message) → rest ≡ behind_breaks kept → drop skipped kept ≡ behind_breaks kept → fronts.Whole len message ≡ front_of rest → Hears (heard.Message message) kept (drop (skipped + len) kept)
-message_heard kept rest skipped len message is behind h = (len, front_is kept rest (fronts.Whole len message) is h, sym (drop-drop len skipped kept) ∙ ap (drop len) behind)
+pub message_heard : (text : Bytes) (breaks len : ℕ) (message : Message) → drop breaks text ≡ behind_breaks text → fronts.Whole len message ≡ front_behind text → Hears (heard.Message message) text (drop (breaks + len) text)
+message_heard text breaks len message behind h = (len, sym h, sym (drop-drop len breaks text) ∙ ap (drop len) behind)
 
-pub bad_heard : (answer : Heard) (kept rest : Bytes) (at kind : ℕ) (heads : Option Answerable) → rest ≡ behind_breaks kept → fronts.Bad at kind heads ≡ front_of rest → IsBad answer at kind heads → Hears answer kept kept
-bad_heard (heard.Message message) kept rest at kind heads is h bad = absurd bad
-bad_heard heard.NotYet kept rest at kind heads is h bad = absurd bad
-bad_heard (heard.Bad b) kept rest at kind heads is h (place, what, same) = (heads, front_is kept rest (fronts.Bad at kind heads) is h ∙ ap (λ n. fronts.Bad n kind heads) (sym place) ∙ ap (λ n. fronts.Bad b.at n heads) (sym what), same, refl)
-bad_heard heard.Long kept rest at kind heads is h bad = absurd bad
-bad_heard heard.NoMemory kept rest at kind heads is h bad = refl
+pub bad_heard : (answer : Heard) (text : Bytes) (at kind : ℕ) (heads : Option Answerable) → fronts.Bad at kind heads ≡ front_behind text → IsBad answer at kind heads → Hears answer text text
+bad_heard (heard.Message message) text at kind heads h bad = absurd bad
+bad_heard heard.NotYet text at kind heads h bad = absurd bad
+bad_heard (heard.Bad b) text at kind heads h (place, what, same) = (heads, sym h ∙ ap (λ n. fronts.Bad n kind heads) (sym place) ∙ ap (λ n. fronts.Bad b.at n heads) (sym what), same, refl)
+bad_heard heard.Long text at kind heads h bad = absurd bad
+bad_heard heard.NoMemory text at kind heads h bad = refl
 
 same_rest : (given : List Message) (fed old now : Bytes) → now ≡ old → Splits given fed old → Splits given fed now
 same_rest given fed old now is h = subst (λ t. Splits given fed t) (sym is) h
@@ -87,6 +86,9 @@ hears_stands (heard.Bad bad) old now fed given (heads, front, same, rest) h = sa
 hears_stands heard.Long old now fed given (front, rest) h = same_rest given fed old now rest h
 hears_stands heard.NoMemory old now fed given rest h = same_rest given fed old now rest h
 
-pub hears_kept : (answer : Heard) (old slice kept now : Bytes) (taken : ℕ) → kept ≡ old → slice ≡ kept → now ≡ drop taken kept → Hears answer slice (drop taken slice) → Hears answer old now
-hears_kept answer old slice kept now taken is same rest h =
-    subst (λ t. Hears answer old t) (ap (drop taken) same ∙ sym rest) (subst (λ t. Hears answer t (drop taken slice)) (same ∙ is) h)
+-- ## The bytes before a place
+
+-- what is heard behind it, by what is kept then
+pub hears_kept : (answer : Heard) (old now text kept left : Bytes) (from taken place : ℕ) → drop from kept ≡ old → text ≡ drop from kept → drop place left ≡ drop (from + taken) kept → now ≡ drop place left → Hears answer text (drop taken text) → Hears answer old now
+hears_kept answer old now text kept left from taken place is same gone rest h =
+    subst (Hears answer old) (ap (drop taken) same ∙ drop-drop taken from kept ∙ sym gone ∙ sym rest) (subst (λ t. Hears answer t (drop taken text)) (same ∙ is) h)

@@ -1,4 +1,5 @@
 mod FrameLaws
 mod FrontLaws
 mod HearSteps
+mod Knowing
 mod ReadSteps

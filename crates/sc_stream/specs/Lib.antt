@@ -2,3 +2,4 @@ pub mod Answers
 pub mod Fields
 pub mod Frames
 pub mod Hearing
+pub mod Knowing

@@ -1,12 +1,15 @@
 //! What the bytes of a stream begin with (RFC 3261 sections 7.5 and 18.3).
 
-ghost use Rattle.std.specs.Prelude.{◌≡◌, ◌≤◌, ◌+◌, [], IfOk, IfSome, ◌^◌, length, take};
+ghost use Rattle.std.specs.Prelude.{◌≡◌, ◌≤◌, ◌+◌, [], IfOk, IfSome, ◌^◌, if◌then◌else◌, length, nat_le, take};
 ghost use Rattle.std.specs.Option.{option_copied, option_map_or};
 ghost use Rattle.sc_syntax.specs.declared.ending.Ending.TheVariants.{Empty};
 ghost use Rattle.sc_syntax.specs.Lines.{end_of, lines_behind};
 ghost use Rattle.sc_syntax.specs.Messages.{all_judged, message_in};
 ghost use Rattle.sc_syntax.specs.Fronts.{bad, body_len, front_of, headed, sized, whole};
+ghost use Rattle.sc_syntax.specs.declared.front.Front.TheVariants.{Open, Long};
+ghost use Rattle.sc_stream.specs.declared.fronts.Wanted.TheVariants.{Nothing};
 ghost use Rattle.sc_stream.specs.Fields.{len_told};
+ghost use Rattle.sc_stream.specs.Knowing.{Tells, TellsOf};
 
 use crate::answering::answerable_of;
 use sc_message_text::{MessageRefused, end_of, nothing_left, read_parts, split_start, take_lines};
@@ -26,13 +29,7 @@ pub fn front(alloc: Global, b: &[u8]) -> Result<Front, NoMemory>
 {
     match head_end(b) {
         Some(end) => headed(alloc, b, &b[..end]),
-        None => {
-            if b.len() <= 65_535 {
-                Ok(Front::Open)
-            } else {
-                Ok(Front::Long)
-            }
-        }
+        None => Ok(unended(b)),
     }
 }
 
@@ -45,8 +42,8 @@ fn head_end(text: &[u8]) -> Option<usize>
     end_of(Ending::Empty, within_limit(text))
 }
 
-// As many bytes as a message has at most.
-fn within_limit(text: &[u8]) -> &[u8]
+/// As many bytes as a message has at most.
+pub fn within_limit(text: &[u8]) -> &[u8]
     ensures exact { result.now ≡ take 65535 text.now }
     ensures whole { length result.now ≤ length text.now }
     ensures within { length result.now ≤ 65535 }
@@ -58,35 +55,92 @@ fn within_limit(text: &[u8]) -> &[u8]
     }
 }
 
-// A text with this head. Only the length of its body can't be at fault yet.
-#[tactic(auto, unfolding(sc_syntax::specs::Fronts::headed))]
+/// What a text begins with that has no empty line within the limit.
+pub fn unended(text: &[u8]) -> Front
+    ensures { result ≡ if nat_le (length text.now) 65535 then Open else Long }
+{
+    if text.len() <= 65_535 {
+        Front::Open
+    } else {
+        Front::Long
+    }
+}
+
+// A text with this head.
 fn headed(alloc: Global, text: &[u8], head: &[u8]) -> Result<Front, NoMemory>
     requires { length head.now + 4 ≤ 65535 }
     ensures { IfOk result (λ front. front ≡ headed text.now head.now (message_in head.now [])) }
 {
+    match wanted_by(alloc, head) {
+        Ok(Wanted::Bytes(len)) => sized(alloc, text, head, len),
+        Ok(Wanted::Nothing(front)) => Ok(front),
+        Err(NoMemory) => Err(NoMemory),
+    }
+}
+
+/// What a head tells of its message.
+#[derive(Drop)]
+pub enum Wanted {
+    /// It has so many bytes with its body, at most 65,535.
+    Bytes(usize),
+    /// No more is wanted: every text with the head begins with this.
+    Nothing(Front),
+}
+
+/// What this head tells. Only the length of its body can't be at fault yet.
+pub fn wanted_by(alloc: Global, head: &[u8]) -> Result<Wanted, NoMemory>
+    requires { length head.now + 4 ≤ 65535 }
+    ensures { IfOk result (λ wanted. Tells wanted head.now) }
+{
     match read_parts(alloc, head, b"") {
         Ok(message) => {
             drop(message);
-            sized_as_told(alloc, text, head)
+            wanted_as_told(alloc, head)
         }
         Err(MessageRefused::Refused { at, kind }) => {
             if kind == 12 {
-                sized_as_told(alloc, text, head)
+                wanted_as_told(alloc, head)
             } else {
-                bad(alloc, head, at, kind)
+                wanted_never(alloc, head, at, kind)
             }
         }
         Err(MessageRefused::NoMemory) => Err(NoMemory),
     }
 }
 
-// The same, where the head has no fault but for the length of its body.
-fn sized_as_told(alloc: Global, text: &[u8], head: &[u8]) -> Result<Front, NoMemory>
+// A head with this fault, which isn't the length of its body.
+fn wanted_never(alloc: Global, head: &[u8], at: usize, kind: u8) -> Result<Wanted, NoMemory>
+    ensures { IfOk result (λ wanted. wanted ≡ Nothing (bad head.now (record { at = at; kind = kind }))) }
+{
+    match bad(alloc, head, at, kind) {
+        Ok(front) => Ok(Wanted::Nothing(front)),
+        Err(NoMemory) => Err(NoMemory),
+    }
+}
+
+// A head that has no fault but for the length of its body.
+fn wanted_as_told(alloc: Global, head: &[u8]) -> Result<Wanted, NoMemory>
     requires { length head.now + 4 ≤ 65535 }
-    ensures { IfOk result (λ front. front ≡ sized text.now head.now (length head.now + 4 + body_len head.now)) }
+    ensures { IfOk result (λ wanted. TellsOf wanted head.now (length head.now + 4 + body_len head.now)) }
 {
     let body = body_len(alloc, head)?;
-    sized(alloc, text, head, body)
+    Ok(wanted_with(head, body))
+}
+
+// A head whose body has so many bytes.
+#[tactic(auto, using(crate::proofs::Knowing::too_long))]
+fn wanted_with(head: &[u8], body: u64) -> Wanted
+    requires { length head.now + 4 ≤ 65535 }
+    ensures { TellsOf result head.now (length head.now + 4 + body) }
+{
+    if body > 65_535 {
+        return Wanted::Nothing(Front::Long);
+    }
+    let len = head.len() + 4 + body as usize;
+    if len > 65_535 {
+        return Wanted::Nothing(Front::Long);
+    }
+    Wanted::Bytes(len)
 }
 
 // The Content-Length of a head whose lines have no fault.
@@ -113,19 +167,13 @@ fn told_len(left: &mut Left, alloc: Global, rest: Option<&[u8]>, at: usize) -> R
     }
 }
 
-// Head and body, which has so many bytes.
+/// Head and body, which have so many bytes together.
 #[tactic(auto, unfolding(sc_syntax::specs::Fronts::sized))]
-fn sized(alloc: Global, text: &[u8], head: &[u8], body: u64) -> Result<Front, NoMemory>
-    requires { length head.now + 4 ≤ 65535 }
-    ensures { IfOk result (λ front. front ≡ sized text.now head.now (length head.now + 4 + body)) }
+pub fn sized(alloc: Global, text: &[u8], head: &[u8], len: usize) -> Result<Front, NoMemory>
+    requires whole { length head.now + 4 ≤ len }
+    requires within { len ≤ 65535 }
+    ensures { IfOk result (λ front. front ≡ sized text.now head.now len) }
 {
-    if body > 65_535 {
-        return Ok(Front::Long);
-    }
-    let len = head.len() + 4 + body as usize;
-    if len > 65_535 {
-        return Ok(Front::Long);
-    }
     if len > text.len() {
         return Ok(Front::Open);
     }

@@ -3,6 +3,7 @@
 
 mod answering;
 mod fields;
+mod first;
 mod fronts;
 mod laws;
 mod names;

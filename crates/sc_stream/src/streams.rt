@@ -1,15 +1,15 @@
 //! Streams: bytes go in in any pieces, and messages come out whole (RFC 3261 section 18.3).
 
-ghost use Rattle.std.specs.Prelude.{◌≡◌, ◌≤◌, ◌<◌, ◌^◌, ◌++◌, [], List, IfOk, OnOk, OnErr, IsTrue, drop, length};
+ghost use Rattle.std.specs.Prelude.{◌≡◌, ◌≤◌, ◌<◌, ◌^◌, ◌++◌, [], List, IfOk, OnOk, OnErr, drop, length};
 ghost use Rattle.std.specs.Option.{option_map};
 ghost use Rattle.sc_value.specs.declared.message.Message.{Message};
 ghost use Rattle.sc_syntax.specs.Bytes.{Bytes};
 ghost use Rattle.sc_syntax.specs.Fronts.{behind_breaks};
-ghost use Rattle.sc_stream.specs.Frames.{Splits};
+ghost use Rattle.sc_stream.specs.Frames.{Splits, front_behind};
 ghost use Rattle.sc_stream.specs.Hearing.{Hears, IsBad, given_after, with_heads};
+ghost use Rattle.sc_stream.specs.Knowing.{IsFirst};
 
-use crate::fronts::front;
-use sc_message_text::begins_break;
+use crate::first::{First, behind, look, nothing_known, pass_breaks};
 use sc_syntax::{Answerable, Front};
 use sc_terms::Bad;
 use sc_value::{Boxed, Message, NoMemory};
@@ -32,18 +32,26 @@ pub enum Heard {
 }
 
 /// The bytes of a stream behind the messages that were given. A contract sees these bytes.
+///
+/// What is known of the first message there is kept, so that the work grows with the bytes that come,
+/// in whatever pieces, and not with those that are kept.
 #[derive(Drop)]
 pub struct Stream {
     alloc: Global,
     kept: Vec<u8>,
+    from: usize,
+    first: First,
 }
 
 impl Model for Stream {
-    ghost use Rattle.std.specs.Prelude.{List, ℕ};
+    ghost use Rattle.std.specs.Prelude.{List, ℕ, ◌≤◌, length, drop};
+    ghost use Rattle.sc_stream.specs.Knowing.{IsFirst};
 
     ghost Value = { List ℕ };
 
-    ghost view = { λ s. s.kept.items };
+    ghost view = { λ s. drop s.from s.kept.items };
+
+    ghost invariant = { λ s. (s.from ≤ length s.kept.items) × IsFirst s.first (drop s.from s.kept.items) };
 }
 
 impl Stream {
@@ -56,6 +64,8 @@ impl Stream {
         Stream {
             alloc,
             kept: Vec::new(alloc),
+            from: 0,
+            first: nothing_known(),
         }
     }
 
@@ -76,46 +86,69 @@ impl Stream {
         ensures hears { Hears result self.old self.new }
         ensures stands { (fed : Bytes) (given : List Message) → Splits given fed self.old → Splits (given_after given result) fed self.new }
     {
-        let (heard, taken) = hear(self.alloc, self.kept.as_slice());
-        drop_front(&mut self.kept, taken);
+        let text = behind(self.kept.as_slice(), self.from);
+        let (heard, first, taken) = hear(self.alloc, text, self.first);
+        self.first = first;
+        self.from = let_go(&mut self.kept, self.from + taken);
         heard
     }
 }
 
-fn drop_front(bytes: &mut Vec<u8>, len: usize)
-    requires { len ≤ length bytes.now.items }
-    ensures { bytes.new.items ≡ drop len bytes.old.items }
+// Bytes before `from` are let go of once they are half of all, so that each byte is moved for one that
+// was given. How many of them are still there.
+fn let_go(bytes: &mut Vec<u8>, from: usize) -> usize
+    requires { from ≤ length bytes.old.items }
+    ensures exact { drop result bytes.new.items ≡ drop from bytes.old.items }
+    ensures within { result ≤ length bytes.new.items }
 {
-    bytes.drain(..len);
+    if from < bytes.len() - from {
+        return from;
+    }
+    bytes.drain(..from);
+    0
 }
 
-// What is heard, and how many bytes it takes.
-#[tactic(auto, using(crate::proofs::HearSteps::room_in))]
-fn hear(alloc: Global, kept: &[u8]) -> (Heard, usize)
-    ensures hears { Hears result.0 kept.now (drop result.1 kept.now) }
-    ensures within { result.1 ≤ length kept.now }
+// What is heard, what is known of the bytes that are left then, and how many bytes it takes.
+#[tactic(auto, using(crate::proofs::Knowing::first_known, crate::proofs::Knowing::first_with, crate::proofs::Knowing::first_behind, crate::proofs::Knowing::front_seen))]
+fn hear(alloc: Global, text: &[u8], first: First) -> (Heard, First, usize)
+    requires { IsFirst first text.now }
+    ensures hears { Hears result.0 text.now (drop result.2 text.now) }
+    ensures known { IsFirst result.1 (drop result.2 text.now) }
+    ensures within { result.2 ≤ length text.now }
 {
-    let skipped = breaks_len(kept);
-    match front(alloc, &kept[skipped..]) {
-        Ok(Front::Open) => (Heard::NotYet, 0),
-        Ok(Front::Whole { len, message }) => (Heard::Message(message), skipped + len),
-        Ok(Front::Bad { at, kind, heads }) => (hear_bad(alloc, at, kind, heads), 0),
-        Ok(Front::Long) => (Heard::Long, 0),
-        Err(NoMemory) => (Heard::NoMemory, 0),
-    }
+    let first = pass_breaks(text, first);
+    let (front, known) = look(alloc, behind(text, first.breaks), first.known);
+    let breaks = first.breaks;
+    hear_front(alloc, text, front, First { breaks, known })
 }
 
-// How many bytes of line ends stand before a message.
-fn breaks_len(text: &[u8]) -> usize
-    ensures exact { drop result text.now ≡ behind_breaks text.now }
-    ensures within { result ≤ length text.now }
-    ensures room { length text.now < 2 ^ 63 }
+// The same, where the bytes behind the line ends begin with this.
+#[tactic(auto, using(crate::proofs::HearSteps::room_in, crate::proofs::HearSteps::message_heard, crate::proofs::HearSteps::bad_heard))]
+fn hear_front(
+    alloc: Global,
+    text: &[u8],
+    front: Result<Front, NoMemory>,
+    first: First,
+) -> (Heard, First, usize)
+    requires known { IsFirst first text.now }
+    requires within { first.breaks ≤ length text.now }
+    requires room { length text.now < 2 ^ 63 }
+    requires behind { drop first.breaks text.now ≡ behind_breaks text.now }
+    requires front { IfOk front (λ front. front ≡ front_behind text.now) }
+    ensures hears { Hears result.0 text.now (drop result.2 text.now) }
+    ensures known { IsFirst result.1 (drop result.2 text.now) }
+    ensures within { result.2 ≤ length text.now }
 {
-    let mut place = 0;
-    while begins_break(&text[place..]) {
-        place += 2;
+    match front {
+        Ok(Front::Open) => (Heard::NotYet, first, 0),
+        Ok(Front::Whole { len, message }) => {
+            let taken = first.breaks + len;
+            (Heard::Message(message), nothing_known(), taken)
+        }
+        Ok(Front::Bad { at, kind, heads }) => (hear_bad(alloc, at, kind, heads), first, 0),
+        Ok(Front::Long) => (Heard::Long, first, 0),
+        Err(NoMemory) => (Heard::NoMemory, first, 0),
     }
-    place
 }
 
 fn hear_bad(alloc: Global, at: usize, kind: u8, heads: Option<Answerable>) -> Heard

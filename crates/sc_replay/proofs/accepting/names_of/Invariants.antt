@@ -1,5 +1,0 @@
-use Rattle.std.proofs.Common.{◌≡◌, map, take}
-use Rattle.sc_replay.proofs.accepting.names_of.Given as goal
-
-abbrev pub invariant-loop-app : goal.invariant-loop-app
-invariant-loop-app l = l.names ≡ map (λ app. app.name) (take l.app-index l.apps)
