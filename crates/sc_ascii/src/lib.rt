@@ -5,8 +5,6 @@
 mod names;
 mod numbers;
 mod places;
-#[cfg(test)]
-mod tests;
 
 pub use names::same_name;
 pub use numbers::{read_port, read_u64};

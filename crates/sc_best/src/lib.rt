@@ -4,8 +4,6 @@
 
 mod choice;
 mod forwarding;
-#[cfg(test)]
-mod tests;
 
 pub use choice::best;
 pub use forwarding::{forwarded, gather};

@@ -12,6 +12,8 @@ use Rattle.toml.specs.View.{view, items_of, items_view}
 use Rattle.toml.specs.declared.value.Value.{Value}
 use Rattle.sc_config.specs.Documents.{Bytes, document, items_in, elements, first_given}
 use Rattle.sc_config.specs.KeyValues.{is_params}
+use Rattle.sc_terms.specs.Ranges.{are_few}
+use Rattle.std.proofs.lemmas.List.{length-map}
 
 pub items_in-items_of : (ds : List Data) → items_in (items_of ds) ≡ ds
 items_in-items_of [] = refl
@@ -68,3 +70,8 @@ none_if bytes false none e = refl
 
 pub document_none : (bytes : Bytes) → (IsUtf8 bytes → parse_document bytes ≡ None) → document bytes ≡ None
 document_none bytes none = none_if bytes (is_utf8 bytes) none refl
+
+-- as many entries as applications
+pub few_entries : {A B : Type 0} (f : A → B) (xs : List A) → are_few (map f xs) ≡ are_few xs
+unfolding are_few
+few_entries f xs = rw (length-map xs f) refl

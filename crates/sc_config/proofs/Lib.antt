@@ -1,3 +1,4 @@
 pub mod AddressLaws
 pub mod DocumentLaws
 pub mod NameLaws
+pub mod RangeLaws

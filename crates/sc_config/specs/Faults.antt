@@ -1,15 +1,17 @@
 -- What is refused of a configuration, in the order in which it is looked for.
-use Rattle.std.specs.Prelude.{ℕ, Bool, true, not, ◌||◌, ◌&&◌, ◌++◌, Option, Some, None, List, [], ◌∷◌, map, codes, length, nat_le, if◌then◌else◌, is_some}
+use Rattle.std.specs.Prelude.{ℕ, Bool, true, not, ◌||◌, ◌&&◌, ◌++◌, Option, Some, None, List, [], ◌∷◌, map, codes, if◌then◌else◌, is_some}
 use Rattle.std.specs.List.{list_all, list_any, find}
 use Rattle.std.specs.Option.{option_and_then, option_map, option_map_or, is_none, option_or}
 use Rattle.toml.specs.Data.{Data, Members, get_member, as_str, as_table}
 use Rattle.sc_value.specs.Params.{same_bytes}
+use Rattle.sc_terms.specs.Ranges.{are_few}
+use Rattle.sc_syntax.specs.Hosts.{is_host}
 use Rattle.sc_config.specs.declared.faults.Check.{Check}
 use Rattle.sc_config.specs.declared.faults.Check.TheVariants.{UnknownKeys, Missing, Range}
 use Rattle.sc_config.specs.declared.faults.Wrong.{Wrong}
 use Rattle.sc_config.specs.declared.faults.Wrong.TheVariants.{TopKey, AppKey, Host}
 use Rattle.sc_config.specs.Documents.{Bytes, elements, first_key, first_given}
-use Rattle.sc_config.specs.KeyValues.{listen_in, text_in, number_in, is_wrong_host, is_params, expires_in, is_app_name, is_host, is_salt}
+use Rattle.sc_config.specs.KeyValues.{listen_in, text_in, number_in, is_wrong_host, is_params, expires_in, is_app_name, is_salt}
 
 -- a kind of refusal and the key at fault
 abbrev pub Fault : Type 0
@@ -112,7 +114,7 @@ apps_in top = option_map_or elements (get_member (codes "app") top) []
 
 -- 1 to 64 tables
 abbrev pub are_some_tables : List Data → Bool
-are_some_tables values = nat_le 1 (length values) && nat_le (length values) 64 && list_all (λ value. is_some (as_table value)) values
+are_some_tables values = are_few values && list_all (λ value. is_some (as_table value)) values
 
 unfoldable pub wrong_apps : Members → Option Fault
 wrong_apps top = wrong_if (not (are_some_tables (apps_in top))) (codes "app")

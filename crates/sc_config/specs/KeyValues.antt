@@ -6,6 +6,8 @@ use Rattle.std.specs.Char.{is_ascii_alphanumeric, is_ascii_digit}
 use Rattle.std.specs.Str.Parse.{digits_value}
 use Rattle.std.specs.Net.Reader.{read_ipv4}
 use Rattle.toml.specs.Data.{Data, as_str, as_integer, as_array}
+use Rattle.sc_terms.specs.Ranges.{is_expiry}
+use Rattle.sc_syntax.specs.Hosts.{is_host}
 use Rattle.sc_config.specs.Documents.{Bytes, elements}
 
 -- ## Texts
@@ -14,14 +16,6 @@ use Rattle.sc_config.specs.Documents.{Bytes, elements}
 abbrev pub text_if : (Bytes → Bool) → Option Bytes → Option Bytes
 text_if test None = None
 text_if test (Some text) = if test text then Some text else None
-
--- the byte may stand in a host's name
-unfoldable pub is_host_byte : ℕ → Bool
-is_host_byte b = is_ascii_alphanumeric b || b == 45 || b == 46
-
--- a host's name: one or more letters, digits, `-` and `.`
-unfoldable pub is_host : Bytes → Bool
-is_host text = not (length text == 0) && list_all is_host_byte text
 
 -- 1 to 16 letters and digits
 unfoldable pub is_salt : Bytes → Bool
@@ -51,7 +45,7 @@ ip_of text = if_whole (read_ipv4 text)
 -- the port that the text writes: a decimal from 1 to 65,535 without leading zeros
 unfoldable pub port_of : Bytes → Option ℕ
 port_of text =
-    if list_all is_ascii_digit text && nat_lt 0 (length text) && not (slice_index text 0 == 48) && nat_lt (digits_value 10 text) 65536
+    if list_all is_ascii_digit text && nat_lt 0 (length text) && not (slice_index text 0 == 48) && nat_le 1 (digits_value 10 text) && nat_lt (digits_value 10 text) 65536
     then Some (digits_value 10 text) else None
 
 -- both, where both are there
@@ -81,11 +75,6 @@ unfoldable pub number_in : ℕ → ℕ → ℕ → Option Data → Option ℕ
 number_in low high standard None = Some standard
 number_in low high standard (Some value) = option_and_then (number_within low high) (as_integer value)
 
--- -1 to 10,080
-unfoldable pub is_expiry : ℤ → Bool
-is_expiry (pos n) = nat_le n 10080
-is_expiry (negsuc n) = n == 0
-
 unfoldable pub expiry_of : ℤ → Option ℤ
 expiry_of minutes = if is_expiry minutes then Some minutes else None
 
@@ -106,7 +95,7 @@ text_in test value = text_if test (option_and_then as_str value)
 unfoldable pub host_ip : Data → Option Bytes
 host_ip value = option_and_then ip_of (as_str value)
 
--- the entry of `hosts` isn't a host's name with an IPv4 address
+-- the entry of `hosts` isn't a host with an IPv4 address
 unfoldable pub is_wrong_host : Bytes → Data → Bool
 is_wrong_host name value = not (is_host name && is_some (host_ip value))
 

@@ -65,7 +65,7 @@ top_text key top = unwrap_or (option_and_then as_str (get_member key top)) []
 
 unfoldable pub config_of : List Bytes → Members → Config
 config_of kinds top = record {
-  listen = unwrap_or (listen_in (get_member (codes "listen") top)) (0 ∷ 0 ∷ 0 ∷ 0 ∷ [], 0);
+  listen = unwrap_or (listen_in (get_member (codes "listen") top)) (0 ∷ 0 ∷ 0 ∷ 0 ∷ [], 5060);
   domain = top_text (codes "domain") top;
   salt = top_text (codes "salt") top;
   workers = number_at 1 32 2 (codes "workers") top;

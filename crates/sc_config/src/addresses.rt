@@ -5,6 +5,7 @@ ghost use Rattle.std.specs.List.{list_all};
 ghost use Rattle.std.specs.Char.{is_ascii_digit};
 ghost use Rattle.sc_config.specs.KeyValues.{ip_of, port_of, listen_text};
 
+use sc_terms::Port;
 use std::net::Ipv4Addr;
 
 /// The IPv4 address that the text writes.
@@ -20,7 +21,7 @@ pub(crate) fn ip_of(text: &str) -> Option<[u8; 4]>
 
 /// The port that the text writes, 1 to 65,535 without leading zeros.
 #[tactic(auto, unfolding(crate::specs::KeyValues::port_of))]
-fn port_of(text: &str) -> Option<u16>
+fn port_of(text: &str) -> Option<Port>
     ensures { result ≡ port_of text.now }
 {
     let bytes = text.as_bytes();
@@ -28,7 +29,7 @@ fn port_of(text: &str) -> Option<u16>
         return None;
     }
     match text.parse::<u16>() {
-        Ok(port) => Some(port),
+        Ok(port) => Port::new(port),
         Err(_) => None,
     }
 }
@@ -41,7 +42,7 @@ fn are_digits(bytes: &[u8]) -> bool
 
 #[tactic(auto, unfolding(crate::specs::KeyValues::listen_text), using(crate::proofs::AddressLaws::no_colon))]
 /// The address and the port that a text with a colon between them writes.
-pub(crate) fn listen_of(text: &str) -> Option<([u8; 4], u16)>
+pub(crate) fn listen_of(text: &str) -> Option<([u8; 4], Port)>
     ensures { result ≡ listen_text text.now }
 {
     let (ip, port) = text.split_once(':')?;

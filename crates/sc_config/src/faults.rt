@@ -1,21 +1,24 @@
 //! What is refused of a configuration.
 
-ghost use Rattle.std.specs.Prelude.{◌≡◌, not, map, position, is_some, codes};
+ghost use Rattle.std.specs.Prelude.{◌≡◌, ◌≤◌, not, map, position, is_some, codes};
 ghost use Rattle.std.specs.List.{list_all, list_any};
 ghost use Rattle.std.specs.Option.{option_map, option_map_or, option_copied, option_and_then, is_none};
 ghost use Rattle.toml.specs.Data.{as_str, as_table, get_member};
 ghost use Rattle.sc_value.specs.Params.{same_bytes};
 ghost use Rattle.toml.specs.View.{view, table_view};
 ghost use Rattle.sc_config.specs.Faults.{fault_if, missing, wrong_if, wrong_text, wrong_listen, wrong_number, wrong_params, wrong_expires, app_fault, top_fault, is_app_key, is_top_key, is_any, is_wrong, item_fault, apps_in, apps_fault, are_some_tables, wrong_apps, wrong_hosts, wrong_numbers, table_fault, app_text, is_kind, unknown_kind, double_name, first_refusal, first_fault};
-ghost use Rattle.sc_config.specs.KeyValues.{is_wrong_host, text_in, text_if, is_salt, is_app_name, is_host, listen_in, is_params};
+ghost use Rattle.sc_config.specs.KeyValues.{is_wrong_host, text_in, text_if, is_salt, is_app_name, listen_in, is_params};
+ghost use Rattle.sc_syntax.specs.Hosts.{is_host};
 ghost use Rattle.sc_config.specs.declared.faults.Check.TheVariants.{UnknownKeys, Missing, Range};
 ghost use Rattle.sc_config.specs.Documents.{first_key, first_given};
 
 use crate::config_refused::{DOUBLE_NAME, MISSING, RANGE, UNKNOWN_KEY, UNKNOWN_KIND};
-use crate::texts::{is_app_name, is_host, is_salt};
+use crate::texts::{is_app_name, is_salt};
 use crate::values::{
     elements, expires_in, host_ip, is_params, listen_in, number_in, text_at, value_at,
 };
+use sc_terms::Within;
+use sc_uri_text::is_host;
 use sc_value::Text;
 use std::marker::Model;
 use toml::{Table, Value};
@@ -35,7 +38,7 @@ pub(crate) enum Wrong {
     TopKey,
     /// A key that an application hasn't.
     AppKey,
-    /// What is no host's name with an IPv4 address.
+    /// What is no host with an IPv4 address.
     Host,
 }
 
@@ -74,10 +77,14 @@ fn missing<'a>(key: &'a str, table: &Table) -> Option<Fault<'a>>
 }
 
 #[tactic(auto, unfolding(crate::specs::Faults::wrong_number))]
-fn wrong_number<'a>(low: u64, high: u64, key: &'a str, table: &Table) -> Option<Fault<'a>>
-    ensures { result ≡ wrong_number low high key.now (table_view table.now) }
+fn wrong_number<'a, const LOW: u64, const HIGH: u64>(
+    key: &'a str,
+    table: &Table,
+) -> Option<Fault<'a>>
+    requires { LOW ≤ HIGH }
+    ensures { result ≡ wrong_number LOW HIGH key.now (table_view table.now) }
 {
-    let number = number_in(low, high, low, value_at(table, key));
+    let number = number_in::<LOW, HIGH>(Within::of(LOW), value_at(table, key));
     fault_if(number.is_none(), RANGE, key)
 }
 
@@ -291,7 +298,7 @@ fn are_tables(values: &[Value]) -> bool
     values.iter().all(|value| value.is_table())
 }
 
-#[tactic(auto, using(crate::proofs::DocumentLaws::tables_view, crate::proofs::DocumentLaws::length_view))]
+#[tactic(auto, unfolding(sc_terms::specs::Ranges::are_few), using(crate::proofs::DocumentLaws::tables_view, crate::proofs::DocumentLaws::length_view))]
 fn are_some_tables(values: &[Value]) -> bool
     ensures { result ≡ are_some_tables (map view values.now) }
 {
@@ -363,19 +370,19 @@ fn range_at_top(table: &Table) -> Option<Fault<'_>>
 fn wrong_numbers(table: &Table) -> Option<Fault<'_>>
     ensures { result ≡ wrong_numbers (table_view table.now) }
 {
-    if let Some(fault) = wrong_number(1, 32, "workers", table) {
+    if let Some(fault) = wrong_number::<1, 32>("workers", table) {
         return Some(fault);
     }
-    if let Some(fault) = wrong_number(0, 1_000_000, "stop_after", table) {
+    if let Some(fault) = wrong_number::<0, 1_000_000>("stop_after", table) {
         return Some(fault);
     }
-    if let Some(fault) = wrong_number(1, 1_000_000, "journal_steps", table) {
+    if let Some(fault) = wrong_number::<1, 1_000_000>("journal_steps", table) {
         return Some(fault);
     }
-    if let Some(fault) = wrong_number(1, 67_108_864, "journal_bytes", table) {
+    if let Some(fault) = wrong_number::<1, 67_108_864>("journal_bytes", table) {
         return Some(fault);
     }
-    wrong_number(0, 1_000_000, "epoch_steps", table)
+    wrong_number::<0, 1_000_000>("epoch_steps", table)
 }
 
 #[tactic(auto, unfolding(crate::specs::Faults::top_fault))]

@@ -6,8 +6,6 @@ mod config_refused;
 mod faults;
 mod making;
 mod reading;
-#[cfg(test)]
-mod tests;
 mod texts;
 mod values;
 

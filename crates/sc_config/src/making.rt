@@ -1,17 +1,18 @@
 //! The settings of a document without fault.
 
-ghost use Rattle.std.specs.Prelude.{◌≡◌, ◌≤◌, ◌++◌, [], map, codes, position, IfOk, OnOk};
+ghost use Rattle.std.specs.Prelude.{◌≡◌, ◌++◌, [], true, map, codes, position, IfOk, OnOk};
 ghost use Rattle.std.specs.Option.{option_map, option_copied, option_map_or, option_and_then, unwrap_or};
 ghost use Rattle.sc_value.specs.Params.{same_bytes};
 ghost use Rattle.toml.specs.Data.{as_str, as_table, get_member};
 ghost use Rattle.toml.specs.View.{view, table_view};
+ghost use Rattle.sc_terms.specs.Ranges.{are_few};
 ghost use Rattle.sc_config.specs.Faults.{app_text, apps_in};
 ghost use Rattle.sc_config.specs.Documents.{elements};
 ghost use Rattle.sc_config.specs.ReadSettings.{param_text, params_in, kind_place, app_value, app_entry, host_entry, host_entries, hosts_in, number_at, top_text, config_of};
 
 use crate::faults::{app_text, apps_in};
 use crate::values::{elements, expires_in, host_ip, listen_in, number_in, text_at, value_at};
-use sc_terms::{AppEntry, Config, HostEntry};
+use sc_terms::{AppEntry, Apps, Config, Expires, HostEntry, Port, Within};
 use sc_value::{List, NoMemory, Text};
 use std::alloc::Global;
 use toml::{Table, Value};
@@ -76,13 +77,16 @@ fn host_entry(alloc: Global, name: &str, value: &Value) -> Result<HostEntry, NoM
     Ok(HostEntry { name, ip })
 }
 
-/// The number of a key, from low to high, the standard one where the key is absent.
+/// The number of a key, the standard one where the key is absent.
 #[tactic(auto, unfolding(crate::specs::ReadSettings::number_at))]
-fn number_at(low: u64, high: u64, standard: u64, key: &str, top: &Table) -> u64
-    ensures value { result ≡ number_at low high standard key.now (table_view top.now) }
-    ensures bound { standard ≤ high → result ≤ high }
+fn number_at<const LOW: u64, const HIGH: u64>(
+    standard: Within<LOW, HIGH>,
+    key: &str,
+    top: &Table,
+) -> Within<LOW, HIGH>
+    ensures { result ≡ number_at LOW HIGH standard.entry key.now (table_view top.now) }
 {
-    number_in(low, high, standard, value_at(top, key)).unwrap_or(standard)
+    number_in(standard, value_at(top, key)).unwrap_or(standard)
 }
 
 #[tactic(auto, unfolding(crate::specs::ReadSettings::top_text))]
@@ -105,14 +109,14 @@ fn params_in(alloc: Global, value: Option<&Value>) -> Result<List<Text>, NoMemor
     Ok(params)
 }
 
-#[tactic(auto, unfolding(crate::specs::ReadSettings::app_entry))]
+#[tactic(auto, unfolding(crate::specs::ReadSettings::app_entry, sc_terms::specs::Ranges::is_expiry))]
 fn app_entry(alloc: Global, kinds: &[Text], app: &Value) -> Result<AppEntry, NoMemory>
     ensures { IfOk result (λ e. e ≡ app_entry kinds.now (view app.now)) }
 {
     let name = Text::from_slice(alloc, app_text(app, "name"))?;
     let params = params_in(alloc, app_value(app, "params"))?;
     let kind = kind_place(kinds, app_text(app, "kind"));
-    let expires = expires_in(app_value(app, "expires")).unwrap_or(3);
+    let expires = expires_in(app_value(app, "expires")).unwrap_or(Expires::of(3));
     Ok(AppEntry {
         name,
         kind,
@@ -144,6 +148,18 @@ fn app_entries(alloc: Global, kinds: &[Text], top: &Table) -> Result<List<AppEnt
     Ok(entries)
 }
 
+// The applications of a document that has 1 to 64 of them.
+#[tactic(auto, using(crate::proofs::DocumentLaws::few_entries))]
+fn apps_of(alloc: Global, kinds: &[Text], top: &Table) -> Result<Apps, NoMemory>
+    requires { are_few (apps_in (table_view top.now)) ≡ true }
+    ensures { IfOk result (λ apps. apps ≡ map (app_entry kinds.now) (apps_in (table_view top.now))) }
+{
+    match Apps::new(app_entries(alloc, kinds, top)?) {
+        Some(apps) => Ok(apps),
+        None => unreachable!(),
+    }
+}
+
 #[tactic(auto, unfolding(crate::specs::ReadSettings::host_entries))]
 fn add_hosts(alloc: Global, hosts: &Table, entries: &mut List<HostEntry>) -> Result<(), NoMemory>
     ensures { OnOk result (entries.new ≡ entries.old ++ host_entries (table_view hosts.now)) }
@@ -170,21 +186,22 @@ fn hosts_in(alloc: Global, value: Option<&Value>) -> Result<List<HostEntry>, NoM
 /// The settings of a document without fault.
 #[tactic(auto, unfolding(crate::specs::ReadSettings::config_of))]
 pub(crate) fn config_of(alloc: Global, kinds: &[Text], top: &Table) -> Result<Config, NoMemory>
+    requires { are_few (apps_in (table_view top.now)) ≡ true }
     ensures { IfOk result (λ config. config ≡ config_of kinds.now (table_view top.now)) }
 {
     let domain = top_text(alloc, "domain", top)?;
     let salt = top_text(alloc, "salt", top)?;
     let hosts = hosts_in(alloc, value_at(top, "hosts"))?;
-    let app = app_entries(alloc, kinds, top)?;
+    let app = apps_of(alloc, kinds, top)?;
     Ok(Config {
-        listen: listen_in(value_at(top, "listen")).unwrap_or(([0, 0, 0, 0], 0)),
+        listen: listen_in(value_at(top, "listen")).unwrap_or(([0, 0, 0, 0], Port::of(5060))),
         domain,
         salt,
-        workers: number_at(1, 32, 2, "workers", top) as u32,
-        stop_after: number_at(0, 1_000_000, 0, "stop_after", top) as u32,
-        journal_steps: number_at(1, 1_000_000, 1_000_000, "journal_steps", top),
-        journal_bytes: number_at(1, 67_108_864, 67_108_864, "journal_bytes", top),
-        epoch_steps: number_at(0, 1_000_000, 0, "epoch_steps", top),
+        workers: number_at(Within::of(2), "workers", top),
+        stop_after: number_at(Within::of(0), "stop_after", top),
+        journal_steps: number_at(Within::of(1_000_000), "journal_steps", top),
+        journal_bytes: number_at(Within::of(67_108_864), "journal_bytes", top),
+        epoch_steps: number_at(Within::of(0), "epoch_steps", top),
         hosts,
         app,
     })

@@ -14,7 +14,8 @@ use toml::Table;
 /// The settings that a TOML text of at most 65,536 bytes gives. `kinds` are the names of the kinds of
 /// applications, by their places in the catalogue.
 ///
-/// The keys are `listen` (`a.b.c.d:port`), `domain` and `salt`, which are required; `workers` (1 to
+/// The keys are `listen` (`a.b.c.d:port`), `domain` (a host's name, or an IPv6 literal in brackets) and
+/// `salt`, which are required; `workers` (1 to
 /// 32, else 2), `stop_after` and `epoch_steps` (0 to 1,000,000, else 0), `journal_steps` (1 to
 /// 1,000,000, the default) and `journal_bytes` (1 to 67,108,864, the default); the table `hosts` from
 /// names to IPv4 addresses; and the array `app` of 1 to 64 tables with `name` and `kind`, which are
@@ -50,7 +51,7 @@ fn unread(alloc: Global, is_memory: bool) -> ConfigRefused
     refused(alloc, SYNTAX, b"")
 }
 
-#[tactic(auto, unfolding(crate::specs::ReadSettings::settings_in, crate::specs::ReadSettings::unless_refused, crate::specs::ReadSettings::fault_told))]
+#[tactic(auto, unfolding(crate::specs::ReadSettings::settings_in, crate::specs::ReadSettings::unless_refused, crate::specs::ReadSettings::fault_told), using(crate::proofs::RangeLaws::few_apps))]
 fn settings_in(alloc: Global, kinds: &[Text], top: &Table) -> Result<Config, ConfigRefused>
     ensures ok { IfOk result (λ config. settings_in (Some (table_view top.now)) kinds.now ≡ Ok config) }
     ensures refused { IfErr result (λ e. IfSome (fault_told e) (λ fault. settings_in (Some (table_view top.now)) kinds.now ≡ Err fault)) }

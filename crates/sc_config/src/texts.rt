@@ -3,28 +3,7 @@
 ghost use Rattle.std.specs.Prelude.{◌≡◌, not};
 ghost use Rattle.std.specs.List.{list_all};
 ghost use Rattle.std.specs.Char.{is_ascii_alphanumeric};
-ghost use Rattle.sc_config.specs.KeyValues.{is_host_byte, is_host, is_salt, is_quote_or_break, is_app_name};
-
-/// Whether the text is a host's name: one or more letters, digits, `-` and `.`.
-#[tactic(auto, unfolding(crate::specs::KeyValues::is_host))]
-pub(crate) fn is_host(text: &[u8]) -> bool
-    ensures { result ≡ is_host text.now }
-{
-    !text.is_empty() && has_host_bytes(text)
-}
-
-fn has_host_bytes(text: &[u8]) -> bool
-    ensures { result ≡ list_all is_host_byte text.now }
-{
-    text.iter().all(|b| is_host_byte(*b))
-}
-
-#[tactic(auto, unfolding(crate::specs::KeyValues::is_host_byte))]
-fn is_host_byte(b: u8) -> bool
-    ensures { result ≡ is_host_byte b }
-{
-    b.is_ascii_alphanumeric() || b == b'-' || b == b'.'
-}
+ghost use Rattle.sc_config.specs.KeyValues.{is_salt, is_quote_or_break, is_app_name};
 
 /// Whether the text is 1 to 16 letters and digits.
 #[tactic(auto, unfolding(crate::specs::KeyValues::is_salt))]

@@ -4,13 +4,14 @@ ghost use Rattle.std.specs.Prelude.{◌≡◌, ◌≤◌, IfSome, map, Some, is_
 ghost use Rattle.std.specs.Option.{option_map, option_copied, option_and_then};
 ghost use Rattle.toml.specs.Data.{as_str, as_integer, get_member};
 ghost use Rattle.toml.specs.View.{view, table_view};
-ghost use Rattle.sc_config.specs.KeyValues.{number_within, number_in, expires_in, is_expiry, expiry_of, text_in, is_host};
+ghost use Rattle.sc_config.specs.KeyValues.{number_within, number_in, expires_in, expiry_of};
 ghost use Rattle.sc_config.specs.KeyValues.{host_ip, ip_of, is_params, listen_in, listen_text};
 ghost use Rattle.sc_config.specs.Documents.{elements, items_in};
 ghost use Rattle.std.specs.List.{list_all};
 ghost use Rattle.toml.specs.View.{array_view};
 
 use crate::addresses::{ip_of, listen_of};
+use sc_terms::{Expires, Port, Within};
 use toml::{Table, Value};
 
 /// The value of a key.
@@ -20,44 +21,37 @@ pub(crate) fn value_at<'a>(table: &'a Table, key: &str) -> Option<&'a Value>
     table.get(key)
 }
 
-/// The number that the integer is, where it lies from low to high.
+/// The number that the integer is, where it is in the range.
 #[tactic(auto, unfolding(crate::specs::KeyValues::number_within))]
-fn number_within(low: u64, high: u64, integer: i64) -> Option<u64>
-    ensures value { result ≡ number_within low high integer }
-    ensures bound { IfSome result (λ n. n ≤ high) }
+fn number_within<const LOW: u64, const HIGH: u64>(integer: i64) -> Option<Within<LOW, HIGH>>
+    ensures { result ≡ number_within LOW HIGH integer }
 {
     match u64::try_from(integer) {
-        Ok(n) => if low <= n && n <= high { Some(n) } else { None },
+        Ok(n) => Within::new(n),
         Err(_) => None,
     }
 }
 
-/// The number of a key, from low to high, or the standard one where the key is absent.
+/// The number of a key, or the standard one where the key is absent.
 #[tactic(auto, unfolding(crate::specs::KeyValues::number_in))]
-pub(crate) fn number_in(low: u64, high: u64, standard: u64, value: Option<&Value>) -> Option<u64>
-    ensures value { result ≡ number_in low high standard (option_map (λ v. view v.now) value.entry) }
-    ensures bound { standard ≤ high → IfSome result (λ n. n ≤ high) }
+pub(crate) fn number_in<const LOW: u64, const HIGH: u64>(
+    standard: Within<LOW, HIGH>,
+    value: Option<&Value>,
+) -> Option<Within<LOW, HIGH>>
+    ensures { result ≡ number_in LOW HIGH standard.entry (option_map (λ v. view v.now) value.entry) }
 {
     match value {
         Some(value) => match value.as_integer() {
-            Some(integer) => number_within(low, high, integer),
+            Some(integer) => number_within(integer),
             None => None,
         },
         None => Some(standard),
     }
 }
 
-/// Whether a session may expire after so many minutes: -1 to 10,080.
-#[tactic(auto, unfolding(crate::specs::KeyValues::is_expiry))]
-fn is_expiry(minutes: i32) -> bool
-    ensures { result ≡ is_expiry minutes }
-{
-    -1 <= minutes && minutes <= 10_080
-}
-
 /// The minutes after which a session expires, 3 where the key is absent.
-#[tactic(auto, unfolding(crate::specs::KeyValues::expires_in))]
-pub(crate) fn expires_in(value: Option<&Value>) -> Option<i32>
+#[tactic(auto, unfolding(crate::specs::KeyValues::expires_in, sc_terms::specs::Ranges::is_expiry))]
+pub(crate) fn expires_in(value: Option<&Value>) -> Option<Expires>
     ensures { result ≡ expires_in (option_map (λ v. view v.now) value.entry) }
 {
     match value {
@@ -65,20 +59,16 @@ pub(crate) fn expires_in(value: Option<&Value>) -> Option<i32>
             Some(minutes) => expiry_of(minutes),
             None => None,
         },
-        None => Some(3),
+        None => Some(Expires::of(3)),
     }
 }
 
-#[tactic(auto, unfolding(crate::specs::KeyValues::expiry_of, crate::specs::KeyValues::is_expiry))]
-fn expiry_of(integer: i64) -> Option<i32>
+#[tactic(auto, unfolding(crate::specs::KeyValues::expiry_of, sc_terms::specs::Ranges::is_expiry))]
+fn expiry_of(integer: i64) -> Option<Expires>
     ensures { result ≡ expiry_of integer }
 {
     match i32::try_from(integer) {
-        Ok(minutes) => if is_expiry(minutes) {
-            Some(minutes)
-        } else {
-            None
-        },
+        Ok(minutes) => Expires::new(minutes),
         Err(_) => None,
     }
 }
@@ -95,7 +85,7 @@ pub(crate) fn text_at<'a>(table: &'a Table, key: &str) -> Option<&'a str>
 
 /// The address and the port of `listen`.
 #[tactic(auto, unfolding(crate::specs::KeyValues::listen_in))]
-pub(crate) fn listen_in(value: Option<&Value>) -> Option<([u8; 4], u16)>
+pub(crate) fn listen_in(value: Option<&Value>) -> Option<([u8; 4], Port)>
     ensures { result ≡ listen_in (option_map (λ v. view v.now) value.entry) }
 {
     match value {

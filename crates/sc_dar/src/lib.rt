@@ -9,8 +9,6 @@ mod parts;
 mod reading;
 mod refused;
 mod routes;
-#[cfg(test)]
-mod tests;
 mod tuples;
 mod unread;
 mod words;

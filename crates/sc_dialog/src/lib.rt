@@ -18,6 +18,3 @@ pub use refused::DialogRefused;
 pub use requests::{ack_request, is_askable, kept_fields, next_request};
 pub use sc_terms::Inside;
 pub use targets::{request_target, response_target};
-
-#[cfg(test)]
-mod tests;

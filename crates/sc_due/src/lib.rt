@@ -3,8 +3,6 @@
 
 mod due;
 mod key;
-#[cfg(test)]
-mod tests;
 
 pub use due::Due;
 pub use key::DueKey;

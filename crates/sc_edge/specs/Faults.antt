@@ -1,5 +1,5 @@
 -- Counts that stay at their greatest value, and calls that are to fail.
-use Rattle.std.specs.Prelude.{◌≡◌, ℕ, ◌+◌, ◌-◌, ◌^◌, ◌<◌, ◌≤◌, ◌⊎◌, min, List, Bool}
+use Rattle.std.specs.Prelude.{◌≡◌, ℕ, ◌+◌, ◌-◌, ◌^◌, ◌<◌, ◌≤◌, ◌⊎◌, min, List, Bool, if◌then◌else◌}
 use Rattle.std.proofs.Common.{inl, inr, arith}
 use Rattle.std.specs.List.{list_any}
 use Rattle.std.specs.Bool.{nat_eq}
@@ -24,6 +24,10 @@ Rose_before a b c up (inr most) later = most_or_more a c (omega arith) (omega ar
 -- the count after one more
 abbrev pub one_more : ℕ → ℕ
 one_more count = min (count + 1) (2 ^ 64 - 1)
+
+-- the count after one more, also where it isn't known to fit
+abbrev pub risen : ℕ → ℕ
+risen count = if nat_eq count 18446744073709551615 then count else (count + 1)
 
 -- whether the call of this number is to fail
 abbrev pub is_listed : List ℕ → ℕ → Bool

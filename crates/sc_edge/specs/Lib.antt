@@ -3,3 +3,11 @@ pub mod Taking
 pub mod Shelving
 pub mod MemoryShelf
 pub mod MemorySink
+pub mod Telling
+pub mod Answering
+pub mod Edges
+pub mod EdgeCalls
+pub mod EdgePlaces
+pub mod EdgeTaken
+pub mod EdgeComing
+pub mod EdgeMemory

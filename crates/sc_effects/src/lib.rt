@@ -20,6 +20,7 @@ pub use looking::{in_state, is_confirmed, is_early, is_uac, linked, removed, unl
 pub use making::{new_call_id, new_session, new_tag};
 pub use sending::awaiting;
 pub use states::{
-    after_response, ends_subscription, is_failure, is_final, is_subscribe, is_success,
+    after_initial, after_response, ends_subscription, is_failure, is_final, is_subscribe,
+    is_success,
 };
 pub use tidying::tidy;

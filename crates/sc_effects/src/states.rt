@@ -127,7 +127,7 @@ fn is_bye(method: &[u8]) -> bool
 }
 
 #[tactic(auto, unfolding(sc_hosts::specs::States::after_initial))]
-fn after_initial(role: Role, method: &[u8], tagged: bool, state: State, code: u16) -> State
+pub fn after_initial(role: Role, method: &[u8], tagged: bool, state: State, code: u16) -> State
     ensures { result ≡ after_initial role method.now tagged state code }
 {
     if is_invite(method) {

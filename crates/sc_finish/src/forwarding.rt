@@ -6,27 +6,59 @@ ghost use Rattle.sc_value.specs.Lists.{change_first};
 ghost use Rattle.sc_model.specs.BestResponses.{best_response};
 ghost use Rattle.sc_model.specs.Dialogs.{tag_of};
 ghost use Rattle.sc_hosts.specs.Looking.{is_session, change_session};
-ghost use Rattle.sc_hosts.specs.Acting.{forwarded_view, subscribed_tag, with_subscribed, forwards, passes, forwards_best, chooses};
+ghost use Rattle.sc_hosts.specs.Acting.{forwarded_view, moved_on, subscribed_tag, with_subscribed, forwards, passes, forwards_best, chooses};
 
 use crate::changing::{give, note_forwarded};
 use sc_best::{best, forwarded};
 use sc_branches::{can_choose, can_pass};
-use sc_effects::{answered_in, is_subscribe, is_success, request_copy, tidy};
+use sc_effects::{after_initial, answered_in, is_subscribe, is_success, request_copy, tidy};
 use sc_refusals::session_place;
 use sc_state::{Order, Passing, Proxy, Working};
 use sc_terms::{RequestView, SessionView, View};
 use sc_value::{CloneIn, List, NoMemory, Response, SessId, Shared, Text, tag};
 use std::alloc::Global;
 
+/// The SipSession after a response that was forwarded in it, to an initial request that the view shows
+/// no more.
+#[tactic(auto, unfolding(sc_hosts::specs::Acting::moved_on, sc_hosts::specs::Looking::in_state))]
+fn moved_on(session: &mut SessionView, proxy: &Proxy, response: &Response)
+    ensures { session.new ≡ moved_on proxy.now response.now session.old }
+{
+    if proxy.options.is_some() {
+        let method = proxy.request.get().method.as_bytes();
+        let tagged = tag(&response.head.to).is_some();
+        session.state = after_initial(session.role, method, tagged, session.state, response.code);
+    }
+}
+
+#[tactic(auto, using(sc_value::proofs::ListFacts::change_first_position, sc_value::proofs::ListFacts::change_first_none))]
+fn move_in(sessions: &mut [SessionView], sess: SessId, proxy: &Proxy, response: &Response)
+    ensures { sessions.new ≡ change_first (is_session sess) (moved_on proxy.now response.now) sessions.old }
+{
+    match session_place(sessions, sess) {
+        Some(at) => moved_on(&mut sessions[at], proxy, response),
+        None => {}
+    }
+}
+
 /// The view once this response to a proxied request was forwarded in a SipSession.
 #[tactic(auto, unfolding(sc_hosts::specs::Acting::forwarded_view))]
-fn forwarded_view(view: &mut View, sess: SessId, request: &Option<RequestView>, response: &Response)
-    ensures { view.new ≡ forwarded_view sess request.now response.now view.old }
+fn forwarded_view(
+    view: &mut View,
+    proxy: &Proxy,
+    sess: SessId,
+    request: &Option<RequestView>,
+    response: &Response,
+)
+    ensures { view.new ≡ forwarded_view proxy.now sess request.now response.now view.old }
 {
-    if let Some(request) = request {
-        let tagged = tag(&response.head.to).is_some();
-        answered_in(view, sess, request, tagged, response.code);
-        tidy(view);
+    match request {
+        Some(request) => {
+            let tagged = tag(&response.head.to).is_some();
+            answered_in(view, sess, request, tagged, response.code);
+            tidy(view);
+        }
+        None => move_in(&mut view.sessions.items, sess, proxy, response),
     }
 }
 
@@ -101,7 +133,13 @@ pub fn forwards(
 {
     let request = request_copy(alloc, &working.play.view, proxy.req)?;
     with_subscribed(alloc, &mut working.play.view, proxy, sess, response.get())?;
-    forwarded_view(&mut working.play.view, sess, &request, response.get());
+    forwarded_view(
+        &mut working.play.view,
+        proxy,
+        sess,
+        &request,
+        response.get(),
+    );
     let owner = response.clone_in(alloc)?;
     give(
         working,

@@ -11,8 +11,6 @@ mod params;
 mod parts;
 mod scanning;
 mod sequences;
-#[cfg(test)]
-mod tests;
 mod unread;
 mod vias;
 

@@ -38,6 +38,7 @@ use Rattle.sc_hosts.specs.Looking.{change_session, same_session, request_in, is_
 use Rattle.sc_hosts.specs.Messages.{bare_answer, on_branch, proxied_request, passed_request}
 use Rattle.sc_hosts.specs.Preparing.{kept_of, proxy_of}
 use Rattle.sc_hosts.specs.PreparingResponses.{change_proxy, is_invalid}
+use Rattle.sc_hosts.specs.States.{after_initial}
 use Rattle.sc_hosts.specs.Working.{answering, giving, is_owed, next_branch, event_of}
 use Rattle.sc_hosts.specs.Words.{ack, server_error, too_many_hops}
 
@@ -86,9 +87,16 @@ started config proxy working uri =
 unfoldable pub with_forwarded : ℕ → Proxy → Proxy
 with_forwarded code proxy = if is_final code && is_none proxy.forwarded then record proxy { forwarded = Some code } else proxy
 
-unfoldable pub forwarded_view : SessId → Option RequestView → Response → View → View
-forwarded_view sess None response view = view
-forwarded_view sess (Some request) response view = tidy (answered_in sess request (is_some (tag_of response.head.to)) response.code view)
+-- the SipSession after a response that was forwarded in it, to an initial request that the view shows no
+-- more: the first SipSession of the request is gone, and a later 2xx came in one of its own
+unfoldable pub moved_on : Proxy → Response → SessionView → SessionView
+moved_on proxy response session =
+    if is_some proxy.options
+    then in_state (after_initial session.role proxy.request.method (is_some (tag_of response.head.to)) session.state response.code) session else session
+
+unfoldable pub forwarded_view : Proxy → SessId → Option RequestView → Response → View → View
+forwarded_view proxy sess None response view = change_session sess (moved_on proxy response) view
+forwarded_view proxy sess (Some request) response view = tidy (answered_in sess request (is_some (tag_of response.head.to)) response.code view)
 
 -- the 2xx to a SUBSCRIBE that is forwarded gives the SipSession its tag
 unfoldable pub subscribed_tag : Option Bytes → SessionView → SessionView
@@ -103,7 +111,7 @@ with_subscribed proxy sess response view =
 unfoldable pub forwards : Proxy → SessId → Response → Working → Working
 forwards proxy sess response working =
     in_proxy proxy.req (with_forwarded response.code)
-    (in_view (forwarded_view sess (request_in working.play.view proxy.req) response (with_subscribed proxy sess response working.play.view))
+    (in_view (forwarded_view proxy sess (request_in working.play.view proxy.req) response (with_subscribed proxy sess response working.play.view))
     (giving (orders.Respond proxy.event response ∷ []) working))
 
 unfoldable pub passes : Proxy → Option Passing → Working → Working

@@ -4,6 +4,3 @@
 mod journal;
 
 pub use journal::{Journal, PushRefused};
-
-#[cfg(test)]
-mod tests;

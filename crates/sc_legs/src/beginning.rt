@@ -93,7 +93,7 @@ fn expiry_of(entry: Option<&AppEntry>, began: u64) -> Result<Option<u64>, NoMemo
     ensures { IfOk result (λ e. e ≡ expiry_in (option_copied entry.entry) began) }
 {
     match entry {
-        Some(entry) => moment_after(began, entry.expires),
+        Some(entry) => moment_after(began, entry.expires.get()),
         None => Ok(None),
     }
 }

@@ -7,6 +7,3 @@ mod messages;
 mod names;
 
 pub use calls::script;
-
-#[cfg(test)]
-mod tests;

@@ -18,12 +18,8 @@ mod pieces;
 mod refused;
 mod starts;
 mod taking;
-#[cfg(test)]
-mod tests;
 mod uris;
 mod whole;
-#[cfg(test)]
-mod whole_tests;
 
 pub use blanks::{trim, trim_back};
 pub use ends::{begins_break, end_of, split_piece, split_start};

@@ -55,7 +55,7 @@ pub fn own_via(
     Ok(Via {
         transport,
         host,
-        port: Some(config.listen.1),
+        port: Some(config.listen.1.get()),
         params,
     })
 }
@@ -92,7 +92,7 @@ pub fn own_address(
     ensures { IfOk result (λ a. a ≡ own_address config.now epoch app) }
 {
     let host = ip_text(alloc, config.listen.0)?;
-    let uri = session_uri(alloc, host, config.listen.1, epoch, app)?;
+    let uri = session_uri(alloc, host, config.listen.1.get(), epoch, app)?;
     Ok(Address {
         display: None,
         uri: Uri::Sip(uri),

@@ -4,8 +4,6 @@
 
 mod laws;
 mod reading;
-#[cfg(test)]
-mod tests;
 mod writing;
 
 pub use laws::names_are_apart;

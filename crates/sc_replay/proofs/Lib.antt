@@ -2,6 +2,7 @@ pub mod Checks
 pub mod CommandLaws
 pub mod Drivings
 pub mod Endings
+pub mod FormLaws
 pub mod Ranges
 pub mod Readings
 pub mod Replayings

@@ -11,6 +11,7 @@ use Rattle.std.proofs.lemmas.List.Elements.{All-cons}
 use Rattle.std.proofs.lemmas.Option.{none-some}
 use Rattle.toml.specs.Data.{Data, Members, get_member, as_integer, as_table}
 use Rattle.sc_value.specs.Params.{same_bytes}
+use Rattle.sc_terms.specs.Ranges.{are_few}
 use Rattle.sc_terms.specs.declared.settings.Config.{Config}
 use Rattle.sc_terms.specs.declared.settings.AppEntry.{AppEntry}
 use Rattle.sc_grammar.specs.Written.{Bytes}
@@ -94,7 +95,7 @@ few_tables : (values : List Data) (tables : Bool) → (nat_le 1 (length values) 
 few_tables values tables h = is_few (length values) (both_right (nat_le 1 (length values)) (nat_le (length values) 64) (both_left (nat_le 1 (length values) && nat_le (length values) 64) tables h))
 
 few_apps : (top : Members) → wrong_apps top ≡ None → length (apps_in top) ≤ 64
-unfolding wrong_apps
+unfolding wrong_apps are_few
 few_apps top none = few_tables (apps_in top) (list_all (λ value. is_some (as_table value)) (apps_in top)) (not_false (are_some_tables (apps_in top)) (fault_none (not (are_some_tables (apps_in top))) RANGE (codes "app") none))
 
 -- ## Kinds

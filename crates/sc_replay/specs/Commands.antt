@@ -1,5 +1,5 @@
 -- Which command the words of a command line are.
-use Rattle.std.specs.Prelude.{ℕ, nat_le, Option, Some, None, List, [], ◌∷◌, codes, if◌then◌else◌, is_some}
+use Rattle.std.specs.Prelude.{◌≡◌, ◌⊎◌, ℕ, nat_le, Option, Some, None, List, [], ◌∷◌, codes, if◌then◌else◌, is_some}
 use Rattle.std.specs.Option.{option_and_then}
 use Rattle.sc_value.specs.Params.{same_bytes}
 use Rattle.sc_grammar.specs.Written.{Bytes}
@@ -13,6 +13,29 @@ if_positive n = if nat_le 1 n then Some n else None
 -- the number N of a command: a decimal from 1 to 1,000 without leading zero
 unfoldable pub count_in : Bytes → Option ℕ
 count_in text = option_and_then if_positive (decimal_upto 1000 text)
+
+-- the word, and the number of a command
+abbrev pub IsCounted : Bytes → List Bytes → Type 0
+IsCounted word words = (count : Bytes) × (n : ℕ) × (count_in count ≡ Some n) × (words ≡ word ∷ count ∷ [])
+
+-- the word, and two names
+abbrev pub IsSettled : Bytes → List Bytes → Type 0
+IsSettled word words = (config dar : Bytes) × (words ≡ word ∷ config ∷ dar ∷ [])
+
+-- the words have the form of this command; `Usage` has none
+unfoldable pub HasForm : Command → List Bytes → Type 0
+HasForm Replay words = (config dar script : Bytes) × (words ≡ codes "replay" ∷ config ∷ dar ∷ script ∷ [])
+HasForm Check words = IsSettled (codes "check") words
+HasForm Make words = IsCounted (codes "make") words
+HasForm Trial words = IsCounted (codes "trial") words
+HasForm Serve words = IsSettled (codes "serve") words
+HasForm Usage words = ⊥
+
+-- the command is `Usage`, or the words have its form
+abbrev pub IsNamed : Command → List Bytes → Type 0
+IsNamed command words = (command ≡ Usage) ⊎ HasForm command words
+
+-- ## The same, as it is found
 
 -- `make N` and `trial N`
 unfoldable pub counted_command : Bytes → Bytes → Command

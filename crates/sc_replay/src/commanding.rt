@@ -1,8 +1,13 @@
 //! The command that the words of a command line are.
 
-ghost use Rattle.std.specs.Prelude.{◌≡◌, ◌≤◌, IfSome, map, string_bytes};
+ghost use Rattle.std.specs.Prelude.{◌≡◌, ◌≤◌, IfSome, List, map, string_bytes, is_some, true};
+ghost use Rattle.sc_grammar.specs.Written.{Bytes};
+ghost use Rattle.sc_replay.specs.Checking.{checked_names};
+ghost use Rattle.sc_replay.specs.Making.{made_count};
+ghost use Rattle.sc_replay.specs.Replaying.{IsReplay};
 ghost use Rattle.sc_value.specs.Params.{same_bytes};
-ghost use Rattle.sc_replay.specs.Commands.{command_of, count_in, counted_command, settled_command, scripted_command};
+ghost use Rattle.sc_replay.specs.Commands.{HasForm, IsNamed, command_of, count_in, counted_command, settled_command, scripted_command};
+ghost use Rattle.sc_replay.specs.declared.commanding.Command.{Command};
 
 use sc_script::decimal_upto;
 
@@ -23,9 +28,31 @@ pub enum Command {
     Usage,
 }
 
-/// The command that the words are, by its first word and the number of words. N is a decimal from 1
-/// to 1,000 without leading zero; CONFIG, DAR and SCRIPT are any words.
+/// The command whose form the words have, and `Usage` exactly where they have none. N is a decimal from
+/// 1 to 1,000 without leading zero; CONFIG, DAR and SCRIPT are any words.
+#[tactic(auto, using(crate::proofs::FormLaws::form_named, crate::proofs::FormLaws::form_only))]
 pub fn command_of(words: &[String]) -> Command
+    ensures exact { result ≡ command_of (map string_bytes words.now) }
+    ensures named { IsNamed result (map string_bytes words.now) }
+    ensures only { (command : Command) → HasForm command (map string_bytes words.now) → result ≡ command }
+{
+    form_of(words)
+}
+
+/// `replay`, `check` and `make` take exactly the words that are named so. The contract is the law, and the
+/// call does nothing.
+#[tactic(auto, using(crate::proofs::FormLaws::replay_taken, crate::proofs::FormLaws::replay_named, crate::proofs::FormLaws::check_taken, crate::proofs::FormLaws::check_named, crate::proofs::FormLaws::make_taken, crate::proofs::FormLaws::make_named))]
+pub fn commands_are_named()
+    ensures replays { (words : List Bytes) → IsReplay words → command_of words ≡ Command.Replay }
+    ensures replay { (words : List Bytes) → command_of words ≡ Command.Replay → IsReplay words }
+    ensures checks { (words : List Bytes) → is_some (checked_names words) ≡ true → command_of words ≡ Command.Check }
+    ensures check { (words : List Bytes) → command_of words ≡ Command.Check → is_some (checked_names words) ≡ true }
+    ensures makes { (words : List Bytes) → is_some (made_count words) ≡ true → command_of words ≡ Command.Make }
+    ensures make { (words : List Bytes) → command_of words ≡ Command.Make → is_some (made_count words) ≡ true }
+{}
+
+// The command by its first word and the number of words.
+fn form_of(words: &[String]) -> Command
     ensures { result ≡ command_of (map string_bytes words.now) }
 {
     match words {

@@ -13,7 +13,7 @@ mod settings;
 mod writing;
 
 pub use checking::check;
-pub use commanding::{Command, command_of};
+pub use commanding::{Command, command_of, commands_are_named};
 pub use making::make;
 pub use replaying::replay;
 pub use sc_switch::{Ran, Status};

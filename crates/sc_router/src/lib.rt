@@ -7,8 +7,6 @@ mod own;
 mod returning;
 mod routing;
 mod subscriber;
-#[cfg(test)]
-mod tests;
 
 pub use own::{ip_text, is_own};
 pub use routing::next;

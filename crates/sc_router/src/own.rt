@@ -66,7 +66,7 @@ pub fn is_own(alloc: Global, config: &Config, uri: &Uri) -> Result<bool, NoMemor
     ensures { IfOk result (λ own. own ≡ is_own config.now uri.now) }
 {
     let host = ip_text(alloc, config.listen.0)?;
-    Ok(is_at(host.as_bytes(), config.listen.1, uri))
+    Ok(is_at(host.as_bytes(), config.listen.1.get(), uri))
 }
 
 // Whether the container is responsible for the URI.

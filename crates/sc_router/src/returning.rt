@@ -102,7 +102,7 @@ pub fn way_back(
         uri: Uri::Sip(SipUri {
             user: None,
             host,
-            port: Some(config.listen.1),
+            port: Some(config.listen.1.get()),
             params,
             headers: None,
         }),

@@ -1,4 +1,5 @@
 pub mod Following
+pub mod Heard
 pub mod Hearing
 pub mod Next
 pub mod Outputs

@@ -9,8 +9,6 @@ mod records;
 mod refused;
 mod rows;
 mod scripts;
-#[cfg(test)]
-mod tests;
 
 pub use numbers::decimal_upto;
 pub use records::{write_end, write_sent};

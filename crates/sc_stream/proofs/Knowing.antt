@@ -238,21 +238,3 @@ first_behind first text (there, behind, known) none = sym (skip_none (drop first
 
 pub front_seen : {E : Type 0} (read : Result Front E) (text rest : Bytes) (breaks : ℕ) → rest ≡ drop breaks text → drop breaks text ≡ behind_breaks text → IfOk read (λ front. front ≡ front_of rest) → IfOk read (λ front. front ≡ front_behind text)
 front_seen {E} read text rest breaks at behind h = subst (λ t. IfOk read (λ front. front ≡ front_of t)) (at ∙ behind) h
-
--- ## What is kept
-
-pub fed_stands : (first : First) (kept now piece : Bytes) (from : ℕ) → now ≡ kept ++ piece → from ≤ length kept → IsFirst first (drop from kept) → (from ≤ length now) × IsFirst first (drop from now)
-fed_stands first kept now piece from is there known = (
-  let all = ap length is ∙ length-append kept piece in omega (arith, there, all),
-  subst (IsFirst first) (sym (ap (drop from) is ∙ drop-append-le from kept piece there)) (first_more first (drop from kept) piece known),
-)
-
-pub fed_seen : (old kept now piece : Bytes) (from : ℕ) → drop from kept ≡ old → now ≡ kept ++ piece → from ≤ length kept → drop from now ≡ old ++ piece
-fed_seen old kept now piece from seen is there = ap (drop from) is ∙ drop-append-le from kept piece there ∙ ap (λ t. t ++ piece) seen
-
-pub gone_room : (kept text : Bytes) (from taken : ℕ) → text ≡ drop from kept → from ≤ length kept → taken ≤ length text → from + taken ≤ length kept
-gone_room kept text from taken same there within = let len = ap length same ∙ length-drop from kept in omega (arith, len, there, within)
-
-pub gone_stands : (first : First) (kept left text : Bytes) (from taken place : ℕ) → text ≡ drop from kept → drop place left ≡ drop (from + taken) kept → IsFirst first (drop taken text) → IsFirst first (drop place left)
-gone_stands first kept left text from taken place same gone known =
-    subst (IsFirst first) (ap (drop taken) same ∙ drop-drop taken from kept ∙ sym gone) known

@@ -1,3 +1,4 @@
+mod EndSteps
 mod FrameLaws
 mod FrontLaws
 mod HearSteps

@@ -1,4 +1,5 @@
 pub mod Answers
+pub mod Ends
 pub mod Fields
 pub mod Frames
 pub mod Hearing

@@ -1,4 +1,5 @@
-//! Streams: bytes go in in any pieces, and messages come out whole (RFC 3261 section 18.3).
+//! Streams: bytes go in in any pieces, and messages come out whole (RFC 3261 section 18.3). A stream
+//! that has ended lets its bytes go.
 
 ghost use Rattle.std.specs.Prelude.{◌≡◌, ◌≤◌, ◌<◌, ◌^◌, ◌++◌, [], List, IfOk, OnOk, OnErr, drop, length};
 ghost use Rattle.std.specs.Option.{option_map};
@@ -9,7 +10,9 @@ ghost use Rattle.sc_stream.specs.Frames.{Splits, front_behind};
 ghost use Rattle.sc_stream.specs.Hearing.{Hears, IsBad, given_after, with_heads};
 ghost use Rattle.sc_stream.specs.Knowing.{IsFirst};
 
+use crate::ends::{Ended, again, parted};
 use crate::first::{First, behind, look, nothing_known, pass_breaks};
+use crate::gone::Gone;
 use sc_syntax::{Answerable, Front};
 use sc_terms::Bad;
 use sc_value::{Boxed, Message, NoMemory};
@@ -35,23 +38,30 @@ pub enum Heard {
 ///
 /// What is known of the first message there is kept, so that the work grows with the bytes that come,
 /// in whatever pieces, and not with those that are kept.
+///
+/// Once `Bad` or `Long` was answered the stream has ended: it keeps that answer, no byte and no memory
+/// for one, and what comes is let go at once. The model's invariant says so. The bytes of which
+/// contracts speak are there in proofs alone then, and the kept answer is the one that they call for.
 #[derive(Drop)]
 pub struct Stream {
     alloc: Global,
     kept: Vec<u8>,
     from: usize,
     first: First,
+    ended: Option<Ended>,
+    gone: Gone,
 }
 
 impl Model for Stream {
-    ghost use Rattle.std.specs.Prelude.{List, ℕ, ◌≤◌, length, drop};
-    ghost use Rattle.sc_stream.specs.Knowing.{IsFirst};
+    ghost use Rattle.std.specs.Prelude.{List, ℕ, drop};
+    ghost use Rattle.std.specs.Vec.{vec_capacity};
+    ghost use Rattle.sc_stream.specs.Ends.{IsKept, bytes_of};
 
     ghost Value = { List ℕ };
 
-    ghost view = { λ s. drop s.from s.kept.items };
+    ghost view = { λ s. bytes_of s.ended (drop s.from s.kept.items) s.gone.bytes };
 
-    ghost invariant = { λ s. (s.from ≤ length s.kept.items) × IsFirst s.first (drop s.from s.kept.items) };
+    ghost invariant = { λ s. IsKept s.ended s.from s.first s.kept.items (vec_capacity s.kept) s.gone.bytes };
 }
 
 impl Stream {
@@ -66,31 +76,52 @@ impl Stream {
             kept: Vec::new(alloc),
             from: 0,
             first: nothing_known(),
+            ended: None,
+            gone: Gone::of(&[]),
         }
     }
 
-    /// A piece of the stream has come. For want of memory all is as before.
+    /// A piece of the stream has come. For want of memory all is as before. An ended stream lets the
+    /// piece go, and takes no memory.
     pub fn feed(&mut self, piece: &[u8]) -> Result<(), NoMemory>
         ensures kept { OnOk result (self.new ≡ self.old ++ piece.now) }
         ensures stands { OnOk result ((fed : Bytes) (given : List Message) → Splits given fed self.old → Splits given (fed ++ piece.now) self.new) }
         ensures err { OnErr result (self.new ≡ self.old) }
     {
+        if self.ended.is_some() {
+            self.gone = self.gone.with(piece);
+            return Ok(());
+        }
         self.kept.extend_from_slice(piece)?;
         Ok(())
     }
 
     /// The next message, which is taken from the stream. `NotYet` comes exactly where more bytes
     /// may end it, `Bad` and `Long` exactly as [`front`](crate::front) says; then nothing changes,
-    /// and the stream answers the same for ever. `NoMemory` changes nothing.
+    /// and the stream answers the same for ever, by a copy of what it keeps. `NoMemory` changes nothing.
     pub fn next(&mut self) -> Heard
         ensures hears { Hears result self.old self.new }
         ensures stands { (fed : Bytes) (given : List Message) → Splits given fed self.old → Splits (given_after given result) fed self.new }
     {
+        if let Some(ended) = &self.ended {
+            return again(self.alloc, ended);
+        }
         let text = behind(self.kept.as_slice(), self.from);
         let (heard, first, taken) = hear(self.alloc, text, self.first);
-        self.first = first;
-        self.from = let_go(&mut self.kept, self.from + taken);
-        heard
+        match parted(heard) {
+            Ok(heard) => {
+                self.first = first;
+                self.from = let_go(&mut self.kept, self.from + taken);
+                heard
+            }
+            Err(ended) => {
+                let heard = again(self.alloc, &ended);
+                self.gone = Gone::of(text);
+                self.kept = Vec::new(self.alloc);
+                self.ended = Some(ended);
+                heard
+            }
+        }
     }
 }
 

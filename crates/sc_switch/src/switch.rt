@@ -576,8 +576,8 @@ fn switch_of(alloc: Global, setup: Setup) -> Result<Switch, NoMemory>
 {
     let journal = Journal::new(
         alloc,
-        setup.config.journal_steps,
-        setup.config.journal_bytes,
+        setup.config.journal_steps.get(),
+        setup.config.journal_bytes.get(),
     );
     match start_net(alloc, &setup, 0, 0) {
         Ok(net) => Ok(Switch {

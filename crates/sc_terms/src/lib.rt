@@ -1,5 +1,6 @@
 //! The plain types of turns, steps, scripts and settings: what a servlet is shown, what it calls,
-//! what the journal keeps, and what a configuration and a routing table say. No logic.
+//! what the journal keeps, and what a configuration and a routing table say. No logic, but for numbers
+//! that keep their range.
 #![tactic(auto)]
 
 mod calls;
@@ -7,6 +8,7 @@ mod charters;
 mod copies;
 mod events;
 mod inside;
+mod ranges;
 mod settings;
 mod steps;
 mod views;
@@ -15,6 +17,7 @@ pub use calls::{Answer, Ask, Call, CallAnswer, CallRecord, End, ProxyOptions, Re
 pub use charters::{Charter, ListenerCharter};
 pub use events::Event;
 pub use inside::Inside;
+pub use ranges::{Apps, Expires, Port, Within};
 pub use settings::{AppEntry, Config, Dar, HostEntry, MethodList, Modifier, Tuple};
 pub use steps::{Answerable, Bad, Line, Step};
 pub use views::{Period, RequestView, Role, SessionView, State, TimerView, View};

@@ -1,30 +1,31 @@
 //! A configuration and a routing table as plain data.
 
+use crate::{Apps, Expires, Port, Within};
 use sc_value::{Address, List, Region, Text};
 
-/// The settings of a container.
+/// The settings of a container. Each number keeps its range.
 #[derive(Drop)]
 pub struct Config {
     /// The address and the port, 1 to 65,535, that the container listens at.
-    pub listen: ([u8; 4], u16),
+    pub listen: ([u8; 4], Port),
     /// The domain whose requests are the container's own.
     pub domain: Text,
     /// 1 to 16 letters and digits that begin all names that the container draws.
     pub salt: Text,
     /// The number of worker threads, 1 to 32.
-    pub workers: u32,
+    pub workers: Within<1, 32>,
     /// After so many connections the server ends, 0 for never; at most 1,000,000.
-    pub stop_after: u32,
+    pub stop_after: Within<0, 1_000_000>,
     /// How many steps the journal takes, 1 to 1,000,000.
-    pub journal_steps: u64,
+    pub journal_steps: Within<1, 1_000_000>,
     /// How many bytes the journal takes, 1 to 67,108,864.
-    pub journal_bytes: u64,
+    pub journal_bytes: Within<1, 67_108_864>,
     /// After so many steps an idle server begins a new journal, 0 for never; at most 1,000,000.
-    pub epoch_steps: u64,
+    pub epoch_steps: Within<0, 1_000_000>,
     /// The names that the container knows, in byte order.
     pub hosts: List<HostEntry>,
     /// The applications, 1 to 64. The place of one is the number of its host.
-    pub app: List<AppEntry>,
+    pub app: Apps,
 }
 
 /// A host's name with its address.
@@ -42,7 +43,7 @@ pub struct AppEntry {
     pub kind: usize,
     pub params: List<Text>,
     /// After so many minutes its sessions expire, 0 or less for never; -1 to 10,080.
-    pub expires: i32,
+    pub expires: Expires,
 }
 
 /// The table of the Default Application Router (JSR 289 appendix C).

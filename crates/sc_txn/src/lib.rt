@@ -5,8 +5,6 @@
 mod client;
 mod codes;
 mod server;
-#[cfg(test)]
-mod tests;
 
 pub use client::ClientTxn;
 pub use sc_parts::{ClientOut, TxnState};

@@ -11,7 +11,8 @@ use crate::classes::is_host_name;
 use crate::cuts::{begins, cut, place_or_len};
 use sc_ascii::read_u64;
 
-// Whether the text is a name, or an IPv6 literal in its brackets.
+/// Whether the text is a host: a name of letters, digits, `-` and `.`, or an IPv6 literal in its
+/// brackets (RFC 3261 section 25.1).
 #[tactic(auto, unfolding(sc_syntax::specs::Hosts::is_host))]
 pub fn is_host(text: &[u8]) -> bool
     ensures { result ≡ is_host text.now }

@@ -10,12 +10,11 @@ mod pieces;
 mod reading;
 mod refused;
 mod sent;
-#[cfg(test)]
-mod tests;
 mod writing;
 
 pub use copies::copy_of;
 pub use cuts::{begins, cut};
+pub use hosts::is_host;
 pub use reading::read;
 pub use refused::UriRefused;
 pub use sent::read_sent;

@@ -1,0 +1,12 @@
+pub mod ListMaps
+pub mod HostMaps
+pub mod TakingMaps
+pub mod NetMaps
+pub mod ArrivalMaps
+pub mod TickMaps
+pub mod StepMaps
+pub mod RunMaps
+pub mod LawfulMaps
+pub mod CountMaps
+pub mod HistoryForms
+pub mod HistoryLaws

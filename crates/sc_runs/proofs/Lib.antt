@@ -1,0 +1,2 @@
+pub mod NextMaps
+pub mod FollowMaps

@@ -1,0 +1,5 @@
+pub mod SpelledLines
+pub mod SpelledStarts
+pub mod SpelledHeads
+pub mod SpelledMessages
+pub mod Kept

@@ -1,0 +1,7 @@
+//! Which texts spell a message: definitions, in `specs/`, and laws of them, with the texts that a
+//! reader takes and a writer writes.
+#![tactic(auto)]
+
+mod laws;
+
+pub use laws::{read_keeps_grammar, spelled_exactly, value_is_trimmed, written_is_spelled};
