@@ -1,5 +1,5 @@
 -- Line after line.
-use Rattle.std.proofs.Common.{◌≡◌, ℕ, Bool, true, false, List, [], ◌∷◌, ◌++◌, refl, sym, ap, ◌∙◌, subst, append_assoc, inl, inr, ◌<◌, ◌≤◌, ◌+◌, length, drop, get_or, arith}
+use Rattle.std.proofs.Common.{◌≡◌, ℕ, List, [], ◌∷◌, ◌++◌, refl, sym, ap, ◌∙◌, subst, append_assoc, inl, inr, ◌<◌, ◌≤◌, ◌+◌, length, drop, get_or, arith}
 use Rattle.std.specs.Prelude.{Result, Ok, Err, OnOk, IfErr, IsErrAnd}
 use Rattle.std.proofs.lemmas.List.{append-nil, drop_more}
 use Rattle.std.proofs.Math.ListN.{drop_of_length-le}
@@ -9,7 +9,6 @@ use Rattle.sc_terms.specs.declared.steps.Step.{Step}
 use Rattle.sc_parts.specs.declared.setup.Setup.{Setup}
 use Rattle.sc_state.specs.declared.net.Net.{Net}
 use Rattle.sc_state.specs.declared.session.Session.{Session}
-use Rattle.sc_model.specs.JournalSizes.{HasNoRoom, step_size}
 use Rattle.sc_model.specs.Settings.{IsSetup}
 use Rattle.sc_hosts.specs.Histories.{as_session}
 use Rattle.sc_hosts.specs.Runs.{IsLawful, all_sent, all_sent_from, chained, chained_from, start}
@@ -19,8 +18,7 @@ use Rattle.sc_switch.specs.declared.refused.StepRefused.{StepRefused}
 use Rattle.sc_switch.specs.declared.refused.StepRefused.TheVariants as refused
 use Rattle.sc_switch.specs.Standing.{Known, net_of}
 use Rattle.sc_switch.proofs.Standings.{lawful-step}
-use Rattle.sc_follow.specs.declared.streams.Pending.{Pending}
-use Rattle.sc_follow.specs.Moving.{Came, DoesUpto, HasDue, IsCut, IsDone, IsDue, IsFree, IsUntaken}
+use Rattle.sc_follow.specs.Moving.{Came, DoesUpto, HasDue, IsCut, IsDone, IsDue, IsUntaken}
 use Rattle.sc_follow.specs.Leading.{IsDueWithoutRoom, IsFollowed, IsLeft, IsNew, IsStoppedIn, Leads}
 use Rattle.sc_follow.specs.Streaming.{bytes_in, bytes_of}
 use Rattle.sc_follow.proofs.Steppings.{net-came}

@@ -1,11 +1,10 @@
 -- A message that a stream begins with has a Via.
-use Rattle.std.proofs.Common.{◌≡◌, ℕ, ◌+◌, ◌<◌, Bool, true, false, Option, None, Some, List, [], ◌∷◌, length, refl, sym, ap, ◌∙◌, subst, arith, if◌then◌else◌}
-use Rattle.std.specs.Prelude.{Result, Ok, Err, drop, take, nat_le, not, ◌==◌}
+use Rattle.std.proofs.Common.{◌≡◌, ℕ, ◌+◌, ◌<◌, Bool, true, false, Option, None, Some, [], length, refl, ap, ◌∙◌, subst, arith, if◌then◌else◌}
+use Rattle.std.specs.Prelude.{Result, Ok, Err, take, nat_le, ◌==◌}
 use Rattle.std.specs.Option.{option_map_or}
 use Rattle.sc_value.specs.declared.message.Message.{Message}
 use Rattle.sc_value.specs.declared.message.Message.TheVariants as messages
-use Rattle.sc_syntax.specs.declared.front.Front.{Front}
-use Rattle.sc_syntax.specs.declared.front.Front.TheVariants.{Open, Whole, Bad, Long}
+use Rattle.sc_syntax.specs.declared.front.Front.TheVariants.{Open, Whole, Long}
 use Rattle.sc_syntax.specs.declared.ending.Ending.TheVariants.{Empty}
 use Rattle.sc_syntax.specs.declared.left.Left.{Left}
 use Rattle.sc_syntax.specs.declared.left.Lists.{Lists}
@@ -15,7 +14,7 @@ use Rattle.sc_syntax.specs.Bytes.{Bytes}
 use Rattle.sc_syntax.specs.UriParts.{Fault, then_read}
 use Rattle.sc_syntax.specs.Lines.{end_of, start_line, header_lines}
 use Rattle.sc_syntax.specs.StartLines.{start_of}
-use Rattle.sc_syntax.specs.Fronts.{bad, body_len, front_of, headed, sized, whole}
+use Rattle.sc_syntax.specs.Fronts.{bad, front_of, headed, sized, whole}
 use Rattle.sc_syntax.specs.Messages.{Peers, all_judged, finished, finished_with, fits, head_of, is_method_of, message_in, message_with, nothing_left, peers_of, placed}
 use Rattle.std.proofs.lemmas.Bool.Decides.{nat_tests}
 use Rattle.sc_stream.specs.Frames.{front_behind}

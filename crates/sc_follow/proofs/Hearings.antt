@@ -1,29 +1,25 @@
 -- The steps that a stream's bytes make, one by one.
-use Rattle.std.proofs.Common.{◌≡◌, ℕ, ◌<◌, ◌+◌, Bool, true, false, List, [], ◌∷◌, ◌++◌, length, refl, sym, ap, ◌∙◌, subst, arith, length-append, append_assoc, inl, inr}
+use Rattle.std.proofs.Common.{◌≡◌, ℕ, ◌<◌, ◌+◌, Bool, true, false, List, [], ◌∷◌, ◌++◌, length, refl, sym, ap, subst, arith, length-append, append_assoc, inl, inr}
 use Rattle.std.specs.Prelude.{Result, Ok, Err, IfOk, OnOk, OnErr, IfErr, IsErrAnd, drop, ◌-◌, ◌⊎◌}
-use Rattle.std.specs.Option.{option_map}
-use Rattle.std.proofs.lemmas.List.{append-nil}
 use Rattle.sc_value.specs.declared.ids.Place.{Place}
 use Rattle.sc_value.specs.declared.message.Message.{Message}
 use Rattle.sc_terms.specs.declared.steps.Bad.{Bad}
 use Rattle.sc_terms.specs.declared.steps.Step.{Step}
 use Rattle.sc_terms.specs.declared.steps.Step.TheVariants as steps
 use Rattle.sc_parts.specs.declared.setup.Setup.{Setup}
-use Rattle.sc_syntax.specs.declared.front.Answerable.{Answerable}
 use Rattle.sc_syntax.specs.declared.front.Front.TheVariants as fronts
 use Rattle.sc_syntax.specs.Bytes.{Bytes}
 use Rattle.sc_syntax.specs.Fronts.{behind_breaks}
 use Rattle.sc_stream.specs.declared.streams.Heard.{Heard}
 use Rattle.sc_stream.specs.declared.streams.Heard.TheVariants as heard
 use Rattle.sc_stream.specs.Frames.{front_behind}
-use Rattle.sc_stream.specs.Hearing.{with_heads}
 use Rattle.sc_stream.specs.Hearing.{Hears as HearsNext}
 use Rattle.sc_hosts.specs.Runs.{HasVia}
 use Rattle.sc_runs.specs.Hearing.{Hears, HearsPart, IsBad}
 use Rattle.sc_switch.specs.declared.refused.StepRefused.{StepRefused}
 use Rattle.sc_switch.specs.declared.refused.StepRefused.TheVariants as refused
 use Rattle.sc_switch.specs.Standing.{Known}
-use Rattle.sc_follow.specs.Moving.{Came, CameTo, HasDue, HearsUpto, IsCut, IsDone, IsDue, IsFree, IsStopped, IsUntaken, TookStep}
+use Rattle.sc_follow.specs.Moving.{Came, HasDue, HearsUpto, IsCut, IsDone, IsDue, IsFree, IsStopped, IsUntaken, TookStep}
 use Rattle.sc_follow.specs.Streaming.{BadUpto, HeardOne}
 use Rattle.sc_follow.proofs.Fronts.{heard_via}
 use Rattle.sc_follow.proofs.Steppings.{came-none, came-on}

@@ -1,10 +1,9 @@
 -- What one line makes.
 use Rattle.std.proofs.Common.{◌≡◌, ℕ, Bool, true, false, List, [], ◌∷◌, ◌++◌, refl, sym, ap, ◌∙◌, subst, inl, inr, if◌then◌else◌, ◌&&◌, ◌≤◌, arith}
-use Rattle.std.specs.Prelude.{Result, Ok, Err, OnOk, OnErr, IfErr, is_some, nat_le, ◌⊎◌}
+use Rattle.std.specs.Prelude.{Result, Ok, Err, OnOk, OnErr, IfErr, is_some, nat_le}
 use Rattle.std.proofs.lemmas.Bool.Decides.{nat_tests}
 use Rattle.sc_value.specs.declared.ids.AppId.{AppId}
 use Rattle.sc_value.specs.declared.ids.Place.{Place}
-use Rattle.sc_terms.specs.declared.steps.Line.{Line}
 use Rattle.sc_terms.specs.declared.steps.Line.TheVariants as lines
 use Rattle.sc_terms.specs.declared.steps.Step.{Step}
 use Rattle.sc_terms.specs.declared.steps.Step.TheVariants as steps

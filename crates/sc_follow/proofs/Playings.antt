@@ -1,20 +1,16 @@
 -- What a turn adds to what was played.
-use Rattle.std.proofs.Common.{◌≡◌, ℕ, ◌+◌, ◌<◌, ◌≤◌, Bool, true, false, not, Option, None, Some, List, [], ◌∷◌, ◌++◌, length, refl, sym, ap, ◌∙◌, subst, arith, slice_get, append_assoc, length-append, inl, inr}
+use Rattle.std.proofs.Common.{◌≡◌, ℕ, ◌+◌, ◌<◌, ◌≤◌, true, false, not, Option, None, Some, List, [], ◌∷◌, ◌++◌, length, refl, sym, ap, ◌∙◌, subst, arith, slice_get, length-append, inl, inr}
 use Rattle.std.specs.Prelude.{Result, Ok, Err, IfOk, IfErr, IsErrAnd, filter, ◌≢◌, ◌-◌, ◌==◌, is_some}
 use Rattle.std.specs.Option.{option_map, option_and_then}
-use Rattle.std.specs.List.{All, find, list_any}
+use Rattle.std.specs.List.{All, find}
 use Rattle.std.proofs.lemmas.Bool.{false≢true}
 use Rattle.std.proofs.lemmas.Bool.Decides.{nat_tests}
-use Rattle.std.proofs.lemmas.List.{append-nil}
 use Rattle.std.proofs.lemmas.List.Elements.{All-get_or}
-use Rattle.std.proofs.lemmas.List.Sums.{fold-append}
 use Rattle.std.proofs.lemmas.Option.{none-some, same_Some, slice_get_within, get_or_from_slice_get}
 use Rattle.sc_value.specs.declared.ids.AppId.{AppId}
 use Rattle.sc_terms.specs.declared.calls.CallRecord.{CallRecord}
 use Rattle.sc_terms.specs.declared.calls.End.{End}
 use Rattle.sc_terms.specs.declared.calls.End.TheVariants as ends
-use Rattle.sc_terms.specs.declared.charters.Charter.{Charter}
-use Rattle.sc_terms.specs.declared.charters.ListenerCharter.{ListenerCharter}
 use Rattle.sc_terms.specs.declared.settings.AppEntry.{AppEntry}
 use Rattle.sc_terms.specs.declared.steps.Step.{Step}
 use Rattle.sc_terms.specs.declared.steps.Step.TheVariants as steps
@@ -37,12 +33,12 @@ use Rattle.sc_switch.specs.declared.refused.Committed.{Committed}
 use Rattle.sc_switch.specs.declared.refused.Committed.TheVariants as committed
 use Rattle.sc_switch.specs.declared.refused.StepRefused.{StepRefused}
 use Rattle.sc_switch.specs.declared.refused.StepRefused.TheVariants as refused
-use Rattle.sc_switch.specs.Answers.{IsGiven, Leased, LeasedOf, Received, RefusesRight, RefusesTurn, IsFullFor, with_step}
+use Rattle.sc_switch.specs.Answers.{IsGiven, Leased, LeasedOf, Received, RefusesRight, RefusesTurn, with_step}
 use Rattle.sc_switch.specs.Standing.{Known, net_of, next_free, is_leased, is_live_lease, has_number, has_other_number, without_number, IsLeaseOf, ShowsOf, ShowsFirst, Fits, servlet_of, listener_of, step_of}
 use Rattle.sc_switch.proofs.Fitting.{fits_allowed}
 use Rattle.sc_follow.specs.Moving.{Came, CameTo, HasDue, IsCut, IsDone, IsDue, IsFree, IsUntaken, TookStep}
 use Rattle.sc_follow.specs.Playing.{turn_at, TookTurnOf, IsTurnDue, IsSameRun, IsTurnStopped, IsLent, Lends, LendsOf, TookTurn, IsRunStopped, TurnsUpto}
-use Rattle.sc_follow.proofs.Steppings.{below_full, came-none, came-on, net-came, stepped}
+use Rattle.sc_follow.proofs.Steppings.{came-none, came-on, net-came, stepped}
 
 -- ## Lending
 

@@ -7,20 +7,17 @@ use Rattle.sc_value.specs.declared.ids.AppId.{AppId}
 use Rattle.sc_value.specs.declared.message.Sent.{Sent}
 use Rattle.sc_terms.specs.declared.steps.Step.{Step}
 use Rattle.sc_terms.specs.declared.steps.Step.TheVariants as steps
-use Rattle.sc_parts.specs.declared.setup.Setup.{Setup}
-use Rattle.sc_state.specs.declared.net.Net.{Net}
-use Rattle.sc_state.specs.declared.session.Session.{Session}
 use Rattle.sc_servlets.specs.declared.lease.Lease.{Lease}
 use Rattle.sc_model.specs.JournalSizes.{HasNoRoom, step_size}
 use Rattle.sc_hosts.specs.Histories.{as_session}
-use Rattle.sc_hosts.specs.Runs.{IsAllowed, after_step, all_sent, chained, chained_from, start}
+use Rattle.sc_hosts.specs.Runs.{IsAllowed, after_step, chained, chained_from, start}
 use Rattle.sc_hosts.specs.Steps.{live_at}
 use Rattle.sc_switch.specs.declared.refused.StepRefused.{StepRefused}
 use Rattle.sc_switch.specs.declared.refused.StepRefused.TheVariants as refused
 use Rattle.sc_switch.specs.Answers.{IsFullFor, RefusesRight, Withdraws, with_step}
 use Rattle.sc_switch.specs.Standing.{Known, net_of, without_app}
 use Rattle.sc_switch.proofs.Standings.{sent-step}
-use Rattle.sc_follow.specs.Moving.{Came, CameTo, HasDue, IsCut, IsDone, IsDue, IsFree, IsStillThere, IsStopped, IsUntaken, TookStep, Withdrew}
+use Rattle.sc_follow.specs.Moving.{Came, IsFree, IsStillThere, IsStopped, IsUntaken, TookStep, Withdrew}
 
 -- ## One step
 

@@ -1,5 +1,5 @@
 -- What a switch is between the lines of a script, and how far it came in one.
-use Rattle.std.specs.Prelude.{◌≡◌, ◌≤◌, ◌⊎◌, ℕ, Bool, true, false, List, [], ◌∷◌, ◌++◌, Option, None, Some, is_some, length}
+use Rattle.std.specs.Prelude.{◌≡◌, ◌≤◌, ◌⊎◌, Bool, true, false, List, [], ◌∷◌, ◌++◌, is_some, length}
 use Rattle.sc_value.specs.declared.ids.AppId.{AppId}
 use Rattle.sc_value.specs.declared.ids.Place.{Place}
 use Rattle.sc_terms.specs.declared.steps.Line.{Line}
@@ -11,7 +11,7 @@ use Rattle.sc_model.specs.JournalSizes.{step_size}
 use Rattle.sc_hosts.specs.Histories.{as_session}
 use Rattle.sc_hosts.specs.Runs.{IsAllowed, all_sent}
 use Rattle.sc_hosts.specs.Steps.{live_at}
-use Rattle.sc_runs.specs.Following.{Does, DoesPart, IsPartRun, IsWholeRun, IsTurnOf, Streams, first_number}
+use Rattle.sc_runs.specs.Following.{Does, DoesPart, Streams}
 use Rattle.sc_runs.specs.Hearing.{Hears, HearsPart}
 use Rattle.sc_switch.specs.declared.refused.StepRefused.{StepRefused}
 use Rattle.sc_switch.specs.declared.refused.StepRefused.TheVariants as refused

@@ -1,19 +1,18 @@
 -- The turns that a switch takes.
-use Rattle.std.specs.Prelude.{◌≡◌, ◌⊎◌, ◌≤◌, ◌<◌, ◌+◌, ℕ, Bool, true, false, List, [], ◌∷◌, ◌++◌, Option, None, Some, length}
+use Rattle.std.specs.Prelude.{◌≡◌, ◌⊎◌, ◌≤◌, ◌<◌, ◌+◌, ℕ, Bool, true, false, List, [], ◌∷◌, Option, None, Some, length}
 use Rattle.sc_value.specs.declared.ids.AppId.{AppId}
 use Rattle.sc_terms.specs.declared.calls.CallRecord.{CallRecord}
 use Rattle.sc_terms.specs.declared.calls.End.{End}
 use Rattle.sc_terms.specs.declared.steps.Step.{Step}
 use Rattle.sc_terms.specs.declared.steps.Step.TheVariants as steps
 use Rattle.sc_servlets.specs.declared.lease.Lease.{Lease}
-use Rattle.sc_hosts.specs.Histories.{as_session}
 use Rattle.sc_hosts.specs.Steps.{live_at}
 use Rattle.sc_runs.specs.Following.{IsTurnOf, first_number}
 use Rattle.sc_runs.specs.Next.{Next, next_event}
 use Rattle.sc_switch.specs.declared.refused.StepRefused.{StepRefused}
 use Rattle.sc_switch.specs.declared.refused.StepRefused.TheVariants as refused
 use Rattle.sc_switch.specs.Standing.{Known, net_of, IsLeaseOf}
-use Rattle.sc_follow.specs.Moving.{IsDue, IsFree, IsUntaken, TookStep}
+use Rattle.sc_follow.specs.Moving.{IsDue, IsUntaken, TookStep}
 
 -- a turn of this event at the last moment
 abbrev pub turn_at : Known → AppId → ℕ → List CallRecord → End → Step

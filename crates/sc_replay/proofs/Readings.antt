@@ -5,7 +5,7 @@ use Rattle.std.proofs.lemmas.Bool.Decides.{nat_tests}
 use Rattle.sc_terms.specs.declared.steps.Line.{Line}
 use Rattle.sc_grammar.specs.Written.{Bytes}
 use Rattle.sc_edge.specs.Shelving.{GivesAll, IsLonger}
-use Rattle.sc_script.specs.ScriptTexts.{MOST_BYTES, script_of}
+use Rattle.sc_script.specs.ScriptTexts.{script_of}
 use Rattle.sc_replay.specs.Replaying.{IsScriptFault, TellsScript}
 
 too-long : (text : Bytes) → 67108864 < length text → nat_lt 67108864 (length text) ≡ true

@@ -1,7 +1,6 @@
 -- What a run leaves at each status.
-use Rattle.std.specs.Prelude.{is_some, IfSome, IsTrue}
-use Rattle.std.proofs.Common.{◌≡◌, Bool, false, Option, None, Some, List, [], refl, sym, ap, ◌∙◌, subst, inl, inr, true, arith}
-use Rattle.std.proofs.lemmas.Bool.{false≢true}
+use Rattle.std.specs.Prelude.{is_some, IfSome}
+use Rattle.std.proofs.Common.{◌≡◌, Option, None, Some, List, [], refl, sym, ap, subst, inl, inr, true, arith}
 use Rattle.sc_terms.specs.declared.steps.Line.{Line}
 use Rattle.sc_terms.specs.declared.steps.Step.{Step}
 use Rattle.sc_parts.specs.declared.setup.Setup.{Setup}

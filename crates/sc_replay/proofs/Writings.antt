@@ -7,7 +7,7 @@ use Rattle.sc_value.specs.declared.message.Sent.{Sent}
 use Rattle.sc_edge.specs.Taking.{Takes, TakesPart, Takes_none, Takes_then, TakesPart_then, TakesPart_front}
 use Rattle.sc_model.specs.Records.{record_text, records, end_text}
 use Rattle.sc_hosts.specs.Histories.{as_session}
-use Rattle.sc_hosts.specs.Runs.{chained, live_count}
+use Rattle.sc_hosts.specs.Runs.{live_count}
 use Rattle.sc_runs.specs.Outputs.{output, journal_records, end_line}
 use Rattle.sc_switch.specs.Standing.{Known, net_of}
 use Rattle.sc_follow.specs.Moving.{IsUntaken}

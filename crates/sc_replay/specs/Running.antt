@@ -1,5 +1,5 @@
 -- What the parts of `replay` answer.
-use Rattle.std.specs.Prelude.{◌≡◌, ◌⊎◌, List, [], Option, None, Some, length, ◌≤◌}
+use Rattle.std.specs.Prelude.{◌≡◌, ◌⊎◌, List, Option, Some}
 use Rattle.sc_terms.specs.declared.steps.Line.{Line}
 use Rattle.sc_terms.specs.declared.steps.Line.TheVariants as lines
 use Rattle.sc_terms.specs.declared.steps.Step.{Step}
@@ -12,12 +12,10 @@ use Rattle.sc_hosts.specs.Runs.{IsLawful}
 use Rattle.sc_runs.specs.Following.{Follows, Upto}
 use Rattle.sc_runs.specs.Outputs.{journal_records, output}
 use Rattle.sc_follow.specs.Leading.{IsDueWithoutRoom}
-use Rattle.sc_switch.specs.declared.refused.StepRefused.{StepRefused}
 use Rattle.sc_switch.specs.declared.refused.StepRefused.TheVariants as refused
 use Rattle.sc_switch.specs.declared.ran.Ran.{Ran}
 use Rattle.sc_switch.specs.declared.ran.Status.{Status}
 use Rattle.sc_switch.specs.declared.ran.Status.TheVariants as statuses
-use Rattle.sc_switch.specs.Standing.{Known}
 use Rattle.sc_replay.specs.declared.running.RunRefused.{RunRefused}
 use Rattle.sc_replay.specs.declared.running.RunRefused.TheVariants as runs
 use Rattle.sc_replay.specs.declared.reading.ScriptUnread.{ScriptUnread}

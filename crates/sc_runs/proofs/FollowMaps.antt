@@ -1,6 +1,6 @@
 -- A net whose sessions are changed: which journals follow a script, and what their output is.
-use Rattle.std.proofs.Common.{refl, sym, ap, ◌∙◌, inl, inr}
-use Rattle.std.specs.Prelude.{◌≡◌, ◌⊎◌, ℕ, List, [], ◌∷◌, ◌++◌, Bool, None, Some, is_some}
+use Rattle.std.proofs.Common.{refl, sym, ◌∙◌, inl, inr}
+use Rattle.std.specs.Prelude.{◌≡◌, List, [], ◌∷◌, is_some}
 use Rattle.sc_terms.specs.declared.steps.Line.{Line}
 use Rattle.sc_terms.specs.declared.steps.Line.TheVariants as lines
 use Rattle.sc_terms.specs.declared.steps.Step.{Step}
@@ -19,7 +19,7 @@ use Rattle.sc_forms.proofs.RunMaps.{start-maps, moment-maps, after_step-maps}
 use Rattle.sc_forms.proofs.StepMaps.{live_at-maps}
 use Rattle.sc_forms.specs.Simulations.{map_live, map_net, IsSimulation}
 use Rattle.sc_runs.proofs.NextMaps.{next_event-maps, first_number-maps}
-use Rattle.sc_runs.specs.Following.{Streams, IsTurnOf, IsPartRun, IsWholeRun, Does, DoesPart, FollowsFrom, UptoFrom, Follows, Upto, first_number, no_bytes}
+use Rattle.sc_runs.specs.Following.{Streams, IsPartRun, IsWholeRun, Does, DoesPart, FollowsFrom, UptoFrom, Follows, Upto, first_number, no_bytes}
 use Rattle.sc_runs.specs.Next.{next_event}
 use Rattle.sc_runs.specs.Outputs.{output, journal_records, end_line}
 

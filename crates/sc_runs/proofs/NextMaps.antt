@@ -1,13 +1,13 @@
 -- A net whose sessions are changed: what is next in it.
 use Rattle.std.proofs.Common.{refl, ap}
-use Rattle.std.specs.Prelude.{◌≡◌, ℕ, ◌+◌, List, [], ◌∷◌, ◌++◌, Option, None, Some, map, option_map}
+use Rattle.std.specs.Prelude.{◌≡◌, ℕ, ◌+◌, List, [], ◌∷◌, Option, None, Some, map, option_map}
 use Rattle.std.specs.List.{filter_map}
 use Rattle.sc_state.specs.declared.host.Host.{Host}
 use Rattle.sc_state.specs.declared.host.Live.{Live}
 use Rattle.sc_state.specs.declared.net.Net.{Net}
 use Rattle.sc_forms.specs.Simulations.{map_live, map_host, map_net}
 use Rattle.sc_runs.specs.Following.{first_number}
-use Rattle.sc_runs.specs.Next.{Next, next_of, next_from, next_events, next_event, lowest}
+use Rattle.sc_runs.specs.Next.{next_of, next_from, next_events, next_event, lowest}
 
 filter_map-maps : {A B C : Type 0} (g : A → B) (f : B → Option C) (h : A → Option C) → ((a : A) → f (g a) ≡ h a) → (xs : List A) → filter_map f (map g xs) ≡ filter_map h xs
 filter_map-maps g f h same [] = refl

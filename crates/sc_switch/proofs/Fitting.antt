@@ -1,13 +1,11 @@
 -- A brought turn that fits may be taken.
-use Rattle.std.proofs.Common.{◌≡◌, ℕ, zero, suc, ◌<◌, Option, None, Some, List, [], ◌∷◌, length, refl, sym, ap, ◌∙◌, subst, slice_get, arith}
+use Rattle.std.proofs.Common.{◌≡◌, ℕ, zero, suc, ◌<◌, Option, None, Some, List, [], ◌∷◌, length, refl, sym, subst, slice_get, arith}
 use Rattle.std.specs.Option.{option_map, option_and_then}
 use Rattle.std.specs.List.{All}
 use Rattle.std.proofs.Math.Logic.{∥∥₁_map}
 use Rattle.std.proofs.lemmas.Option.{none-some, same_Some}
 use Rattle.std.proofs.lemmas.List.Elements.{All-head, All-tail}
 use Rattle.sc_terms.specs.declared.calls.End.TheVariants as ends
-use Rattle.sc_terms.specs.declared.charters.Charter.{Charter}
-use Rattle.sc_terms.specs.declared.charters.ListenerCharter.{ListenerCharter}
 use Rattle.sc_terms.specs.declared.settings.AppEntry.{AppEntry}
 use Rattle.sc_parts.specs.declared.setup.Setup.{Setup}
 use Rattle.sc_state.specs.declared.host.Live.{Live}
@@ -17,7 +15,7 @@ use Rattle.sc_state.specs.declared.session.Session.{Session}
 use Rattle.sc_state.specs.declared.working.Prepared.{Prepared}
 use Rattle.sc_servlets.specs.declared.lease.Lease.{Lease}
 use Rattle.sc_servlets.specs.declared.done.Done.{Done}
-use Rattle.sc_servlets.specs.Brought.{IsBrought, called_servlet, called_listener}
+use Rattle.sc_servlets.specs.Brought.{IsBrought}
 use Rattle.sc_servlets.specs.Stated.{servlet_at, listener_at}
 use Rattle.sc_servlets.proofs.Brought.{brought_allowed}
 use Rattle.sc_model.specs.Settings.{Charters, IsSetup, app_of, charters_of}

@@ -1,6 +1,6 @@
 -- What was sent in a step is no matter to leases and counts.
-use Rattle.std.proofs.Common.{◌≡◌, ℕ, ◌+◌, ◌≤◌, true, false, Option, None, Some, List, [], ◌∷◌, ◌++◌, refl, sym, ap, ◌∙◌, subst, slice_get, arith}
-use Rattle.std.specs.Prelude.{Result, Ok, Err, IfOk, is_some, IsTrue}
+use Rattle.std.proofs.Common.{◌≡◌, ℕ, ◌+◌, ◌≤◌, Option, None, Some, List, [], ◌∷◌, ◌++◌, refl, sym, ap, ◌∙◌, subst, slice_get, arith}
+use Rattle.std.specs.Prelude.{Result, Ok, Err, IfOk, is_some}
 use Rattle.std.specs.Option.{option_map}
 use Rattle.sc_value.specs.declared.ids.AppId.{AppId}
 use Rattle.sc_terms.specs.declared.settings.AppEntry.{AppEntry}

@@ -1,6 +1,5 @@
 -- What the calls of a switch answer, and what they change.
 use Rattle.std.specs.Prelude.{◌≡◌, ℕ, ◌+◌, ◌≤◌, ◌⊎◌, [], ◌∷◌, ◌++◌, Bool, true, false, Option, None, Some, is_some}
-use Rattle.std.specs.List.{find}
 use Rattle.sc_value.specs.declared.ids.AppId.{AppId}
 use Rattle.sc_terms.specs.declared.steps.Step.{Step}
 use Rattle.sc_terms.specs.declared.steps.Step.TheVariants as steps
@@ -10,13 +9,12 @@ use Rattle.sc_model.specs.JournalSizes.{HasNoRoom}
 use Rattle.sc_hosts.specs.Histories.{as_session}
 use Rattle.sc_hosts.specs.Runs.{after_step}
 use Rattle.sc_hosts.specs.Steps.{live_at}
-use Rattle.sc_runs.specs.Next.{Next}
 use Rattle.sc_runs.specs.Following.{first_number}
 use Rattle.sc_switch.specs.declared.refused.Committed.{Committed}
 use Rattle.sc_switch.specs.declared.refused.Committed.TheVariants as committed
 use Rattle.sc_switch.specs.declared.refused.StepRefused.{StepRefused}
 use Rattle.sc_switch.specs.declared.refused.StepRefused.TheVariants as refused
-use Rattle.sc_switch.specs.Standing.{Known, net_of, IsLeaseOf, next_free, is_leased, is_live_lease, has_number, without_app, without_number, Fits, step_of}
+use Rattle.sc_switch.specs.Standing.{Known, net_of, IsLeaseOf, next_free, is_leased, is_live_lease, without_app, without_number, Fits, step_of}
 
 -- the number of the last lease that is given
 abbrev pub LAST_LEASE : ℕ

@@ -1,5 +1,5 @@
 -- What is lent out, and what a brought turn is to the live leases.
-use Rattle.std.specs.Prelude.{◌≡◌, ℕ, ◌+◌, List, [], ◌∷◌, Bool, true, false, Option, None, Some, if◌then◌else◌}
+use Rattle.std.specs.Prelude.{◌≡◌, ℕ, ◌+◌, List, [], ◌∷◌, true, false, Option, None, Some, if◌then◌else◌}
 use Rattle.std.specs.List.{fold}
 use Rattle.sc_value.specs.declared.ids.AppId.{AppId}
 use Rattle.sc_parts.specs.declared.setup.Setup.{Setup}

@@ -1,6 +1,6 @@
 -- What callers see of a switch, and what it stands for: the run of its journal, with sessions kept as what
 -- they are.
-use Rattle.std.specs.Prelude.{◌≡◌, ℕ, ◌≤◌, List, [], ◌++◌, Bool, not, ◌==◌, ◌&&◌, Option, None, Some, option_map, is_some, length, filter, slice_get}
+use Rattle.std.specs.Prelude.{◌≡◌, ℕ, ◌≤◌, List, [], ◌++◌, Bool, not, ◌==◌, Option, None, Some, option_map, is_some, length, filter, slice_get}
 use Rattle.std.specs.List.{find, list_any}
 use Rattle.std.specs.Option.{option_and_then}
 use Rattle.sc_value.specs.declared.ids.AppId.{AppId}

@@ -1,6 +1,6 @@
 use Rattle.std.proofs.Common.{ap, ◌∙◌}
 use Rattle.std.specs.Prelude.{Ok}
-use Rattle.sc_follow.proofs.Playings.{never_gone, never_other, took_turn, turn_stopped}
+use Rattle.sc_follow.proofs.Playings.{never_gone, took_turn, turn_stopped}
 use Rattle.sc_follow.proofs.Steppings.{below_full}
 use Rattle.sc_follow.proofs.playing.settle.Goals as goal
 

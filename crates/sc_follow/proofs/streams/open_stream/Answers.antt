@@ -1,5 +1,5 @@
-use Rattle.std.proofs.Common.{◌≡◌, Option, Some, ap, sym, ◌∙◌, List, subst}
-use Rattle.std.specs.Prelude.{position, is_some, true}
+use Rattle.std.proofs.Common.{◌≡◌, sym, ◌∙◌, List, subst}
+use Rattle.std.specs.Prelude.{is_some, true}
 use Rattle.std.specs.List.{find}
 use Rattle.sc_follow.specs.declared.streams.Pending.{Pending}
 use Rattle.sc_follow.specs.Streaming.{is_at}

@@ -1,5 +1,3 @@
-use Rattle.std.proofs.Common.{subst}
-use Rattle.sc_switch.specs.Standing.{Known}
 use Rattle.sc_switch.proofs.switch.Switch.journal.Goals as goal
 
 pub returns-clause-within : goal.returns-clause-within

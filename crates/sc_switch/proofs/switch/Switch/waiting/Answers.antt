@@ -1,4 +1,3 @@
-use Rattle.std.proofs.Common.{ap}
 use Rattle.sc_switch.specs.Standing.{net_of}
 use Rattle.sc_switch.proofs.switch.Switch.waiting.Goals as goal
 
