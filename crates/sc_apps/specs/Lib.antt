@@ -1,2 +1,1 @@
-pub mod BuiltIns
 pub mod Scripted

@@ -159,8 +159,9 @@ fn send_leg(t: &mut Turn, req: ReqId, draft: u64) -> Result<(), NoMemory>
     leg_sent(t, req, answer)
 }
 
+/// Whether a call was refused.
 #[tactic(auto, unfolding(sc_hosts::specs::Scripting::is_refused))]
-fn is_refused(answer: CallAnswer) -> bool
+pub fn is_refused(answer: CallAnswer) -> bool
     ensures { result ≡ is_refused answer }
 {
     match answer {

@@ -57,7 +57,7 @@ fn handle(t: &mut Turn, e: &Event) -> Result<(), NoMemory>
         Event::Request { req, request, .. } => reply_ok(t, *req, request.get()),
         Event::Response { .. } => Ok(()),
         Event::Branch { .. } => Ok(()),
-        Event::Cancelled { .. } => stop(t),
+        Event::Cancelled { .. } => cancel_first_timer(t),
         Event::Timer { info, .. } => answer_or_drop(t, info),
         Event::Expired => Ok(()),
         Event::Ready => Ok(()),
@@ -155,8 +155,9 @@ fn first_id(timers: &[TimerView]) -> Option<TimerId>
     }
 }
 
+/// Ends the first timer, where there is one.
 #[tactic(auto, using(crate::proofs::Playing::begun_room, crate::proofs::Playing::played_id))]
-fn stop(t: &mut Turn) -> Result<(), NoMemory>
+pub fn cancel_first_timer(t: &mut Turn) -> Result<(), NoMemory>
     requires calls { t.old.calls ≡ [] }
     requires memory { t.old.starved ≡ false }
     ensures same { t.new.shown ≡ t.old.shown }

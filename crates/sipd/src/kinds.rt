@@ -1,7 +1,8 @@
 //! The kinds of applications that the program has.
 
-use sc_apps::{BuiltIn, ExtendsOnce};
+use sc_apps::ExtendsOnce;
 use sc_edge::{FileShelf, OutSink};
+use sc_kinds::BuiltIn;
 use sc_replay::{Command, Status, check, replay};
 use sc_servlets::{Catalogue, Listener};
 use sc_value::{NoMemory, Text};

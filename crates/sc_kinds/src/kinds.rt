@@ -1,17 +1,18 @@
 //! All kinds of applications that every container comes with, under their names.
 
 ghost use Rattle.std.specs.Prelude.{◌≡◌};
-ghost use Rattle.sc_apps.specs.BuiltIns.{charter_of};
+ghost use Rattle.sc_kinds.specs.BuiltIns.{charter_of};
 
 use crate::built_in::BuiltIn;
-use crate::{Answers, B2bs, Blocks, Dials, Forks, Forwards, Records, Reverses, Rings};
+use sc_apps::{Answers, B2bs, Blocks, Dials, Forks, Forwards, Records, Reverses, Rings};
+use sc_helpers::{Notifies, Offers, Refreshes};
 use sc_servlets::SipServlet;
 use sc_terms::{Charter, End, Event};
 use sc_turn::Turn;
 
 impl BuiltIn {
     /// All of them, in the order in which they are told.
-    pub fn all() -> [BuiltIn; 9] {
+    pub fn all() -> [BuiltIn; 12] {
         [
             BuiltIn::Answer,
             BuiltIn::Block,
@@ -22,6 +23,9 @@ impl BuiltIn {
             BuiltIn::Dial,
             BuiltIn::Reverse,
             BuiltIn::Ringer,
+            BuiltIn::Early,
+            BuiltIn::Timed,
+            BuiltIn::Notify,
         ]
     }
 
@@ -37,10 +41,13 @@ impl BuiltIn {
             BuiltIn::Dial => b"dial",
             BuiltIn::Reverse => b"reverse",
             BuiltIn::Ringer => b"ringer",
+            BuiltIn::Early => b"early",
+            BuiltIn::Timed => b"timed",
+            BuiltIn::Notify => b"notify",
         }
     }
 
-    /// Whether [`ExtendsOnce`](crate::ExtendsOnce) listens for it.
+    /// Whether [`ExtendsOnce`](sc_apps::ExtendsOnce) listens for it.
     pub fn is_extended(self) -> bool {
         match self {
             BuiltIn::Ringer => true,
@@ -64,6 +71,9 @@ impl SipServlet for BuiltIn {
             BuiltIn::Dial => Charter::Dial,
             BuiltIn::Reverse => Charter::Reverse,
             BuiltIn::Ringer => Charter::Ringer,
+            BuiltIn::Early => Charter::Early,
+            BuiltIn::Timed => Charter::Timed,
+            BuiltIn::Notify => Charter::Notify,
         }
     }
 
@@ -79,6 +89,9 @@ impl SipServlet for BuiltIn {
             BuiltIn::Dial => Dials.turn(t, e),
             BuiltIn::Reverse => Reverses.turn(t, e),
             BuiltIn::Ringer => Rings.turn(t, e),
+            BuiltIn::Early => Offers.turn(t, e),
+            BuiltIn::Timed => Refreshes.turn(t, e),
+            BuiltIn::Notify => Notifies.turn(t, e),
         }
     }
 }

@@ -1,0 +1,33 @@
+-- Parts of texts and of heads, as the code reads them.
+use Rattle.std.specs.Prelude.{ℕ, List, [], ◌∷◌, Bool, true, false, ◌&&◌, ◌||◌, Option, None, Some, drop}
+use Rattle.std.specs.List.{list_any, prefix_len}
+use Rattle.sc_value.specs.declared.parts.Field.{Field}
+use Rattle.sc_value.specs.Params.{same_name}
+use Rattle.sc_value.specs.Tokens.{is_blank}
+use Rattle.sc_grammar.specs.Written.{Bytes}
+use Rattle.sc_syntax.specs.Cuts.{pieces}
+use Rattle.sc_hosts.specs.HelperParts.{items_of, require_word, supported_word}
+
+-- the pieces of what stands behind a sign
+unfoldable pub more_pieces : ℕ → Option Bytes → List Bytes
+more_pieces sign None = []
+more_pieces sign (Some rest) = pieces sign rest
+
+-- what stands behind the blanks at the front
+unfoldable pub unindented : Bytes → Bytes
+unindented text = drop (prefix_len is_blank text) text
+
+-- the field has this name
+abbrev pub is_called : Bytes → Field → Bool
+is_called name field = same_name field.name name
+
+-- a Supported or Require header with this option
+unfoldable pub is_listing : Bytes → Field → Bool
+is_listing option field = (same_name field.name supported_word || same_name field.name require_word) && list_any (same_name option) (items_of field.value)
+
+unfoldable pub is_three : List Bytes → Bool
+is_three [] = false
+is_three (a ∷ []) = false
+is_three (a ∷ b ∷ []) = false
+is_three (a ∷ b ∷ c ∷ []) = true
+is_three (a ∷ b ∷ c ∷ d ∷ more) = false

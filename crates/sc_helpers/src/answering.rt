@@ -1,0 +1,98 @@
+//! Answers with fields.
+
+ghost use Rattle.std.specs.Prelude.{◌≡◌, ◌+◌, ◌<◌, IfOk, OnOk};
+ghost use Rattle.sc_value.specs.declared.ids.ReqId.{ReqId};
+ghost use Rattle.sc_hosts.specs.HelperParts.{accepted_then, answer_with};
+ghost use Rattle.sc_hosts.specs.RefusalParts.{MOST_CALLS};
+ghost use Rattle.sc_hosts.specs.Scripting.{only, reply};
+ghost use Rattle.sc_turn.specs.Working.{play_of};
+ghost use Rattle.sc_apps.specs.Scripted.{IsMade, IsPlayed};
+ghost use Rattle.sc_helpers.specs.Leading.{IsLed};
+
+use sc_apps::{is_refused, memory_of, respond};
+use sc_terms::{Answer, Call, CallAnswer};
+use sc_turn::Turn;
+use sc_value::{Field, List, NoMemory, ReqId, Text};
+use std::alloc::Global;
+
+#[tactic(auto, unfolding(sc_hosts::specs::HelperParts::answer_with))]
+fn answer_of(
+    alloc: Global,
+    code: u16,
+    reason: &[u8],
+    fields: List<Field>,
+) -> Result<Answer, NoMemory>
+    ensures { IfOk result (λ answer. (req : ReqId) → Call.Respond req answer ≡ answer_with req code reason.now fields) }
+{
+    let reason = Text::from_slice(alloc, reason)?;
+    Ok(Answer {
+        code,
+        reason,
+        fields,
+        contact: List::new(alloc),
+        body: Text::new(alloc),
+    })
+}
+
+fn answer_with(
+    t: &mut Turn,
+    req: ReqId,
+    code: u16,
+    reason: &[u8],
+    fields: List<Field>,
+) -> Result<CallAnswer, NoMemory>
+    requires { (play_of t.old).listed < MOST_CALLS }
+    ensures same { t.new.shown ≡ t.old.shown }
+    ensures made { IfOk result (λ given. IsMade (answer_with req code reason.now fields) t.old given t.new) }
+    ensures listed { OnOk result ((play_of t.new).listed ≡ (play_of t.old).listed + 1) }
+{
+    let answer = answer_of(memory_of(t), code, reason, fields)?;
+    respond(t, req, answer)
+}
+
+/// Answers a request with fields, and makes no other call.
+#[tactic(auto, using(sc_apps::proofs::Playing::played_only))]
+pub fn answer_only(
+    t: &mut Turn,
+    req: ReqId,
+    code: u16,
+    reason: &[u8],
+    fields: List<Field>,
+) -> Result<(), NoMemory>
+    requires { (play_of t.old).listed < MOST_CALLS }
+    ensures same { t.new.shown ≡ t.old.shown }
+    ensures played { OnOk result (IsPlayed (only (answer_with req code reason.now fields)) t.old t.new) }
+{
+    answer_with(t, req, code, reason, fields)?;
+    Ok(())
+}
+
+/// Answers a request with fields. Tells whether the script goes on.
+#[tactic(auto, using(crate::proofs::LedLaws::led_made))]
+pub fn answer_first(
+    t: &mut Turn,
+    req: ReqId,
+    code: u16,
+    reason: &[u8],
+    fields: List<Field>,
+) -> Result<bool, NoMemory>
+    requires { (play_of t.old).listed < MOST_CALLS }
+    ensures same { t.new.shown ≡ t.old.shown }
+    ensures led { IfOk result (λ on. IsLed (accepted_then (answer_with req code reason.now fields)) on t.old t.new) }
+    ensures listed { OnOk result ((play_of t.new).listed ≡ (play_of t.old).listed + 1) }
+{
+    let answer = answer_with(t, req, code, reason, fields)?;
+    Ok(!is_refused(answer))
+}
+
+/// Answers a request with this code and reason, and nothing else. Tells whether the script goes on.
+#[tactic(auto, using(crate::proofs::LedLaws::led_made))]
+pub fn reply_first(t: &mut Turn, req: ReqId, code: u16, reason: &[u8]) -> Result<bool, NoMemory>
+    requires { (play_of t.old).listed < MOST_CALLS }
+    ensures same { t.new.shown ≡ t.old.shown }
+    ensures led { IfOk result (λ on. IsLed (accepted_then (reply req code reason.now)) on t.old t.new) }
+    ensures listed { OnOk result ((play_of t.new).listed ≡ (play_of t.old).listed + 1) }
+{
+    let answer = sc_apps::reply(t, req, code, reason)?;
+    Ok(!is_refused(answer))
+}
