@@ -131,11 +131,12 @@ fn send_draft(t: &mut Turn, draft: u64) -> Result<(), NoMemory>
     Ok(())
 }
 
-#[tactic(auto, unfolding(sc_hosts::specs::Charters::plain_address))]
+#[tactic(auto, unfolding(sc_hosts::specs::Charters::plain_address, sc_tokens::specs::HeaderTokens::IsDisplay, sc_value::specs::ParamRules::AreHeaderParams))]
 fn plain_address(alloc: Global, uri: &Uri) -> Result<Address, NoMemory>
     ensures { IfOk result (λ address. address ≡ plain_address uri.now) }
 {
     let uri = uri.clone_in(alloc)?;
+    uri.known();
     Ok(Address {
         display: None,
         uri,

@@ -63,8 +63,8 @@ fn inside_of(alloc: Global, request: &Request) -> Result<Inside, NoMemory>
     ensures { IfOk result (λ ask. ask ≡ record { method = request.now.method; fields = request.now.head.others; body = request.now.head.body }) }
 {
     Ok(Inside {
-        method: request.method.clone_in(alloc)?,
-        fields: request.head.others.clone_in(alloc)?,
+        method: request.method.as_text().clone_in(alloc)?,
+        fields: request.head.others.as_list().clone_in(alloc)?,
         body: request.head.body.clone_in(alloc)?,
     })
 }

@@ -27,8 +27,8 @@ fn same_answer(alloc: Global, response: &Response) -> Result<Answer, NoMemory>
 {
     Ok(Answer {
         code: response.code,
-        reason: response.reason.clone_in(alloc)?,
-        fields: response.head.others.clone_in(alloc)?,
+        reason: response.reason.as_text().clone_in(alloc)?,
+        fields: response.head.others.as_list().clone_in(alloc)?,
         contact: List::new(alloc),
         body: response.head.body.clone_in(alloc)?,
     })

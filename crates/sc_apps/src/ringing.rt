@@ -2,7 +2,7 @@
 
 ghost use Rattle.std.specs.Prelude.{◌≡◌, ◌+◌, ◌<◌, [], decimal, false, slice_get, option_map, option_and_then, if◌then◌else◌, OnOk};
 ghost use Rattle.std.specs.Option.{option_copied};
-ghost use Rattle.sc_value.specs.Params.{same_bytes};
+ghost use Rattle.sc_tokens.specs.Names.{same_bytes};
 ghost use Rattle.sc_terms.specs.declared.charters.Charter.{Charter};
 ghost use Rattle.sc_terms.specs.declared.views.Period.TheVariants.{Once};
 ghost use Rattle.sc_hosts.specs.Charters.{drop_word, drops, ring, ringer_script, ringing_time};

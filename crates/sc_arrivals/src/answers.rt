@@ -1,7 +1,7 @@
 //! Answers outside any session. An ACK gets none (RFC 3261 section 17.1.1.3).
 
 ghost use Rattle.std.specs.Prelude.{◌≡◌, Some, OnOk};
-ghost use Rattle.sc_value.specs.Params.{same_bytes};
+ghost use Rattle.sc_tokens.specs.Names.{same_bytes};
 ghost use Rattle.sc_hosts.specs.Arrivals.{bad_by, edge_answer};
 ghost use Rattle.sc_hosts.specs.Words.{ack, does_not_exist, not_found};
 
@@ -90,7 +90,7 @@ pub fn answer_bad(
     if is_bad_ack(heads) {
         return Ok(());
     }
-    let message = bad_message(alloc, &config.salt, heads)?;
+    let message = bad_message(alloc, config.salt.as_text(), heads)?;
     put(0, Peer::Outside(from), message, None, net)
 }
 

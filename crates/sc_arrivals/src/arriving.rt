@@ -65,7 +65,7 @@ pub fn arrived(
 ) -> Result<(), NoMemory>
     ensures { OnOk result (net.new ≡ arrived as_session setup.now from message.now net.old) }
 {
-    match first_for(&setup.config.salt, from, message, net)? {
+    match first_for(setup.config.salt.as_text(), from, message, net)? {
         Some(host) => taken_at(alloc, setup, from, &None, message, host, net),
         None => untaken(alloc, setup, from, message, net),
     }

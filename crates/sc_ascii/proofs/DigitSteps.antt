@@ -6,8 +6,8 @@ use Rattle.std.specs.Char.{is_ascii_digit}
 use Rattle.std.proofs.lemmas.List.{at_drop_all, at_drop_more}
 use Rattle.std.proofs.lemmas.Bool.{false≢true}
 use Rattle.std.proofs.lemmas.Bool.Decides.{nat_tests}
-use Rattle.sc_syntax.specs.Bytes.{Bytes}
-use Rattle.sc_syntax.specs.Numbers.{with_digit, is_digits, number_in, number_below, number_of}
+use Rattle.sc_tokens.specs.Bytes.{Bytes}
+use Rattle.sc_tokens.specs.Numbers.{with_digit, is_digits, number_in, number_below, number_of}
 use Rattle.sc_ascii.specs.Digits.{digit_after, digits_after}
 
 grows_once : (n b : ℕ) → n ≤ with_digit n b

@@ -1,5 +1,5 @@
 ghost use Rattle.std.specs.Prelude.{◌≡◌};
-ghost use Rattle.sc_value.specs.Params.{same_name};
+ghost use Rattle.sc_tokens.specs.Names.{same_name};
 
 /// Whether two names are the same without case (RFC 3261 section 7.3.1).
 pub fn same_name(a: &[u8], b: &[u8]) -> bool

@@ -1,7 +1,7 @@
 //! Numbers of digits alone, leading zeros allowed (RFC 3261 section 25.1).
 
 ghost use Rattle.std.specs.Prelude.{◌≡◌, ◌<◌, ◌^◌, IfSome};
-ghost use Rattle.sc_syntax.specs.Numbers.{number_of, port_of};
+ghost use Rattle.sc_tokens.specs.Numbers.{number_of, port_of};
 ghost use Rattle.sc_ascii.specs.Digits.{digit_after, digits_after};
 
 /// The number of the text; None exactly where the text is empty, holds another byte than a digit,
@@ -30,7 +30,7 @@ fn digits(b: &[u8]) -> Option<u64>
     Some(number)
 }
 
-#[tactic(auto, unfolding(crate::specs::Digits::digit_after, sc_syntax::specs::Numbers::with_digit))]
+#[tactic(auto, unfolding(crate::specs::Digits::digit_after, sc_tokens::specs::Numbers::with_digit))]
 fn with_digit(number: u64, b: u8) -> Option<u64>
     ensures exact { result ≡ digit_after number b }
     ensures fits { IfSome result (λ n. n < 2 ^ 64) }

@@ -3,12 +3,12 @@
 ghost use Rattle.std.specs.Prelude.{◌≡◌, ◌≤◌, not, length, drop, ◌+◌, ◌<◌, IfSome, IsTrue};
 ghost use Rattle.std.specs.List.{position_or_len};
 ghost use Rattle.std.specs.Option.{option_map};
-ghost use Rattle.sc_value.specs.Tokens.{is_token_byte};
-ghost use Rattle.sc_syntax.specs.Quoted.{closing, is_quote_at, quoted_end, token_end};
+ghost use Rattle.sc_tokens.specs.Tokens.{is_token_byte};
+ghost use Rattle.sc_tokens.specs.Quoted.{closing, is_quote_at, quoted_end, token_end};
 
 /// The first place from `at` on that holds no byte of a token, or the text's length: a token's
 /// bytes are letters, digits and ``-.!%*_+`'~`` (RFC 3261 section 25.1).
-#[tactic(auto, unfolding(sc_syntax::specs::Quoted::token_end))]
+#[tactic(auto, unfolding(sc_tokens::specs::Quoted::token_end))]
 pub fn token_end(b: &[u8], at: usize) -> usize
     requires { at ≤ length b.now }
     ensures exact { result ≡ token_end at b.now }
@@ -31,7 +31,7 @@ fn token_len(text: &[u8]) -> usize
 
 /// Whether the byte may stand in a token: a letter, a digit or one of ``-.!%*_+`'~`` (RFC 3261
 /// section 25.1).
-#[tactic(auto, unfolding(sc_value::specs::Tokens::is_token_byte))]
+#[tactic(auto, unfolding(sc_tokens::specs::Tokens::is_token_byte))]
 pub fn is_token_byte(b: u8) -> bool
     ensures { result ≡ is_token_byte b }
 {
@@ -50,7 +50,7 @@ pub fn is_token_byte(b: u8) -> bool
 
 /// The place after the quoted string that begins at `at`, a backslash taking the next byte with
 /// it; None exactly where no closed one begins there (RFC 3261 section 25.1).
-#[tactic(auto, unfolding(sc_syntax::specs::Quoted::quoted_end))]
+#[tactic(auto, unfolding(sc_tokens::specs::Quoted::quoted_end))]
 pub fn quoted_end(b: &[u8], at: usize) -> Option<usize>
     requires { at ≤ length b.now }
     ensures exact { result ≡ quoted_end at b.now }
@@ -65,7 +65,7 @@ pub fn quoted_end(b: &[u8], at: usize) -> Option<usize>
     }
 }
 
-#[tactic(auto, unfolding(sc_syntax::specs::Quoted::is_quote_at))]
+#[tactic(auto, unfolding(sc_tokens::specs::Quoted::is_quote_at))]
 fn is_quote_at(b: &[u8], at: usize) -> bool
     ensures exact { result ≡ is_quote_at at b.now }
     ensures within { IsTrue result → at < length b.now }

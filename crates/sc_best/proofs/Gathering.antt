@@ -1,14 +1,15 @@
 -- What is gathered, at a place that is in the list.
-use Rattle.std.proofs.Common.{◌≡◌, ℕ, suc, ◌+◌, ◌-◌, ◌<◌, List, [], ◌++◌, true, false, Some, length, refl, sym, ap, append_assoc, take, drop, get_or, add-one}
-use Rattle.std.specs.List.{flat_map, slice_get}
+use Rattle.std.proofs.Common.{◌≡◌, ℕ, suc, ◌+◌, ◌-◌, ◌<◌, List, [], ◌∷◌, ◌++◌, true, false, cond, Some, length, refl, sym, ap, append_assoc, append-nil, take, drop, get_or, add-one}
+use Rattle.std.specs.List.{filter, flat_map, slice_get}
 use Rattle.std.proofs.lemmas.Option.{slice_get_read}
 use Rattle.std.proofs.lemmas.Grind.{flat_map-append}
+use Rattle.std.proofs.lemmas.List.Elements.{filter_more}
 use Rattle.sc_value.specs.declared.message.Response.{Response}
 use Rattle.std.proofs.lemmas.List.{take_rest}
 use Rattle.sc_value.specs.declared.parts.Field.{Field}
 use Rattle.sc_value.specs.declared.message.Head.{Head}
 use Rattle.sc_grammar.specs.Written.{Bytes}
-use Rattle.sc_model.specs.BestResponses.{asks_credentials, challenges_of, gathered, forwarded, forwarded_with, forwarded_code, forwarded_reason}
+use Rattle.sc_model.specs.BestResponses.{asks_credentials, is_challenge, challenges_of, gathered, forwarded, forwarded_with, forwarded_code, forwarded_reason}
 
 read : (responses : List Response) (chosen : ℕ) (response : Response) → chosen < length responses → response ≡ get_or responses chosen response → slice_get responses chosen ≡ Some response
 read responses chosen response below is = slice_get_read responses (length responses) chosen response refl below is
@@ -35,3 +36,18 @@ forwarded_is responses chosen response made below is code reason head = rw (read
 
     same : {a b : ℕ} {c d : Bytes} {e f : Head} → a ≡ b → c ≡ d → e ≡ f → of a c e ≡ of b d f
     same p q r = rw (p, q, r) refl
+
+-- ## Challenges of one response
+
+challenge_step : (others : List Field) (at : ℕ) (field : Field) → at < length others → field ≡ get_or others at field → filter is_challenge (take (at + 1) others) ≡ filter is_challenge (take at others) ++ cond (is_challenge field) (field ∷ []) []
+challenge_step others at field below is = rw (← is) at (filter_more {X = Field} is_challenge others at field below)
+
+-- a header that is a challenge was added
+pub challenge_added : (others first now later : List Field) (at : ℕ) (field : Field) → at < length others → field ≡ get_or others at field → is_challenge field ≡ true → now ≡ first ++ filter is_challenge (take at others) → (slice_get others at ≡ Some field → later ≡ now ++ field ∷ []) → later ≡ first ++ filter is_challenge (take (at + 1) others)
+challenge_added others first now later at field below is test before added =
+    rw (added (slice_get_read others (length others) at field refl below is), before, challenge_step others at field below is, test) (append_assoc first (filter is_challenge (take at others)) (field ∷ []))
+
+-- a header that is none was left out
+pub challenge_passed : (others first now : List Field) (at : ℕ) (field : Field) → at < length others → field ≡ get_or others at field → is_challenge field ≡ false → now ≡ first ++ filter is_challenge (take at others) → now ≡ first ++ filter is_challenge (take (at + 1) others)
+challenge_passed others first now at field below is test before =
+    rw (challenge_step others at field below is, test, append-nil) before

@@ -5,7 +5,7 @@ ghost use Rattle.std.specs.List.{flat_map};
 ghost use Rattle.sc_value.specs.declared.message.Response.{Response};
 ghost use Rattle.sc_model.specs.BestResponses.{is_challenge, asks_credentials, challenges_of, gathered, forwarded_code, forwarded_reason, forwarded};
 
-use sc_value::{CloneIn, Field, Head, List, NoMemory, Response, Shared, Text, same_name};
+use sc_value::{CloneIn, Field, Head, List, NoMemory, Others, Reason, Response, Shared, same_name};
 use std::alloc::Global;
 
 /// The challenges that a chosen 401 or 407 is given: the WWW-Authenticate and Proxy-Authenticate
@@ -15,11 +15,11 @@ pub fn gather(
     alloc: Global,
     list: &List<Shared<Response>>,
     chosen: usize,
-) -> Result<List<Field>, NoMemory>
+) -> Result<Others, NoMemory>
     requires { chosen < length list.now }
     ensures { IfOk result (λ fields. fields ≡ gathered list.now chosen) }
 {
-    let mut fields = List::new(alloc);
+    let mut fields = Others::new(alloc);
     add_gathered(alloc, list.as_slice(), chosen, &mut fields)?;
     Ok(fields)
 }
@@ -28,7 +28,7 @@ fn add_gathered(
     alloc: Global,
     responses: &[Shared<Response>],
     chosen: usize,
-    fields: &mut List<Field>,
+    fields: &mut Others,
 ) -> Result<(), NoMemory>
     requires { chosen < length responses.now }
     ensures { OnOk result (fields.new ≡ fields.old ++ gathered responses.now chosen) }
@@ -44,7 +44,7 @@ fn add_gathered(
 fn add_challenges(
     alloc: Global,
     responses: &[Shared<Response>],
-    fields: &mut List<Field>,
+    fields: &mut Others,
 ) -> Result<(), NoMemory>
     ensures { OnOk result (fields.new ≡ fields.old ++ flat_map challenges_of responses.now) }
 {
@@ -58,23 +58,23 @@ fn add_challenges(
 fn add_challenges_of(
     alloc: Global,
     response: &Response,
-    fields: &mut List<Field>,
+    fields: &mut Others,
 ) -> Result<(), NoMemory>
     ensures { OnOk result (fields.new ≡ fields.old ++ challenges_of response.now) }
 {
     if !asks_credentials(response) {
         return Ok(());
     }
-    add_some(alloc, response.head.others.as_slice(), fields)
+    add_some(alloc, &response.head.others, fields)
 }
 
 /// Adds the challenges among these headers.
-fn add_some(alloc: Global, others: &[Field], fields: &mut List<Field>) -> Result<(), NoMemory>
+fn add_some(alloc: Global, others: &Others, fields: &mut Others) -> Result<(), NoMemory>
     ensures { OnOk result (fields.new ≡ fields.old ++ filter is_challenge others.now) }
 {
-    for field in others {
-        if is_challenge(field) {
-            fields.push(field.clone_in(alloc)?)?;
+    for at in 0..others.len() {
+        if is_challenge(&others.as_slice()[at]) {
+            fields.push_copy(alloc, others, at)?;
         }
     }
     Ok(())
@@ -122,12 +122,12 @@ fn forwarded_code(code: u16) -> u16
     if code == 503 { 500 } else { code }
 }
 
-#[tactic(auto, unfolding(sc_model::specs::BestResponses::forwarded_reason, sc_model::specs::BestResponses::server_error))]
-fn forwarded_reason(alloc: Global, response: &Response) -> Result<Text, NoMemory>
+#[tactic(auto, using(sc_model::proofs::ReasonFacts::server_error_is_line), unfolding(sc_model::specs::BestResponses::forwarded_reason, sc_model::specs::BestResponses::server_error))]
+fn forwarded_reason(alloc: Global, response: &Response) -> Result<Reason, NoMemory>
     ensures { IfOk result (λ reason. reason ≡ forwarded_reason response.now) }
 {
     if response.code == 503 {
-        return Text::from_slice(alloc, b"Server Internal Error");
+        return Reason::from_slice(alloc, b"Server Internal Error");
     }
     response.reason.clone_in(alloc)
 }
@@ -149,7 +149,7 @@ fn forwarded_others(
     alloc: Global,
     responses: &[Shared<Response>],
     chosen: usize,
-) -> Result<List<Field>, NoMemory>
+) -> Result<Others, NoMemory>
     requires { chosen < length responses.now }
     ensures { IfOk result (λ fields. (response : Response) → slice_get responses.now chosen ≡ Some response → fields ≡ response.head.others ++ gathered responses.now chosen) }
 {
@@ -159,7 +159,7 @@ fn forwarded_others(
 }
 
 /// A copy with other headers without structure.
-fn head_with(alloc: Global, head: &Head, others: List<Field>) -> Result<Head, NoMemory>
+fn head_with(alloc: Global, head: &Head, others: Others) -> Result<Head, NoMemory>
     ensures { IfOk result (λ copy. copy ≡ record head.now { others = others }) }
 {
     let mut copy = head.clone_in(alloc)?;

@@ -1,7 +1,11 @@
 //! The choice by codes (RFC 3261 section 16.7), and what is forwarded, with ample memory.
 
 use sc_best::{best, forwarded, gather};
-use sc_value::{Address, CSeq, Field, Head, List, NoMemory, Response, Shared, Text, Uri};
+use sc_head_text::{read_address, read_cseq};
+use sc_value::{
+    Address, CSeq, Field, Head, HeaderValue, List, NoMemory, Others, Reason, Response, Shared,
+    Text, is_other,
+};
 use std::alloc::Global;
 use std::test::Fail;
 
@@ -16,30 +20,39 @@ const CHOICES: [(&[u16], Option<usize>); 7] = [
     (&[500, 401, 407], Some(1)),
 ];
 
-fn address(alloc: Global) -> Address {
-    Address {
-        display: None,
-        uri: Uri::Other(Text::new(alloc)),
-        params: List::new(alloc),
+#[tactic(auto, unfolding(sc_tokens::specs::Tokens::is_one_line, sc_tokens::specs::Tokens::is_line_break))]
+fn address(alloc: Global) -> Result<Address, NoMemory> {
+    match read_address(alloc, b"<sip:home.test>") {
+        Ok(address) => Ok(address),
+        Err(_) => Err(NoMemory),
     }
 }
 
-fn head(alloc: Global, others: List<Field>) -> Head {
-    Head {
+fn cseq(alloc: Global) -> Result<CSeq, NoMemory> {
+    match read_cseq(alloc, b"1 INVITE") {
+        Ok(cseq) => Ok(cseq),
+        Err(_) => Err(NoMemory),
+    }
+}
+
+#[tactic(auto, unfolding(sc_tokens::specs::Tokens::is_value, sc_tokens::specs::Tokens::is_one_line, sc_tokens::specs::Tokens::begins_blank, sc_tokens::specs::Tokens::ends_blank))]
+fn head(alloc: Global, others: Others) -> Result<Head, NoMemory> {
+    let from = address(alloc)?;
+    let to = address(alloc)?;
+    let call_id = HeaderValue::from_slice(alloc, b"")?;
+    let cseq = cseq(alloc)?;
+    Ok(Head {
         via: List::new(alloc),
         route: List::new(alloc),
         record_route: List::new(alloc),
-        from: address(alloc),
-        to: address(alloc),
-        call_id: Text::new(alloc),
-        cseq: CSeq {
-            number: 1,
-            method: Text::new(alloc),
-        },
+        from,
+        to,
+        call_id,
+        cseq,
         contact: List::new(alloc),
         others,
         body: Text::new(alloc),
-    }
+    })
 }
 
 fn field(alloc: Global, name: &[u8], value: &[u8]) -> Result<Field, NoMemory> {
@@ -48,17 +61,22 @@ fn field(alloc: Global, name: &[u8], value: &[u8]) -> Result<Field, NoMemory> {
     Ok(Field { name, value })
 }
 
+fn put(others: &mut Others, field: Field) -> Result<(), NoMemory> {
+    if !is_other(&field) {
+        return Err(NoMemory);
+    }
+    others.push(field)
+}
+
 /// A response with a challenge of this value, and a Subject.
+#[tactic(auto, unfolding(sc_tokens::specs::Tokens::is_one_line, sc_tokens::specs::Tokens::is_line_break))]
 fn response(alloc: Global, code: u16, challenge: &[u8]) -> Result<Response, NoMemory> {
-    let mut others = List::new(alloc);
-    others.push(field(alloc, b"proxy-authenticate", challenge)?)?;
-    others.push(field(alloc, b"Subject", b"s")?)?;
-    let reason = Text::from_slice(alloc, b"Reason")?;
-    Ok(Response {
-        code,
-        reason,
-        head: head(alloc, others),
-    })
+    let mut others = Others::new(alloc);
+    put(&mut others, field(alloc, b"proxy-authenticate", challenge)?)?;
+    put(&mut others, field(alloc, b"Subject", b"s")?)?;
+    let reason = Reason::from_slice(alloc, b"Reason")?;
+    let head = head(alloc, others)?;
+    Ok(Response { code, reason, head })
 }
 
 fn responses(alloc: Global, codes: &[u16]) -> Result<List<Shared<Response>>, NoMemory> {

@@ -2,10 +2,11 @@
 //! those of section 16.12.1.1.
 
 use sc_dialog::{Dialog, DialogRefused, Inside, is_askable};
+use sc_head_text::read_address;
 use sc_message_text::{text_of, uri_text};
 use sc_value::{
-    Address, CSeq, Contact, Discard, Head, List, Message, NoMemory, Param, Request, Response, Text,
-    Uri,
+    Address, CSeq, Contact, Discard, Head, HeaderValue, List, Message, NoMemory, Others, Reason,
+    Request, Response, Text, Token, Uri, is_one_line,
 };
 use std::alloc::Global;
 
@@ -54,44 +55,65 @@ fn rows() -> [Row; 5] {
     ]
 }
 
-// A URI as written; a dialog hands URIs on and doesn't look into them.
 fn uri(alloc: Global, text: &[u8]) -> Result<Uri, NoMemory> {
-    let text = Text::from_slice(alloc, text)?;
-    Ok(Uri::Other(text))
+    match sc_uri_text::read(alloc, text) {
+        Ok(uri) => Ok(uri),
+        Err(_) => Err(NoMemory),
+    }
 }
 
-fn plain(alloc: Global, text: &[u8]) -> Result<Address, NoMemory> {
-    let uri = uri(alloc, text)?;
-    Ok(Address {
-        display: None,
-        uri,
-        params: List::new(alloc),
-    })
+fn read(alloc: Global, text: &Text) -> Result<Address, NoMemory> {
+    if !is_one_line(text.as_bytes()) {
+        return Err(NoMemory);
+    }
+    match read_address(alloc, text.as_bytes()) {
+        Ok(address) => Ok(address),
+        Err(_) => Err(NoMemory),
+    }
+}
+
+fn plain(alloc: Global, uri: &[u8]) -> Result<Address, NoMemory> {
+    let mut text = Text::from_slice(alloc, b"<")?;
+    text.append(uri)?;
+    text.append(b">")?;
+    read(alloc, &text)
 }
 
 // `NAME <URI>;tag=..`, without a tag where it is empty.
-fn person(alloc: Global, display: &[u8], text: &[u8], tag: &[u8]) -> Result<Address, NoMemory> {
-    let params = tag_params(alloc, tag)?;
-    let display = Text::from_slice(alloc, display)?;
-    let uri = uri(alloc, text)?;
-    Ok(Address {
-        display: Some(display),
-        uri,
-        params,
-    })
+fn person(alloc: Global, display: &[u8], uri: &[u8], tag: &[u8]) -> Result<Address, NoMemory> {
+    let mut text = Text::from_slice(alloc, display)?;
+    text.append(b" <")?;
+    text.append(uri)?;
+    text.append(b">")?;
+    if !tag.is_empty() {
+        text.append(b";tag=")?;
+        text.append(tag)?;
+    }
+    read(alloc, &text)
 }
 
-fn tag_params(alloc: Global, tag: &[u8]) -> Result<List<Param>, NoMemory> {
-    let mut params = List::new(alloc);
-    if !tag.is_empty() {
-        let name = Text::from_slice(alloc, b"tag")?;
-        let value = Text::from_slice(alloc, tag)?;
-        params.push(Param {
-            name,
-            value: Some(value),
-        })?;
+#[tactic(auto, unfolding(sc_tokens::specs::Tokens::is_token, sc_tokens::specs::Tokens::is_token_byte))]
+fn invite_method(alloc: Global) -> Result<Token, NoMemory> {
+    Token::from_slice(alloc, b"INVITE")
+}
+
+#[tactic(auto, unfolding(sc_tokens::specs::Tokens::is_value, sc_tokens::specs::Tokens::is_one_line, sc_tokens::specs::Tokens::is_line_break, sc_tokens::specs::Tokens::is_blank, sc_tokens::specs::Tokens::begins_blank, sc_tokens::specs::Tokens::ends_blank))]
+fn call_id(alloc: Global) -> Result<HeaderValue, NoMemory> {
+    HeaderValue::from_slice(alloc, b"a84b4c76e66710")
+}
+
+#[tactic(auto, unfolding(sc_tokens::specs::Tokens::is_one_line, sc_tokens::specs::Tokens::is_line_break))]
+fn reason(alloc: Global) -> Result<Reason, NoMemory> {
+    Reason::from_slice(alloc, b"OK")
+}
+
+fn cseq(alloc: Global, number: u32) -> Result<CSeq, NoMemory> {
+    if number >= 2_147_483_648 {
+        return Err(NoMemory);
     }
-    Ok(params)
+    let method = invite_method(alloc)?;
+    method.known();
+    Ok(CSeq { number, method })
 }
 
 fn routes(alloc: Global, recorded: bool) -> Result<List<Address>, NoMemory> {
@@ -123,8 +145,8 @@ fn head(
     let record_route = routes(alloc, recorded)?;
     let from = person(alloc, b"Alice", b"sip:alice@atlanta.com", b"1928301774")?;
     let to = person(alloc, b"Bob", b"sip:bob@biloxi.com", tag)?;
-    let call_id = Text::from_slice(alloc, b"a84b4c76e66710")?;
-    let method = Text::from_slice(alloc, b"INVITE")?;
+    let call_id = call_id(alloc)?;
+    let cseq = cseq(alloc, number)?;
     Ok(Head {
         via: List::new(alloc),
         route: List::new(alloc),
@@ -132,15 +154,15 @@ fn head(
         from,
         to,
         call_id,
-        cseq: CSeq { number, method },
+        cseq,
         contact,
-        others: List::new(alloc),
+        others: Others::new(alloc),
         body: Text::new(alloc),
     })
 }
 
 fn invite(alloc: Global, number: u32, recorded: bool, contact: &[u8]) -> Result<Request, NoMemory> {
-    let method = Text::from_slice(alloc, b"INVITE")?;
+    let method = invite_method(alloc)?;
     let uri = uri(alloc, b"sip:bob@biloxi.com")?;
     let head = head(alloc, number, b"", recorded, contact)?;
     Ok(Request {
@@ -152,7 +174,7 @@ fn invite(alloc: Global, number: u32, recorded: bool, contact: &[u8]) -> Result<
 }
 
 fn accepted(alloc: Global, recorded: bool, contact: &[u8]) -> Result<Response, NoMemory> {
-    let reason = Text::from_slice(alloc, b"OK")?;
+    let reason = reason(alloc)?;
     let head = head(alloc, 314_159, b"a6c85cf", recorded, contact)?;
     Ok(Response {
         code: 200,

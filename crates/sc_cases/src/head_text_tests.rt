@@ -1,12 +1,15 @@
 use sc_head_text::{
     read_address, read_addresses, read_contacts, read_cseq, read_hops, read_length, read_vias,
 };
-use sc_value::Discard;
+use sc_value::{Discard, is_one_line};
 use std::alloc::Global;
 use std::test::Fail;
 
 // How many Vias the value has; None where it isn't read.
 fn count_vias(alloc: Global, text: &[u8]) -> Option<usize> {
+    if !is_one_line(text) {
+        return None;
+    }
     match read_vias(alloc, text) {
         Ok(vias) => Some(vias.len()),
         Err(_) => None,
@@ -14,6 +17,9 @@ fn count_vias(alloc: Global, text: &[u8]) -> Option<usize> {
 }
 
 fn count_routes(alloc: Global, text: &[u8]) -> Option<usize> {
+    if !is_one_line(text) {
+        return None;
+    }
     match read_addresses(alloc, text) {
         Ok(routes) => Some(routes.len()),
         Err(_) => None,
@@ -21,6 +27,9 @@ fn count_routes(alloc: Global, text: &[u8]) -> Option<usize> {
 }
 
 fn count_contacts(alloc: Global, text: &[u8]) -> Option<usize> {
+    if !is_one_line(text) {
+        return None;
+    }
     match read_contacts(alloc, text) {
         Ok(contacts) => Some(contacts.len()),
         Err(_) => None,
@@ -29,6 +38,9 @@ fn count_contacts(alloc: Global, text: &[u8]) -> Option<usize> {
 
 // Whether the value is an address with this many parameters.
 fn has_params(alloc: Global, text: &[u8], count: usize) -> bool {
+    if !is_one_line(text) {
+        return false;
+    }
     match read_address(alloc, text) {
         Ok(address) => {
             let same = address.params.len() == count;

@@ -1,5 +1,5 @@
 use sc_message_text::{MessageRefused, read_message, text_of, uri_text, write};
-use sc_value::{Discard, Text, Uri};
+use sc_value::{Discard, Text};
 use std::test::Fail;
 
 // It stands in a function, whose value no proof goes into.
@@ -38,7 +38,7 @@ fn refuses_a_text_without_an_empty_line(rt: HostRuntime) {
 
 #[test]
 fn writes_a_uri(rt: HostRuntime) -> Result<(), Fail> {
-    let uri = Uri::Other(Text::from_slice(rt.alloc(), b"tel:+1")?);
+    let uri = sc_uri_text::read(rt.alloc(), b"tel:+1")?;
     let text = uri_text(rt.alloc(), &uri);
     uri.discard();
     assert!(rt; text?.as_bytes() == b"tel:+1".as_slice());

@@ -1,7 +1,7 @@
 use sc_message_text::read_message;
 use sc_router::{Choice, Directive, next};
 use sc_terms::{AppEntry, Apps, Config, Dar, Expires, MethodList, Modifier, Port, Tuple, Within};
-use sc_value::{Discard, List, Message, NoMemory, Region, Text};
+use sc_value::{Discard, List, Message, NoMemory, Region, Text, Token};
 use std::alloc::Global;
 use std::test::Fail;
 
@@ -23,10 +23,11 @@ fn apps(alloc: Global) -> Result<Apps, NoMemory> {
     Apps::new(entries).ok_or(NoMemory)
 }
 
+#[tactic(auto, unfolding(sc_tokens::specs::Tokens::is_token, sc_tokens::specs::Tokens::is_token_byte))]
 fn settings(alloc: Global) -> Result<Config, NoMemory> {
     let app = apps(alloc)?;
     let domain = Text::from_slice(alloc, b"home.test")?;
-    let salt = Text::from_slice(alloc, b"s1")?;
+    let salt = Token::from_slice(alloc, b"s1")?;
     Ok(Config {
         listen: ([127, 0, 0, 1], Port::of(5060)),
         domain,

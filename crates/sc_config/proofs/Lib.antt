@@ -2,3 +2,4 @@ pub mod AddressLaws
 pub mod DocumentLaws
 pub mod NameLaws
 pub mod RangeLaws
+pub mod SaltLaws

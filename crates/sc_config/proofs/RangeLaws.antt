@@ -13,7 +13,7 @@ none_first : (a b : Option Fault) → option_or a b ≡ None → (a ≡ None) ×
 none_first None b none = (refl, none)
 none_first (Some fault) b none = absurd (none_some fault (sym none))
 
-no_fault : (fault : Option Fault) (rest : List (Option Fault)) → first_fault (fault ∷ rest) ≡ None → (fault ≡ None) × (first_fault rest ≡ None)
+pub no_fault : (fault : Option Fault) (rest : List (Option Fault)) → first_fault (fault ∷ rest) ≡ None → (fault ≡ None) × (first_fault rest ≡ None)
 unfolding first_fault
 no_fault fault rest none = none_first fault (first_fault rest) none
 

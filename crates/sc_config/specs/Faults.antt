@@ -3,9 +3,9 @@ use Rattle.std.specs.Prelude.{ℕ, Bool, true, not, ◌||◌, ◌&&◌, ◌++◌
 use Rattle.std.specs.List.{list_all, list_any, find}
 use Rattle.std.specs.Option.{option_and_then, option_map, option_map_or, is_none, option_or}
 use Rattle.toml.specs.Data.{Data, Members, get_member, as_str, as_table}
-use Rattle.sc_value.specs.Params.{same_bytes}
+use Rattle.sc_tokens.specs.Names.{same_bytes}
 use Rattle.sc_terms.specs.Ranges.{are_few}
-use Rattle.sc_syntax.specs.Hosts.{is_host}
+use Rattle.sc_tokens.specs.Hosts.{is_host}
 use Rattle.sc_config.specs.declared.faults.Check.{Check}
 use Rattle.sc_config.specs.declared.faults.Check.TheVariants.{UnknownKeys, Missing, Range}
 use Rattle.sc_config.specs.declared.faults.Wrong.{Wrong}

@@ -7,7 +7,7 @@ use Rattle.std.specs.Str.Parse.{digits_value}
 use Rattle.std.specs.Net.Reader.{read_ipv4}
 use Rattle.toml.specs.Data.{Data, as_str, as_integer, as_array}
 use Rattle.sc_terms.specs.Ranges.{is_expiry}
-use Rattle.sc_syntax.specs.Hosts.{is_host}
+use Rattle.sc_tokens.specs.Hosts.{is_host}
 use Rattle.sc_config.specs.Documents.{Bytes, elements}
 
 -- ## Texts

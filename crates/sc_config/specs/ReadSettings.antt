@@ -2,7 +2,7 @@
 use Rattle.std.specs.Prelude.{ℕ, pos, Option, Some, None, Result, Ok, Err, List, [], ◌∷◌, map, codes, length, nat_lt, if◌then◌else◌, position}
 use Rattle.std.specs.Option.{option_and_then, option_map_or, unwrap_or}
 use Rattle.toml.specs.Data.{Data, Members, no_members, member, get_member, as_str, as_table}
-use Rattle.sc_value.specs.Params.{same_bytes}
+use Rattle.sc_tokens.specs.Names.{same_bytes}
 use Rattle.sc_terms.specs.declared.settings.Config.{Config}
 use Rattle.sc_terms.specs.declared.settings.HostEntry.{HostEntry}
 use Rattle.sc_terms.specs.declared.settings.AppEntry.{AppEntry}

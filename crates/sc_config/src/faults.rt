@@ -4,11 +4,11 @@ ghost use Rattle.std.specs.Prelude.{◌≡◌, ◌≤◌, not, map, position, is
 ghost use Rattle.std.specs.List.{list_all, list_any};
 ghost use Rattle.std.specs.Option.{option_map, option_map_or, option_copied, option_and_then, is_none};
 ghost use Rattle.toml.specs.Data.{as_str, as_table, get_member};
-ghost use Rattle.sc_value.specs.Params.{same_bytes};
+ghost use Rattle.sc_tokens.specs.Names.{same_bytes};
 ghost use Rattle.toml.specs.View.{view, table_view};
 ghost use Rattle.sc_config.specs.Faults.{fault_if, missing, wrong_if, wrong_text, wrong_listen, wrong_number, wrong_params, wrong_expires, app_fault, top_fault, is_app_key, is_top_key, is_any, is_wrong, item_fault, apps_in, apps_fault, are_some_tables, wrong_apps, wrong_hosts, wrong_numbers, table_fault, app_text, is_kind, unknown_kind, double_name, first_refusal, first_fault};
 ghost use Rattle.sc_config.specs.KeyValues.{is_wrong_host, text_in, text_if, is_salt, is_app_name, listen_in, is_params};
-ghost use Rattle.sc_syntax.specs.Hosts.{is_host};
+ghost use Rattle.sc_tokens.specs.Hosts.{is_host};
 ghost use Rattle.sc_config.specs.declared.faults.Check.TheVariants.{UnknownKeys, Missing, Range};
 ghost use Rattle.sc_config.specs.Documents.{first_key, first_given};
 

@@ -2,18 +2,19 @@
 
 ghost use Rattle.std.specs.Prelude.{◌≡◌, ◌++◌, [], true, map, codes, position, IfOk, OnOk};
 ghost use Rattle.std.specs.Option.{option_map, option_copied, option_map_or, option_and_then, unwrap_or};
-ghost use Rattle.sc_value.specs.Params.{same_bytes};
+ghost use Rattle.sc_tokens.specs.Names.{same_bytes};
 ghost use Rattle.toml.specs.Data.{as_str, as_table, get_member};
 ghost use Rattle.toml.specs.View.{view, table_view};
 ghost use Rattle.sc_terms.specs.Ranges.{are_few};
 ghost use Rattle.sc_config.specs.Faults.{app_text, apps_in};
 ghost use Rattle.sc_config.specs.Documents.{elements};
+ghost use Rattle.sc_config.specs.KeyValues.{is_salt};
 ghost use Rattle.sc_config.specs.ReadSettings.{param_text, params_in, kind_place, app_value, app_entry, host_entry, host_entries, hosts_in, number_at, top_text, config_of};
 
 use crate::faults::{app_text, apps_in};
 use crate::values::{elements, expires_in, host_ip, listen_in, number_in, text_at, value_at};
 use sc_terms::{AppEntry, Apps, Config, Expires, HostEntry, Port, Within};
-use sc_value::{List, NoMemory, Text};
+use sc_value::{List, NoMemory, Text, Token};
 use std::alloc::Global;
 use toml::{Table, Value};
 
@@ -183,14 +184,24 @@ fn hosts_in(alloc: Global, value: Option<&Value>) -> Result<List<HostEntry>, NoM
     Ok(entries)
 }
 
+#[tactic(auto, using(crate::proofs::SaltLaws::salt_is_token))]
+fn salt_of(alloc: Global, top: &Table) -> Result<Token, NoMemory>
+    requires { is_salt (top_text (codes "salt") (table_view top.now)) ≡ true }
+    ensures { IfOk result (λ salt. salt ≡ top_text (codes "salt") (table_view top.now)) }
+{
+    let text = top_text(alloc, "salt", top)?;
+    Ok(Token::from_text(text))
+}
+
 /// The settings of a document without fault.
 #[tactic(auto, unfolding(crate::specs::ReadSettings::config_of))]
 pub(crate) fn config_of(alloc: Global, kinds: &[Text], top: &Table) -> Result<Config, NoMemory>
-    requires { are_few (apps_in (table_view top.now)) ≡ true }
+    requires few { are_few (apps_in (table_view top.now)) ≡ true }
+    requires salt { is_salt (top_text (codes "salt") (table_view top.now)) ≡ true }
     ensures { IfOk result (λ config. config ≡ config_of kinds.now (table_view top.now)) }
 {
     let domain = top_text(alloc, "domain", top)?;
-    let salt = top_text(alloc, "salt", top)?;
+    let salt = salt_of(alloc, top)?;
     let hosts = hosts_in(alloc, value_at(top, "hosts"))?;
     let app = apps_of(alloc, kinds, top)?;
     Ok(Config {

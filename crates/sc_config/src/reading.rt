@@ -51,7 +51,7 @@ fn unread(alloc: Global, is_memory: bool) -> ConfigRefused
     refused(alloc, SYNTAX, b"")
 }
 
-#[tactic(auto, unfolding(crate::specs::ReadSettings::settings_in, crate::specs::ReadSettings::unless_refused, crate::specs::ReadSettings::fault_told), using(crate::proofs::RangeLaws::few_apps))]
+#[tactic(auto, unfolding(crate::specs::ReadSettings::settings_in, crate::specs::ReadSettings::unless_refused, crate::specs::ReadSettings::fault_told), using(crate::proofs::RangeLaws::few_apps, crate::proofs::SaltLaws::salt_in_range))]
 fn settings_in(alloc: Global, kinds: &[Text], top: &Table) -> Result<Config, ConfigRefused>
     ensures ok { IfOk result (λ config. settings_in (Some (table_view top.now)) kinds.now ≡ Ok config) }
     ensures refused { IfErr result (λ e. IfSome (fault_told e) (λ fault. settings_in (Some (table_view top.now)) kinds.now ≡ Err fault)) }

@@ -1,8 +1,8 @@
 -- Dropping blanks, byte by byte.
 use Rattle.std.proofs.Common.{◌≡◌, ℕ, true, false, [], ◌∷◌, ◌+◌, ◌<◌, ◌≤◌, length, take, drop, ◌-◌, arith, refl, sym, ◌∙◌, get_or}
 use Rattle.std.proofs.lemmas.List.{at_drop_all, at_drop_more, take_all, length-drop}
-use Rattle.sc_value.specs.Tokens.{is_blank}
-use Rattle.sc_syntax.specs.Bytes.{Bytes}
+use Rattle.sc_tokens.specs.Tokens.{is_blank}
+use Rattle.sc_tokens.specs.Bytes.{Bytes}
 use Rattle.sc_dar.specs.Lines.{drop_blanks}
 
 first_blank : (b : ℕ) (bs : Bytes) → is_blank b ≡ true → drop_blanks (b ∷ bs) ≡ drop_blanks bs

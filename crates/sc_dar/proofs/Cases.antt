@@ -2,18 +2,19 @@
 use Rattle.std.proofs.Common.{◌≡◌, ℕ, true, Some, None, Result, Ok, Err, List, [], ◌∷◌, refl, length}
 use Rattle.std.specs.Prelude.{codes, map, nat_lt}
 use Rattle.std.specs.Fmt.{digits}
-use Rattle.sc_value.specs.Tokens.{is_token_byte, is_blank}
-use Rattle.sc_value.specs.Params.{same_name}
+use Rattle.sc_tokens.specs.Tokens.{is_token_byte, is_blank}
+use Rattle.sc_tokens.specs.Names.{same_name}
 use Rattle.sc_value.specs.declared.ids.Region.TheVariants.{Originating, Terminating, Neutral}
 use Rattle.sc_value.specs.declared.parts.Uri.TheVariants.{Sip}
 use Rattle.sc_terms.specs.declared.settings.Dar.{Dar}
 use Rattle.sc_terms.specs.declared.settings.Modifier.TheVariants.{Route, RouteBack, NoRoute}
-use Rattle.sc_syntax.specs.Bytes.{Bytes, is_host_byte, is_scheme_byte, is_mark, is_param_sign, is_param_byte, is_closed, is_open}
-use Rattle.sc_syntax.specs.Cuts.{has, before, after, onto_first, pieces}
-use Rattle.sc_syntax.specs.Hosts.{is_host_name, begins, is_host, host_len}
-use Rattle.sc_syntax.specs.Quoted.{token_end}
-use Rattle.sc_syntax.specs.UriParts.{then_read as then_read_uri, port_in, is_port_start, sent_at, is_param_name, is_param_value, param_at, params_in, params_at, headers_at}
-use Rattle.sc_syntax.specs.Uris.{is_scheme, sip_scheme, user_in, behind_user, sent_in, params_text_in, sip_behind, sip_at, other_of, uri_behind, uri_of}
+use Rattle.sc_tokens.specs.Bytes.{Bytes, is_host_byte, is_scheme_byte, is_mark, is_param_sign, is_param_byte, is_closed, is_open}
+use Rattle.sc_tokens.specs.Cuts.{has, before, after, onto_first, pieces}
+use Rattle.sc_tokens.specs.Hosts.{is_host_name, begins, is_host, host_len}
+use Rattle.sc_tokens.specs.Quoted.{token_end}
+use Rattle.sc_tokens.specs.UriTokens.{is_param_name, is_param_value, is_scheme, sip_scheme}
+use Rattle.sc_syntax.specs.UriParts.{then_read as then_read_uri, port_in, is_port_start, sent_at, param_at, params_in, params_at, headers_at}
+use Rattle.sc_syntax.specs.Uris.{user_in, behind_user, sent_in, params_text_in, sip_behind, sip_at, other_of, uri_behind, uri_of}
 use Rattle.sc_grammar.specs.Written.{scheme, ended_text, port_text, params_text, param_text, signed_text, sip_uri_text, uri_text}
 use Rattle.sc_dar.specs.WrittenTables.{region_text, modifier_text, route_text, between, app_text, tuple_front, tuple_back, tuple_text, lead, tuples_text, list_text, dar_text}
 use Rattle.sc_dar.specs.Lines.{drop_blanks, is_blank_text, ends, without_last, without_cr, ended, rows, onto_next, before_lines, joined, lines, is_comment}

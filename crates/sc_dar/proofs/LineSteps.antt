@@ -3,7 +3,7 @@ use Rattle.std.proofs.Common.{◌≡◌, ℕ, Option, Some, None, Ok, Err, List,
 use Rattle.std.proofs.lemmas.List.{nil_from_length}
 use Rattle.std.specs.Option.{option_to_list}
 use Rattle.sc_terms.specs.declared.settings.MethodList.{MethodList}
-use Rattle.sc_syntax.specs.Bytes.{Bytes}
+use Rattle.sc_tokens.specs.Bytes.{Bytes}
 use Rattle.sc_dar.specs.Lines.{Line, lines}
 use Rattle.sc_dar.specs.Tables.{list_of, then_line, judged}
 use Rattle.sc_dar.specs.Answers.{IsKind, IsAtLine, IsFault}

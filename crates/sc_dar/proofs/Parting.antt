@@ -1,8 +1,8 @@
 -- Parts between commas, byte by byte.
 use Rattle.std.proofs.Common.{◌≡◌, ℕ, Bool, true, false, cond, not, List, [], ◌∷◌, ◌++◌, ◌+◌, ◌-◌, ◌<◌, ◌≤◌, ◌==◌, ◌&&◌, length, take, drop, refl, sym, ap, ◌∙◌, append_assoc, append-nil, get_or, arith}
 use Rattle.std.proofs.lemmas.List.{at_drop_all, at_drop_more, take_all, take_more, length-drop}
-use Rattle.sc_syntax.specs.Bytes.{Bytes}
-use Rattle.sc_syntax.specs.Cuts.{onto_first}
+use Rattle.sc_tokens.specs.Bytes.{Bytes}
+use Rattle.sc_tokens.specs.Cuts.{onto_first}
 use Rattle.sc_dar.specs.Tuples.{parts}
 
 -- the first of the pieces, with this text before it

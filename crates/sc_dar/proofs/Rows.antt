@@ -2,8 +2,8 @@
 use Rattle.std.proofs.Common.{◌≡◌, ℕ, Bool, true, false, cond, Some, None, List, [], ◌∷◌, ◌++◌, ◌+◌, ◌<◌, ◌==◌, length, refl, sym, ap, ◌∙◌, append_assoc, arith}
 use Rattle.std.proofs.lemmas.List.{nil_from_length}
 use Rattle.std.proofs.lemmas.Bool.Decides.{nat_tests}
-use Rattle.sc_syntax.specs.Bytes.{Bytes}
-use Rattle.sc_syntax.specs.Cuts.{before, after, onto_first, pieces}
+use Rattle.sc_tokens.specs.Bytes.{Bytes}
+use Rattle.sc_tokens.specs.Cuts.{before, after, onto_first, pieces}
 use Rattle.sc_syntax.proofs.CutLaws.{pieces_more, pieces_last}
 use Rattle.sc_dar.specs.Lines.{Line, drop_blanks, ends, without_last, without_cr, ended, rows, onto_next, before_lines, joined, lines}
 

@@ -2,7 +2,7 @@
 use Rattle.std.proofs.Common.{◌≡◌, ℕ, List, [], ◌∷◌, ◌++◌, ◌+◌, ◌<◌, ◌≤◌, length, drop, refl, sym, ap, ◌∙◌, append_assoc, append-nil, get_or, arith}
 use Rattle.std.proofs.lemmas.List.{at_drop_all, at_drop_more}
 use Rattle.sc_terms.specs.declared.settings.Tuple.{Tuple}
-use Rattle.sc_syntax.specs.Bytes.{Bytes}
+use Rattle.sc_tokens.specs.Bytes.{Bytes}
 use Rattle.sc_dar.specs.WrittenTables.{lead, tuple_text, tuples_text}
 
 first_put : (apps : List Bytes) (order : ℕ) (tuple : Tuple) (more : List Tuple) → tuples_text apps order (tuple ∷ more) ≡ lead order ++ tuple_text apps order tuple ++ tuples_text apps (order + 1) more

@@ -4,8 +4,8 @@ use Rattle.std.specs.List.{slice_get}
 use Rattle.std.specs.Option.{option_map_or}
 use Rattle.std.proofs.lemmas.List.Folds.{list_any-append}
 use Rattle.sc_terms.specs.declared.settings.Tuple.{Tuple}
-use Rattle.sc_syntax.specs.Bytes.{Bytes}
-use Rattle.sc_syntax.specs.Cuts.{has, onto_first, pieces}
+use Rattle.sc_tokens.specs.Bytes.{Bytes}
+use Rattle.sc_tokens.specs.Cuts.{has, onto_first, pieces}
 use Rattle.sc_dar.specs.Lines.{ends, without_cr, ended, rows, onto_next, before_lines, joined, lines}
 use Rattle.sc_dar.specs.Tuples.{TupleTexts}
 use Rattle.sc_dar.specs.WrittenTables.{tuple_text, tuples_text}

@@ -3,10 +3,10 @@ use Rattle.std.proofs.Common.{◌≡◌, ℕ, Bool, true, false, cond, not, Opti
 use Rattle.std.proofs.lemmas.Bool.{false≢true}
 use Rattle.std.proofs.lemmas.Bool.Decides.{nat_tests}
 use Rattle.std.specs.Option.{option_map_or, option_map, option_and_then}
-use Rattle.sc_value.specs.Tokens.{is_blank}
-use Rattle.sc_syntax.specs.Bytes.{Bytes}
-use Rattle.sc_syntax.specs.Cuts.{has, before, after, onto_first}
-use Rattle.sc_syntax.specs.Hosts.{begins}
+use Rattle.sc_tokens.specs.Tokens.{is_blank}
+use Rattle.sc_tokens.specs.Bytes.{Bytes}
+use Rattle.sc_tokens.specs.Cuts.{has, before, after, onto_first}
+use Rattle.sc_tokens.specs.Hosts.{begins}
 use Rattle.sc_syntax.proofs.CutLaws.{before_here, before_on, after_here, after_on}
 use Rattle.sc_dar.specs.Lines.{drop_blanks, is_blank_text}
 use Rattle.sc_dar.specs.Tuples.{TupleTexts, parts, behind, closed, quoted, is_closing, opening, unquoted}

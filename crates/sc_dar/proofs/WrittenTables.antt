@@ -6,14 +6,14 @@ use Rattle.std.specs.Option.{option_to_list}
 use Rattle.std.proofs.Math.Seq.{take-append_seam, drop-append_seam}
 use Rattle.std.proofs.lemmas.Bool.{false≢true}
 use Rattle.std.proofs.lemmas.Bool.Decides.{nat_tests}
-use Rattle.sc_value.specs.Tokens.{is_token_byte, is_token, is_blank}
+use Rattle.sc_tokens.specs.Tokens.{is_token_byte, is_token, is_blank}
 use Rattle.sc_terms.specs.declared.settings.Dar.{Dar}
 use Rattle.sc_terms.specs.declared.settings.MethodList.{MethodList}
 use Rattle.sc_terms.specs.declared.settings.Tuple.{Tuple}
-use Rattle.sc_syntax.specs.Bytes.{Bytes}
-use Rattle.sc_syntax.specs.Cuts.{has}
-use Rattle.sc_syntax.specs.Hosts.{begins}
-use Rattle.sc_syntax.specs.Quoted.{token_end}
+use Rattle.sc_tokens.specs.Bytes.{Bytes}
+use Rattle.sc_tokens.specs.Cuts.{has}
+use Rattle.sc_tokens.specs.Hosts.{begins}
+use Rattle.sc_tokens.specs.Quoted.{token_end}
 use Rattle.sc_dar.specs.Lines.{Line, drop_blanks, ends, lines, is_comment}
 use Rattle.sc_dar.specs.Tuples.{then_read, parts, tuples_in}
 use Rattle.sc_dar.specs.Tables.{NO_SEPARATOR, LONG, DOUBLE_METHOD, has_separator, is_listed, list_in, list_of, then_line, judged, table_with, table_of}

@@ -2,10 +2,10 @@
 use Rattle.std.specs.Prelude.{ℕ, Bool, true, false, List, [], ◌∷◌, ◌++◌, ◌||◌, ◌==◌, ◌+◌, ◌-◌, length, take, slice_get, if◌then◌else◌}
 use Rattle.std.specs.List.{list_all}
 use Rattle.std.specs.Option.{option_map_or}
-use Rattle.sc_value.specs.Tokens.{is_blank}
-use Rattle.sc_syntax.specs.Bytes.{Bytes}
-use Rattle.sc_syntax.specs.Cuts.{pieces}
-use Rattle.sc_syntax.specs.Hosts.{begins}
+use Rattle.sc_tokens.specs.Tokens.{is_blank}
+use Rattle.sc_tokens.specs.Bytes.{Bytes}
+use Rattle.sc_tokens.specs.Cuts.{pieces}
+use Rattle.sc_tokens.specs.Hosts.{begins}
 
 -- what stands after the blanks at the front: spaces and tabs
 unfoldable pub drop_blanks : Bytes → Bytes

@@ -1,13 +1,13 @@
 -- What a routing table keeps, for applications of these names.
 use Rattle.std.specs.Prelude.{ℕ, ◌^◌, ◌≡◌, ◌<◌, ◌≤◌, true, false, List, [], ◌∷◌, ◌++◌, Some, ⊤, length, get_or}
 use Rattle.std.specs.List.{All}
-use Rattle.sc_value.specs.Tokens.{is_token}
+use Rattle.sc_tokens.specs.Tokens.{is_token}
 use Rattle.sc_terms.specs.declared.settings.Dar.{Dar}
 use Rattle.sc_terms.specs.declared.settings.MethodList.{MethodList}
 use Rattle.sc_terms.specs.declared.settings.Tuple.{Tuple}
-use Rattle.sc_syntax.specs.Bytes.{Bytes}
-use Rattle.sc_syntax.specs.Cuts.{has}
-use Rattle.sc_syntax.specs.Hosts.{begins}
+use Rattle.sc_tokens.specs.Bytes.{Bytes}
+use Rattle.sc_tokens.specs.Cuts.{has}
+use Rattle.sc_tokens.specs.Hosts.{begins}
 use Rattle.sc_dar.specs.Tuples.{route_of}
 use Rattle.sc_dar.specs.Tables.{is_listed}
 use Rattle.sc_dar.specs.WrittenTables.{route_text}

@@ -3,12 +3,12 @@
 use Rattle.std.specs.Prelude.{ℕ, Bool, false, List, [], ◌∷◌, ◌++◌, not, ◌||◌, ◌&&◌, ◌==◌, ◌+◌, Option, Some, None, Result, Ok, Err, length, take, drop, nat_lt, if◌then◌else◌}
 use Rattle.std.specs.List.{list_any}
 use Rattle.std.specs.Option.{option_to_list}
-use Rattle.sc_value.specs.Params.{same_bytes}
+use Rattle.sc_tokens.specs.Names.{same_bytes}
 use Rattle.sc_terms.specs.declared.settings.Dar.{Dar}
 use Rattle.sc_terms.specs.declared.settings.MethodList.{MethodList}
-use Rattle.sc_syntax.specs.Bytes.{Bytes}
-use Rattle.sc_syntax.specs.Hosts.{begins}
-use Rattle.sc_syntax.specs.Quoted.{token_end}
+use Rattle.sc_tokens.specs.Bytes.{Bytes}
+use Rattle.sc_tokens.specs.Hosts.{begins}
+use Rattle.sc_tokens.specs.Quoted.{token_end}
 use Rattle.sc_dar.specs.Lines.{Line, drop_blanks, is_comment, lines}
 use Rattle.sc_dar.specs.Tuples.{then_read, parts, tuples_in}
 

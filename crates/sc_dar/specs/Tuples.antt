@@ -2,7 +2,7 @@
 use Rattle.std.specs.Prelude.{ℕ, Bool, false, List, [], ◌∷◌, not, ◌&&◌, ◌==◌, ◌+◌, ◌^◌, Option, Some, None, Result, Ok, Err, option_map, option_and_then, codes, decimal, length, drop, nat_lt, if◌then◌else◌}
 use Rattle.std.specs.List.{position}
 use Rattle.std.specs.Option.{option_map_or}
-use Rattle.sc_value.specs.Params.{same_bytes}
+use Rattle.sc_tokens.specs.Names.{same_bytes}
 use Rattle.sc_value.specs.declared.ids.Region.{Region}
 use Rattle.sc_value.specs.declared.ids.Region.TheVariants.{Originating, Terminating, Neutral}
 use Rattle.sc_value.specs.declared.parts.Address.{Address}
@@ -11,9 +11,9 @@ use Rattle.sc_value.specs.declared.parts.Uri.TheVariants.{Sip, Other}
 use Rattle.sc_terms.specs.declared.settings.Modifier.{Modifier}
 use Rattle.sc_terms.specs.declared.settings.Modifier.TheVariants.{Route, RouteBack, NoRoute}
 use Rattle.sc_terms.specs.declared.settings.Tuple.{Tuple}
-use Rattle.sc_syntax.specs.Bytes.{Bytes}
-use Rattle.sc_syntax.specs.Cuts.{has, before, after, onto_first}
-use Rattle.sc_syntax.specs.Hosts.{begins}
+use Rattle.sc_tokens.specs.Bytes.{Bytes}
+use Rattle.sc_tokens.specs.Cuts.{has, before, after, onto_first}
+use Rattle.sc_tokens.specs.Hosts.{begins}
 use Rattle.sc_syntax.specs.UriParts.{Fault as UriFault}
 use Rattle.sc_syntax.specs.Uris.{uri_of}
 use Rattle.sc_dar.specs.Lines.{drop_blanks, is_blank_text}

@@ -10,7 +10,7 @@ use Rattle.sc_terms.specs.declared.settings.Modifier.{Modifier}
 use Rattle.sc_terms.specs.declared.settings.Modifier.TheVariants.{Route, RouteBack, NoRoute}
 use Rattle.sc_terms.specs.declared.settings.Tuple.{Tuple}
 use Rattle.sc_grammar.specs.Written.{uri_text}
-use Rattle.sc_syntax.specs.Bytes.{Bytes}
+use Rattle.sc_tokens.specs.Bytes.{Bytes}
 
 unfoldable pub region_text : Region → Bytes
 region_text Originating = codes "ORIGINATING"

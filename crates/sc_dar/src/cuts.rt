@@ -3,9 +3,9 @@
 ghost use Rattle.std.specs.Prelude.{◌≡◌, ◌≤◌, ◌<◌, ◌==◌, ◌+◌, IfSome, IsTrue, None, length};
 ghost use Rattle.std.specs.List.{position_or_len};
 ghost use Rattle.std.specs.Option.{option_copied};
-ghost use Rattle.sc_value.specs.Tokens.{is_blank};
-ghost use Rattle.sc_syntax.specs.Cuts.{has, before, after};
-ghost use Rattle.sc_syntax.specs.Hosts.{begins};
+ghost use Rattle.sc_tokens.specs.Tokens.{is_blank};
+ghost use Rattle.sc_tokens.specs.Cuts.{has, before, after};
+ghost use Rattle.sc_tokens.specs.Hosts.{begins};
 ghost use Rattle.sc_dar.specs.Lines.{drop_blanks, is_blank_text, ends, without_last};
 ghost use Rattle.sc_dar.specs.Tuples.{behind};
 
@@ -23,7 +23,7 @@ fn place_or_len(text: &[u8], sign: u8) -> usize
 }
 
 // What stands before the first such sign, or all, and what stands after it, where there is one.
-#[tactic(auto, unfolding(sc_syntax::specs::Cuts::before, sc_syntax::specs::Cuts::after))]
+#[tactic(auto, unfolding(sc_tokens::specs::Cuts::before, sc_tokens::specs::Cuts::after))]
 pub fn cut(text: &[u8], sign: u8) -> (&[u8], Option<&[u8]>)
     ensures front { result.0.now ≡ before sign text.now }
     ensures rest { option_copied result.1 ≡ after sign text.now }
@@ -38,14 +38,14 @@ pub fn cut(text: &[u8], sign: u8) -> (&[u8], Option<&[u8]>)
     }
 }
 
-#[tactic(auto, unfolding(sc_syntax::specs::Cuts::has))]
+#[tactic(auto, unfolding(sc_tokens::specs::Cuts::has))]
 pub fn has(text: &[u8], sign: u8) -> bool
     ensures { result ≡ has sign text.now }
 {
     text.contains(&sign)
 }
 
-#[tactic(auto, unfolding(sc_syntax::specs::Hosts::begins))]
+#[tactic(auto, unfolding(sc_tokens::specs::Hosts::begins))]
 pub fn begins(text: &[u8], sign: u8) -> bool
     ensures exact { result ≡ begins sign text.now }
     ensures within { IsTrue result → 0 < length text.now }
@@ -97,7 +97,7 @@ pub fn is_blank_text(text: &[u8]) -> bool
     text.iter().all(|b| is_blank(*b))
 }
 
-#[tactic(auto, unfolding(sc_value::specs::Tokens::is_blank))]
+#[tactic(auto, unfolding(sc_tokens::specs::Tokens::is_blank))]
 fn is_blank(b: u8) -> bool
     ensures { result ≡ is_blank b }
 {

@@ -1,6 +1,6 @@
 ghost use Rattle.std.specs.Prelude.{◌≡◌, ◌≤◌, List, Ok, length};
 ghost use Rattle.sc_terms.specs.declared.settings.Dar.{Dar};
-ghost use Rattle.sc_syntax.specs.Bytes.{Bytes};
+ghost use Rattle.sc_tokens.specs.Bytes.{Bytes};
 ghost use Rattle.sc_dar.specs.Tables.{table_of};
 ghost use Rattle.sc_dar.specs.WrittenTables.{dar_text};
 ghost use Rattle.sc_dar.specs.Rules.{IsTable};

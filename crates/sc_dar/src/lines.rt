@@ -1,7 +1,7 @@
 //! The lines of a table's text.
 
 ghost use Rattle.std.specs.Prelude.{◌≡◌, ◌≤◌, ◌<◌, ◌+◌, ◌++◌, ◌∷◌, IfOk, length};
-ghost use Rattle.sc_syntax.specs.Hosts.{begins};
+ghost use Rattle.sc_tokens.specs.Hosts.{begins};
 ghost use Rattle.sc_dar.specs.Lines.{Line, without_cr, rows, lines, is_comment};
 
 use crate::cuts::{begins, cut, drop_blanks, ends, without_last};

@@ -1,8 +1,8 @@
 //! The list of a line: its method, and its tuples.
 
 ghost use Rattle.std.specs.Prelude.{◌≡◌, ◌<◌, ◌++◌, ◌||◌, IsTrue, not, length};
-ghost use Rattle.sc_syntax.specs.Hosts.{begins};
-ghost use Rattle.sc_syntax.specs.Quoted.{token_end};
+ghost use Rattle.sc_tokens.specs.Hosts.{begins};
+ghost use Rattle.sc_tokens.specs.Quoted.{token_end};
 ghost use Rattle.sc_dar.specs.Tables.{behind_method, has_separator, is_listed, list_in, list_of};
 ghost use Rattle.sc_dar.specs.Answers.{IsRead};
 

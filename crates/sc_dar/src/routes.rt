@@ -26,9 +26,11 @@ fn unbracketed(text: &[u8]) -> Option<&[u8]>
     }
 }
 
+#[tactic(auto, unfolding(sc_tokens::specs::HeaderTokens::IsDisplay, sc_value::specs::ParamRules::AreHeaderParams))]
 fn bare(alloc: Global, uri: Uri) -> Address
     ensures { result ≡ record { display = None; uri = uri; params = [] } }
 {
+    uri.known();
     Address {
         display: None,
         uri,

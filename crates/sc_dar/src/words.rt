@@ -1,7 +1,7 @@
 //! The words of a tuple: regions, modifiers, orders and names of applications.
 
 ghost use Rattle.std.specs.Prelude.{◌≡◌, decimal, position};
-ghost use Rattle.sc_value.specs.Params.{same_bytes};
+ghost use Rattle.sc_tokens.specs.Names.{same_bytes};
 ghost use Rattle.sc_dar.specs.Tuples.{region_of, modifier_of, app_of};
 
 use itoa::Buffer;

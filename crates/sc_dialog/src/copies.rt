@@ -3,13 +3,13 @@
 ghost use Rattle.std.specs.Prelude.{◌≡◌, IfOk};
 
 use crate::Dialog;
-use sc_value::{Address, CSeq, CloneIn, List, NoMemory, Text, Uri};
+use sc_value::{Address, CSeq, CloneIn, HeaderValue, List, NoMemory, Uri};
 use std::alloc::Global;
 
 /// What names a dialog.
 #[derive(Drop)]
 struct Names {
-    call_id: Text,
+    call_id: HeaderValue,
     local: Address,
     remote: Address,
 }

@@ -10,7 +10,9 @@ use crate::routes::reversed;
 use crate::sides::{called_sides, calling_sides};
 use crate::targets::{request_target, response_target};
 use sc_terms::Inside;
-use sc_value::{Address, CSeq, CloneIn, Discard, List, NoMemory, Request, Response, Text, Uri};
+use sc_value::{
+    Address, CSeq, CloneIn, Discard, HeaderValue, List, NoMemory, Request, Response, Text, Uri,
+};
 use std::alloc::Global;
 use std::marker::Model;
 use std::mem;
@@ -19,7 +21,7 @@ use std::mem;
 /// that of the dialog's messages.
 #[derive(Drop)]
 pub struct Dialog {
-    pub(crate) call_id: Text,
+    pub(crate) call_id: HeaderValue,
     pub(crate) local: Address,
     pub(crate) remote: Address,
     pub(crate) route_set: List<Address>,
@@ -94,7 +96,7 @@ impl Dialog {
     }
 
     /// The Call-ID of all its messages.
-    pub fn call_id(&self) -> &Text
+    pub fn call_id(&self) -> &HeaderValue
         ensures { result.now ≡ self.now.call_id }
     {
         &self.call_id

@@ -1,6 +1,6 @@
 //! The requests that are made in a dialog (RFC 3261 section 12.2.1.1).
 
-ghost use Rattle.std.specs.Prelude.{◌≡◌, ◌<◌, [], IfOk, map};
+ghost use Rattle.std.specs.Prelude.{◌≡◌, ◌<◌, ◌^◌, [], IfOk, map};
 ghost use Rattle.std.specs.List.{list_all};
 ghost use Rattle.sc_model.specs.DialogRequests.{later_request, later_head, next_request, ack_request, is_asked_method, is_asked_field, is_askable};
 ghost use Rattle.sc_model.specs.Responses.{kept_field};
@@ -8,8 +8,8 @@ ghost use Rattle.sc_model.specs.Responses.{kept_field};
 use crate::Dialog;
 use sc_terms::Inside;
 use sc_value::{
-    Address, CSeq, CloneIn, Discard, Field, Head, List, NoMemory, Request, Text, is_system_name,
-    is_token, is_value, long_name,
+    Address, CSeq, CloneIn, Discard, Field, Head, HeaderValue, List, NoMemory, Others, Request,
+    Text, Token, is_other, is_system_name, is_token, is_value, long_name,
 };
 use std::alloc::Global;
 
@@ -51,29 +51,36 @@ pub fn next_request(alloc: Global, dialog: &Dialog, ask: &Inside) -> Result<Requ
     requires { dialog.now.sent < 2147483647 }
     ensures { IfOk result (λ r. r ≡ next_request dialog.now ask.now) }
 {
+    let method = asked_method(alloc, ask.method.as_bytes())?;
     let fields = kept_fields(alloc, ask.fields.as_slice())?;
     let number = dialog.last_sent() + 1;
-    later_request(
-        alloc,
-        dialog,
-        number,
-        ask.method.as_bytes(),
-        fields,
-        &ask.body,
-    )
+    later_request(alloc, dialog, number, method, fields, &ask.body)
+}
+
+/// The method that was asked for.
+// It was found a token where the call was judged; it is tested again, since no type says so.
+pub fn asked_method(alloc: Global, method: &[u8]) -> Result<Token, NoMemory>
+    ensures { IfOk result (λ m. m ≡ method.now) }
+{
+    if !is_token(method) {
+        return Err(NoMemory);
+    }
+    Token::from_slice(alloc, method)
 }
 
 /// The ACK to a 2xx, with this sequence number (RFC 3261 section 13.2.2.4).
-#[tactic(auto, unfolding(sc_model::specs::DialogRequests::ack_request, sc_model::specs::SessionStates::ack))]
+#[tactic(auto, unfolding(sc_model::specs::DialogRequests::ack_request, sc_model::specs::SessionStates::ack, sc_tokens::specs::Tokens::is_token, sc_tokens::specs::Tokens::is_token_byte))]
 pub fn ack_request(
     alloc: Global,
     dialog: &Dialog,
     number: u32,
     body: &Text,
 ) -> Result<Request, NoMemory>
+    requires { number < 2 ^ 31 }
     ensures { IfOk result (λ r. r ≡ ack_request dialog.now number body.now) }
 {
-    later_request(alloc, dialog, number, b"ACK", List::new(alloc), body)
+    let method = Token::from_slice(alloc, b"ACK")?;
+    later_request(alloc, dialog, number, method, Others::new(alloc), body)
 }
 
 /// A request in the dialog: it goes to the target by the route set.
@@ -82,17 +89,17 @@ fn later_request(
     alloc: Global,
     dialog: &Dialog,
     number: u32,
-    method: &[u8],
-    fields: List<Field>,
+    method: Token,
+    fields: Others,
     body: &Text,
 ) -> Result<Request, NoMemory>
-    ensures { IfOk result (λ r. r ≡ later_request dialog.now number method.now fields body.now) }
+    requires { number < 2 ^ 31 }
+    ensures { IfOk result (λ r. r ≡ later_request dialog.now number method fields body.now) }
 {
-    let text = Text::from_slice(alloc, method)?;
     let uri = dialog.target().clone_in(alloc)?;
-    match later_head(alloc, dialog, number, method, fields, body) {
+    match later_head(alloc, dialog, number, &method, fields, body) {
         Ok(head) => Ok(Request {
-            method: text,
+            method,
             uri,
             hops: 70,
             head,
@@ -109,7 +116,7 @@ fn later_request(
 struct Names {
     from: Address,
     to: Address,
-    call_id: Text,
+    call_id: HeaderValue,
 }
 
 #[tactic(auto, unfolding(sc_model::specs::DialogRequests::later_head))]
@@ -117,10 +124,11 @@ fn later_head(
     alloc: Global,
     dialog: &Dialog,
     number: u32,
-    method: &[u8],
-    fields: List<Field>,
+    method: &Token,
+    fields: Others,
     body: &Text,
 ) -> Result<Head, NoMemory>
+    requires { number < 2 ^ 31 }
     ensures { IfOk result (λ h. h ≡ later_head dialog.now number method.now fields body.now) }
 {
     let cseq = cseq(alloc, number, method)?;
@@ -145,7 +153,7 @@ fn head_of(
     route: List<Address>,
     names: Names,
     cseq: CSeq,
-    others: List<Field>,
+    others: Others,
     body: Text,
 ) -> Head
     ensures { result ≡ record { via = []; route = route; record_route = []; from = names.from; to = names.to; call_id = names.call_id; cseq = cseq; contact = []; others = others; body = body } }
@@ -164,20 +172,27 @@ fn head_of(
     }
 }
 
-fn cseq(alloc: Global, number: u32, method: &[u8]) -> Result<CSeq, NoMemory>
+fn cseq(alloc: Global, number: u32, method: &Token) -> Result<CSeq, NoMemory>
+    requires { number < 2 ^ 31 }
     ensures { IfOk result (λ c. c ≡ record { number = number; method = method.now }) }
 {
-    let method = Text::from_slice(alloc, method)?;
+    let method = method.clone_in(alloc)?;
+    method.known();
     Ok(CSeq { number, method })
 }
 
 /// The fields, each compact name as its long one.
-pub fn kept_fields(alloc: Global, fields: &[Field]) -> Result<List<Field>, NoMemory>
+// They were found good where the call was judged; they are tested again, since no type says so.
+pub fn kept_fields(alloc: Global, fields: &[Field]) -> Result<Others, NoMemory>
     ensures { IfOk result (λ l. l ≡ map kept_field fields.now) }
 {
-    let mut kept = List::new(alloc);
+    let mut kept = Others::new(alloc);
     for field in fields {
-        kept.push(kept_field(alloc, field)?)?;
+        let field = kept_field(alloc, field)?;
+        if !is_other(&field) {
+            return Err(NoMemory);
+        }
+        kept.push(field)?;
     }
     Ok(kept)
 }

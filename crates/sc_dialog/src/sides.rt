@@ -1,10 +1,13 @@
 //! The two sides of a dialog, as later requests write them (RFC 3261 section 12.2.1.1).
 
-ghost use Rattle.std.specs.Prelude.{◌≡◌, [], ◌∷◌, None, Some, IfOk};
+ghost use Rattle.std.specs.Prelude.{◌≡◌, [], ◌∷◌, None, Some, IfOk, true};
+ghost use Rattle.sc_tokens.specs.HeaderTokens.{is_param_text};
+ghost use Rattle.sc_tokens.specs.Tokens.{is_one_line};
+ghost use Rattle.sc_value.specs.ParamRules.{AreHeaderParams};
 ghost use Rattle.sc_model.specs.Dialogs.{bare, tag_of};
 ghost use Rattle.sc_model.specs.Responses.{tag_param};
 
-use sc_value::{Address, CloneIn, Head, List, NoMemory, Param, Text, Uri, tag};
+use sc_value::{Address, CloneIn, Head, List, NoMemory, Param, Text, Uri, is_token, tag};
 use std::alloc::Global;
 
 /// Both sides of a dialog.
@@ -16,9 +19,14 @@ pub struct Sides {
 
 /// The sides of a dialog that a request of the peer with this head begins, on which the own side puts
 /// the tag.
+// The own tag is a token; it is tested, since no type says so.
+#[tactic(auto, using(sc_model::proofs::ParamFacts::token_is_value, sc_model::proofs::ParamFacts::token_is_line))]
 pub fn called_sides(alloc: Global, head: &Head, tag: &[u8]) -> Result<Sides, NoMemory>
     ensures { IfOk result (λ s. s ≡ record { local = bare head.now.to.uri (Some tag.now); remote = bare head.now.from.uri (tag_of head.now.from) }) }
 {
+    if !is_token(tag) {
+        return Err(NoMemory);
+    }
     let local = tagged_side(alloc, &head.to.uri, tag)?;
     let remote = side_of(alloc, &head.from.uri, &head.from)?;
     Ok(Sides { local, remote })
@@ -34,9 +42,11 @@ pub fn calling_sides(alloc: Global, own: &Head, peer: &Head) -> Result<Sides, No
 }
 
 /// `<URI>;tag=..`, with the tag of this address, without one where that has none.
+#[tactic(auto, using(sc_model::proofs::ParamFacts::value_kept, sc_model::proofs::ParamFacts::value_line))]
 fn side_of(alloc: Global, uri: &Uri, tagged: &Address) -> Result<Address, NoMemory>
     ensures { IfOk result (λ a. a ≡ bare uri.now (tag_of tagged.now)) }
 {
+    tagged.known();
     match tag(tagged) {
         Some(tag) => tagged_side(alloc, uri, tag.as_bytes()),
         None => untagged_side(alloc, uri),
@@ -44,31 +54,41 @@ fn side_of(alloc: Global, uri: &Uri, tagged: &Address) -> Result<Address, NoMemo
 }
 
 /// `<URI>;tag=..`.
-#[tactic(auto, unfolding(sc_model::specs::Dialogs::bare, sc_model::specs::Dialogs::tag_params))]
+#[tactic(auto, unfolding(sc_model::specs::Dialogs::bare, sc_model::specs::Dialogs::tag_params, sc_tokens::specs::HeaderTokens::IsDisplay))]
 fn tagged_side(alloc: Global, uri: &Uri, tag: &[u8]) -> Result<Address, NoMemory>
+    requires value { is_param_text tag.now ≡ true }
+    requires line { is_one_line tag.now ≡ true }
     ensures { IfOk result (λ a. a ≡ bare uri.now (Some tag.now)) }
 {
     let params = tag_params(alloc, tag)?;
+    let uri = uri.clone_in(alloc)?;
+    uri.known();
     Ok(Address {
         display: None,
-        uri: uri.clone_in(alloc)?,
+        uri,
         params,
     })
 }
 
-#[tactic(auto, unfolding(sc_model::specs::Dialogs::bare, sc_model::specs::Dialogs::tag_params))]
+#[tactic(auto, unfolding(sc_model::specs::Dialogs::bare, sc_model::specs::Dialogs::tag_params, sc_tokens::specs::HeaderTokens::IsDisplay, sc_value::specs::ParamRules::AreHeaderParams))]
 fn untagged_side(alloc: Global, uri: &Uri) -> Result<Address, NoMemory>
     ensures { IfOk result (λ a. a ≡ bare uri.now None) }
 {
+    let uri = uri.clone_in(alloc)?;
+    uri.known();
     Ok(Address {
         display: None,
-        uri: uri.clone_in(alloc)?,
+        uri,
         params: List::new(alloc),
     })
 }
 
+#[tactic(auto, using(sc_model::proofs::ParamFacts::tag_kept))]
 fn tag_params(alloc: Global, tag: &[u8]) -> Result<List<Param>, NoMemory>
-    ensures { IfOk result (λ l. l ≡ tag_param tag.now ∷ []) }
+    requires value { is_param_text tag.now ≡ true }
+    requires line { is_one_line tag.now ≡ true }
+    ensures exact { IfOk result (λ l. l ≡ tag_param tag.now ∷ []) }
+    ensures kept { IfOk result (λ l. AreHeaderParams l) }
 {
     let param = tag_param(alloc, tag)?;
     let mut params = List::new(alloc);

@@ -5,7 +5,7 @@ ghost use Rattle.std.specs.Option.{option_copied};
 ghost use Rattle.sc_value.specs.Lists.{change_first};
 ghost use Rattle.sc_hosts.specs.Looking.{is_request, is_session, request_in};
 ghost use Rattle.sc_hosts.specs.Refusals.{begun_by};
-ghost use Rattle.sc_hosts.specs.Effects.{with_answer, with_response, answered_in, answered};
+ghost use Rattle.sc_hosts.specs.ViewChanges.{with_answer, with_response, answered_in, answered};
 
 use crate::states::{after_response, is_final};
 use crate::tidying::tidy;
@@ -14,7 +14,7 @@ use sc_terms::{RequestView, SessionView, View};
 use sc_value::{CloneIn, NoMemory, ReqId, SessId};
 use std::alloc::Global;
 
-#[tactic(auto, unfolding(sc_hosts::specs::Effects::with_answer))]
+#[tactic(auto, unfolding(sc_hosts::specs::ViewChanges::with_answer))]
 fn with_answer(request: &mut RequestView, code: u16)
     ensures { request.new ≡ with_answer code request.old }
 {
@@ -33,7 +33,7 @@ fn answer_in(requests: &mut [RequestView], req: ReqId, code: u16)
     }
 }
 
-#[tactic(auto, unfolding(sc_hosts::specs::Effects::with_response))]
+#[tactic(auto, unfolding(sc_hosts::specs::ViewChanges::with_response))]
 fn with_response(session: &mut SessionView, request: &RequestView, tagged: bool, code: u16)
     ensures { session.new ≡ with_response request.now tagged code session.old }
 {
@@ -58,7 +58,7 @@ fn response_in(
 
 /// Notes a response of this code to a request, sent, handled or forwarded in a SipSession: on the
 /// request, where the first final code stays, and in the state of the SipSession.
-#[tactic(auto, unfolding(sc_hosts::specs::Effects::answered_in))]
+#[tactic(auto, unfolding(sc_hosts::specs::ViewChanges::answered_in))]
 pub fn answered_in(view: &mut View, sess: SessId, request: &RequestView, tagged: bool, code: u16)
     ensures { view.new ≡ answered_in sess request.now tagged code view.old }
 {
@@ -67,7 +67,7 @@ pub fn answered_in(view: &mut View, sess: SessId, request: &RequestView, tagged:
 }
 
 /// Notes an answer of this code that the application or the container gave to a request.
-#[tactic(auto, unfolding(sc_hosts::specs::Effects::answered))]
+#[tactic(auto, unfolding(sc_hosts::specs::ViewChanges::answered))]
 pub fn answered(view: &mut View, request: &RequestView, code: u16)
     ensures { view.new ≡ answered (Some request.now) code view.old }
 {
@@ -75,7 +75,7 @@ pub fn answered(view: &mut View, request: &RequestView, code: u16)
     tidy(view);
 }
 
-#[tactic(auto, unfolding(sc_hosts::specs::Effects::answered))]
+#[tactic(auto, unfolding(sc_hosts::specs::ViewChanges::answered))]
 fn answered_where(view: &mut View, request: Option<RequestView>, code: u16)
     ensures { view.new ≡ answered request code view.old }
 {

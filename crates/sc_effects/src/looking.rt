@@ -3,7 +3,7 @@
 ghost use Rattle.std.specs.Prelude.{◌≡◌, Some, None};
 ghost use Rattle.sc_value.specs.Lists.{change_first};
 ghost use Rattle.sc_hosts.specs.Looking.{is_early, is_confirmed, is_uac, is_session, in_state, linked_to, unlinked_from, unlinked, removed};
-ghost use Rattle.sc_hosts.specs.Effects.{linked};
+ghost use Rattle.sc_hosts.specs.ViewChanges.{linked};
 ghost use Rattle.sc_effects.specs.Elements.{as_gone};
 
 use sc_refusals::{partner, session_place};
@@ -66,7 +66,7 @@ fn link_one(view: &mut View, sess: SessId, other: Option<SessId>)
 }
 
 /// Links two SipSessions.
-#[tactic(auto, unfolding(sc_hosts::specs::Effects::linked))]
+#[tactic(auto, unfolding(sc_hosts::specs::ViewChanges::linked))]
 pub fn linked(view: &mut View, a: SessId, b: SessId)
     ensures { view.new ≡ linked a b view.old }
 {

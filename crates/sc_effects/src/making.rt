@@ -3,37 +3,52 @@
 ghost use Rattle.std.specs.Prelude.{◌≡◌, ◌+◌, ◌++◌, ◌∷◌, [], ◌-◌, length, Some, IfOk, OnOk};
 ghost use Rattle.std.specs.Option.{option_copied};
 ghost use Rattle.sc_hosts.specs.Looking.{request_in};
-ghost use Rattle.sc_hosts.specs.Effects.{new_call_id, new_tag, new_session, own_session, with_own_session, with_draft, with_view, created, created_later, created_leg};
+ghost use Rattle.sc_hosts.specs.ViewChanges.{new_call_id, new_tag, new_session, own_session, with_own_session};
+ghost use Rattle.sc_hosts.specs.Effects.{with_draft, with_view, created, created_later, created_leg};
 
 use crate::answering::request_copy;
 use crate::looking::linked;
 use crate::states::ends_subscription;
 use sc_state::{Draft, Play};
 use sc_terms::{Ask, Inside, RequestView, Role, SessionView, State, View};
-use sc_value::{CloneIn, NoMemory, ReqId, SessId, Text, number_after, sum, sum_u32};
+use sc_value::{CloneIn, HeaderValue, NoMemory, ReqId, SessId, Text, number_after, sum, sum_u32};
 use std::alloc::Global;
 
 /// The Call-ID that the next request of one's own draws.
-#[tactic(auto, unfolding(sc_hosts::specs::Effects::new_call_id))]
-pub fn new_call_id(alloc: Global, view: &View) -> Result<Text, NoMemory>
+#[tactic(auto, unfolding(sc_hosts::specs::ViewChanges::new_call_id), using(sc_model::proofs::NameFacts::call_id_is_value))]
+pub fn new_call_id(alloc: Global, view: &View) -> Result<HeaderValue, NoMemory>
     ensures { IfOk result (λ t. t ≡ new_call_id view.entry.now) }
 {
     let number = sum(view.counter, 1)?;
     let mut text = Text::new(alloc);
     sc_names::call_id(
-        alloc, &view.salt, view.epoch, view.ip, view.app, number, &mut text,
+        alloc,
+        view.salt.as_text(),
+        view.epoch,
+        view.ip,
+        view.app,
+        number,
+        &mut text,
     )?;
-    Ok(text)
+    view.salt.known();
+    Ok(HeaderValue::from_text(text))
 }
 
 /// The From tag that the next request of one's own draws.
-#[tactic(auto, unfolding(sc_hosts::specs::Effects::new_tag))]
+#[tactic(auto, unfolding(sc_hosts::specs::ViewChanges::new_tag))]
 pub fn new_tag(alloc: Global, view: &View) -> Result<Text, NoMemory>
     ensures { IfOk result (λ t. t ≡ new_tag view.entry.now) }
 {
     let number = sum(view.counter, 2)?;
     let mut text = Text::new(alloc);
-    sc_names::tag(alloc, &view.salt, view.epoch, view.app, number, &mut text)?;
+    sc_names::tag(
+        alloc,
+        view.salt.as_text(),
+        view.epoch,
+        view.app,
+        number,
+        &mut text,
+    )?;
     Ok(text)
 }
 
@@ -45,7 +60,7 @@ pub fn new_session(view: &View) -> Result<SessId, NoMemory>
     Ok(SessId(number))
 }
 
-#[tactic(auto, unfolding(sc_hosts::specs::Effects::own_session))]
+#[tactic(auto, unfolding(sc_hosts::specs::ViewChanges::own_session))]
 fn own_session(alloc: Global, view: &View) -> Result<SessionView, NoMemory>
     ensures { IfOk result (λ s. s ≡ own_session view.entry.now) }
 {
@@ -65,7 +80,7 @@ fn own_session(alloc: Global, view: &View) -> Result<SessionView, NoMemory>
     })
 }
 
-#[tactic(auto, unfolding(sc_hosts::specs::Effects::with_own_session))]
+#[tactic(auto, unfolding(sc_hosts::specs::ViewChanges::with_own_session))]
 fn with_own_session(alloc: Global, view: &mut View) -> Result<(), NoMemory>
     ensures { OnOk result (view.new ≡ with_own_session view.old) }
 {

@@ -4,8 +4,8 @@
 ghost use Rattle.std.specs.Prelude.{◌≡◌, ◌&&◌, not, if◌then◌else◌, position};
 ghost use Rattle.std.specs.List.{find, prefix_len, take_while};
 ghost use Rattle.std.specs.Option.{option_copied};
-ghost use Rattle.sc_value.specs.Params.{same_bytes, same_name};
-ghost use Rattle.sc_value.specs.Tokens.{is_token_byte};
+ghost use Rattle.sc_tokens.specs.Names.{same_bytes, same_name};
+ghost use Rattle.sc_tokens.specs.Tokens.{is_token_byte};
 ghost use Rattle.sc_model.specs.Dialogs.{subscribe, notify};
 ghost use Rattle.sc_model.specs.SessionStates.{bye, is_final};
 ghost use Rattle.sc_model.specs.Transactions.{is_success, is_failure};
@@ -197,7 +197,7 @@ pub fn after_response(
     }
 }
 
-#[tactic(auto, unfolding(sc_value::specs::Tokens::is_token_byte))]
+#[tactic(auto, unfolding(sc_tokens::specs::Tokens::is_token_byte))]
 fn is_token_byte(b: u8) -> bool
     ensures { result ≡ is_token_byte b }
 {

@@ -3,7 +3,7 @@
 ghost use Rattle.std.specs.Prelude.{◌≡◌, map, filter, not};
 ghost use Rattle.std.specs.List.{find};
 ghost use Rattle.std.specs.Option.{option_copied};
-ghost use Rattle.sc_hosts.specs.Effects.{tidy};
+ghost use Rattle.sc_hosts.specs.ViewChanges.{tidy};
 ghost use Rattle.sc_effects.specs.Tidied.{is_there, with_there_in, stands_in, tidied};
 
 use sc_refusals::session_place;

@@ -1,13 +1,14 @@
 -- A later request that is passed on, in parts.
 use Rattle.std.proofs.Common.{◌≡◌, true, false, [], ◌∷◌, refl}
-use Rattle.sc_value.specs.Params.{same_bytes}
+use Rattle.sc_tokens.specs.Names.{same_bytes}
 use Rattle.sc_terms.specs.declared.settings.Config.{Config}
 use Rattle.sc_state.specs.declared.orders.Order.TheVariants as orders
 use Rattle.sc_state.specs.declared.session.Kept.{Kept}
 use Rattle.sc_state.specs.declared.working.Working.{Working}
 use Rattle.sc_hosts.specs.Acting.{in_view, drawn, passed_on}
 use Rattle.sc_hosts.specs.Words.{ack}
-use Rattle.sc_hosts.specs.Working.{giving, next_branch}
+use Rattle.sc_hosts.specs.Giving.{giving}
+use Rattle.sc_hosts.specs.Working.{next_branch}
 use Rattle.sc_finish.specs.Passing.{passed, sends_on}
 
 pub passed_on_ack : (config : Config) (kept : Kept) (working : Working) → same_bytes kept.request.method ack ≡ true

@@ -5,7 +5,8 @@ use Rattle.sc_terms.specs.declared.settings.Config.{Config}
 use Rattle.sc_state.specs.declared.proxy.Proxy.{Proxy}
 use Rattle.sc_state.specs.declared.working.Working.{Working}
 use Rattle.sc_hosts.specs.Branches.{new_branch}
-use Rattle.sc_hosts.specs.Working.{giving, next_branch}
+use Rattle.sc_hosts.specs.Giving.{giving}
+use Rattle.sc_hosts.specs.Working.{next_branch}
 use Rattle.sc_hosts.specs.Acting.{in_proxy, in_view, drawn, started}
 use Rattle.sc_finish.specs.Acts.{branched, begin_order, sent_to}
 

@@ -8,10 +8,10 @@ use Rattle.sc_terms.specs.declared.views.View.{View}
 use Rattle.sc_state.specs.declared.orders.Order.TheVariants as orders
 use Rattle.sc_state.specs.declared.session.Kept.{Kept}
 use Rattle.sc_state.specs.declared.working.Working.{Working}
-use Rattle.sc_hosts.specs.Effects.{answered}
+use Rattle.sc_hosts.specs.ViewChanges.{answered}
 use Rattle.sc_hosts.specs.Acting.{in_view, sent_proxy}
 use Rattle.sc_hosts.specs.Messages.{on_branch, passed_request}
-use Rattle.sc_hosts.specs.Working.{answering, giving}
+use Rattle.sc_hosts.specs.Giving.{answering, giving}
 
 -- the request as it goes on
 unfoldable pub passed : Config → View → ℕ → Request → Request

@@ -5,7 +5,7 @@ ghost use Rattle.sc_value.specs.Lists.{change_first};
 ghost use Rattle.sc_hosts.specs.Looking.{same_request};
 ghost use Rattle.sc_hosts.specs.PreparingResponses.{change_proxy};
 ghost use Rattle.sc_hosts.specs.Preparing.{proxy_of};
-ghost use Rattle.sc_hosts.specs.Working.{giving};
+ghost use Rattle.sc_hosts.specs.Giving.{giving};
 ghost use Rattle.sc_hosts.specs.Acting.{drawn, with_forwarded, rested_branch, rested, proxy_now};
 ghost use Rattle.sc_finish.specs.Acts.{branched};
 

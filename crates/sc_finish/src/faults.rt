@@ -64,7 +64,7 @@ fn error_answer(alloc: Global) -> Result<Answer, NoMemory>
 }
 
 /// The container answers a request that waits for its answer by itself.
-#[tactic(auto, unfolding(sc_hosts::specs::Working::answering, crate::specs::Passing::answers_alone))]
+#[tactic(auto, unfolding(sc_hosts::specs::Giving::answering, crate::specs::Passing::answers_alone))]
 pub fn answers_alone(
     alloc: Global,
     config: &Config,

@@ -10,7 +10,7 @@ use Rattle.sc_syntax.specs.declared.left.Left.{Left}
 use Rattle.sc_syntax.specs.declared.left.Lists.{Lists}
 use Rattle.sc_syntax.specs.declared.left.Start.{Start}
 use Rattle.sc_syntax.specs.declared.left.Start.TheVariants.{Request, Status}
-use Rattle.sc_syntax.specs.Bytes.{Bytes}
+use Rattle.sc_tokens.specs.Bytes.{Bytes}
 use Rattle.sc_syntax.specs.UriParts.{Fault, then_read}
 use Rattle.sc_syntax.specs.Lines.{end_of, start_line, header_lines}
 use Rattle.sc_syntax.specs.StartLines.{start_of}

@@ -7,9 +7,9 @@ use Rattle.std.proofs.lemmas.Bool.Decides.{nat_tests}
 use Rattle.sc_value.specs.declared.ids.Place.{Place}
 use Rattle.sc_value.specs.declared.ids.Place.TheVariants.{Back, To}
 use Rattle.sc_value.specs.Lists.{change_first}
-use Rattle.sc_value.specs.Params.{same_bytes}
+use Rattle.sc_tokens.specs.Names.{same_bytes}
 use Rattle.sc_value.proofs.ListFacts.{change_first_position, find_none, find_position}
-use Rattle.sc_syntax.specs.Bytes.{Bytes}
+use Rattle.sc_tokens.specs.Bytes.{Bytes}
 use Rattle.sc_hosts.specs.Transacting.{same_place}
 use Rattle.sc_runs.specs.Following.{IsKept}
 use Rattle.sc_follow.specs.declared.streams.Pending.{Pending}

@@ -11,7 +11,7 @@ use Rattle.sc_hosts.specs.Finishing.{goodbye, is_ready}
 use Rattle.sc_hosts.specs.Nets.{host_at, change_host}
 use Rattle.sc_hosts.specs.Sessions.{Turn, Form}
 use Rattle.sc_hosts.specs.Steps.{live_of, live_at, ringing_at, outcome_by, turned_live, without_live, with_ready, inbox_of, invalidated, closed_turn, turned, turn_of, turns_first, turns, withdrawn, stepped}
-use Rattle.sc_hosts.specs.Taking.{is_live}
+use Rattle.sc_hosts.specs.Inboxes.{is_live}
 use Rattle.sc_hosts.specs.Transacting.{tidied}
 use Rattle.sc_parts.specs.declared.setup.Setup.{Setup}
 use Rattle.sc_state.specs.declared.host.Host.{Host}

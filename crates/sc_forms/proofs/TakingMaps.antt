@@ -8,7 +8,8 @@ use Rattle.sc_forms.specs.Simulations.{map_live, map_host, map_taken, IsSimulati
 use Rattle.sc_grammar.specs.Written.{Bytes}
 use Rattle.sc_hosts.specs.Messages.{own_response}
 use Rattle.sc_hosts.specs.Sessions.{Form}
-use Rattle.sc_hosts.specs.Taking.{MOST_LIVE, quiet, is_full, replying, cancelled, last_again, again_if, repeated, Claim, claim_of, refuse, own_uri, is_named_live, named_live, with_server, with_trying, queue_later, later_by, take_later, begun_live, begun, take_initial, is_never_initial, take_begun, take_new, take_unclaimed, take_claimed, take_request, takes, Cancels, Acks, Repeats, Unclaimed}
+use Rattle.sc_hosts.specs.Inboxes.{MOST_LIVE, quiet, is_full, replying}
+use Rattle.sc_hosts.specs.Taking.{cancelled, last_again, again_if, repeated, Claim, claim_of, refuse, own_uri, is_named_live, named_live, with_server, with_trying, queue_later, later_by, take_later, begun_live, begun, take_initial, is_never_initial, take_begun, take_new, take_unclaimed, take_claimed, take_request, takes, Cancels, Acks, Repeats, Unclaimed}
 use Rattle.sc_hosts.specs.Transacting.{method_of, has_final}
 use Rattle.sc_hosts.specs.Words.{ack, cancel, ok, does_not_exist, unavailable}
 use Rattle.sc_model.specs.Dialogs.{tag_of}
@@ -22,7 +23,7 @@ use Rattle.sc_state.specs.declared.host.Taken.{Taken}
 use Rattle.sc_state.specs.declared.net.Note.{Note}
 use Rattle.sc_state.specs.declared.queue.Queued.TheVariants as queued
 use Rattle.sc_terms.specs.declared.settings.Config.{Config}
-use Rattle.sc_value.specs.Params.{same_bytes}
+use Rattle.sc_tokens.specs.Names.{same_bytes}
 use Rattle.sc_value.specs.declared.ids.AppId.{AppId}
 use Rattle.sc_value.specs.declared.message.Message.TheVariants as messages
 use Rattle.sc_value.specs.declared.message.Message.{Message}

@@ -8,7 +8,7 @@ use Rattle.sc_forms.specs.Simulations.{map_live, map_host, map_net, IsSimulation
 use Rattle.sc_grammar.specs.Written.{Bytes}
 use Rattle.sc_hosts.specs.Nets.{change_host}
 use Rattle.sc_hosts.specs.Sessions.{Form}
-use Rattle.sc_hosts.specs.Taking.{is_live}
+use Rattle.sc_hosts.specs.Inboxes.{is_live}
 use Rattle.sc_hosts.specs.Ticks.{told_at, passes, clients_of, clients_to, lost, DueItem, live_dated, host_dated, hosts_dated, all_dated, due_items, mark_fired, fires, ticked, Of_session, Of_client, Of_server}
 use Rattle.sc_hosts.specs.Transacting.{is_cancel_client, pass_server}
 use Rattle.sc_hosts.specs.Words.{request_timeout, unavailable}

@@ -3,8 +3,8 @@ use Rattle.std.proofs.Common.{◌≡◌, ℕ, suc, Bool, true, false, cond, Opti
 use Rattle.std.specs.Option.{option_map}
 use Rattle.std.proofs.lemmas.List.{at_drop_all, at_drop_more}
 use Rattle.sc_syntax.specs.declared.scan.Scan.{Scan}
-use Rattle.sc_syntax.specs.Bytes.{Bytes}
-use Rattle.sc_syntax.specs.Cuts.{onto_first}
+use Rattle.sc_tokens.specs.Bytes.{Bytes}
+use Rattle.sc_tokens.specs.Cuts.{onto_first}
 use Rattle.sc_syntax.specs.Scanning.{past, is_part_end, parts, with_first, all_read}
 use Rattle.sc_head_text.specs.declared.unread.Unread.{Unread}
 use Rattle.sc_head_text.specs.declared.unread.Unread.TheVariants.{Fault, NoMemory}

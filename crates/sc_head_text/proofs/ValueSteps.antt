@@ -6,7 +6,7 @@ use Rattle.sc_value.specs.declared.parts.Param.{Param}
 use Rattle.sc_uri_text.specs.declared.refused.UriRefused.{UriRefused}
 use Rattle.sc_uri_text.specs.declared.refused.UriRefused.TheVariants.{Refused, NoMemory}
 use Rattle.sc_uri_text.specs.Answers.{IsFault}
-use Rattle.sc_syntax.specs.Bytes.{Bytes}
+use Rattle.sc_tokens.specs.Bytes.{Bytes}
 use Rattle.sc_syntax.specs.UriParts.{Fault}
 use Rattle.sc_syntax.specs.Scanning.{address_parts, via_parts}
 use Rattle.sc_syntax.specs.Parameters.{params_of}

@@ -1,7 +1,7 @@
 -- What is written is spelled, so it is read again.
 use Rattle.std.proofs.Common.{◌≡◌, ℕ, Bool, true, Option, Some, None, List, [], ◌∷◌, ◌++◌, ◌<◌, ◌^◌, inl, decimal, refl, sym, ap, ◌∙◌, arith, append_assoc, append-nil}
 use Rattle.std.specs.Prelude.{codes, IfSome, unwrap_or}
-use Rattle.sc_value.specs.Tokens.{is_blank}
+use Rattle.sc_tokens.specs.Tokens.{is_blank}
 use Rattle.sc_value.specs.declared.parts.Param.{Param}
 use Rattle.sc_value.specs.declared.parts.Via.{Via}
 use Rattle.sc_value.specs.declared.parts.Uri.{Uri}
@@ -18,7 +18,11 @@ use Rattle.sc_syntax.specs.SpelledVias.{IsViaSpelled}
 use Rattle.sc_syntax.specs.SpelledAddresses.{IsAddressIn, IsContactSpelled}
 use Rattle.sc_syntax.specs.SpelledSequences.{IsCSeqSpelled}
 use Rattle.sc_syntax.proofs.DecimalLaws.{decimal_is_read}
-use Rattle.sc_head_text.specs.Kept.{AreHeaderParams, IsVia, IsUri, IsAddress, IsContact, IsCSeq}
+use Rattle.sc_value.specs.SequenceValues.{IsCSeq}
+use Rattle.sc_value.specs.ParamRules.{AreHeaderParams}
+use Rattle.sc_value.specs.ViaValues.{IsVia}
+use Rattle.sc_value.specs.AddressValues.{IsUri, IsAddress}
+use Rattle.sc_value.specs.ContactRules.{IsContact}
 
 one_blank : IsBlanks (32 ∷ [])
 unfolding is_blank
@@ -38,7 +42,7 @@ params_spelled : (params : List Param) → AreHeaderParams params → AreParamsS
 unfolding params_text param_text AreLed AreHeaderParams header_param
 params_spelled [] h = refl
 params_spelled (param ∷ params) h =
-    (header_param param, params_text params, (h.0, itself_padded (header_param param)), params_spelled params h.1, ap (λ l. 59 ∷ ((param.name ++ l) ++ params_text params)) (led_is 61 param.value))
+    (header_param param, params_text params, (h.0.0, itself_padded (header_param param)), params_spelled params h.1, ap (λ l. 59 ∷ ((param.name ++ l) ++ params_text params)) (led_is 61 param.value))
 
 port_spelled : (port : Option ℕ) → IfSome port (λ n. n < 65536) → IsPortSpelled (port_text port) port
 unfolding port_text IsPortSpelled

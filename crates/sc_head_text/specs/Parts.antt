@@ -1,7 +1,7 @@
 -- The first part of a text that is cut at its separators.
 use Rattle.std.specs.Prelude.{ℕ, List, [], ◌∷◌, ◌+◌, Option, Some, None, if◌then◌else◌}
 use Rattle.sc_syntax.specs.declared.scan.Scan.{Scan}
-use Rattle.sc_syntax.specs.Bytes.{Bytes}
+use Rattle.sc_tokens.specs.Bytes.{Bytes}
 use Rattle.sc_syntax.specs.Scanning.{past, is_part_end, parts}
 
 -- how many bytes stand before the first separator that parts

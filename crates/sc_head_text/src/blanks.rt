@@ -2,10 +2,10 @@
 
 ghost use Rattle.std.specs.Prelude.{◌≡◌, ◌≤◌, ◌-◌, length, take};
 ghost use Rattle.std.specs.List.{prefix_len, suffix_len, position_or_len};
-ghost use Rattle.sc_value.specs.Tokens.{is_blank};
-ghost use Rattle.sc_syntax.specs.Blanks.{trimmed, trimmed_back, trimmed_front, first_word, behind_word};
+ghost use Rattle.sc_tokens.specs.Tokens.{is_blank};
+ghost use Rattle.sc_tokens.specs.Blanks.{trimmed, trimmed_back, trimmed_front, first_word, behind_word};
 
-#[tactic(auto, unfolding(sc_value::specs::Tokens::is_blank))]
+#[tactic(auto, unfolding(sc_tokens::specs::Tokens::is_blank))]
 pub fn is_blank(b: u8) -> bool
     ensures { result ≡ is_blank b }
 {
@@ -13,14 +13,14 @@ pub fn is_blank(b: u8) -> bool
 }
 
 // The text without the blanks at its ends.
-#[tactic(auto, unfolding(sc_syntax::specs::Blanks::trimmed))]
+#[tactic(auto, unfolding(sc_tokens::specs::Blanks::trimmed))]
 pub fn trim(text: &[u8]) -> &[u8]
     ensures { result.now ≡ trimmed text.now }
 {
     trim_back(trim_front(text))
 }
 
-#[tactic(auto, unfolding(sc_syntax::specs::Blanks::trimmed_front))]
+#[tactic(auto, unfolding(sc_tokens::specs::Blanks::trimmed_front))]
 fn trim_front(text: &[u8]) -> &[u8]
     ensures { result.now ≡ trimmed_front text.now }
 {
@@ -39,7 +39,7 @@ fn blanks_len(text: &[u8]) -> usize
     text.len()
 }
 
-#[tactic(auto, unfolding(sc_syntax::specs::Blanks::trimmed_back))]
+#[tactic(auto, unfolding(sc_tokens::specs::Blanks::trimmed_back))]
 fn trim_back(text: &[u8]) -> &[u8]
     ensures { result.now ≡ trimmed_back text.now }
 {
@@ -60,7 +60,7 @@ fn front_len(text: &[u8]) -> usize
 }
 
 // The first word, and what stands behind it without blanks.
-#[tactic(auto, unfolding(sc_syntax::specs::Blanks::first_word, sc_syntax::specs::Blanks::behind_word))]
+#[tactic(auto, unfolding(sc_tokens::specs::Blanks::first_word, sc_tokens::specs::Blanks::behind_word))]
 pub fn split_word(text: &[u8]) -> (&[u8], &[u8])
     ensures first { result.0.now ≡ first_word text.now }
     ensures behind { result.1.now ≡ behind_word text.now }

@@ -4,11 +4,14 @@ ghost use Rattle.sc_value.specs.declared.parts.Address.{Address};
 ghost use Rattle.sc_value.specs.declared.parts.Contact.{Contact};
 ghost use Rattle.sc_value.specs.declared.parts.CSeq.{CSeq};
 ghost use Rattle.sc_grammar.specs.Written.{address_text, contact_text, cseq_text, via_text};
-ghost use Rattle.sc_syntax.specs.Numbers.{number_of};
+ghost use Rattle.sc_tokens.specs.Numbers.{number_of};
 ghost use Rattle.sc_syntax.specs.Vias.{vias_of};
 ghost use Rattle.sc_syntax.specs.Addresses.{address_of, addresses_of, contacts_of};
 ghost use Rattle.sc_syntax.specs.Sequences.{cseq_of, hops_of};
-ghost use Rattle.sc_head_text.specs.Kept.{IsAddress, IsContact, IsCSeq, IsVia};
+ghost use Rattle.sc_value.specs.SequenceValues.{IsCSeq};
+ghost use Rattle.sc_value.specs.ViaValues.{IsVia};
+ghost use Rattle.sc_value.specs.AddressValues.{IsAddress};
+ghost use Rattle.sc_value.specs.ContactRules.{IsContact};
 
 /// The written form of a value that keeps the grammar's rules is read as this value, and as no
 /// other (RFC 3261 section 25.1). The contract is the law, and the call does nothing.

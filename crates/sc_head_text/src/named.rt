@@ -3,7 +3,8 @@
 ghost use Rattle.std.specs.Prelude.{◌≡◌, ◌≤◌, length};
 ghost use Rattle.std.specs.List.{list_all};
 ghost use Rattle.std.specs.Option.{option_copied, option_map};
-ghost use Rattle.sc_syntax.specs.Addresses.{enclosed, in_brackets, is_display_byte, named_in, quoted_named, token_named, unless_empty};
+ghost use Rattle.sc_tokens.specs.HeaderTokens.{is_display_byte};
+ghost use Rattle.sc_syntax.specs.Addresses.{enclosed, in_brackets, named_in, quoted_named, token_named, unless_empty};
 ghost use Rattle.sc_head_text.specs.Seen.{seen};
 
 use crate::blanks::{is_blank, trim};
@@ -90,7 +91,7 @@ fn in_brackets(text: &[u8]) -> Option<&[u8]>
 }
 
 // Up to the closing bracket, which ends the text.
-#[tactic(auto, unfolding(sc_syntax::specs::Addresses::enclosed, sc_syntax::specs::Hosts::is_none_left))]
+#[tactic(auto, unfolding(sc_syntax::specs::Addresses::enclosed, sc_tokens::specs::Hosts::is_none_left))]
 fn enclosed(text: &[u8]) -> Option<&[u8]>
     ensures { option_copied result ≡ enclosed text.now }
 {
@@ -106,7 +107,7 @@ fn has_display_bytes(text: &[u8]) -> bool
     text.iter().all(|b| is_display_byte(*b))
 }
 
-#[tactic(auto, unfolding(sc_syntax::specs::Addresses::is_display_byte))]
+#[tactic(auto, unfolding(sc_tokens::specs::HeaderTokens::is_display_byte))]
 fn is_display_byte(b: u8) -> bool
     ensures { result ≡ is_display_byte b }
 {

@@ -4,7 +4,9 @@ ghost use Rattle.std.specs.Prelude.{◌≡◌, ◌==◌, Some, length, true};
 ghost use Rattle.std.specs.List.{list_all};
 ghost use Rattle.std.specs.Option.{option_copied, option_map_or};
 ghost use Rattle.sc_syntax.specs.declared.scan.Scan.TheVariants.{Params};
-ghost use Rattle.sc_syntax.specs.Parameters.{is_param_text, is_string, is_value_byte, param_in, param_of, params_of};
+ghost use Rattle.sc_tokens.specs.HeaderTokens.{is_param_text, is_string, is_value_byte};
+ghost use Rattle.sc_tokens.specs.Tokens.{is_one_line};
+ghost use Rattle.sc_syntax.specs.Parameters.{param_in, param_of, params_of};
 ghost use Rattle.sc_head_text.specs.Answers.{Gives};
 ghost use Rattle.sc_head_text.specs.Parts.{parts_behind};
 
@@ -19,6 +21,7 @@ use std::alloc::Global;
 
 // The parameters behind a semicolon, where there is one.
 pub fn read_params(alloc: Global, rest: Option<&[u8]>) -> Result<List<Param>, Unread>
+    requires { list_all is_one_line (parts_behind Params 59 (option_copied rest)) ≡ true }
     ensures { Gives result (params_of (parts_behind Params 59 (option_copied rest.entry))) }
 {
     read_parts(alloc, rest, b';', Scan::Params)
@@ -56,7 +59,7 @@ fn is_value(value: Option<&[u8]>) -> bool
     }
 }
 
-#[tactic(auto, unfolding(sc_syntax::specs::Parameters::is_param_text))]
+#[tactic(auto, unfolding(sc_tokens::specs::HeaderTokens::is_param_text))]
 fn is_param_text(text: &[u8]) -> bool
     ensures { result ≡ is_param_text text.now }
 {
@@ -69,7 +72,7 @@ fn has_value_bytes(text: &[u8]) -> bool
     text.iter().all(|b| is_value_byte(*b))
 }
 
-#[tactic(auto, unfolding(sc_syntax::specs::Parameters::is_value_byte))]
+#[tactic(auto, unfolding(sc_tokens::specs::HeaderTokens::is_value_byte))]
 fn is_value_byte(b: u8) -> bool
     ensures { result ≡ is_value_byte b }
 {
@@ -77,7 +80,7 @@ fn is_value_byte(b: u8) -> bool
 }
 
 // A quoted string, and no more.
-#[tactic(auto, unfolding(sc_syntax::specs::Parameters::is_string))]
+#[tactic(auto, unfolding(sc_tokens::specs::HeaderTokens::is_string))]
 fn is_string(text: &[u8]) -> bool
     ensures { result ≡ is_string text.now }
 {

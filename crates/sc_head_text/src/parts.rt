@@ -1,8 +1,10 @@
 //! Values cut at their separators, and each part read.
 
-ghost use Rattle.std.specs.Prelude.{◌≡◌, ◌≤◌, ◌<◌, ◌∷◌, ◌++◌, [], Option, IfSome, OnOk, length};
+ghost use Rattle.std.specs.Prelude.{◌≡◌, ◌≤◌, ◌<◌, ◌∷◌, ◌++◌, [], Option, IfSome, OnOk, length, true};
+ghost use Rattle.std.specs.List.{list_all};
 ghost use Rattle.std.specs.Option.{option_copied};
-ghost use Rattle.sc_syntax.specs.Bytes.{Bytes};
+ghost use Rattle.sc_tokens.specs.Bytes.{Bytes};
+ghost use Rattle.sc_tokens.specs.Tokens.{is_one_line};
 ghost use Rattle.sc_syntax.specs.Scanning.{all_read, parts};
 ghost use Rattle.sc_head_text.specs.Answers.{Gives};
 ghost use Rattle.sc_head_text.specs.Parts.{part_len, parts_behind};
@@ -13,11 +15,12 @@ use sc_syntax::Scan;
 use sc_value::{List, NoMemory};
 use std::alloc::Global;
 
-// A value that one part of a text has, whole.
+// A value that one part of a text has, whole. The part is of one line.
 pub trait Readable: Drop {
     ghost read_of: { Bytes → Option Self };
 
     fn read(alloc: Global, text: &[u8]) -> Result<Self, Unread>
+        requires { is_one_line text.now ≡ true }
         ensures { Gives result (read_of text.now) };
 }
 
@@ -28,6 +31,7 @@ pub fn read_parts<T: Readable>(
     sign: u8,
     start: Scan,
 ) -> Result<List<T>, Unread>
+    requires { list_all is_one_line (parts_behind start sign (option_copied text)) ≡ true }
     ensures { Gives result (all_read T.read_of (parts_behind start sign (option_copied text.entry))) }
 {
     let mut items = List::new(alloc);

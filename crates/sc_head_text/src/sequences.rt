@@ -1,16 +1,16 @@
 //! Values that begin with a number (RFC 3261 sections 20.14, 20.16 and 20.22).
 
 ghost use Rattle.std.specs.Prelude.{◌≡◌, ◌^◌, ◌<◌, IfOk, IfSome};
-ghost use Rattle.sc_syntax.specs.Numbers.{number_below, number_of};
+ghost use Rattle.sc_tokens.specs.Numbers.{number_below, number_of};
 ghost use Rattle.sc_syntax.specs.Sequences.{cseq_in, cseq_of, hops_of};
 ghost use Rattle.sc_syntax.specs.SpelledSequences.{IsCSeqSpelled};
 ghost use Rattle.sc_head_text.specs.Answers.{Gives, GivesSpelled};
-ghost use Rattle.sc_head_text.specs.Kept.{IsCSeq};
+ghost use Rattle.sc_value.specs.SequenceValues.{IsCSeq};
 
 use crate::Unread;
 use crate::blanks::{split_word, trim};
 use sc_ascii::read_u64;
-use sc_value::{CSeq, Text, is_token};
+use sc_value::{CSeq, Token, is_token};
 use std::alloc::Global;
 
 /// The number and the method of a CSeq: a number from 0 to 2,147,483,647, leading zeros allowed,
@@ -35,7 +35,7 @@ fn read_trimmed(alloc: Global, text: &[u8]) -> Result<CSeq, Unread>
     }
     match read_number(digits) {
         Some(number) => {
-            let method = Text::from_slice(alloc, method)?;
+            let method = Token::from_slice(alloc, method)?;
             Ok(CSeq { number, method })
         }
         None => Err(Unread::Fault),

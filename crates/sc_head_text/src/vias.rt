@@ -1,6 +1,6 @@
 //! Vias (RFC 3261 section 20.42).
 
-ghost use Rattle.std.specs.Prelude.{◌≡◌, IfOk};
+ghost use Rattle.std.specs.Prelude.{◌≡◌, IfOk, true};
 ghost use Rattle.std.specs.List.{All};
 ghost use Rattle.std.specs.Option.{option_copied};
 ghost use Rattle.std.specs.Result.{result_ok};
@@ -8,7 +8,10 @@ ghost use Rattle.sc_syntax.specs.UriParts.{sent_at};
 ghost use Rattle.sc_syntax.specs.SpelledVias.{AreViasSpelled};
 ghost use Rattle.sc_syntax.specs.Vias.{behind_slash, behind_version, hop_in, via_of, vias_of, via_with};
 ghost use Rattle.sc_head_text.specs.Answers.{Gives, GivesAs, GivesSpelled};
-ghost use Rattle.sc_head_text.specs.Kept.{IsVia};
+ghost use Rattle.sc_tokens.specs.Hosts.{is_host};
+ghost use Rattle.sc_tokens.specs.Tokens.{is_one_line, is_token};
+ghost use Rattle.sc_value.specs.ParamRules.{AreHeaderParams};
+ghost use Rattle.sc_value.specs.ViaValues.{IsVia};
 
 use crate::Unread;
 use crate::blanks::{split_word, trim};
@@ -21,10 +24,12 @@ use std::alloc::Global;
 
 /// The Vias of a value, commas between: `SIP/2.0/transport host:port;params`, in their order (RFC
 /// 3261 section 20.42). Blanks may stand round commas, slashes and semicolons, and one at least
-/// stands before the host; none stands round `=` or the port's colon. `Fault` exactly where an item is
-/// outside the grammar; `NoMemory` says nothing of the value.
+/// stands before the host; none stands round `=` or the port's colon. The value is of one line, so
+/// nothing of a Via ends its line. `Fault` exactly where an item is outside the grammar; `NoMemory`
+/// says nothing of the value.
 #[tactic(auto, unfolding(sc_syntax::specs::Vias::vias_of, crate::specs::Parts::parts_behind))]
 pub fn read_vias(alloc: Global, b: &[u8]) -> Result<List<Via>, Unread>
+    requires { is_one_line b.now ≡ true }
     ensures exact { Gives result (vias_of b.now) }
     ensures spelled { GivesSpelled result (λ vias. AreViasSpelled b.now vias) }
     ensures kept { IfOk result (λ vias. All IsVia vias) }
@@ -47,6 +52,7 @@ impl Readable for Via {
 // The first part, with these parameters.
 #[tactic(auto, unfolding(sc_syntax::specs::Vias::via_with))]
 fn read_via_with(alloc: Global, text: &[u8], params: List<Param>) -> Result<Via, Unread>
+    requires { AreHeaderParams params }
     ensures { Gives result (via_with text.now params) }
 {
     match behind_version(text) {
@@ -78,6 +84,7 @@ fn behind_slash<'a>(word: &[u8], text: &'a [u8]) -> Option<&'a [u8]>
 // Transport, host and port, with these parameters.
 #[tactic(auto, unfolding(sc_syntax::specs::Vias::hop_in))]
 fn read_hop(alloc: Global, text: &[u8], params: List<Param>) -> Result<Via, Unread>
+    requires { AreHeaderParams params }
     ensures { Gives result (hop_in text.now params) }
 {
     let (transport, sent) = split_word(text);
@@ -109,6 +116,9 @@ fn build(
     port: Option<u16>,
     params: List<Param>,
 ) -> Result<Via, NoMemory>
+    requires transport { is_token transport.now ≡ true }
+    requires host { is_host host.now ≡ true }
+    requires params { AreHeaderParams params }
     ensures { IfOk result (λ via. via ≡ record { transport = transport.now; host = host.now; port = port; params = params }) }
 {
     let transport = Text::from_slice(alloc, transport)?;

@@ -1,10 +1,10 @@
 -- The items between commas, from the front on.
 use Rattle.std.proofs.Common.{◌≡◌, true, false, ◌||◌, Option, None, Some, refl, sym, ◌∙◌}
 use Rattle.std.specs.List.{list_any}
-use Rattle.sc_value.specs.Params.{same_name}
+use Rattle.sc_tokens.specs.Names.{same_name}
 use Rattle.sc_grammar.specs.Written.{Bytes}
-use Rattle.sc_syntax.specs.Blanks.{trimmed}
-use Rattle.sc_syntax.specs.Cuts.{before, after}
+use Rattle.sc_tokens.specs.Blanks.{trimmed}
+use Rattle.sc_tokens.specs.Cuts.{before, after}
 use Rattle.sc_syntax.proofs.CutLaws.{pieces_more, pieces_last}
 use Rattle.sc_hosts.specs.HelperParts.{items_of}
 

@@ -3,12 +3,4 @@ pub mod Firsts
 pub mod FoundLaws
 pub mod Items
 pub mod LedLaws
-pub mod OfferLaws
-pub mod RackLaws
-pub mod Refreshers
-pub mod SubLaws
-pub mod SubLed
-pub mod TimedLaws
-pub mod TimedLed
 pub mod Triples
-pub mod WordLaws

@@ -2,7 +2,7 @@
 use Rattle.std.proofs.Common.{◌≡◌, false, Option, None, List, [], ◌∷◌, refl, ap, sym, ◌∙◌}
 use Rattle.std.proofs.lemmas.Bool.{false≢true}
 use Rattle.sc_grammar.specs.Written.{Bytes}
-use Rattle.sc_syntax.specs.Cuts.{pieces}
+use Rattle.sc_tokens.specs.Cuts.{pieces}
 use Rattle.sc_hosts.specs.SessionTimers.{Timed, timed_in, timed_of}
 use Rattle.sc_hosts.specs.Subscriptions.{subscription_in}
 use Rattle.sc_helpers.specs.Parts.{is_three}

@@ -2,10 +2,10 @@
 use Rattle.std.specs.Prelude.{ℕ, List, [], ◌∷◌, Bool, true, false, ◌&&◌, ◌||◌, Option, None, Some, drop}
 use Rattle.std.specs.List.{list_any, prefix_len}
 use Rattle.sc_value.specs.declared.parts.Field.{Field}
-use Rattle.sc_value.specs.Params.{same_name}
-use Rattle.sc_value.specs.Tokens.{is_blank}
+use Rattle.sc_tokens.specs.Names.{same_name}
+use Rattle.sc_tokens.specs.Tokens.{is_blank}
 use Rattle.sc_grammar.specs.Written.{Bytes}
-use Rattle.sc_syntax.specs.Cuts.{pieces}
+use Rattle.sc_tokens.specs.Cuts.{pieces}
 use Rattle.sc_hosts.specs.HelperParts.{items_of, require_word, supported_word}
 
 -- the pieces of what stands behind a sign

@@ -3,7 +3,7 @@
 ghost use Rattle.std.specs.Prelude.{◌≡◌, position, codes};
 ghost use Rattle.std.specs.List.{find, list_any};
 ghost use Rattle.std.specs.Option.{option_copied};
-ghost use Rattle.sc_value.specs.Params.{same_name};
+ghost use Rattle.sc_tokens.specs.Names.{same_name};
 ghost use Rattle.sc_hosts.specs.HelperParts.{field_of, items_of, lists_option};
 ghost use Rattle.sc_helpers.specs.Parts.{is_called, is_listing};
 

@@ -142,14 +142,3 @@ pub fn send_in(
         CallAnswer::Refused(_) => Ok(false),
     }
 }
-
-/// The SipSession of a number. No SipSession has a number that doesn't fit 32 bits, and no call can name
-/// one: there it is an error, after which the turn ends without effect.
-pub fn sess_of(number: u64) -> Result<SessId, NoMemory>
-    ensures { IfOk result (λ sess. sess ≡ record { 0 = number }) }
-{
-    match u32::try_from(number) {
-        Ok(sess) => Ok(SessId(sess)),
-        Err(_) => Err(NoMemory),
-    }
-}

@@ -1,40 +1,19 @@
-//! Applications that every container comes with: reliable provisional responses (RFC 3262), session
-//! timers (RFC 4028) and event notification (RFC 6665), each a servlet that keeps its charter (JSR 289
-//! sections 3 and 9).
+//! What the servlets share that every container comes with (reliable provisional responses, session
+//! timers, event notification): parts of texts, and scripts that go on where a call was accepted.
 #![tactic(auto)]
 
-mod accepting;
 mod answering;
-mod changing;
-mod ending;
-mod expiries;
 mod fields;
 mod going;
-mod granting;
-mod intervals;
-mod late;
 mod making;
-mod notifies;
-mod notifying;
 mod numbers;
-mod offer_texts;
-mod offering;
-mod offers;
-mod pending;
 mod pieces;
-mod pracks;
-mod refreshes;
-mod refreshing;
-mod rules;
 mod running;
-mod standing;
-mod stopping;
-mod sub_texts;
-mod subscribing;
-mod timed_texts;
-mod timing;
-mod words;
 
-pub use notifies::Notifies;
-pub use offers::Offers;
-pub use refreshes::Refreshes;
+pub use answering::{answer_first, answer_only, reply_first};
+pub use fields::{field_of, lists_option};
+pub use going::{cancel_some, remove_if, send_in, set_attribute};
+pub use making::{field, number_field, numbered, one, two};
+pub use numbers::{leading_number, strict_number};
+pub use pieces::{cut, number_after, session_after, three_pieces};
+pub use running::{has_attribute, timer_named};

@@ -3,7 +3,7 @@
 ghost use Rattle.std.specs.Prelude.{◌≡◌, ◌≤◌, decimal, length};
 ghost use Rattle.std.specs.Char.{is_ascii_digit};
 ghost use Rattle.std.specs.List.{prefix_len, take_while};
-ghost use Rattle.sc_value.specs.Params.{same_bytes};
+ghost use Rattle.sc_tokens.specs.Names.{same_bytes};
 ghost use Rattle.sc_hosts.specs.HelperParts.{strict_number};
 ghost use Rattle.sc_hosts.specs.SessionTimers.{leading_number};
 

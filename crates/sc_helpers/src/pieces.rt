@@ -2,12 +2,13 @@
 
 ghost use Rattle.std.specs.Prelude.{◌≡◌, [], ◌∷◌, ◌+◌, false, IfSome, IfNone, length, option_and_then};
 ghost use Rattle.std.specs.Option.{option_copied};
-ghost use Rattle.sc_syntax.specs.Cuts.{before, after, pieces};
-ghost use Rattle.sc_hosts.specs.HelperParts.{strict_number};
+ghost use Rattle.sc_tokens.specs.Cuts.{before, after, pieces};
+ghost use Rattle.sc_hosts.specs.HelperParts.{session_number, strict_number};
 ghost use Rattle.sc_hosts.specs.Offers.{after_word};
 ghost use Rattle.sc_helpers.specs.Parts.{is_three, more_pieces};
 
 use crate::numbers::strict_number;
+use sc_value::SessId;
 
 /// The first piece of a text between such signs, and what stands behind it, where there is more.
 #[tactic(auto, using(crate::proofs::Cuts::cut_at))]
@@ -39,6 +40,28 @@ pub fn number_after(text: &[u8], word: &[u8]) -> Option<u64>
     match after_word(text, word) {
         Some(rest) => strict_number(rest),
         None => None,
+    }
+}
+
+/// The SipSession whose number of 32 bits stands behind this word at the front and ends the text.
+#[tactic(auto, unfolding(sc_hosts::specs::HelperParts::session_number))]
+pub fn session_after(text: &[u8], word: &[u8]) -> Option<SessId>
+    ensures { result ≡ option_and_then session_number (after_word word.now text.now) }
+{
+    match after_word(text, word) {
+        Some(rest) => session_number(rest),
+        None => None,
+    }
+}
+
+#[tactic(auto, unfolding(sc_hosts::specs::HelperParts::session_number))]
+fn session_number(text: &[u8]) -> Option<SessId>
+    ensures { result ≡ session_number text.now }
+{
+    let number = strict_number(text)?;
+    match u32::try_from(number) {
+        Ok(number) => Some(SessId(number)),
+        Err(_) => None,
     }
 }
 

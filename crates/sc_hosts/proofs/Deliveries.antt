@@ -9,7 +9,7 @@ use Rattle.sc_value.specs.declared.message.Message.{Message}
 use Rattle.sc_value.specs.declared.message.Message.TheVariants as messages
 use Rattle.sc_value.specs.declared.message.Request.{Request}
 use Rattle.sc_value.specs.declared.message.Response.{Response}
-use Rattle.sc_value.specs.Params.{same_bytes}
+use Rattle.sc_tokens.specs.Names.{same_bytes}
 use Rattle.sc_terms.specs.declared.settings.Config.{Config}
 use Rattle.sc_state.specs.declared.host.Client.{Client}
 use Rattle.sc_state.specs.declared.host.Host.{Host}
@@ -37,7 +37,9 @@ use Rattle.sc_hosts.proofs.SettleLaws.{Falls, settle-ends, settle-next, settle-i
 use Rattle.sc_hosts.specs.Runs.{delivered}
 use Rattle.sc_hosts.specs.Nets.{put, put_reply, placed, host_at, is_busy, deliver_at, deliver_entry, deliver_first, weight, rank, rank_of_request, rank_of_response}
 use Rattle.sc_hosts.specs.Sessions.{Form}
-use Rattle.sc_hosts.specs.Taking.{quiet, queue, replying, refuse, cancelled, repeated, again_if, last_again, with_trying, queue_later, later_by, take_later, begun, take_initial, take_begun, take_new, take_unclaimed, take_claimed, take_request, told, told_by, with_reply, response_for, response_to as answer_to, take_response, takes, Cancels, Acks, Repeats, Unclaimed, claim_by, claim_of}
+use Rattle.sc_hosts.specs.Inboxes.{quiet, queue, replying}
+use Rattle.sc_hosts.specs.TakingResponses.{told, told_by, with_reply, response_for, response_to as answer_to, take_response}
+use Rattle.sc_hosts.specs.Taking.{refuse, cancelled, repeated, again_if, last_again, with_trying, queue_later, later_by, take_later, begun, take_initial, take_begun, take_new, take_unclaimed, take_claimed, take_request, takes, Cancels, Acks, Repeats, Unclaimed, claim_by, claim_of}
 use Rattle.sc_hosts.specs.Transacting.{method_of, takes_from, is_over, state_of_client, is_answered_by, client_for, out_of_client, is_invite_client}
 use Rattle.sc_hosts.specs.Words.{ack, cancel}
 

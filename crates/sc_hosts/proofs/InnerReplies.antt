@@ -6,7 +6,7 @@ use Rattle.sc_value.specs.declared.message.Message.{Message}
 use Rattle.sc_value.specs.declared.message.Message.TheVariants as messages
 use Rattle.sc_value.specs.declared.message.Request.{Request}
 use Rattle.sc_value.specs.declared.message.Response.{Response}
-use Rattle.sc_value.specs.Params.{same_bytes}
+use Rattle.sc_tokens.specs.Names.{same_bytes}
 use Rattle.sc_terms.specs.declared.settings.Config.{Config}
 use Rattle.sc_parts.specs.declared.setup.Setup.{Setup}
 use Rattle.sc_parts.specs.declared.transactions.ClientItem.TheVariants as client_items
@@ -27,7 +27,9 @@ use Rattle.sc_grammar.specs.Written.{Bytes}
 use Rattle.sc_hosts.proofs.Deliveries.{found-passes, both}
 use Rattle.sc_hosts.specs.Nets.{put, put_reply, placed, host_at, deliver_at, deliver_entry, deliver_first}
 use Rattle.sc_hosts.specs.Sessions.{Form}
-use Rattle.sc_hosts.specs.Taking.{quiet, queue, replying, refuse, cancelled, repeated, again_if, last_again, with_trying, queue_later, later_by, take_later, begun, take_initial, take_begun, take_new, take_unclaimed, take_claimed, take_request, told, told_by, with_reply, response_for, response_to as answer_to, take_response, takes, Cancels, Acks, Repeats, Unclaimed, claim_by, claim_of}
+use Rattle.sc_hosts.specs.Inboxes.{quiet, queue, replying}
+use Rattle.sc_hosts.specs.TakingResponses.{told, told_by, with_reply, response_for, response_to as answer_to, take_response}
+use Rattle.sc_hosts.specs.Taking.{refuse, cancelled, repeated, again_if, last_again, with_trying, queue_later, later_by, take_later, begun, take_initial, take_begun, take_new, take_unclaimed, take_claimed, take_request, takes, Cancels, Acks, Repeats, Unclaimed, claim_by, claim_of}
 use Rattle.sc_hosts.specs.Transacting.{method_of, takes_from, is_over, state_of_client, state_of_server, same_top, is_kin, is_repeated_by, is_answered_by, client_for, out_of_client}
 use Rattle.sc_hosts.specs.Words.{ack, cancel}
 

@@ -4,7 +4,7 @@ use Rattle.std.specs.List.{list_all, flat_map}
 use Rattle.sc_value.specs.declared.ids.Place.{Place}
 use Rattle.sc_value.specs.declared.ids.Region.TheVariants.{Neutral}
 use Rattle.sc_value.specs.declared.message.Message.{Message}
-use Rattle.sc_value.specs.Params.{same_bytes}
+use Rattle.sc_tokens.specs.Names.{same_bytes}
 use Rattle.sc_terms.specs.declared.charters.Charter.TheVariants as charters
 use Rattle.sc_terms.specs.declared.charters.ListenerCharter.TheVariants as listeners
 use Rattle.sc_terms.specs.declared.settings.AppEntry.{AppEntry}

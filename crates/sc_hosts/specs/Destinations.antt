@@ -9,7 +9,7 @@ use Rattle.sc_value.specs.declared.ids.Place.TheVariants.{To}
 use Rattle.sc_value.specs.declared.parts.Uri.{Uri}
 use Rattle.sc_value.specs.declared.parts.Uri.TheVariants.{Sip, Other}
 use Rattle.sc_value.specs.declared.message.Request.{Request}
-use Rattle.sc_value.specs.Params.{same_name}
+use Rattle.sc_tokens.specs.Names.{same_name}
 use Rattle.sc_terms.specs.declared.settings.Config.{Config}
 use Rattle.sc_grammar.specs.Written.{Bytes}
 

@@ -1,15 +1,14 @@
 -- What an accepted call leaves of the view and the drafts of its turn.
-use Rattle.std.specs.Prelude.{ℕ, ◌+◌, ◌-◌, ◌==◌, List, [], ◌∷◌, ◌++◌, Bool, true, false, not, ◌||◌, ◌&&◌, Option, None, Some, is_none, if◌then◌else◌, length, map, filter}
+use Rattle.std.specs.Prelude.{ℕ, ◌+◌, ◌-◌, ◌==◌, List, [], ◌∷◌, ◌++◌, Bool, true, false, Option, None, Some, if◌then◌else◌, length}
 use Rattle.std.specs.List.{fold}
 use Rattle.sc_value.specs.declared.ids.SessId.{SessId}
 use Rattle.sc_value.specs.declared.parts.Field.{Field}
 use Rattle.sc_value.specs.Lists.{change_first, remove_first}
-use Rattle.sc_value.specs.Params.{same_bytes}
+use Rattle.sc_tokens.specs.Names.{same_bytes}
 use Rattle.sc_terms.specs.declared.views.View.{View}
 use Rattle.sc_terms.specs.declared.views.RequestView.{RequestView}
 use Rattle.sc_terms.specs.declared.views.SessionView.{SessionView}
 use Rattle.sc_terms.specs.declared.views.Period.{Period}
-use Rattle.sc_terms.specs.declared.views.State.TheVariants.{Initial}
 use Rattle.sc_terms.specs.declared.views.Role.TheVariants as roles
 use Rattle.sc_terms.specs.declared.calls.Ask.{Ask}
 use Rattle.sc_terms.specs.declared.calls.Call.{Call}
@@ -24,85 +23,12 @@ use Rattle.sc_terms.specs.declared.inside.Inside.{Inside}
 use Rattle.sc_state.specs.declared.working.Draft.{Draft}
 use Rattle.sc_state.specs.declared.working.Play.{Play}
 use Rattle.sc_grammar.specs.Written.{Bytes}
-use Rattle.sc_model.specs.Names.{tag_text, call_id_text}
-use Rattle.sc_model.specs.Records.{ip_text}
-use Rattle.sc_model.specs.SessionStates.{is_final}
 use Rattle.sc_model.specs.Settings.{moment_after}
-use Rattle.sc_hosts.specs.Looking.{same_session, is_timer, request_in, is_gone_in, is_proxy, change_request, change_session, linked_to, unlinked, removed}
+use Rattle.sc_hosts.specs.Looking.{same_session, is_timer, request_in, is_proxy, change_request, change_session, unlinked, removed}
 use Rattle.sc_hosts.specs.RefusalParts.{draft_in}
 use Rattle.sc_hosts.specs.Refusals.{awaits_ack, begun_by, is_set, refusal}
-use Rattle.sc_hosts.specs.States.{after_response, ends_subscription}
-
--- ## Which requests the view shows
-
--- the SipSessions of a list that are there
-unfoldable pub there : View → List SessId → List SessId
-there view sessions = filter (λ sess. not (is_gone_in view sess)) sessions
-
-unfoldable pub with_there : View → RequestView → RequestView
-with_there view request = record request { unacked = there view request.unacked }
-
--- an initial request stands as long as its SipSession, or one that waits for an ACK, is there; every
--- other until its final response, and a sent INVITE until each 2xx has its ACK
-unfoldable pub stands : View → RequestView → Bool
-stands view request =
-    if request.initial then not (is_gone_in view request.sess) || not (length request.unacked == 0)
-    else is_none request.answered || not (length request.unacked == 0)
-
--- the view with the requests that it shows
-unfoldable pub tidy : View → View
-tidy view = record view { requests = filter (stands view) (map (with_there view) view.requests) }
-
--- ## Answers
-
--- the first final code stays
-unfoldable pub with_answer : ℕ → RequestView → RequestView
-with_answer code request = if is_final code && is_none request.answered then record request { answered = Some code } else request
-
-unfoldable pub with_response : RequestView → Bool → ℕ → SessionView → SessionView
-with_response request tagged code session = record session { state = after_response session.role request tagged session.state code }
-
--- the view after a response of this code to a request, sent, handled or forwarded in this SipSession
-unfoldable pub answered_in : SessId → RequestView → Bool → ℕ → View → View
-answered_in sess request tagged code view =
-    change_session sess (with_response request tagged code) (change_request request.id (with_answer code) view)
-
--- after an answer that the application or the container gave
-unfoldable pub answered : Option RequestView → ℕ → View → View
-answered None code view = view
-answered (Some request) code view = tidy (answered_in request.sess request true code view)
-
--- ## SipSessions that calls make
-
--- the names that a request of one's own draws, in this order: its Call-ID and its From tag
-unfoldable pub new_call_id : View → Bytes
-new_call_id view = call_id_text view.salt view.epoch (ip_text view.ip) view.app (view.counter + 1)
-
-unfoldable pub new_tag : View → Bytes
-new_tag view = tag_text view.salt view.epoch view.app (view.counter + 2)
-
-abbrev pub new_session : View → SessId
-new_session view = record { 0 = length view.sessions + 1 }
-
-unfoldable pub own_session : View → SessionView
-own_session view = record {
-  id = new_session view;
-  state = Initial;
-  role = roles.Uac;
-  call_id = new_call_id view;
-  own_tag = new_tag view;
-  peer_tag = None;
-  linked = None;
-  ready_flag = true;
-  gone = false;
-}
-
-unfoldable pub with_own_session : View → View
-with_own_session view = record view { sessions = view.sessions ++ own_session view ∷ []; counter = view.counter + 2 }
-
--- two SipSessions linked
-unfoldable pub linked : SessId → SessId → View → View
-linked a b view = change_session a (linked_to (Some b)) (change_session b (linked_to (Some a)) view)
+use Rattle.sc_hosts.specs.States.{ends_subscription}
+use Rattle.sc_hosts.specs.ViewChanges.{tidy, answered, new_session, with_own_session, linked}
 
 -- ## Drafts
 

@@ -1,19 +1,18 @@
 -- A turn ends: what the container does after its calls, in this order: drafts that were left, the answer
 -- to a fault, proxies, a later request that is passed on, and the end of what is ready (JSR 289 sections
 -- 6.1.2 and 6.2.4, RFC 3261 section 16).
-use Rattle.std.specs.Prelude.{ℕ, ◌+◌, ◌==◌, List, [], ◌∷◌, ◌++◌, Bool, true, false, not, ◌&&◌, ◌||◌, Option, is_some, is_none, if◌then◌else◌, length, filter}
+use Rattle.std.specs.Prelude.{ℕ, ◌==◌, List, [], ◌∷◌, ◌++◌, Bool, true, false, not, ◌&&◌, ◌||◌, Option, is_some, is_none, if◌then◌else◌, length, filter}
 use Rattle.std.specs.List.{list_any, list_all, flat_map, fold}
 use Rattle.std.specs.Option.{option_map_or}
 use Rattle.sc_value.specs.declared.ids.ReqId.{ReqId}
 use Rattle.sc_value.specs.declared.ids.SessId.{SessId}
-use Rattle.sc_value.specs.Params.{same_bytes}
+use Rattle.sc_tokens.specs.Names.{same_bytes}
 use Rattle.sc_terms.specs.declared.settings.Config.{Config}
 use Rattle.sc_terms.specs.declared.views.View.{View}
 use Rattle.sc_terms.specs.declared.views.RequestView.{RequestView}
 use Rattle.sc_terms.specs.declared.views.SessionView.{SessionView}
 use Rattle.sc_terms.specs.declared.calls.CallRecord.{CallRecord}
 use Rattle.sc_terms.specs.declared.calls.End.{End}
-use Rattle.sc_terms.specs.declared.calls.End.TheVariants as ends
 use Rattle.sc_state.specs.declared.orders.Order.{Order}
 use Rattle.sc_state.specs.declared.orders.Order.TheVariants as orders
 use Rattle.sc_state.specs.declared.orders.Outcome.{Outcome}
@@ -30,14 +29,14 @@ use Rattle.sc_state.specs.declared.working.Working.{Working}
 use Rattle.sc_grammar.specs.Written.{Bytes}
 use Rattle.sc_model.specs.SessionStates.{invite}
 use Rattle.sc_hosts.specs.Branches.{records_route}
-use Rattle.sc_hosts.specs.Effects.{tidy}
+use Rattle.sc_hosts.specs.ViewChanges.{tidy}
 use Rattle.sc_hosts.specs.Legs.{leg_of, FIRST_SESSION}
 use Rattle.sc_hosts.specs.Looking.{same_session, request_in, session_in, is_gone, is_confirmed, is_initial_state, is_terminated, is_proxy, is_uac, removed}
 use Rattle.sc_hosts.specs.Messages.{own_response}
 use Rattle.sc_hosts.specs.Preparing.{own_tag_of, proxy_of, has_expired, prepared}
 use Rattle.sc_hosts.specs.Working.{goodbyes, worked_all}
 use Rattle.sc_hosts.specs.Words.{ack, does_not_exist}
-use Rattle.sc_hosts.specs.Acting.{drawn, drafts_ended, faulted, all_act, passes_later}
+use Rattle.sc_hosts.specs.Acting.{drafts_ended, faulted, all_act, passes_later}
 
 -- ## Readiness (JSR 289 sections 6.1.2.2 and 6.2.4)
 

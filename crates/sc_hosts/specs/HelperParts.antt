@@ -1,19 +1,19 @@
 -- The charters of servlets for reliable provisional responses (RFC 3262), session timers (RFC 4028) and
 -- event notification (RFC 6665), as the calls that they make. What they remember stands in attributes.
-use Rattle.std.specs.Prelude.{ℕ, ◌-◌, ◌==◌, List, [], Bool, not, ◌&&◌, ◌||◌, Option, None, Some, is_some, option_map, option_and_then, if◌then◌else◌, codes, decimal, length, map, slice_get, filter}
+use Rattle.std.specs.Prelude.{ℕ, ◌==◌, List, [], Bool, not, ◌&&◌, ◌||◌, Option, None, Some, is_some, option_map, option_and_then, if◌then◌else◌, codes, decimal, length, map, nat_lt, slice_get, filter}
 use Rattle.std.specs.List.{find, list_any}
 use Rattle.sc_value.specs.declared.ids.ReqId.{ReqId}
 use Rattle.sc_value.specs.declared.ids.SessId.{SessId}
 use Rattle.sc_value.specs.declared.parts.Field.{Field}
 use Rattle.sc_value.specs.declared.message.Request.{Request}
-use Rattle.sc_value.specs.Params.{same_bytes, same_name}
+use Rattle.sc_tokens.specs.Names.{same_bytes, same_name}
 use Rattle.sc_terms.specs.declared.views.View.{View}
 use Rattle.sc_terms.specs.declared.calls.Call.{Call}
 use Rattle.sc_terms.specs.declared.calls.Call.TheVariants as calls
 use Rattle.sc_grammar.specs.Written.{Bytes}
-use Rattle.sc_syntax.specs.Blanks.{trimmed}
-use Rattle.sc_syntax.specs.Cuts.{pieces}
-use Rattle.sc_syntax.specs.Numbers.{number_of}
+use Rattle.sc_tokens.specs.Blanks.{trimmed}
+use Rattle.sc_tokens.specs.Cuts.{pieces}
+use Rattle.sc_tokens.specs.Numbers.{number_of}
 use Rattle.sc_hosts.specs.Scripting.{Script, Done, Make, only, with_number, where_some, attribute, is_refused}
 use Rattle.sc_hosts.specs.Looking.{timer_in}
 
@@ -25,6 +25,10 @@ text_is a b = same_bytes a b
 -- a decimal without leading zero
 unfoldable pub strict_number : Bytes → Option ℕ
 strict_number text = option_and_then (λ n. if same_bytes (decimal n) text then Some n else None) (number_of text)
+
+-- the SipSession whose number of 32 bits the text is
+unfoldable pub session_number : Bytes → Option SessId
+session_number text = option_and_then (λ n. if nat_lt n 4294967296 then Some (record { 0 = n }) else None) (strict_number text)
 
 -- the value of the first header of this name
 unfoldable pub field_of : Bytes → Request → Option Bytes

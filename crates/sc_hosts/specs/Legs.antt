@@ -1,6 +1,6 @@
 -- What an application session knows beside its view: how it begins, in which SipSession a message is
 -- handled, and what a message makes of the SipSession (RFC 3261 sections 12 and 13, JSR 289 section 6).
-use Rattle.std.specs.Prelude.{ℕ, ◌+◌, ◌-◌, List, [], ◌∷◌, ◌++◌, Bool, true, false, not, ◌&&◌, ◌||◌, Option, None, Some, is_some, is_none, option_map, option_and_then, unwrap_or, nat_lt, max, if◌then◌else◌, length, map, filter, slice_get}
+use Rattle.std.specs.Prelude.{ℕ, ◌-◌, List, [], ◌∷◌, ◌++◌, Bool, true, false, not, ◌&&◌, ◌||◌, Option, None, Some, is_some, option_map, option_and_then, unwrap_or, nat_lt, max, if◌then◌else◌, slice_get}
 use Rattle.std.specs.List.{find, list_any}
 use Rattle.std.specs.Option.{option_map_or}
 use Rattle.sc_value.specs.declared.ids.AppId.{AppId}
@@ -10,11 +10,11 @@ use Rattle.sc_value.specs.declared.message.Message.TheVariants as messages
 use Rattle.sc_value.specs.declared.message.Request.{Request}
 use Rattle.sc_value.specs.declared.message.Response.{Response}
 use Rattle.sc_value.specs.Lists.{change_first, change_nth}
-use Rattle.sc_value.specs.Params.{same_bytes}
+use Rattle.sc_tokens.specs.Names.{same_bytes}
 use Rattle.sc_terms.specs.declared.settings.Config.{Config}
 use Rattle.sc_terms.specs.declared.views.View.{View}
 use Rattle.sc_terms.specs.declared.views.SessionView.{SessionView}
-use Rattle.sc_terms.specs.declared.views.State.TheVariants.{Initial, Terminated}
+use Rattle.sc_terms.specs.declared.views.State.TheVariants.{Initial}
 use Rattle.sc_terms.specs.declared.views.Role.TheVariants as roles
 use Rattle.sc_state.specs.declared.net.Note.{Note}
 use Rattle.sc_state.specs.declared.session.Got.{Got}
@@ -27,9 +27,8 @@ use Rattle.sc_model.specs.Names.{tag_text}
 use Rattle.sc_model.specs.SessionStates.{invite}
 use Rattle.sc_model.specs.Settings.{app_of, params_in, expiry_in}
 use Rattle.sc_model.specs.Transactions.{is_success}
-use Rattle.sc_hosts.specs.Looking.{same_request, same_session, is_early, is_open_state, is_proxy, is_uac, change_session, in_state, session_count}
+use Rattle.sc_hosts.specs.Looking.{is_open_state, is_proxy}
 use Rattle.sc_hosts.specs.Messages.{makes_dialog}
-use Rattle.sc_hosts.specs.RefusalParts.{MOST_SESSIONS}
 use Rattle.sc_hosts.specs.Words.{ack}
 
 -- ## Legs
@@ -192,108 +191,3 @@ unfoldable pub with_answer : Request → Response → Leg → Leg
 with_answer request response leg =
     if is_some leg.dialog then in_dialog (By_peer (messages.Response response)) leg
     else (if makes_dialog_of request response then record leg { dialog = Some (dialog_of (Calling request response) []) } else leg)
-
--- ## The SipSession of a response to an initial INVITE: derived SipSessions (JSR 289 section 6.2.3)
-
--- the SipSessions of the request
-unfoldable pub is_of : Known → ReqId → SessionView → Bool
-is_of known req session = option_map_or (λ leg. option_map_or (same_request req) leg.first false) (leg_of known session.id) false
-
-unfoldable pub sessions_of : Session → ReqId → List SessionView
-sessions_of session req = filter (is_of session.known req) session.view.sessions
-
--- it has this tag; one that was overtaken has lost it
-unfoldable pub claims : Known → Bytes → SessionView → Bool
-claims known tag session = same_tag session.peer_tag (Some tag) && not (option_map_or (λ leg. leg.overtaken) (leg_of known session.id) false)
-
--- where a response with this tag is handled, given the original
-pub data Handling : Type 0 where
-  In : SessId → Handling
-  -- in the original, which takes the tag
-  Takes : Bytes → Handling
-  -- in a SipSession of its own
-  Derives : Bytes → Handling
-
-unfoldable pub handling_of : Session → SessionView → Bytes → Option SessionView → Handling
-handling_of session original tag (Some claimer) = In claimer.id
-handling_of session original tag None =
-    if is_none original.peer_tag then Takes tag
-    else (if nat_lt (session_count session.view) MOST_SESSIONS && not (option_map_or (λ leg. leg.invalidated) (leg_of session.known original.id) false)
-    then Derives tag else In original.id)
-
-unfoldable pub handling_by : Session → ReqId → SessionView → Option Bytes → Handling
-handling_by session req original None = In original.id
-handling_by session req original (Some tag) = handling_of session original tag (find (claims session.known tag) (sessions_of session req))
-
-unfoldable pub takes_tag : SessionView → Option Bytes → Handling
-takes_tag original None = In original.id
-takes_tag original (Some tag) = if is_none original.peer_tag then Takes tag else In original.id
-
--- a 2xx to SUBSCRIBE that its UAC gets
-unfoldable pub is_subscribed : SessionView → Request → Response → Bool
-is_subscribed original request response = same_bytes request.method subscribe && is_success response.code && is_uac original.role
-
--- only a 101 to 299 to the initial INVITE has a SipSession by its tag; the 2xx to a SUBSCRIBE gives its
--- SipSession the tag
-unfoldable pub handling : Session → ReqId → SessionView → Request → Response → Handling
-handling session req original request response =
-    if same_bytes request.method invite && makes_dialog response.code then handling_by session req original (tag_of response.head.to)
-    else (if is_subscribed original request response then takes_tag original (tag_of response.head.to) else In original.id)
-
-unfoldable pub derived_session : View → SessionView → Bytes → SessionView
-derived_session view original tag = record original {
-  id = record { 0 = length view.sessions + 1 };
-  state = Initial;
-  peer_tag = Some tag;
-  linked = None;
-  ready_flag = true;
-  gone = false;
-}
-
--- a derived SipSession has the messages of the request that its original has
-unfoldable pub derived_leg : Option Leg → ReqId → Leg
-derived_leg None req = new_leg (Some req)
-derived_leg (Some leg) req = record (new_leg (Some req)) { caller = leg.caller; got = filter (λ g. same_tag g.tag leg.caller) leg.got }
-
--- the SipSession in which the response is handled, and the session with it
-unfoldable pub handled_in : Session → ReqId → SessionView → Handling → SessId × Session
-handled_in session req original (In sess) = (sess, session)
-handled_in session req original (Takes tag) =
-    (original.id, record session { view = change_session original.id (λ s. record s { peer_tag = Some tag }) session.view })
-handled_in session req original (Derives tag) = (
-  record { 0 = length session.view.sessions + 1 },
-  record session {
-    view = record session.view { sessions = session.view.sessions ++ derived_session session.view original tag ∷ [] };
-    known = record session.known { legs = session.known.legs ++ derived_leg (leg_of session.known original.id) req ∷ [] };
-  },
-)
-
--- ## The first 2xx to an INVITE ends its other early SipSessions; this is the project's profile
-
-unfoldable pub is_overtaken : Known → ReqId → SessId → SessionView → Bool
-is_overtaken known req sess session = is_of known req session && is_early session.state && not session.gone && not (same_session session.id sess)
-
-unfoldable pub overtaken_session : Known → ReqId → SessId → SessionView → SessionView
-overtaken_session known req sess session = if is_overtaken known req sess session then in_state Terminated session else session
-
-unfoldable pub overtaken_legs : Known → ReqId → SessId → List SessionView → List Leg → List Leg
-overtaken_legs known req sess [] legs = legs
-overtaken_legs known req sess (session ∷ sessions) [] = []
-overtaken_legs known req sess (session ∷ sessions) (leg ∷ legs) =
-    (if is_overtaken known req sess session then record leg { overtaken = true } else leg) ∷ overtaken_legs known req sess sessions legs
-
-unfoldable pub overtaken : ReqId → SessId → Session → Session
-overtaken req sess session = record session {
-  view = record session.view { sessions = map (overtaken_session session.known req sess) session.view.sessions };
-  known = record session.known { legs = overtaken_legs session.known req sess session.view.sessions session.known.legs };
-}
-
--- a failure of a UAC's INVITE ends its derived SipSessions
-unfoldable pub failed_session : Known → ReqId → SessId → SessionView → SessionView
-failed_session known req original session =
-    if is_of known req session && not (same_session session.id original) then in_state Terminated session else session
-
-unfoldable pub without_derived : ReqId → SessId → Session → Session
-without_derived req original session = record session {
-  view = record session.view { sessions = map (failed_session session.known req original) session.view.sessions };
-}

@@ -3,6 +3,7 @@ pub mod Words
 pub mod States
 pub mod RefusalParts
 pub mod Refusals
+pub mod ViewChanges
 pub mod Effects
 pub mod Scripting
 pub mod Charters
@@ -13,15 +14,19 @@ pub mod SessionTimers
 pub mod Subscriptions
 pub mod Messages
 pub mod Legs
+pub mod DerivedSessions
 pub mod Branches
 pub mod PreparingRequests
 pub mod PreparingResponses
 pub mod Preparing
+pub mod Giving
 pub mod Working
 pub mod Acting
 pub mod Finishing
 pub mod Transacting
 pub mod Sessions
+pub mod Inboxes
+pub mod TakingResponses
 pub mod Taking
 pub mod Destinations
 pub mod Nets

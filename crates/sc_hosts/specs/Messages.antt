@@ -11,7 +11,8 @@ use Rattle.sc_value.specs.declared.parts.Uri.TheVariants.{Sip}
 use Rattle.sc_value.specs.declared.parts.Via.{Via}
 use Rattle.sc_value.specs.declared.message.Request.{Request}
 use Rattle.sc_value.specs.declared.message.Response.{Response}
-use Rattle.sc_value.specs.Params.{same_bytes, branch_name, tag_name, is_named}
+use Rattle.sc_tokens.specs.Names.{same_bytes}
+use Rattle.sc_value.specs.Params.{branch_name, tag_name, is_named}
 use Rattle.sc_terms.specs.declared.settings.Config.{Config}
 use Rattle.sc_terms.specs.declared.calls.Answer.{Answer}
 use Rattle.sc_terms.specs.declared.calls.Ask.{Ask}

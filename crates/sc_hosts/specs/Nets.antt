@@ -11,7 +11,7 @@ use Rattle.sc_value.specs.declared.message.Message.TheVariants as messages
 use Rattle.sc_value.specs.declared.message.Request.{Request}
 use Rattle.sc_value.specs.declared.message.Response.{Response}
 use Rattle.sc_value.specs.Lists.{change_first, change_nth}
-use Rattle.sc_value.specs.Params.{same_bytes}
+use Rattle.sc_tokens.specs.Names.{same_bytes}
 use Rattle.sc_terms.specs.declared.settings.Config.{Config}
 use Rattle.sc_parts.specs.declared.choice.Choice.{Choice}
 use Rattle.sc_parts.specs.declared.choice.Choice.TheVariants as choices
@@ -41,7 +41,9 @@ use Rattle.sc_model.specs.SessionStates.{is_final}
 use Rattle.sc_hosts.specs.Destinations.{destination, next_uri}
 use Rattle.sc_hosts.specs.Messages.{cancel_of, own_response, without_via}
 use Rattle.sc_hosts.specs.Sessions.{Form}
-use Rattle.sc_hosts.specs.Taking.{cancelling, queue, named_live, takes}
+use Rattle.sc_hosts.specs.Inboxes.{queue}
+use Rattle.sc_hosts.specs.TakingResponses.{cancelling}
+use Rattle.sc_hosts.specs.Taking.{named_live, takes}
 use Rattle.sc_hosts.specs.Transacting.{tidied, method_of, is_client, is_invite_client, is_server, is_invite_server, is_proceeding, out_of_client, pass_client, with_client, state_of_client}
 use Rattle.sc_hosts.specs.Words.{ack, cancel, does_not_exist, not_found, unavailable}
 

@@ -1,6 +1,6 @@
 -- The charter of a servlet for reliable provisional responses (RFC 3262), as the calls that it makes. What
 -- it remembers stands in attributes.
-use Rattle.std.specs.Prelude.{ℕ, ◌+◌, ◌-◌, ◌==◌, List, [], ◌∷◌, ◌++◌, Bool, false, not, ◌&&◌, Option, None, Some, is_some, option_map, option_and_then, if◌then◌else◌, codes, decimal, length, drop}
+use Rattle.std.specs.Prelude.{ℕ, ◌==◌, List, [], ◌∷◌, ◌++◌, Bool, false, not, ◌&&◌, Option, None, Some, is_some, option_map, option_and_then, if◌then◌else◌, codes, decimal, length, drop}
 use Rattle.std.specs.List.{find, starts_with}
 use Rattle.std.specs.Option.{option_map_or}
 use Rattle.std.specs.Prelude.{nat_eq}
@@ -8,7 +8,7 @@ use Rattle.sc_value.specs.declared.ids.ReqId.{ReqId}
 use Rattle.sc_value.specs.declared.ids.SessId.{SessId}
 use Rattle.sc_value.specs.declared.ids.TimerId.{TimerId}
 use Rattle.sc_value.specs.declared.message.Request.{Request}
-use Rattle.sc_value.specs.Params.{same_bytes}
+use Rattle.sc_tokens.specs.Names.{same_bytes}
 use Rattle.sc_terms.specs.declared.views.View.{View}
 use Rattle.sc_terms.specs.declared.views.RequestView.{RequestView}
 use Rattle.sc_terms.specs.declared.views.Period.TheVariants.{Once}
@@ -16,8 +16,8 @@ use Rattle.sc_terms.specs.declared.events.Event.{Event}
 use Rattle.sc_terms.specs.declared.events.Event.TheVariants as events
 use Rattle.sc_terms.specs.declared.calls.Call.TheVariants as calls
 use Rattle.sc_grammar.specs.Written.{Bytes}
-use Rattle.sc_syntax.specs.Cuts.{after, pieces}
-use Rattle.sc_syntax.specs.Numbers.{number_of}
+use Rattle.sc_tokens.specs.Cuts.{pieces}
+use Rattle.sc_tokens.specs.Numbers.{number_of}
 use Rattle.sc_model.specs.SessionStates.{invite}
 use Rattle.sc_hosts.specs.Scripting.{Script, Done, Make, only, then_make, with_number, where_some, reply, attribute}
 use Rattle.sc_hosts.specs.Charters.{reply_ok}

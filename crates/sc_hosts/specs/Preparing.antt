@@ -26,7 +26,7 @@ use Rattle.sc_state.specs.declared.working.Prepared.{Prepared}
 use Rattle.sc_grammar.specs.Written.{Bytes}
 use Rattle.sc_model.specs.Names.{edge_tag}
 use Rattle.sc_hosts.specs.Branches.{is_supervised, has_branch, stopped, is_timed_out, to_cancel, ended_by, is_invite}
-use Rattle.sc_hosts.specs.Effects.{answered}
+use Rattle.sc_hosts.specs.ViewChanges.{answered}
 use Rattle.sc_hosts.specs.Legs.{FIRST_SESSION, session_for}
 use Rattle.sc_hosts.specs.Looking.{same_request, is_timer, request_in, session_in, timer_in}
 use Rattle.sc_hosts.specs.Messages.{own_response}

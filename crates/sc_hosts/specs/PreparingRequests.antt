@@ -4,7 +4,7 @@ use Rattle.std.specs.Prelude.{ℕ, ◌+◌, List, [], ◌∷◌, ◌++◌, Bool,
 use Rattle.sc_value.specs.declared.ids.ReqId.{ReqId}
 use Rattle.sc_value.specs.declared.ids.SessId.{SessId}
 use Rattle.sc_value.specs.declared.message.Request.{Request}
-use Rattle.sc_value.specs.Params.{same_bytes}
+use Rattle.sc_tokens.specs.Names.{same_bytes}
 use Rattle.sc_terms.specs.declared.events.Event.{Event}
 use Rattle.sc_terms.specs.declared.events.Event.TheVariants as events
 use Rattle.sc_terms.specs.declared.views.RequestView.{RequestView}
@@ -17,7 +17,7 @@ use Rattle.sc_state.specs.declared.session.Way.TheVariants.{Received}
 use Rattle.sc_state.specs.declared.working.Prepared.{Prepared}
 use Rattle.sc_grammar.specs.Written.{Bytes}
 use Rattle.sc_model.specs.SessionStates.{invite}
-use Rattle.sc_hosts.specs.Effects.{answered}
+use Rattle.sc_hosts.specs.ViewChanges.{answered}
 use Rattle.sc_hosts.specs.Legs.{change_leg, leg_of, is_low, with_request}
 use Rattle.sc_hosts.specs.Looking.{request_in, session_in, is_gone_in, is_proxy}
 use Rattle.sc_hosts.specs.Messages.{own_response}

@@ -5,7 +5,7 @@ use Rattle.sc_value.specs.declared.ids.ReqId.{ReqId}
 use Rattle.sc_value.specs.declared.ids.SessId.{SessId}
 use Rattle.sc_value.specs.declared.message.Response.{Response}
 use Rattle.sc_value.specs.Lists.{change_first}
-use Rattle.sc_value.specs.Params.{same_bytes}
+use Rattle.sc_tokens.specs.Names.{same_bytes}
 use Rattle.sc_terms.specs.declared.events.Event.{Event}
 use Rattle.sc_terms.specs.declared.events.Event.TheVariants as events
 use Rattle.sc_terms.specs.declared.views.View.{View}
@@ -22,8 +22,9 @@ use Rattle.sc_model.specs.Dialogs.{tag_of}
 use Rattle.sc_model.specs.SessionStates.{invite}
 use Rattle.sc_model.specs.Transactions.{is_success, is_failure}
 use Rattle.sc_hosts.specs.Branches.{is_supervised, is_told_whole, heard, added_targets}
-use Rattle.sc_hosts.specs.Effects.{answered_in, tidy}
-use Rattle.sc_hosts.specs.Legs.{change_leg, leg_of, with_answer, handling, handled_in, overtaken, without_derived}
+use Rattle.sc_hosts.specs.ViewChanges.{answered_in, tidy}
+use Rattle.sc_hosts.specs.DerivedSessions.{handling, handled_in, overtaken, without_derived}
+use Rattle.sc_hosts.specs.Legs.{change_leg, leg_of, with_answer}
 use Rattle.sc_hosts.specs.Looking.{same_request, request_in, session_in, is_gone_in, change_request}
 use Rattle.sc_hosts.specs.PreparingRequests.{silent, showing, showing_in}
 

@@ -5,9 +5,9 @@ use Rattle.std.specs.Option.{option_or, option_map_or}
 use Rattle.sc_value.specs.declared.ids.ReqId.{ReqId}
 use Rattle.sc_value.specs.declared.ids.SessId.{SessId}
 use Rattle.sc_value.specs.declared.parts.Field.{Field}
-use Rattle.sc_value.specs.HeaderNames.{is_system_name}
-use Rattle.sc_value.specs.Params.{same_bytes}
-use Rattle.sc_value.specs.Tokens.{is_token, is_value, is_one_line}
+use Rattle.sc_tokens.specs.HeaderNames.{is_system_name}
+use Rattle.sc_tokens.specs.Names.{same_bytes}
+use Rattle.sc_tokens.specs.Tokens.{is_token, is_value, is_one_line}
 use Rattle.sc_terms.specs.declared.views.View.{View}
 use Rattle.sc_terms.specs.declared.calls.Answer.{Answer}
 use Rattle.sc_terms.specs.declared.calls.Ask.{Ask}

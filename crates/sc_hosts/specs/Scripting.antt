@@ -1,11 +1,11 @@
 -- Lists of calls with their answers, and scripts: calls, each chosen with the answers before it. Charters
 -- are said with them.
-use Rattle.std.specs.Prelude.{◌≡◌, ◌<◌, ℕ, ◌^◌, List, [], ◌∷◌, Bool, true, false, Option, None, Some, Ok, Err, Result, option_map, option_and_then, decimal}
+use Rattle.std.specs.Prelude.{◌≡◌, ◌<◌, ℕ, ◌^◌, List, [], ◌∷◌, Bool, true, false, Option, None, Some, Ok, Err, Result, option_map, option_and_then}
 use Rattle.std.specs.List.{find, slice_get}
 use Rattle.sc_value.specs.declared.ids.ReqId.{ReqId}
 use Rattle.sc_value.specs.declared.parts.Uri.{Uri}
 use Rattle.sc_value.specs.declared.message.Response.{Response}
-use Rattle.sc_value.specs.Params.{same_bytes}
+use Rattle.sc_tokens.specs.Names.{same_bytes}
 use Rattle.sc_terms.specs.declared.views.View.{View}
 use Rattle.sc_terms.specs.declared.calls.Answer.{Answer}
 use Rattle.sc_terms.specs.declared.calls.Call.{Call}
@@ -16,7 +16,7 @@ use Rattle.sc_terms.specs.declared.calls.CallRecord.{CallRecord}
 use Rattle.sc_terms.specs.declared.calls.Refusal.TheVariants as refusals
 use Rattle.sc_state.specs.declared.working.Play.{Play}
 use Rattle.sc_grammar.specs.Written.{Bytes}
-use Rattle.sc_syntax.specs.Numbers.{number_below}
+use Rattle.sc_tokens.specs.Numbers.{number_below}
 use Rattle.sc_syntax.specs.Uris.{uri_of}
 use Rattle.sc_hosts.specs.RefusalParts.{MOST_CALLS}
 use Rattle.sc_hosts.specs.Effects.{begun, answer_of, after_listed}

@@ -1,6 +1,6 @@
 -- The charter of a servlet for session timers (RFC 4028), as the calls that it makes. What it remembers
 -- stands in attributes.
-use Rattle.std.specs.Prelude.{ℕ, ◌+◌, ◌-◌, ◌*◌, ◌/◌, ◌==◌, List, [], ◌∷◌, ◌++◌, Bool, true, false, not, ◌&&◌, ◌||◌, Option, None, Some, option_map, option_and_then, unwrap_or, if◌then◌else◌, codes, decimal, min, nat_lt, drop, slice_get}
+use Rattle.std.specs.Prelude.{ℕ, ◌-◌, ◌*◌, ◌/◌, ◌==◌, List, [], ◌∷◌, ◌++◌, Bool, true, false, not, ◌&&◌, ◌||◌, Option, None, Some, option_map, option_and_then, unwrap_or, if◌then◌else◌, codes, decimal, min, nat_lt, drop, slice_get}
 use Rattle.std.specs.Char.{is_ascii_digit}
 use Rattle.std.specs.List.{find, take_while, filter_map}
 use Rattle.std.specs.Option.{option_map_or}
@@ -9,23 +9,23 @@ use Rattle.sc_value.specs.declared.ids.SessId.{SessId}
 use Rattle.sc_value.specs.declared.ids.TimerId.{TimerId}
 use Rattle.sc_value.specs.declared.parts.Field.{Field}
 use Rattle.sc_value.specs.declared.message.Request.{Request}
-use Rattle.sc_value.specs.Params.{same_bytes, same_name}
+use Rattle.sc_tokens.specs.Names.{same_bytes, same_name}
 use Rattle.sc_terms.specs.declared.views.View.{View}
 use Rattle.sc_terms.specs.declared.views.Period.TheVariants.{Once}
 use Rattle.sc_terms.specs.declared.events.Event.{Event}
 use Rattle.sc_terms.specs.declared.events.Event.TheVariants as events
 use Rattle.sc_terms.specs.declared.calls.Call.TheVariants as calls
 use Rattle.sc_grammar.specs.Written.{Bytes}
-use Rattle.sc_syntax.specs.Blanks.{trimmed}
-use Rattle.sc_syntax.specs.Cuts.{before, after, pieces}
-use Rattle.sc_syntax.specs.Numbers.{number_of}
+use Rattle.sc_tokens.specs.Blanks.{trimmed}
+use Rattle.sc_tokens.specs.Cuts.{before, after, pieces}
+use Rattle.sc_tokens.specs.Numbers.{number_of}
 use Rattle.sc_model.specs.Dialogs.{update}
 use Rattle.sc_model.specs.SessionStates.{invite, bye}
 use Rattle.sc_model.specs.Transactions.{is_success, is_failure}
 use Rattle.sc_hosts.specs.Scripting.{Script, Done, Make, only, then_make, with_number, where_some, reply, attribute, param_at, small_number}
 use Rattle.sc_hosts.specs.Charters.{reply_ok}
 use Rattle.sc_hosts.specs.Words.{ok}
-use Rattle.sc_hosts.specs.HelperParts.{strict_number, supported_word, require_word, lists_option, answer_with, field, accepted_then, send_in, remove_then, cancel_then}
+use Rattle.sc_hosts.specs.HelperParts.{strict_number, supported_word, require_word, lists_option, answer_with, field, accepted_then, send_in, remove_then, cancel_then, session_number}
 use Rattle.sc_hosts.specs.Offers.{after_word}
 
 pub data Granted : Type 0 where
@@ -136,8 +136,8 @@ pub record Named : Type 0 where
 
 unfoldable pub named_timed : TimerId → Field → Option Named
 named_timed id field =
-    option_and_then (λ s. option_and_then (λ timed. if timed.timer == id.0 then Some (record { sess = record { 0 = s }; timed = timed }) else None) (timed_of field.value))
-    (option_and_then strict_number (after_word (codes "st") field.name))
+    option_and_then (λ sess. option_and_then (λ timed. if timed.timer == id.0 then Some (record { sess = sess; timed = timed }) else None) (timed_of field.value))
+    (option_and_then session_number (after_word (codes "st") field.name))
 
 unfoldable pub refresh_by : Named → Script
 refresh_by named = refresh_as named.timed.me

@@ -5,8 +5,8 @@ use Rattle.std.specs.Prelude.{ℕ, List, Bool, false, not, ◌&&◌, nat_lt, if�
 use Rattle.std.specs.List.{find, take_while}
 use Rattle.std.specs.Option.{option_map_or}
 use Rattle.sc_value.specs.declared.parts.Field.{Field}
-use Rattle.sc_value.specs.Params.{same_bytes, same_name}
-use Rattle.sc_value.specs.Tokens.{is_token_byte}
+use Rattle.sc_tokens.specs.Names.{same_bytes, same_name}
+use Rattle.sc_tokens.specs.Tokens.{is_token_byte}
 use Rattle.sc_terms.specs.declared.views.State.{State}
 use Rattle.sc_terms.specs.declared.views.State.TheVariants.{Initial, Early, Confirmed, Terminated}
 use Rattle.sc_terms.specs.declared.views.Role.{Role}

@@ -20,7 +20,7 @@ use Rattle.sc_state.specs.declared.session.Session.{Session}
 use Rattle.sc_hosts.specs.Nets.{host_at, change_host, queue_for, obeyed}
 use Rattle.sc_hosts.specs.Sessions.{Form, Turn, entries_of}
 use Rattle.sc_hosts.specs.Finishing.{goodbye, is_ready, outcome}
-use Rattle.sc_hosts.specs.Taking.{is_live, live_in, takes}
+use Rattle.sc_hosts.specs.Inboxes.{is_live, live_in}
 use Rattle.sc_hosts.specs.Transacting.{tidied, ringing_branches}
 use Rattle.sc_hosts.specs.Arrivals.{arrived, bad_by}
 use Rattle.sc_hosts.specs.Ticks.{lost, ticked}

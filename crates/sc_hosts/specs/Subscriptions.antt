@@ -8,7 +8,7 @@ use Rattle.sc_value.specs.declared.ids.SessId.{SessId}
 use Rattle.sc_value.specs.declared.ids.TimerId.{TimerId}
 use Rattle.sc_value.specs.declared.parts.Field.{Field}
 use Rattle.sc_value.specs.declared.message.Request.{Request}
-use Rattle.sc_value.specs.Params.{same_bytes, same_name}
+use Rattle.sc_tokens.specs.Names.{same_bytes, same_name}
 use Rattle.sc_terms.specs.declared.views.View.{View}
 use Rattle.sc_terms.specs.declared.views.Period.TheVariants.{Once}
 use Rattle.sc_terms.specs.declared.events.Event.{Event}
@@ -16,15 +16,15 @@ use Rattle.sc_terms.specs.declared.events.Event.TheVariants as events
 use Rattle.sc_terms.specs.declared.calls.Call.{Call}
 use Rattle.sc_terms.specs.declared.calls.Call.TheVariants as calls
 use Rattle.sc_grammar.specs.Written.{Bytes}
-use Rattle.sc_syntax.specs.Blanks.{trimmed}
-use Rattle.sc_syntax.specs.Cuts.{before, pieces}
-use Rattle.sc_syntax.specs.Numbers.{number_of}
+use Rattle.sc_tokens.specs.Blanks.{trimmed}
+use Rattle.sc_tokens.specs.Cuts.{before, pieces}
+use Rattle.sc_tokens.specs.Numbers.{number_of}
 use Rattle.sc_model.specs.Dialogs.{subscribe, notify}
 use Rattle.sc_model.specs.Transactions.{is_failure}
 use Rattle.sc_hosts.specs.Scripting.{Script, Done, Make, only, then_make, with_number, where_some, reply, attribute, small_number}
 use Rattle.sc_hosts.specs.Charters.{reply_ok}
 use Rattle.sc_hosts.specs.Words.{ok, server_error}
-use Rattle.sc_hosts.specs.HelperParts.{strict_number, field_of, answer_with, field, accepted_then, send_in, remove_then, cancel_then}
+use Rattle.sc_hosts.specs.HelperParts.{strict_number, field_of, answer_with, field, accepted_then, send_in, remove_then, cancel_then, session_number}
 use Rattle.sc_hosts.specs.Offers.{after_word}
 
 -- a package, with the least and the longest time of a subscription in seconds, and the state's body
@@ -138,8 +138,8 @@ pub record NamedSub : Type 0 where
 
 unfoldable pub named_sub : TimerId → Field → Option NamedSub
 named_sub id field =
-    option_and_then (λ s. option_and_then (λ sub. if sub.timer == id.0 then Some (record { sess = record { 0 = s }; sub = sub }) else None) (subscription_in (pieces 32 field.value)))
-    (option_and_then strict_number (after_word (codes "sub") field.name))
+    option_and_then (λ sess. option_and_then (λ sub. if sub.timer == id.0 then Some (record { sess = sess; sub = sub }) else None) (subscription_in (pieces 32 field.value)))
+    (option_and_then session_number (after_word (codes "sub") field.name))
 
 unfoldable pub ended_sub : View → NamedSub → Script
 ended_sub view named =

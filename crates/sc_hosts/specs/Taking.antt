@@ -1,6 +1,6 @@
 -- What a host takes from outside or from another host, and what it answers at once (RFC 3261 sections
 -- 8.2, 9.2, 12.2.2 and 17). The limits are this project's own.
-use Rattle.std.specs.Prelude.{ℕ, ◌+◌, ◌==◌, [], ◌∷◌, ◌++◌, Bool, true, false, not, ◌&&◌, ◌||◌, Option, None, Some, is_some, option_map, option_and_then, nat_le, if◌then◌else◌, length, slice_get, drop}
+use Rattle.std.specs.Prelude.{ℕ, ◌+◌, [], ◌∷◌, ◌++◌, Bool, true, false, ◌||◌, Option, None, Some, is_some, option_map, option_and_then, nat_le, if◌then◌else◌, length, slice_get, drop}
 use Rattle.std.specs.List.{find}
 use Rattle.std.specs.Option.{option_map_or}
 use Rattle.sc_value.specs.declared.ids.AppId.{AppId}
@@ -11,110 +11,29 @@ use Rattle.sc_value.specs.declared.message.Message.TheVariants as messages
 use Rattle.sc_value.specs.declared.message.Request.{Request}
 use Rattle.sc_value.specs.declared.message.Response.{Response}
 use Rattle.sc_value.specs.Lists.{change_first}
-use Rattle.sc_value.specs.Params.{same_bytes, param_value}
+use Rattle.sc_tokens.specs.Names.{same_bytes}
+use Rattle.sc_value.specs.Params.{param_value}
 use Rattle.sc_terms.specs.declared.settings.Config.{Config}
-use Rattle.sc_parts.specs.declared.transactions.ClientItem.TheVariants as client_items
-use Rattle.sc_parts.specs.declared.transactions.ClientOut.{ClientOut}
 use Rattle.sc_parts.specs.declared.transactions.ServerItem.TheVariants as server_items
-use Rattle.sc_state.specs.declared.host.Client.{Client}
 use Rattle.sc_state.specs.declared.host.Host.{Host}
 use Rattle.sc_state.specs.declared.host.Live.{Live}
 use Rattle.sc_state.specs.declared.host.Peer.{Peer}
 use Rattle.sc_state.specs.declared.host.Server.{Server}
 use Rattle.sc_state.specs.declared.host.Taken.{Taken}
 use Rattle.sc_state.specs.declared.net.Note.{Note}
-use Rattle.sc_state.specs.declared.queue.Queued.{Queued}
 use Rattle.sc_state.specs.declared.queue.Queued.TheVariants as queued
 use Rattle.sc_grammar.specs.Written.{Bytes}
 use Rattle.sc_model.specs.Dialogs.{tag_of, update}
 use Rattle.sc_model.specs.Names.{ap_name, ap_value, edge_tag, tag_text}
 use Rattle.sc_model.specs.OwnHosts.{is_own}
 use Rattle.sc_model.specs.ServerTransactions.{is_sent_again}
-use Rattle.sc_model.specs.SessionStates.{invite, bye, is_final}
-use Rattle.sc_hosts.specs.Messages.{ack_of, cancel_of, own_response, trying_response, without_via}
+use Rattle.sc_model.specs.SessionStates.{invite, bye}
+use Rattle.sc_hosts.specs.Messages.{own_response, trying_response}
 use Rattle.sc_hosts.specs.Sessions.{Form}
-use Rattle.sc_hosts.specs.Transacting.{method_of, client_for, out_of_client, pass_client, with_client, is_cancel_client, is_cancelled_by, is_acked_by, is_repeated_by, has_final, is_server, pass_server}
+use Rattle.sc_hosts.specs.Transacting.{method_of, is_cancelled_by, is_acked_by, is_repeated_by, has_final, is_server, pass_server}
 use Rattle.sc_hosts.specs.Words.{ack, cancel, prack, ok, trying, does_not_exist, unavailable}
-
--- ## Limits
-
-abbrev pub MOST_LIVE : ℕ
-MOST_LIVE = 4096
-
-abbrev pub MOST_WAITING : ℕ
-MOST_WAITING = 64
-
--- ## Sessions and their inboxes
-
-abbrev pub is_live : {S : Type 0} → ℕ → Live S → Bool
-is_live serial live = live.serial == serial
-
-abbrev pub live_in : {S : Type 0} → ℕ → Host S → Option (Live S)
-live_in serial host = find (is_live serial) host.sessions
-
--- an event more, under this number; the first that waits became first at this moment
-unfoldable pub with_event : {S : Type 0} → ℕ → ℕ → Queued → Live S → Live S
-with_event number now event live = record live {
-  inbox = live.inbox ++ record { number = number; event = event } ∷ [];
-  since = if length live.inbox == 0 then now else live.since;
-}
-
-unfoldable pub quiet : {S : Type 0} → Host S → ℕ → Taken S
-quiet host count = record { host = host; reply = None; count = count }
-
--- an event is queued where its session lives; else it is dropped
-unfoldable pub queue : {S : Type 0} → ℕ → ℕ → Queued → ℕ → Host S → Taken S
-queue serial now event count host =
-    if is_some (live_in serial host)
-    then quiet (record host { sessions = change_first (is_live serial) (with_event (count + 1) now event) host.sessions }) (count + 1)
-    else quiet host count
-
--- as many events wait as may
-unfoldable pub is_full : {S : Type 0} → Live S → Bool
-is_full live = nat_le MOST_WAITING (length live.inbox)
-
-unfoldable pub is_full_at : {S : Type 0} → ℕ → Host S → Bool
-is_full_at serial host = option_map_or is_full (live_in serial host) false
-
-abbrev pub replying : {S : Type 0} → Peer → Message → Taken S → Taken S
-replying peer message taken = record taken { reply = Some (record { peer = peer; message = message }) }
-
--- ## Responses
-
--- a provisional response finds no room in a full inbox
-unfoldable pub told : {S : Type 0} → ℕ → Client → Response → ℕ → Host S → Taken S
-told now client response count host =
-    if is_cancel_client client || (not (is_final response.code) && is_full_at client.app.serial host) then quiet host count
-    else queue client.app.serial now (queued.Response client.branch (without_via response)) count host
-
-unfoldable pub told_by : {S : Type 0} → Option ℕ → ℕ → Client → Response → ℕ → Host S → Taken S
-told_by None now client response count host = quiet host count
-told_by (Some code) now client response count host = told now client response count host
-
--- the client transaction of a CANCEL
-unfoldable pub cancelling : ℕ → Client → Client
-cancelling now client = record client { request = cancel_of client.request; sent = now; passed = [] }
-
--- an ACK to a final response other than 2xx, or a CANCEL that waited
-unfoldable pub with_reply : {S : Type 0} → ClientOut → ℕ → Client → Response → Taken S → Taken S
-with_reply out now client response taken =
-    if out.ack then replying client.peer (messages.Request (ack_of client.request response)) taken
-    else (if out.cancel then replying client.peer (messages.Request (cancel_of client.request)) (record taken { host = with_client (cancelling now client) taken.host })
-    else taken)
-
-unfoldable pub response_for : {S : Type 0} → ℕ → Client → Response → ℕ → Host S → Taken S
-response_for now client response count host =
-    let item = client_items.ResponseCame response.code now in
-    with_reply (out_of_client client item) now client response
-    (told_by (out_of_client client item).tell now client response count (pass_client client.app client.branch (is_cancel_client client) item host))
-
-unfoldable pub response_to : {S : Type 0} → ℕ → Option Client → Response → ℕ → Host S → Taken S
-response_to now None response count host = quiet host count
-response_to now (Some client) response count host = response_for now client response count host
-
--- a response that belongs to no client transaction is dropped
-unfoldable pub take_response : {S : Type 0} → Config → ℕ → Peer → ℕ → Response → ℕ → Host S → Taken S
-take_response config epoch from now response count host = response_to now (client_for config.salt epoch from response host) response count host
+use Rattle.sc_hosts.specs.Inboxes.{MOST_LIVE, quiet, queue, is_full, replying}
+use Rattle.sc_hosts.specs.TakingResponses.{take_response}
 
 -- ## CANCEL, ACK and repeated requests
 

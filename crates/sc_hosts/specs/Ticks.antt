@@ -23,7 +23,7 @@ use Rattle.sc_model.specs.Timers.{DueEntry, in_order, is_due}
 use Rattle.sc_hosts.specs.Messages.{own_response, without_via}
 use Rattle.sc_hosts.specs.Nets.{change_host, queue_for}
 use Rattle.sc_hosts.specs.Sessions.{Form, entries_of}
-use Rattle.sc_hosts.specs.Taking.{is_live}
+use Rattle.sc_hosts.specs.Inboxes.{is_live}
 use Rattle.sc_hosts.specs.Transacting.{due_of_client, due_of_server, goes_to, is_cancel_client, is_same_app, out_of_client, pass_client, pass_server}
 use Rattle.sc_hosts.specs.Words.{request_timeout, unavailable}
 

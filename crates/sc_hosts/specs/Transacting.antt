@@ -10,7 +10,8 @@ use Rattle.sc_value.specs.declared.parts.Via.{Via}
 use Rattle.sc_value.specs.declared.message.Request.{Request}
 use Rattle.sc_value.specs.declared.message.Response.{Response}
 use Rattle.sc_value.specs.Lists.{change_first}
-use Rattle.sc_value.specs.Params.{same_bytes, same_name, param_value, branch_name}
+use Rattle.sc_tokens.specs.Names.{same_bytes, same_name}
+use Rattle.sc_value.specs.Params.{param_value, branch_name}
 use Rattle.sc_parts.specs.declared.transactions.ClientItem.{ClientItem}
 use Rattle.sc_parts.specs.declared.transactions.ClientOut.{ClientOut}
 use Rattle.sc_parts.specs.declared.transactions.ServerItem.{ServerItem}

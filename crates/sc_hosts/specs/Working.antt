@@ -1,6 +1,6 @@
 -- What the accepted calls of a turn do beside what they leave of the view: what is sent, and what the
 -- application session knows of it.
-use Rattle.std.specs.Prelude.{ℕ, ◌+◌, ◌==◌, List, [], ◌∷◌, ◌++◌, Bool, true, not, ◌&&◌, Option, None, Some, is_some, is_none, option_and_then, nat_le, if◌then◌else◌, map, filter}
+use Rattle.std.specs.Prelude.{ℕ, ◌+◌, List, [], ◌∷◌, ◌++◌, Bool, true, not, ◌&&◌, Option, None, Some, is_some, is_none, option_and_then, nat_le, if◌then◌else◌, map, filter}
 use Rattle.std.specs.List.{find, flat_map, fold}
 use Rattle.sc_value.specs.declared.ids.Directive.{Directive}
 use Rattle.sc_value.specs.declared.ids.Directive.TheVariants.{New, Continue, Reverse}
@@ -9,13 +9,10 @@ use Rattle.sc_value.specs.declared.ids.SessId.{SessId}
 use Rattle.sc_value.specs.declared.message.Message.TheVariants as messages
 use Rattle.sc_value.specs.declared.message.Request.{Request}
 use Rattle.sc_value.specs.declared.parts.Uri.{Uri}
-use Rattle.sc_value.specs.Lists.{change_first, remove_first}
-use Rattle.sc_value.specs.Params.{same_bytes}
+use Rattle.sc_tokens.specs.Names.{same_bytes}
 use Rattle.sc_terms.specs.declared.settings.Config.{Config}
 use Rattle.sc_terms.specs.declared.views.View.{View}
 use Rattle.sc_terms.specs.declared.views.RequestView.{RequestView}
-use Rattle.sc_terms.specs.declared.calls.Answer.{Answer}
-use Rattle.sc_terms.specs.declared.calls.Ask.{Ask}
 use Rattle.sc_terms.specs.declared.calls.Call.{Call}
 use Rattle.sc_terms.specs.declared.calls.Call.TheVariants as calls
 use Rattle.sc_terms.specs.declared.calls.CallRecord.{CallRecord}
@@ -39,79 +36,20 @@ use Rattle.sc_model.specs.DialogRequests.{next_request, ack_request}
 use Rattle.sc_model.specs.Dialogs.{DialogState, By_self}
 use Rattle.sc_model.specs.SessionStates.{invite}
 use Rattle.sc_hosts.specs.Branches.{new_proxy, with_targets, stopped, is_invite}
-use Rattle.sc_hosts.specs.Effects.{new_call_id, new_tag, begun, after_listed}
-use Rattle.sc_hosts.specs.Legs.{leg_of, change_leg, new_leg, in_dialog}
+use Rattle.sc_hosts.specs.Effects.{begun, after_listed}
+use Rattle.sc_hosts.specs.Legs.{leg_of, change_leg, in_dialog}
 use Rattle.sc_hosts.specs.Looking.{same_session, request_in}
-use Rattle.sc_hosts.specs.Messages.{asked_request, leg_request, from_here, given_response, on_branch}
-use Rattle.sc_hosts.specs.Preparing.{kept_of, own_tag_of, proxy_of}
+use Rattle.sc_hosts.specs.Messages.{from_here, on_branch}
+use Rattle.sc_hosts.specs.Preparing.{kept_of, proxy_of}
 use Rattle.sc_hosts.specs.PreparingResponses.{change_proxy}
 use Rattle.sc_hosts.specs.Refusals.{awaits_ack, begun_by, refusal}
 use Rattle.sc_hosts.specs.RefusalParts.{draft_in}
 use Rattle.sc_hosts.specs.Words.{ack, server_error}
+use Rattle.sc_hosts.specs.Giving.{giving, answers, answering, drafts_own, drafts_later, drafts_leg, is_written, directs, forgets}
 
 -- as the calls begin
 unfoldable pub starts : Prepared → Working
 starts shown = record { play = begun shown.view; known = shown.known; written = []; orders = shown.orders }
-
-abbrev pub giving : List Order → Working → Working
-giving given working = record working { orders = working.orders ++ given }
-
--- ## Answers
-
-unfoldable pub answer_order : Config → View → Bool → Answer → Kept → Way → List Order
-answer_order config view initial answer kept (Received event) =
-    orders.Respond event (given_response config view (own_tag_of view kept.sess) initial kept.request answer) ∷ []
-answer_order config view initial answer kept (Sent branch) = []
-
-unfoldable pub answers : Config → Answer → View → Option Kept → Bool → List Order
-answers config answer view None initial = []
-answers config answer view (Some kept) initial = answer_order config view initial answer kept kept.way
-
--- the answer to a received request that is shown
-unfoldable pub answering : Config → Option RequestView → Answer → Working → Working
-answering config None answer working = working
-answering config (Some request) answer working =
-    giving (answers config answer working.play.view (kept_of working.known request.id) request.initial) working
-
--- ## Drafts
-
-unfoldable pub writes : Written → Working → Working
-writes draft working = record working { written = working.written ++ draft ∷ [] }
-
-abbrev pub with_leg : Working → Working
-with_leg working = record working { known = record working.known { legs = working.known.legs ++ new_leg None ∷ [] } }
-
-unfoldable pub drafts_own : Ask → Working → Working
-drafts_own ask working = with_leg (writes (record {
-  number = working.play.drafted + 1;
-  directive = ask.directive;
-  origin = ask.origin;
-  asked = asked.Initial (asked_request (new_call_id working.play.view) (new_tag working.play.view) ask);
-}) working)
-
-unfoldable pub drafts_later : Inside → Working → Working
-drafts_later ask working = writes (record { number = working.play.drafted + 1; directive = Continue; origin = None; asked = asked.Later ask }) working
-
--- the second leg of a received request
-unfoldable pub drafts_leg : ReqId → Option Uri → Option Kept → Working → Working
-drafts_leg req uri None working = working
-drafts_leg req uri (Some kept) working = with_leg (writes (record {
-  number = working.play.drafted + 1;
-  directive = Continue;
-  origin = Some req;
-  asked = asked.Initial (leg_request (new_call_id working.play.view) (new_tag working.play.view) uri kept.request);
-}) working)
-
-abbrev pub is_written : ℕ → Written → Bool
-is_written number draft = draft.number == number
-
-unfoldable pub directs : ℕ → Directive → Option ReqId → Working → Working
-directs number directive origin working = record working {
-  written = change_first (is_written number) (λ draft. record draft { directive = directive; origin = origin }) working.written;
-}
-
-unfoldable pub forgets : ℕ → Working → Working
-forgets number working = record working { written = remove_first (is_written number) working.written }
 
 -- ## Sending
 

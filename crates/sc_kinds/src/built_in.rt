@@ -20,10 +20,10 @@ pub enum BuiltIn {
     Reverse,
     /// [`Rings`](sc_apps::Rings).
     Ringer,
-    /// [`Offers`](sc_helpers::Offers).
+    /// [`Offers`](sc_offers::Offers).
     Early,
-    /// [`Refreshes`](sc_helpers::Refreshes).
+    /// [`Refreshes`](sc_refreshes::Refreshes).
     Timed,
-    /// [`Notifies`](sc_helpers::Notifies).
+    /// [`Notifies`](sc_notifies::Notifies).
     Notify,
 }

@@ -5,7 +5,9 @@ ghost use Rattle.sc_kinds.specs.BuiltIns.{charter_of};
 
 use crate::built_in::BuiltIn;
 use sc_apps::{Answers, B2bs, Blocks, Dials, Forks, Forwards, Records, Reverses, Rings};
-use sc_helpers::{Notifies, Offers, Refreshes};
+use sc_notifies::Notifies;
+use sc_offers::Offers;
+use sc_refreshes::Refreshes;
 use sc_servlets::SipServlet;
 use sc_terms::{Charter, End, Event};
 use sc_turn::Turn;

@@ -9,7 +9,7 @@ use Rattle.sc_terms.specs.declared.views.SessionView.{SessionView}
 use Rattle.sc_state.specs.declared.session.Known.{Known}
 use Rattle.sc_state.specs.declared.session.Session.{Session}
 use Rattle.sc_grammar.specs.Written.{Bytes}
-use Rattle.sc_hosts.specs.Legs.{claims, handled_in, handling_of, is_of}
+use Rattle.sc_hosts.specs.DerivedSessions.{claims, handled_in, handling_of, is_of}
 use Rattle.sc_legs.specs.Claims.{claims_of}
 
 found_at : {A : Type 0} (p q : A → Bool) (x : A) (xs : List A) (a b : Bool) → p x ≡ a → q x ≡ b → find p (filter q xs) ≡ find (λ y. q y && p y) xs

@@ -6,7 +6,7 @@ use Rattle.sc_value.specs.declared.ids.SessId.{SessId}
 use Rattle.sc_terms.specs.declared.views.SessionView.{SessionView}
 use Rattle.sc_state.specs.declared.session.Known.{Known}
 use Rattle.sc_state.specs.declared.session.Leg.{Leg}
-use Rattle.sc_hosts.specs.Legs.{is_overtaken, overtaken_legs}
+use Rattle.sc_hosts.specs.DerivedSessions.{is_overtaken, overtaken_legs}
 use Rattle.sc_legs.specs.Marks.{marked, marked_leg}
 
 pub marked_is : (known : Known) (req : ReqId) (sess : SessId) (sessions : List SessionView) (legs : List Leg)

@@ -4,7 +4,7 @@ use Rattle.sc_value.specs.declared.ids.ReqId.{ReqId}
 use Rattle.sc_terms.specs.declared.views.SessionView.{SessionView}
 use Rattle.sc_state.specs.declared.session.Known.{Known}
 use Rattle.sc_grammar.specs.Written.{Bytes}
-use Rattle.sc_hosts.specs.Legs.{claims, is_of}
+use Rattle.sc_hosts.specs.DerivedSessions.{claims, is_of}
 
 -- it is one of the request and has this tag
 unfoldable pub claims_of : Known → ReqId → Bytes → SessionView → Bool

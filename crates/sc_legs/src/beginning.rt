@@ -28,7 +28,7 @@ pub fn fresh(
 ) -> Result<Session, NoMemory>
     ensures { IfOk result (λ s. s ≡ fresh config.now app epoch began noted.now request.now) }
 {
-    let own_tag = first_tag(alloc, &config.salt, epoch, app)?;
+    let own_tag = first_tag(alloc, config.salt.as_text(), epoch, app)?;
     let known = first_known(alloc, &own_tag, noted, request)?;
     let view = first_view(alloc, config, app, epoch, began, request)?;
     Ok(Session { view, known })
@@ -55,7 +55,7 @@ fn first_view(
 {
     let entry = config.app.as_slice().get(app.host as usize);
     let expires = expiry_of(entry, began)?;
-    let own_tag = first_tag(alloc, &config.salt, epoch, app)?;
+    let own_tag = first_tag(alloc, config.salt.as_text(), epoch, app)?;
     let sessions = first_sessions(alloc, own_tag, request)?;
     let salt = config.salt.clone_in(alloc)?;
     let params = params_of(alloc, entry)?;

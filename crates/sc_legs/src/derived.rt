@@ -6,7 +6,8 @@ ghost use Rattle.std.specs.List.{find};
 ghost use Rattle.std.specs.Option.{option_copied, option_map_or};
 ghost use Rattle.sc_value.specs.Lists.{change_first};
 ghost use Rattle.sc_hosts.specs.Looking.{is_session, same_request, session_count};
-ghost use Rattle.sc_hosts.specs.Legs.{Handling, claims, derived_leg, derived_session, handled_in, handling, handling_by, handling_of, is_of, is_subscribed, sessions_of, takes_tag};
+ghost use Rattle.sc_hosts.specs.DerivedSessions.{claims, derived_leg, derived_session, handled_in, handling, handling_by, handling_of, is_of, is_subscribed, sessions_of, takes_tag};
+ghost use Rattle.sc_hosts.specs.DerivedSessions.{Handling};
 ghost use Rattle.sc_hosts.specs.PreparingResponses.{is_invalid};
 ghost use Rattle.sc_legs.specs.Numbers.{is_from};
 ghost use Rattle.sc_legs.specs.Claims.{claims_of, with_peer_tag};
@@ -36,7 +37,7 @@ fn is_first(first: Option<ReqId>, req: ReqId) -> bool
 }
 
 /// Whether a SipSession is one of the request.
-#[tactic(auto, unfolding(sc_hosts::specs::Legs::is_of))]
+#[tactic(auto, unfolding(sc_hosts::specs::DerivedSessions::is_of))]
 pub fn is_of(known: &Known, req: ReqId, session: &SessionView) -> bool
     ensures { result ≡ is_of known.now req session.now }
 {
@@ -47,7 +48,7 @@ pub fn is_of(known: &Known, req: ReqId, session: &SessionView) -> bool
 }
 
 // Whether it has this tag; one that was overtaken has lost it.
-#[tactic(auto, unfolding(sc_hosts::specs::Legs::claims))]
+#[tactic(auto, unfolding(sc_hosts::specs::DerivedSessions::claims))]
 fn claims(known: &Known, tag: &Text, session: &SessionView) -> bool
     ensures { result ≡ claims known.now tag.now session.now }
 {
@@ -80,7 +81,7 @@ fn claimer_among(known: &Known, req: ReqId, tag: &Text, sessions: &[SessionView]
 }
 
 // The SipSession of the request that has this tag.
-#[tactic(auto, unfolding(sc_hosts::specs::Legs::sessions_of), using(crate::proofs::Claiming::claimer_found))]
+#[tactic(auto, unfolding(sc_hosts::specs::DerivedSessions::sessions_of), using(crate::proofs::Claiming::claimer_found))]
 fn claimer(session: &Session, req: ReqId, tag: &Text) -> Option<SessId>
     ensures { result ≡ option_map (λ s. s.id) (find (claims session.now.known tag.now) (sessions_of session.now req)) }
 {
@@ -105,7 +106,7 @@ fn tag_in(sessions: &mut [SessionView], sess: SessId, tag: Text)
 }
 
 // The original takes the tag.
-#[tactic(auto, unfolding(sc_hosts::specs::Legs::handled_in, crate::specs::Claims::with_peer_tag))]
+#[tactic(auto, unfolding(sc_hosts::specs::DerivedSessions::handled_in, crate::specs::Claims::with_peer_tag))]
 fn take_tag(
     alloc: Global,
     session: &mut Session,
@@ -120,7 +121,7 @@ fn take_tag(
     Ok(original.id)
 }
 
-#[tactic(auto, unfolding(sc_hosts::specs::Legs::derived_session))]
+#[tactic(auto, unfolding(sc_hosts::specs::DerivedSessions::derived_session))]
 fn derived_session(
     alloc: Global,
     view: &View,
@@ -159,7 +160,7 @@ fn got_from(alloc: Global, got: &[Got], tag: Option<&Text>) -> Result<List<Got>,
 }
 
 // A derived SipSession has the messages of the request that its original has.
-#[tactic(auto, unfolding(sc_hosts::specs::Legs::derived_leg, sc_hosts::specs::Legs::new_leg, crate::specs::Numbers::is_from))]
+#[tactic(auto, unfolding(sc_hosts::specs::DerivedSessions::derived_leg, sc_hosts::specs::Legs::new_leg, crate::specs::Numbers::is_from))]
 fn derived_leg(alloc: Global, leg: Option<&Leg>, req: ReqId) -> Result<Leg, NoMemory>
     ensures { IfOk result (λ l. l ≡ derived_leg (option_copied leg.entry) req) }
 {
@@ -181,7 +182,7 @@ fn derived_leg(alloc: Global, leg: Option<&Leg>, req: ReqId) -> Result<Leg, NoMe
 }
 
 // The response gets a SipSession of its own.
-#[tactic(auto, unfolding(sc_hosts::specs::Legs::handled_in))]
+#[tactic(auto, unfolding(sc_hosts::specs::DerivedSessions::handled_in))]
 fn derive(
     alloc: Global,
     session: &mut Session,
@@ -219,7 +220,7 @@ fn can_derive(session: &Session, sess: SessId) -> bool
 }
 
 // No SipSession has the tag.
-#[tactic(auto, unfolding(sc_hosts::specs::Legs::handling_of, sc_hosts::specs::Legs::handled_in, sc_hosts::specs::PreparingResponses::is_invalid))]
+#[tactic(auto, unfolding(sc_hosts::specs::DerivedSessions::handling_of, sc_hosts::specs::DerivedSessions::handled_in, sc_hosts::specs::PreparingResponses::is_invalid))]
 fn handled_unclaimed(
     alloc: Global,
     session: &mut Session,
@@ -256,7 +257,7 @@ fn handled_of(
 }
 
 // A 101 to 299 to the initial INVITE.
-#[tactic(auto, unfolding(sc_hosts::specs::Legs::handling_by, sc_hosts::specs::Legs::handled_in))]
+#[tactic(auto, unfolding(sc_hosts::specs::DerivedSessions::handling_by, sc_hosts::specs::DerivedSessions::handled_in))]
 fn handled_by(
     alloc: Global,
     session: &mut Session,
@@ -273,7 +274,7 @@ fn handled_by(
 }
 
 // A 2xx to a SUBSCRIBE gives its SipSession the tag.
-#[tactic(auto, unfolding(sc_hosts::specs::Legs::takes_tag, sc_hosts::specs::Legs::handled_in))]
+#[tactic(auto, unfolding(sc_hosts::specs::DerivedSessions::takes_tag, sc_hosts::specs::DerivedSessions::handled_in))]
 fn handled_subscribed(
     alloc: Global,
     session: &mut Session,
@@ -290,7 +291,7 @@ fn handled_subscribed(
 }
 
 // Whether it is a 2xx to SUBSCRIBE that its UAC gets.
-#[tactic(auto, unfolding(sc_hosts::specs::Legs::is_subscribed))]
+#[tactic(auto, unfolding(sc_hosts::specs::DerivedSessions::is_subscribed))]
 fn is_subscribed(original: &SessionView, request: &Request, response: &Response) -> bool
     ensures { result ≡ is_subscribed original.now request.now response.now }
 {
@@ -299,7 +300,7 @@ fn is_subscribed(original: &SessionView, request: &Request, response: &Response)
 
 /// The SipSession in which a response to an initial request is handled, given the one that sent the
 /// request, which may take the tag; where it is a new one, it is there afterwards.
-#[tactic(auto, unfolding(sc_hosts::specs::Legs::handling, sc_hosts::specs::Legs::handled_in))]
+#[tactic(auto, unfolding(sc_hosts::specs::DerivedSessions::handling, sc_hosts::specs::DerivedSessions::handled_in))]
 pub fn handled(
     alloc: Global,
     session: &mut Session,

@@ -2,7 +2,7 @@
 //! other early ones is this project's profile.
 
 ghost use Rattle.std.specs.Prelude.{◌≡◌, map, IfOk, OnOk};
-ghost use Rattle.sc_hosts.specs.Legs.{failed_session, is_overtaken, overtaken, overtaken_session, without_derived};
+ghost use Rattle.sc_hosts.specs.DerivedSessions.{failed_session, is_overtaken, overtaken, overtaken_session, without_derived};
 ghost use Rattle.sc_legs.specs.Marks.{marked, marked_leg};
 
 use crate::derived::is_of;
@@ -13,7 +13,7 @@ use sc_value::{List, NoMemory, ReqId, SessId};
 use std::alloc::Global;
 
 // Whether the 2xx handled in another SipSession ends this one.
-#[tactic(auto, unfolding(sc_hosts::specs::Legs::is_overtaken))]
+#[tactic(auto, unfolding(sc_hosts::specs::DerivedSessions::is_overtaken))]
 fn is_overtaken(known: &Known, req: ReqId, sess: SessId, session: &SessionView) -> bool
     ensures { result ≡ is_overtaken known.now req sess session.now }
 {
@@ -36,7 +36,7 @@ fn overtaken_marks(
     Ok(marks)
 }
 
-#[tactic(auto, unfolding(sc_hosts::specs::Legs::overtaken_session))]
+#[tactic(auto, unfolding(sc_hosts::specs::DerivedSessions::overtaken_session))]
 fn overtaken_session(known: &Known, req: ReqId, sess: SessId, session: &mut SessionView)
     ensures { session.new ≡ overtaken_session known.now req sess session.old }
 {
@@ -86,7 +86,7 @@ fn mark_known(known: &mut Known, marks: &[bool])
 }
 
 /// The first 2xx to an INVITE, handled in a SipSession, ends the other early ones of the INVITE.
-#[tactic(auto, unfolding(sc_hosts::specs::Legs::overtaken), using(crate::proofs::Marking::marked_is))]
+#[tactic(auto, unfolding(sc_hosts::specs::DerivedSessions::overtaken), using(crate::proofs::Marking::marked_is))]
 pub fn overtaken(
     alloc: Global,
     session: &mut Session,
@@ -102,7 +102,7 @@ pub fn overtaken(
     Ok(())
 }
 
-#[tactic(auto, unfolding(sc_hosts::specs::Legs::failed_session))]
+#[tactic(auto, unfolding(sc_hosts::specs::DerivedSessions::failed_session))]
 fn failed_session(known: &Known, req: ReqId, original: SessId, session: &mut SessionView)
     ensures { session.new ≡ failed_session known.now req original session.old }
 {
@@ -120,7 +120,7 @@ fn failed_sessions(known: &Known, req: ReqId, original: SessId, sessions: &mut [
 }
 
 /// A failure of an INVITE of one's own ends its derived SipSessions.
-#[tactic(auto, unfolding(sc_hosts::specs::Legs::without_derived))]
+#[tactic(auto, unfolding(sc_hosts::specs::DerivedSessions::without_derived))]
 pub fn without_derived(session: &mut Session, req: ReqId, original: SessId)
     ensures { session.new ≡ without_derived req original session.old }
 {

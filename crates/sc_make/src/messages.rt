@@ -1,15 +1,21 @@
 //! The three messages of a call.
 
-ghost use Rattle.std.specs.Prelude.{◌≡◌, ◌∷◌, [], None, IfOk};
-ghost use Rattle.sc_model.specs.Generated.{home, local, caller, called, tag_word, branch_word, valued, via_of, from_side, to_side, answered_side, caller_contact, route_of, head_of, later_of, invite_of, ack_of, bye_of};
+ghost use Rattle.std.specs.Prelude.{◌≡◌, ◌∷◌, ◌<◌, ◌^◌, [], None, true, IfOk};
+ghost use Rattle.std.specs.List.{list_all};
+ghost use Rattle.sc_tokens.specs.Tokens.{is_one_line, is_token, is_token_byte};
+ghost use Rattle.sc_tokens.specs.HeaderTokens.{is_param_text};
+ghost use Rattle.sc_value.specs.ParamRules.{AreHeaderParams};
+ghost use Rattle.sc_model.specs.Generated.{caller, tag_word, branch_word, valued, answer_tag, branch_of, via_of, from_side, to_side, answered_side, caller_contact, route_of, head_of, later_of, invite_of, ack_of, bye_of};
 ghost use Rattle.sc_model.specs.SessionStates.{ack, bye, invite};
 
 use crate::names::{answer_tag, branch_of, call_of, session_uri, user_uri, valued};
-use sc_value::{Address, CSeq, Contact, Head, List, NoMemory, Param, Request, Text, Uri, Via};
+use sc_value::{
+    Address, CSeq, Contact, Head, List, NoMemory, Others, Param, Request, Text, Token, Uri, Via,
+};
 use std::alloc::Global;
 
 /// The INVITE of call i.
-#[tactic(auto, unfolding(sc_model::specs::Generated::invite_of, sc_model::specs::Generated::called, sc_model::specs::Generated::home, sc_model::specs::SessionStates::invite))]
+#[tactic(auto, unfolding(sc_model::specs::Generated::invite_of, sc_model::specs::Generated::called, sc_model::specs::Generated::home, sc_model::specs::SessionStates::invite, sc_tokens::specs::Tokens::is_token, sc_tokens::specs::Tokens::is_token_byte, sc_tokens::specs::Bytes::is_open, sc_tokens::specs::Bytes::is_closed, sc_tokens::specs::Cuts::has, sc_tokens::specs::Hosts::is_host, sc_tokens::specs::Hosts::begins, sc_tokens::specs::Hosts::is_host_name, sc_tokens::specs::Bytes::is_host_byte))]
 pub fn invite_of(alloc: Global, i: u64) -> Result<Request, NoMemory>
     ensures { IfOk result (λ r. r ≡ invite_of i) }
 {
@@ -17,7 +23,7 @@ pub fn invite_of(alloc: Global, i: u64) -> Result<Request, NoMemory>
     let contact = contacts(alloc)?;
     let head = head_of(alloc, i, b"", b"INVITE", 1, to, List::new(alloc), contact)?;
     let uri = user_uri(alloc, b"u", b"home.test", None)?;
-    let method = Text::from_slice(alloc, b"INVITE")?;
+    let method = Token::from_slice(alloc, b"INVITE")?;
     Ok(Request {
         method,
         uri,
@@ -27,7 +33,7 @@ pub fn invite_of(alloc: Global, i: u64) -> Result<Request, NoMemory>
 }
 
 /// The ACK of call i.
-#[tactic(auto, unfolding(sc_model::specs::Generated::ack_of, sc_model::specs::SessionStates::ack))]
+#[tactic(auto, unfolding(sc_model::specs::Generated::ack_of, sc_model::specs::SessionStates::ack, sc_tokens::specs::Tokens::is_token, sc_tokens::specs::Tokens::is_token_byte))]
 pub fn ack_of(alloc: Global, i: u64) -> Result<Request, NoMemory>
     ensures { IfOk result (λ r. r ≡ ack_of i) }
 {
@@ -35,7 +41,7 @@ pub fn ack_of(alloc: Global, i: u64) -> Result<Request, NoMemory>
 }
 
 /// The BYE of call i.
-#[tactic(auto, unfolding(sc_model::specs::Generated::bye_of, sc_model::specs::SessionStates::bye))]
+#[tactic(auto, unfolding(sc_model::specs::Generated::bye_of, sc_model::specs::SessionStates::bye, sc_tokens::specs::Tokens::is_token, sc_tokens::specs::Tokens::is_token_byte))]
 pub fn bye_of(alloc: Global, i: u64) -> Result<Request, NoMemory>
     ensures { IfOk result (λ r. r ≡ bye_of i) }
 {
@@ -50,6 +56,9 @@ fn later_of(
     method: &[u8],
     number: u32,
 ) -> Result<Request, NoMemory>
+    requires letter { list_all is_token_byte letter.now ≡ true }
+    requires number { number < 2 ^ 31 }
+    requires method { is_token method.now ≡ true }
     ensures { IfOk result (λ r. r ≡ later_of i letter.now method.now number) }
 {
     let to = answered_side(alloc, i)?;
@@ -65,7 +74,7 @@ fn later_of(
         List::new(alloc),
     )?;
     let uri = session_uri(alloc, 1, i)?;
-    let method = Text::from_slice(alloc, method)?;
+    let method = Token::from_slice(alloc, method)?;
     Ok(Request {
         method,
         uri,
@@ -85,12 +94,15 @@ fn head_of(
     route: List<Address>,
     contact: List<Contact>,
 ) -> Result<Head, NoMemory>
+    requires letter { list_all is_token_byte letter.now ≡ true }
+    requires number { number < 2 ^ 31 }
+    requires method { is_token method.now ≡ true }
     ensures { IfOk result (λ h. h ≡ head_of i letter.now method.now number to route contact) }
 {
     let via = vias(alloc, i, letter)?;
     let from = from_side(alloc)?;
     let call_id = call_of(alloc, i)?;
-    let method = Text::from_slice(alloc, method)?;
+    let method = Token::from_slice(alloc, method)?;
     Ok(Head {
         via,
         route,
@@ -100,12 +112,13 @@ fn head_of(
         call_id,
         cseq: CSeq { number, method },
         contact,
-        others: List::new(alloc),
+        others: Others::new(alloc),
         body: Text::new(alloc),
     })
 }
 
 fn vias(alloc: Global, i: u64, letter: &[u8]) -> Result<List<Via>, NoMemory>
+    requires { list_all is_token_byte letter.now ≡ true }
     ensures { IfOk result (λ l. l ≡ via_of i letter.now ∷ []) }
 {
     let via = via_of(alloc, i, letter)?;
@@ -114,12 +127,12 @@ fn vias(alloc: Global, i: u64, letter: &[u8]) -> Result<List<Via>, NoMemory>
     Ok(vias)
 }
 
-#[tactic(auto, unfolding(sc_model::specs::Generated::via_of, sc_model::specs::Generated::local, sc_model::specs::Generated::branch_word))]
+#[tactic(auto, unfolding(sc_model::specs::Generated::via_of, sc_model::specs::Generated::local, sc_tokens::specs::Tokens::is_token, sc_tokens::specs::Tokens::is_token_byte, sc_tokens::specs::Hosts::is_host, sc_tokens::specs::Hosts::begins, sc_tokens::specs::Hosts::is_host_name, sc_tokens::specs::Bytes::is_host_byte))]
 fn via_of(alloc: Global, i: u64, letter: &[u8]) -> Result<Via, NoMemory>
+    requires { list_all is_token_byte letter.now ≡ true }
     ensures { IfOk result (λ v. v ≡ via_of i letter.now) }
 {
-    let branch = branch_of(alloc, i, letter)?;
-    let params = one_param(alloc, b"branch", branch)?;
+    let params = branch_params(alloc, i, letter)?;
     let transport = Text::from_slice(alloc, b"TCP")?;
     let host = Text::from_slice(alloc, b"127.0.0.1")?;
     Ok(Via {
@@ -130,8 +143,23 @@ fn via_of(alloc: Global, i: u64, letter: &[u8]) -> Result<Via, NoMemory>
     })
 }
 
+#[tactic(auto, using(sc_model::proofs::TokenFacts::branch_token, sc_model::proofs::TokenFacts::branch_line), unfolding(sc_model::specs::Generated::branch_word, sc_tokens::specs::Tokens::is_token, sc_tokens::specs::Tokens::is_token_byte))]
+fn branch_params(alloc: Global, i: u64, letter: &[u8]) -> Result<List<Param>, NoMemory>
+    requires { list_all is_token_byte letter.now ≡ true }
+    ensures exact { IfOk result (λ l. l ≡ valued branch_word (branch_of i letter.now) ∷ []) }
+    ensures kept { IfOk result (λ l. AreHeaderParams l) }
+{
+    let branch = branch_of(alloc, i, letter)?;
+    one_param(alloc, b"branch", branch)
+}
+
+#[tactic(auto, using(sc_model::proofs::TokenFacts::valued_kept))]
 fn one_param(alloc: Global, name: &[u8], value: Text) -> Result<List<Param>, NoMemory>
-    ensures { IfOk result (λ l. l ≡ valued name.now value ∷ []) }
+    requires name { is_token name.now ≡ true }
+    requires value { is_param_text value ≡ true }
+    requires line { is_one_line value ≡ true }
+    ensures exact { IfOk result (λ l. l ≡ valued name.now value ∷ []) }
+    ensures kept { IfOk result (λ l. AreHeaderParams l) }
 {
     let param = valued(alloc, name, value)?;
     let mut params = List::new(alloc);
@@ -139,13 +167,31 @@ fn one_param(alloc: Global, name: &[u8], value: Text) -> Result<List<Param>, NoM
     Ok(params)
 }
 
-#[tactic(auto, unfolding(sc_model::specs::Generated::from_side, sc_model::specs::Generated::caller, sc_model::specs::Generated::home, sc_model::specs::Generated::tag_word))]
+#[tactic(auto, using(sc_model::proofs::ParamFacts::token_is_value, sc_model::proofs::ParamFacts::token_is_line), unfolding(sc_model::specs::Generated::tag_word, sc_model::specs::Generated::caller, sc_tokens::specs::Tokens::is_token, sc_tokens::specs::Tokens::is_token_byte))]
+fn caller_params(alloc: Global) -> Result<List<Param>, NoMemory>
+    ensures exact { IfOk result (λ l. l ≡ valued tag_word caller ∷ []) }
+    ensures kept { IfOk result (λ l. AreHeaderParams l) }
+{
+    let tag = Text::from_slice(alloc, b"m")?;
+    one_param(alloc, b"tag", tag)
+}
+
+#[tactic(auto, using(sc_model::proofs::TokenFacts::answer_token, sc_model::proofs::TokenFacts::answer_line), unfolding(sc_model::specs::Generated::tag_word, sc_tokens::specs::Tokens::is_token, sc_tokens::specs::Tokens::is_token_byte))]
+fn answer_params(alloc: Global, i: u64) -> Result<List<Param>, NoMemory>
+    ensures exact { IfOk result (λ l. l ≡ valued tag_word (answer_tag i) ∷ []) }
+    ensures kept { IfOk result (λ l. AreHeaderParams l) }
+{
+    let tag = answer_tag(alloc, i)?;
+    one_param(alloc, b"tag", tag)
+}
+
+#[tactic(auto, unfolding(sc_model::specs::Generated::from_side, sc_model::specs::Generated::caller, sc_model::specs::Generated::home, sc_tokens::specs::Bytes::is_open, sc_tokens::specs::Bytes::is_closed, sc_tokens::specs::Cuts::has, sc_tokens::specs::Hosts::is_host, sc_tokens::specs::Hosts::begins, sc_tokens::specs::Hosts::is_host_name, sc_tokens::specs::Bytes::is_host_byte, sc_tokens::specs::HeaderTokens::IsDisplay))]
 fn from_side(alloc: Global) -> Result<Address, NoMemory>
     ensures { IfOk result (λ a. a ≡ from_side) }
 {
-    let tag = Text::from_slice(alloc, b"m")?;
-    let params = one_param(alloc, b"tag", tag)?;
+    let params = caller_params(alloc)?;
     let uri = user_uri(alloc, b"m", b"home.test", None)?;
+    uri.known();
     Ok(Address {
         display: None,
         uri,
@@ -153,7 +199,7 @@ fn from_side(alloc: Global) -> Result<Address, NoMemory>
     })
 }
 
-#[tactic(auto, unfolding(sc_model::specs::Generated::to_side, sc_model::specs::Generated::called, sc_model::specs::Generated::home))]
+#[tactic(auto, unfolding(sc_model::specs::Generated::to_side, sc_model::specs::Generated::called, sc_model::specs::Generated::home, sc_tokens::specs::Bytes::is_open, sc_tokens::specs::Bytes::is_closed, sc_tokens::specs::Cuts::has, sc_tokens::specs::Hosts::is_host, sc_tokens::specs::Hosts::begins, sc_tokens::specs::Hosts::is_host_name, sc_tokens::specs::Bytes::is_host_byte))]
 fn to_side(alloc: Global) -> Result<Address, NoMemory>
     ensures { IfOk result (λ a. a ≡ to_side) }
 {
@@ -161,13 +207,13 @@ fn to_side(alloc: Global) -> Result<Address, NoMemory>
     Ok(plain(alloc, uri))
 }
 
-#[tactic(auto, unfolding(sc_model::specs::Generated::answered_side, sc_model::specs::Generated::called, sc_model::specs::Generated::home, sc_model::specs::Generated::tag_word))]
+#[tactic(auto, unfolding(sc_model::specs::Generated::answered_side, sc_model::specs::Generated::called, sc_model::specs::Generated::home, sc_tokens::specs::Bytes::is_open, sc_tokens::specs::Bytes::is_closed, sc_tokens::specs::Cuts::has, sc_tokens::specs::Hosts::is_host, sc_tokens::specs::Hosts::begins, sc_tokens::specs::Hosts::is_host_name, sc_tokens::specs::Bytes::is_host_byte, sc_tokens::specs::HeaderTokens::IsDisplay))]
 fn answered_side(alloc: Global, i: u64) -> Result<Address, NoMemory>
     ensures { IfOk result (λ a. a ≡ answered_side i) }
 {
-    let tag = answer_tag(alloc, i)?;
-    let params = one_param(alloc, b"tag", tag)?;
+    let params = answer_params(alloc, i)?;
     let uri = user_uri(alloc, b"u", b"home.test", None)?;
+    uri.known();
     Ok(Address {
         display: None,
         uri,
@@ -184,7 +230,7 @@ fn contacts(alloc: Global) -> Result<List<Contact>, NoMemory>
     Ok(contacts)
 }
 
-#[tactic(auto, unfolding(sc_model::specs::Generated::caller_contact, sc_model::specs::Generated::caller, sc_model::specs::Generated::local))]
+#[tactic(auto, unfolding(sc_model::specs::Generated::caller_contact, sc_model::specs::Generated::caller, sc_model::specs::Generated::local, sc_tokens::specs::Bytes::is_open, sc_tokens::specs::Bytes::is_closed, sc_tokens::specs::Cuts::has, sc_tokens::specs::Hosts::is_host, sc_tokens::specs::Hosts::begins, sc_tokens::specs::Hosts::is_host_name, sc_tokens::specs::Bytes::is_host_byte))]
 fn caller_contact(alloc: Global) -> Result<Contact, NoMemory>
     ensures { IfOk result (λ c. c ≡ caller_contact) }
 {
@@ -209,9 +255,11 @@ fn route_of(alloc: Global, i: u64) -> Result<Address, NoMemory>
     Ok(plain(alloc, uri))
 }
 
+#[tactic(auto, unfolding(sc_tokens::specs::HeaderTokens::IsDisplay, sc_value::specs::ParamRules::AreHeaderParams))]
 fn plain(alloc: Global, uri: Uri) -> Address
     ensures { result ≡ record { display = None; uri = uri; params = [] } }
 {
+    uri.known();
     Address {
         display: None,
         uri,

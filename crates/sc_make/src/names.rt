@@ -1,10 +1,15 @@
 //! The names and URIs in the script's messages.
 
-ghost use Rattle.std.specs.Prelude.{◌≡◌, ◌++◌, ◌∷◌, [], None, Some, IfOk, OnOk, decimal};
+ghost use Rattle.std.specs.Prelude.{◌≡◌, ◌++◌, ◌∷◌, [], None, Some, IfOk, OnOk, decimal, true, false};
+ghost use Rattle.sc_tokens.specs.Bytes.{is_open};
+ghost use Rattle.sc_tokens.specs.Cuts.{has};
+ghost use Rattle.sc_tokens.specs.Hosts.{is_host};
+ghost use Rattle.sc_tokens.specs.Tokens.{is_value};
+ghost use Rattle.sc_value.specs.ParamRules.{AreUriParams};
 ghost use Rattle.sc_value.specs.declared.parts.Uri.{Uri};
 ghost use Rattle.sc_model.specs.Generated.{local, caller, valued, session_text, user_uri, transport_param, lr_param, session_param, session_uri, mark, answer_tag, cookie, branch_of, call_of};
 
-use sc_value::{List, NoMemory, Param, SipUri, Text, Uri, write_u64};
+use sc_value::{HeaderValue, List, NoMemory, Param, SipUri, Text, Uri, write_u64};
 use std::alloc::Global;
 
 /// `name=value`.
@@ -20,8 +25,11 @@ pub fn valued(alloc: Global, name: &[u8], value: Text) -> Result<Param, NoMemory
 }
 
 /// `sip:user@host:port`.
-#[tactic(auto, unfolding(sc_model::specs::Generated::user_uri))]
+#[tactic(auto, unfolding(sc_model::specs::Generated::user_uri, sc_tokens::specs::UriTokens::IsUser, sc_value::specs::ParamRules::AreUriParams))]
 pub fn user_uri(alloc: Global, user: &[u8], host: &[u8], port: Option<u16>) -> Result<Uri, NoMemory>
+    requires bytes { is_open user.now ≡ true }
+    requires user { has 64 user.now ≡ false }
+    requires host { is_host host.now ≡ true }
     ensures { IfOk result (λ u. u ≡ user_uri user.now host.now port) }
 {
     let user = Text::from_slice(alloc, user)?;
@@ -36,7 +44,7 @@ pub fn user_uri(alloc: Global, user: &[u8], host: &[u8], port: Option<u16>) -> R
 }
 
 /// `sip:127.0.0.1:5060;transport=tcp;lr;ap=h-i`.
-#[tactic(auto, unfolding(sc_model::specs::Generated::session_uri, sc_model::specs::Generated::local))]
+#[tactic(auto, unfolding(sc_model::specs::Generated::session_uri, sc_model::specs::Generated::local, sc_tokens::specs::UriTokens::IsUser, sc_tokens::specs::Hosts::is_host, sc_tokens::specs::Hosts::begins, sc_tokens::specs::Hosts::is_host_name, sc_tokens::specs::Bytes::is_host_byte))]
 pub fn session_uri(alloc: Global, host: u64, i: u64) -> Result<Uri, NoMemory>
     ensures { IfOk result (λ u. u ≡ session_uri host i) }
 {
@@ -51,8 +59,10 @@ pub fn session_uri(alloc: Global, host: u64, i: u64) -> Result<Uri, NoMemory>
     }))
 }
 
+#[tactic(auto, using(sc_model::proofs::UriFacts::session_kept))]
 fn session_params(alloc: Global, host: u64, i: u64) -> Result<List<Param>, NoMemory>
-    ensures { IfOk result (λ l. l ≡ transport_param ∷ lr_param ∷ session_param host i ∷ []) }
+    ensures exact { IfOk result (λ l. l ≡ transport_param ∷ lr_param ∷ session_param host i ∷ []) }
+    ensures kept { IfOk result (λ l. AreUriParams l) }
 {
     let transport = transport_param(alloc)?;
     let lr = lr_param(alloc)?;
@@ -122,9 +132,17 @@ pub fn branch_of(alloc: Global, i: u64, letter: &[u8]) -> Result<Text, NoMemory>
 }
 
 /// `m` and i.
-#[tactic(auto, unfolding(sc_model::specs::Generated::call_of, sc_model::specs::Generated::caller))]
-pub fn call_of(alloc: Global, i: u64) -> Result<Text, NoMemory>
+pub fn call_of(alloc: Global, i: u64) -> Result<HeaderValue, NoMemory>
     ensures { IfOk result (λ t. t ≡ call_of i) }
+{
+    let text = call_text(alloc, i)?;
+    HeaderValue::from_slice(alloc, text.as_bytes())
+}
+
+#[tactic(auto, using(sc_model::proofs::TokenFacts::call_value), unfolding(sc_model::specs::Generated::call_of, sc_model::specs::Generated::caller))]
+fn call_text(alloc: Global, i: u64) -> Result<Text, NoMemory>
+    ensures exact { IfOk result (λ t. t ≡ call_of i) }
+    ensures value { IfOk result (λ t. is_value t ≡ true) }
 {
     let mut text = Text::from_slice(alloc, b"m")?;
     write_u64(i, &mut text)?;

@@ -2,8 +2,8 @@
 use Rattle.std.proofs.Common.{◌≡◌, ℕ, true, false, ◌-◌, ◌≤◌, ◌<◌, length, take, get_or, arith}
 use Rattle.std.specs.List.{suffix_len}
 use Rattle.std.proofs.lemmas.List.Sums.{suffix_len-take_yes, suffix_len-take_no}
-use Rattle.sc_value.specs.Tokens.{is_blank}
-use Rattle.sc_syntax.specs.Bytes.{Bytes}
+use Rattle.sc_tokens.specs.Tokens.{is_blank}
+use Rattle.sc_tokens.specs.Bytes.{Bytes}
 
 pub back_yes : (text : Bytes) (len : ℕ) → 0 < len → len ≤ length text → is_blank (get_or text (len - 1) 0) ≡ true
     → len - 1 - suffix_len is_blank (take (len - 1) text) ≡ len - suffix_len is_blank (take len text)

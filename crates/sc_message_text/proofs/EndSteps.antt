@@ -4,9 +4,9 @@ use Rattle.std.specs.Option.{option_map}
 use Rattle.std.proofs.lemmas.List.{at_drop_all, drop_more, take_all, length-drop}
 use Rattle.sc_syntax.specs.declared.ending.Ending.{Ending}
 use Rattle.sc_syntax.specs.declared.ending.Ending.TheVariants.{Any, Unfolded, Empty}
-use Rattle.sc_syntax.specs.Bytes.{Bytes}
-use Rattle.sc_syntax.specs.Cuts.{onto_first}
-use Rattle.sc_syntax.specs.Hosts.{begins}
+use Rattle.sc_tokens.specs.Bytes.{Bytes}
+use Rattle.sc_tokens.specs.Cuts.{onto_first}
+use Rattle.sc_tokens.specs.Hosts.{begins}
 use Rattle.sc_syntax.specs.Lines.{begins_break, is_end, end_of, pieces_at}
 use Rattle.sc_message_text.specs.Pieces.{pieces_behind}
 

@@ -3,15 +3,13 @@ use Rattle.std.proofs.Common.{◌≡◌, ℕ, Bool, true, false, cond, not, ◌=
 use Rattle.std.specs.Prelude.{is_some}
 use Rattle.std.specs.Option.{option_map_or}
 use Rattle.std.proofs.lemmas.Bool.{false≢true}
+use Rattle.sc_value.specs.declared.message.Head.{Head}
 use Rattle.sc_value.specs.declared.message.Message.{Message}
 use Rattle.sc_syntax.specs.declared.left.Left.{Left}
 use Rattle.sc_syntax.specs.declared.left.Lists.{Lists}
 use Rattle.sc_syntax.specs.declared.left.Start.{Start}
-use Rattle.sc_syntax.specs.Bytes.{Bytes}
+use Rattle.sc_tokens.specs.Bytes.{Bytes}
 use Rattle.sc_syntax.specs.Messages.{Peers, peers_of, head_of, message_with, is_method_of, fits, finished_with, finished}
-use Rattle.sc_message_text.specs.declared.refused.LineRefused.TheVariants as refusals
-use Rattle.sc_message_text.specs.declared.refused.LineRefused.{LineRefused}
-use Rattle.sc_message_text.specs.Answers.{ReadsLine}
 
 by_tests : (m f : Bool) (message : Message) → ◌≡◌ {A = Option ℕ} None (cond (not m) (Some 10) (cond (not f) (Some 12) None)) → ◌≡◌ {A = Result Message ℕ} (cond (not m) (Err 10) (cond (not f) (Err 12) (Ok message))) (Ok message)
 by_tests true true message h = refl
@@ -33,12 +31,13 @@ complete start left body peers some is =
     ap (λ t. cond t (Err 7) (option_map_or (finished_with start left.lists left.singles.hops left.singles.length body) (peers_of left.singles) (Err 7))) some
     ∙ ap (λ o. option_map_or (finished_with start left.lists left.singles.hops left.singles.length body) o (Err 7)) is
 
-reads_same : {X : Type 0} (result : Result X LineRefused) (a b : Result X ℕ) → b ≡ a → ReadsLine result a → ReadsLine result b
-reads_same (Ok x) a b same h = same ∙ h
-reads_same (Err (refusals.Fault kind)) a b same h = same ∙ h
-reads_same (Err refusals.NoMemory) a b same h = tt
+pub finished_read : (result : Result Message ℕ) (start : Start) (left : Left) (body : Bytes) (peers : Peers) → (length left.lists.via == 0) ≡ false → Some peers ≡ peers_of left.singles
+    → result ≡ finished_with start left.lists left.singles.hops left.singles.length body peers → result ≡ finished start left body
+finished_read result start left body peers some is h = h ∙ sym (complete start left body peers some (sym is))
 
-pub finished_read : (result : Result Message LineRefused) (start : Start) (left : Left) (body : Bytes) (peers : Peers) → (length left.lists.via == 0) ≡ false → Some peers ≡ peers_of left.singles
-    → ReadsLine result (finished_with start left.lists left.singles.hops left.singles.length body peers) → ReadsLine result (finished start left body)
-finished_read result start left body peers some is h =
-    reads_same result (finished_with start left.lists left.singles.hops left.singles.length body peers) (finished start left body) (complete start left body peers some (sym is)) h
+pub finished_made : (start : Start) (lists : Lists) (hops len : Option ℕ) (bytes body : Bytes) (peers : Peers) (head : Head) (message : Message) → bytes ≡ body
+    → ◌≡◌ {A = Option ℕ} None (cond (not (is_method_of start peers.1.1.method)) (Some 10) (cond (not (fits len bytes)) (Some 12) None))
+    → head ≡ head_of lists peers body → message ≡ message_with start hops head → Ok message ≡ finished_with start lists hops len body peers
+finished_made start lists hops len bytes body peers head message same none is made =
+    ap Ok (made ∙ ap (message_with start hops) is)
+    ∙ sym (finished_well start lists hops len body peers (none ∙ ap (λ b. cond (not (is_method_of start peers.1.1.method)) (Some 10) (cond (not (fits len b)) (Some 12) None)) same))

@@ -3,7 +3,7 @@ use Rattle.std.proofs.Common.{◌≡◌, Some, None, List, [], ◌∷◌, refl, 
 use Rattle.std.specs.List.{fold}
 use Rattle.sc_syntax.specs.declared.ending.Ending.{Ending}
 use Rattle.sc_syntax.specs.declared.ending.Ending.TheVariants.{Any}
-use Rattle.sc_syntax.specs.Bytes.{Bytes}
+use Rattle.sc_tokens.specs.Bytes.{Bytes}
 use Rattle.sc_syntax.specs.Lines.{end_of, pieces_at}
 use Rattle.sc_syntax.specs.Folds.{continued, all_continued, joined}
 use Rattle.sc_message_text.specs.Pieces.{pieces_behind}

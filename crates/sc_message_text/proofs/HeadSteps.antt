@@ -4,7 +4,7 @@ use Rattle.std.specs.Prelude.{IfSome}
 use Rattle.std.specs.Option.{option_copied, option_map_or}
 use Rattle.sc_syntax.specs.declared.ending.Ending.TheVariants.{Unfolded}
 use Rattle.sc_syntax.specs.declared.left.Left.{Left}
-use Rattle.sc_syntax.specs.Bytes.{Bytes}
+use Rattle.sc_tokens.specs.Bytes.{Bytes}
 use Rattle.sc_syntax.specs.UriParts.{Fault, then_read}
 use Rattle.sc_syntax.specs.Lines.{lines_behind}
 use Rattle.sc_syntax.specs.Folds.{joined}

@@ -2,10 +2,10 @@
 
 ghost use Rattle.std.specs.Prelude.{◌≡◌, ◌≤◌, ◌-◌, length};
 ghost use Rattle.std.specs.List.{prefix_len, suffix_len};
-ghost use Rattle.sc_value.specs.Tokens.{is_blank};
-ghost use Rattle.sc_syntax.specs.Blanks.{trimmed, trimmed_back, trimmed_front};
+ghost use Rattle.sc_tokens.specs.Tokens.{is_blank};
+ghost use Rattle.sc_tokens.specs.Blanks.{trimmed, trimmed_back, trimmed_front};
 
-#[tactic(auto, unfolding(sc_value::specs::Tokens::is_blank))]
+#[tactic(auto, unfolding(sc_tokens::specs::Tokens::is_blank))]
 pub fn is_blank(b: u8) -> bool
     ensures { result ≡ is_blank b }
 {
@@ -13,7 +13,7 @@ pub fn is_blank(b: u8) -> bool
 }
 
 /// The text without the blanks at its ends.
-#[tactic(auto, unfolding(sc_syntax::specs::Blanks::trimmed))]
+#[tactic(auto, unfolding(sc_tokens::specs::Blanks::trimmed))]
 pub fn trim(text: &[u8]) -> &[u8]
     ensures { result.now ≡ trimmed text.now }
 {
@@ -21,7 +21,7 @@ pub fn trim(text: &[u8]) -> &[u8]
 }
 
 // The text without the blanks at its front.
-#[tactic(auto, unfolding(sc_syntax::specs::Blanks::trimmed_front))]
+#[tactic(auto, unfolding(sc_tokens::specs::Blanks::trimmed_front))]
 pub fn trim_front(text: &[u8]) -> &[u8]
     ensures { result.now ≡ trimmed_front text.now }
 {
@@ -41,7 +41,7 @@ fn blanks_len(text: &[u8]) -> usize
 }
 
 /// The text without the blanks at its back.
-#[tactic(auto, unfolding(sc_syntax::specs::Blanks::trimmed_back))]
+#[tactic(auto, unfolding(sc_tokens::specs::Blanks::trimmed_back))]
 pub fn trim_back(text: &[u8]) -> &[u8]
     ensures { result.now ≡ trimmed_back text.now }
 {

@@ -2,7 +2,7 @@
 
 ghost use Rattle.std.specs.Prelude.{◌≡◌, ◌≤◌, ◌<◌, ◌+◌, ◌∷◌, IfSome, IsTrue, length, take, drop};
 ghost use Rattle.std.specs.Option.{option_copied, option_map};
-ghost use Rattle.sc_value.specs.Tokens.{begins_blank};
+ghost use Rattle.sc_tokens.specs.Tokens.{begins_blank};
 ghost use Rattle.sc_syntax.specs.declared.ending.Ending.TheVariants.{Empty};
 ghost use Rattle.sc_syntax.specs.Lines.{begins_break, behind_start, end_of, is_end, pieces_at, start_line};
 ghost use Rattle.sc_message_text.specs.Pieces.{pieces_behind};
@@ -19,7 +19,7 @@ pub fn begins_break(text: &[u8]) -> bool
     begins(text, b'\r') && begins(&text[1..], b'\n')
 }
 
-#[tactic(auto, unfolding(sc_value::specs::Tokens::begins_blank, sc_value::specs::Tokens::is_blank))]
+#[tactic(auto, unfolding(sc_tokens::specs::Tokens::begins_blank, sc_tokens::specs::Tokens::is_blank))]
 fn begins_blank(text: &[u8]) -> bool
     ensures { result ≡ begins_blank text.now }
 {

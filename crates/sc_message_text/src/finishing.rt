@@ -1,35 +1,77 @@
 //! What the header lines have left, put together with start line and body (RFC 3261 section 7).
 
-ghost use Rattle.std.specs.Prelude.{◌≡◌, Some, None, not, if◌then◌else◌, IfOk};
-ghost use Rattle.sc_syntax.specs.Messages.{finished, finished_with, fits, head_of, is_method_of, message_with, peers_of};
-ghost use Rattle.sc_message_text.specs.Answers.{ReadsLine};
+ghost use Rattle.std.specs.Prelude.{◌≡◌, Some, None, not, if◌then◌else◌};
+ghost use Rattle.std.specs.Option.{option_copied, option_map};
+ghost use Rattle.sc_syntax.specs.Messages.{finished, finished_with, fits, head_of, is_method_of, lacking, message_with, peers_of};
 
-use crate::refused::LineRefused;
-use sc_syntax::{Left, Lists, Singles, Start};
-use sc_value::{Address, CSeq, Head, Message, NoMemory, Request, Response, Text};
-use std::alloc::Global;
+use sc_syntax::{HeadParts, Left, Lists, Singles, Start};
+use sc_value::{Address, CSeq, Head, HeaderValue, Message, Request, Response, Text};
 
 // From and To, Call-ID and CSeq.
-type Peers = ((Address, Address), (Text, CSeq));
+type Peers = ((Address, Address), (HeaderValue, CSeq));
 
-// The message, or the kind of the fault that shows at the empty line.
+/// The kind of the fault that a head has whatever its body is: 7, where From, To, Call-ID, CSeq or Via
+/// is missing, or 10, where CSeq has another method than the request (RFC 3261 section 8.1.1).
+#[tactic(auto, unfolding(sc_syntax::specs::Messages::lacking))]
+pub fn lacking(parts: &HeadParts) -> Option<u8>
+    ensures { result ≡ lacking parts.now }
+{
+    if parts.left.lists.via.is_empty() {
+        return Some(7);
+    }
+    match cseq_beside(&parts.left.singles) {
+        Some(cseq) => method_fault(&parts.start, cseq.method.as_bytes()),
+        None => Some(7),
+    }
+}
+
+// The CSeq, where From, To and Call-ID are there too.
+#[tactic(auto, unfolding(sc_syntax::specs::Messages::peers_of))]
+fn cseq_beside(singles: &Singles) -> Option<&CSeq>
+    ensures { option_copied result ≡ option_map (λ peers. peers.1.1) (peers_of singles.now) }
+{
+    if singles.from.is_none() || singles.to.is_none() || singles.call_id.is_none() {
+        return None;
+    }
+    singles.cseq.as_ref()
+}
+
+fn method_fault(start: &Start, named: &[u8]) -> Option<u8>
+    ensures { result ≡ (if is_method_of start.now named.now then None else Some 10) }
+{
+    if is_method_of(start, named) {
+        None
+    } else {
+        Some(10)
+    }
+}
+
+/// The message of a head that is read and of its body, or the kind of the fault that shows at the empty
+/// line: 7 or 10, as [`lacking`] tells, or 12, a body of another length than Content-Length (RFC 3261
+/// section 7). It takes no memory.
+pub fn put_together(parts: HeadParts, body: Text) -> Result<Message, u8>
+    ensures { result ≡ finished parts.start parts.left body }
+{
+    finish(parts.start, parts.left, body)
+}
+
 #[tactic(auto, unfolding(sc_syntax::specs::Messages::finished))]
-pub fn finish(alloc: Global, start: Start, left: Left, body: &[u8]) -> Result<Message, LineRefused>
-    ensures { ReadsLine result (finished start left body.now) }
+fn finish(start: Start, left: Left, body: Text) -> Result<Message, u8>
+    ensures { result ≡ finished start left body }
 {
     if left.lists.via.is_empty() {
         drop(left);
         drop(start);
-        return Err(LineRefused::Fault(7));
+        return Err(7);
     }
     let (hops, length) = (left.singles.hops, left.singles.length);
     let lists = left.lists;
     match peers_of(left.singles) {
-        Some(peers) => finish_with(alloc, start, lists, peers, hops, length, body),
+        Some(peers) => finish_with(start, lists, peers, hops, length, body),
         None => {
             drop(lists);
             drop(start);
-            Err(LineRefused::Fault(7))
+            Err(7)
         }
     }
 }
@@ -45,27 +87,23 @@ fn peers_of(singles: Singles) -> Option<Peers>
 // The same, where Via, From, To, Call-ID and CSeq are there.
 #[tactic(auto, unfolding(sc_syntax::specs::Messages::finished_with))]
 fn finish_with(
-    alloc: Global,
     start: Start,
     lists: Lists,
     peers: Peers,
     hops: Option<u8>,
     length: Option<u64>,
-    body: &[u8],
-) -> Result<Message, LineRefused>
-    ensures { ReadsLine result (finished_with start lists hops length body.now peers) }
+    body: Text,
+) -> Result<Message, u8>
+    ensures { result ≡ finished_with start lists hops length body peers }
 {
-    match end_fault(&start, &peers.1.1, length, body) {
+    match end_fault(&start, &peers.1.1, length, body.as_bytes()) {
         Some(kind) => {
             drop(peers);
             drop(lists);
             drop(start);
-            Err(LineRefused::Fault(kind))
+            Err(kind)
         }
-        None => match build(alloc, start, lists, peers, hops, body) {
-            Ok(message) => Ok(message),
-            Err(NoMemory) => Err(LineRefused::NoMemory),
-        },
+        None => Ok(message_with(start, hops, head_of(lists, peers, body))),
     }
 }
 
@@ -102,28 +140,6 @@ fn end_fault(start: &Start, cseq: &CSeq, length: Option<u64>, body: &[u8]) -> Op
         return Some(12);
     }
     None
-}
-
-// The message that has no fault.
-fn build(
-    alloc: Global,
-    start: Start,
-    lists: Lists,
-    peers: Peers,
-    hops: Option<u8>,
-    body: &[u8],
-) -> Result<Message, NoMemory>
-    ensures { IfOk result (λ message. message ≡ message_with start hops (head_of lists peers body.now)) }
-{
-    match Text::from_slice(alloc, body) {
-        Ok(body) => Ok(message_with(start, hops, head_of(lists, peers, body))),
-        Err(cause) => {
-            drop(peers);
-            drop(lists);
-            drop(start);
-            Err(cause)
-        }
-    }
 }
 
 #[tactic(auto, unfolding(sc_syntax::specs::Messages::head_of))]

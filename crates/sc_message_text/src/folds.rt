@@ -4,7 +4,7 @@ ghost use Rattle.std.specs.Prelude.{◌≡◌, ◌++◌, ◌∷◌, IfOk, OnOk};
 ghost use Rattle.std.specs.List.{fold};
 ghost use Rattle.std.specs.Option.{option_copied};
 ghost use Rattle.sc_syntax.specs.declared.ending.Ending.TheVariants.{Any};
-ghost use Rattle.sc_syntax.specs.Blanks.{trimmed_back};
+ghost use Rattle.sc_tokens.specs.Blanks.{trimmed_back};
 ghost use Rattle.sc_syntax.specs.Folds.{continued, joined};
 ghost use Rattle.sc_message_text.specs.Pieces.{pieces_behind};
 
@@ -41,7 +41,7 @@ fn continue_all(text: &mut Vec<u8>, rest: Option<&[u8]>) -> Result<(), NoMemory>
     }
 }
 
-#[tactic(auto, unfolding(sc_syntax::specs::Folds::continued, sc_syntax::specs::Blanks::trimmed_back))]
+#[tactic(auto, unfolding(sc_syntax::specs::Folds::continued, sc_tokens::specs::Blanks::trimmed_back))]
 fn continue_by(text: &mut Vec<u8>, piece: &[u8]) -> Result<(), NoMemory>
     ensures { OnOk result (text.new.items ≡ continued text.old.items piece.now) }
 {

@@ -14,10 +14,10 @@ use crate::folds::join;
 use crate::refused::{LineRefused, MessageRefused};
 use crate::taking::take_line;
 use sc_syntax::{Ending, Left, Lists, Singles};
-use sc_value::List;
+use sc_value::{List, Others};
 use std::alloc::Global;
 
-/// What is left before the first header line.
+// What is left before the first header line.
 #[tactic(auto, unfolding(sc_syntax::specs::Messages::nothing_left, sc_syntax::specs::Messages::no_lists, sc_syntax::specs::Messages::no_singles))]
 pub fn nothing_left(alloc: Global) -> Left
     ensures { result ≡ nothing }
@@ -29,7 +29,7 @@ pub fn nothing_left(alloc: Global) -> Left
             route: List::new(alloc),
             record_route: List::new(alloc),
             contact: List::new(alloc),
-            others: List::new(alloc),
+            others: Others::new(alloc),
         },
         singles: Singles {
             from: None,
@@ -42,8 +42,8 @@ pub fn nothing_left(alloc: Global) -> Left
     }
 }
 
-/// The header lines behind an end, of which the first begins at this place, in bytes from the
-/// message's first one: what they leave, or the place and the kind of the first fault.
+// The header lines behind an end, of which the first begins at this place, in bytes from the
+// message's first one: what they leave, or the place and the kind of the first fault.
 pub fn take_lines(
     left: &mut Left,
     alloc: Global,

@@ -4,11 +4,12 @@ ghost use Rattle.std.specs.Prelude.{◌≡◌, ◌++◌, ◌∷◌, [], OnOk};
 ghost use Rattle.std.specs.Option.{option_map_or};
 ghost use Rattle.sc_syntax.specs.declared.left.Left.{Left};
 ghost use Rattle.sc_syntax.specs.Judging.{begins_well, counted, has_branch, with_call_id, with_contacts, with_cseq, with_field, with_from, with_hops, with_length, with_record_routes, with_routes, with_to, with_vias};
+ghost use Rattle.sc_value.specs.OtherFields.{IsOther};
 ghost use Rattle.sc_message_text.specs.Answers.{Takes};
 
 use crate::refused::LineRefused;
 use sc_syntax::Left;
-use sc_value::{Address, CSeq, Contact, Field, List, NoMemory, Text, Via, branch};
+use sc_value::{Address, CSeq, Contact, Field, HeaderValue, List, NoMemory, Others, Via, branch};
 
 // So many values more, where there is room for them.
 #[tactic(auto, unfolding(sc_syntax::specs::Judging::counted))]
@@ -31,7 +32,8 @@ fn append<T: Drop>(items: &mut List<T>, more: List<T>) -> Result<(), NoMemory>
     Ok(())
 }
 
-fn put_last(fields: &mut List<Field>, field: Field) -> Result<(), NoMemory>
+fn put_last(fields: &mut Others, field: Field) -> Result<(), NoMemory>
+    requires { IsOther field }
     ensures { OnOk result (fields.new ≡ fields.old ++ field ∷ []) }
 {
     fields.push(field)?;
@@ -119,7 +121,7 @@ pub fn keep_to(left: &mut Left, address: Address) -> Result<(), LineRefused>
 }
 
 #[tactic(auto, unfolding(sc_syntax::specs::Judging::with_call_id))]
-pub fn keep_call_id(left: &mut Left, text: Text) -> Result<(), LineRefused>
+pub fn keep_call_id(left: &mut Left, text: HeaderValue) -> Result<(), LineRefused>
     ensures { Takes result left.new (with_call_id left.old text) }
 {
     left.singles.call_id = Some(text);
@@ -152,6 +154,7 @@ pub fn keep_length(left: &mut Left, len: u64) -> Result<(), LineRefused>
 
 #[tactic(auto, unfolding(sc_syntax::specs::Judging::with_field))]
 pub fn keep_field(left: &mut Left, field: Field) -> Result<(), LineRefused>
+    requires { IsOther field }
     ensures { Takes result left.new (with_field left.old field.name field.value) }
 {
     put_last(&mut left.lists.others, field)?;

@@ -23,9 +23,9 @@ mod whole;
 
 pub use blanks::{trim, trim_back};
 pub use ends::{begins_break, end_of, split_piece, split_start};
+pub use finishing::{lacking, put_together};
 pub use folds::join;
-pub use heads::{nothing_left, take_lines};
 pub use messages::{text_of, write};
 pub use refused::MessageRefused;
 pub use uris::uri_text;
-pub use whole::{read_message, read_parts};
+pub use whole::{read_head, read_message, read_parts};

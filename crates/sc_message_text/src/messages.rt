@@ -1,9 +1,14 @@
 //! Whole messages (RFC 3261 section 7).
 
-ghost use Rattle.std.specs.Prelude.{◌≡◌, ◌++◌, length, decimal, IfOk, OnErr, OnOk};
+ghost use Rattle.std.specs.Prelude.{◌≡◌, ◌++◌, length, decimal, Ok, IfOk, OnErr, OnOk};
 ghost use Rattle.std.specs.List.{flat_map};
 ghost use Rattle.sc_grammar.specs.Written.{address_text, closing_lines, contact_line, crlf, cseq_text, dialog_lines, field_line, head_text, hops_line, line, request_line, routing_lines, status_line, written};
-ghost use Rattle.sc_value.specs.HeaderNames.{call_id_name, content_length_name, cseq_name, from_name, to_name};
+ghost use Rattle.sc_value.specs.declared.message.Message.{Message};
+ghost use Rattle.sc_syntax.specs.Messages.{message_of};
+ghost use Rattle.sc_spelling.specs.Kept.{HasBranch, HasRoom};
+ghost use Rattle.sc_spelling.specs.Made.{HasCode};
+ghost use Rattle.sc_spelling.specs.SpelledMessages.{HasMethod};
+ghost use Rattle.sc_tokens.specs.HeaderNames.{call_id_name, content_length_name, cseq_name, from_name, to_name};
 
 use crate::headers::put_cseq;
 use crate::items::put_items;
@@ -14,6 +19,7 @@ use crate::lines::{
 use crate::names;
 use crate::pieces::{put_byte, put_line_end, put_version};
 use crate::uris::put_uri;
+use sc_spelling::written_again;
 use sc_value::{
     Address, CSeq, Contact, Field, Head, Message, NoMemory, Request, Response, Text, Via, write_u64,
 };
@@ -21,8 +27,19 @@ use std::alloc::Global;
 
 /// The written form of a message, in a text of its own (RFC 3261 section 7). The order of the
 /// headers is Via, Route, Record-Route, Max-Forwards (in requests alone), From, To, Call-ID, CSeq,
-/// Contact, all others, Content-Length, one line an item. The one error is want of memory.
+/// Contact, all others, Content-Length, one line an item. It is never read as another message, and
+/// it is read as this one where a request has its CSeq's method, a response a code of 100 to 699,
+/// the first Via its branch, and where there are at most 128 values. The one error is want of memory.
 pub fn text_of(alloc: Global, message: &Message) -> Result<Text, NoMemory>
+    ensures written { IfOk result (λ text. text ≡ written message.now) }
+    ensures again { HasMethod message.now → HasCode message.now → HasBranch message.now → HasRoom message.now → IfOk result (λ text. message_of text ≡ Ok message.now) }
+    ensures never_another { (other : Message) → IfOk result (λ text. message_of text ≡ Ok other → other ≡ message.now) }
+{
+    written_again(message);
+    written_text(alloc, message)
+}
+
+fn written_text(alloc: Global, message: &Message) -> Result<Text, NoMemory>
     ensures { IfOk result (λ text. text ≡ written message.now) }
 {
     let mut out = Text::new(alloc);

@@ -3,8 +3,8 @@
 ghost use Rattle.std.specs.Prelude.{◌≡◌, take};
 ghost use Rattle.std.specs.Result.{result_ok};
 ghost use Rattle.sc_head_text.specs.Answers.{Gives};
-ghost use Rattle.sc_syntax.specs.Cuts.{has};
-ghost use Rattle.sc_syntax.specs.Numbers.{number_below};
+ghost use Rattle.sc_tokens.specs.Cuts.{has};
+ghost use Rattle.sc_tokens.specs.Numbers.{number_below};
 ghost use Rattle.sc_syntax.specs.StartLines.{at_least_100, code_of, is_broken, is_status_line, is_version, request_behind, request_in, request_of, start_of, status_behind, status_in, status_of};
 ghost use Rattle.sc_syntax.specs.Uris.{uri_of};
 ghost use Rattle.sc_message_text.specs.Answers.{ReadsLine};
@@ -14,7 +14,7 @@ use sc_ascii::read_u64;
 use sc_head_text::Unread;
 use sc_syntax::Start;
 use sc_uri_text::cut;
-use sc_value::{Text, Uri, is_one_line, is_token, same_name};
+use sc_value::{Reason, Token, Uri, is_one_line, is_token, same_name};
 use std::alloc::Global;
 
 // The start line, or the kind of its fault.
@@ -40,7 +40,7 @@ fn is_broken(line: &[u8]) -> bool
     has(line, b'\r') || has(line, b'\n')
 }
 
-#[tactic(auto, unfolding(sc_syntax::specs::Cuts::has))]
+#[tactic(auto, unfolding(sc_tokens::specs::Cuts::has))]
 fn has(text: &[u8], sign: u8) -> bool
     ensures { result ≡ has sign text.now }
 {
@@ -109,7 +109,7 @@ fn read_request_parts(
     if !is_token(method) {
         return Err(LineRefused::Fault(3));
     }
-    let method = Text::from_slice(alloc, method)?;
+    let method = Token::from_slice(alloc, method)?;
     match read_target(alloc, uri) {
         Ok(uri) => Ok(Start::Request { method, uri }),
         Err(Unread::Fault) => Err(LineRefused::Fault(4)),
@@ -168,7 +168,7 @@ fn read_status_parts(
     }
     match read_code(code) {
         Some(code) => {
-            let reason = Text::from_slice(alloc, reason)?;
+            let reason = Reason::from_slice(alloc, reason)?;
             Ok(Start::Status { code, reason })
         }
         None => Err(LineRefused::Fault(5)),

@@ -1,9 +1,13 @@
 //! Header lines, judged one by one (RFC 3261 sections 7.3 and 20).
 
-ghost use Rattle.std.specs.Prelude.{◌≡◌, Some, is_some};
+ghost use Rattle.std.specs.Prelude.{◌≡◌, Some, is_some, true};
 ghost use Rattle.sc_syntax.specs.Addresses.{address_of, addresses_of, contacts_of};
 ghost use Rattle.sc_syntax.specs.Judging.{header_named, in_line, judged, named, taken, taken_as, taken_once, with_call_id, with_contacts, with_cseq, with_field, with_from, with_hops, with_length, with_record_routes, with_routes, with_to, with_vias};
-ghost use Rattle.sc_syntax.specs.Numbers.{number_of};
+ghost use Rattle.sc_tokens.specs.Blanks.{trimmed};
+ghost use Rattle.sc_tokens.specs.HeaderNames.{long_name};
+ghost use Rattle.sc_tokens.specs.Numbers.{number_of};
+ghost use Rattle.sc_tokens.specs.Tokens.{is_token};
+ghost use Rattle.sc_syntax.specs.declared.left.Header.TheVariants as headers;
 ghost use Rattle.sc_syntax.specs.Sequences.{cseq_of, hops_of};
 ghost use Rattle.sc_syntax.specs.Vias.{vias_of};
 ghost use Rattle.sc_message_text.specs.Answers.{Takes};
@@ -16,7 +20,7 @@ use sc_head_text::{
 };
 use sc_syntax::{Header, Left};
 use sc_uri_text::cut;
-use sc_value::{Field, Text, is_one_line, is_token, long_name, same_name};
+use sc_value::{Field, HeaderValue, Text, is_one_line, is_token, long_name, same_name};
 use std::alloc::Global;
 
 // Takes what the text of a header line leaves, or answers the kind of its fault.
@@ -32,7 +36,7 @@ pub fn take_line(left: &mut Left, alloc: Global, line: &[u8]) -> Result<(), Line
 }
 
 // A name, which may be compact, and what stands behind its colon.
-#[tactic(auto, unfolding(sc_syntax::specs::Judging::named))]
+#[tactic(auto, unfolding(sc_syntax::specs::Judging::named), using(sc_syntax::proofs::NameLaws::long_token, sc_syntax::proofs::NameLaws::long_again, sc_syntax::proofs::ValueLaws::ends_taken))]
 fn take_named(left: &mut Left, alloc: Global, name: &[u8], value: &[u8]) -> Result<(), LineRefused>
     ensures { Takes result left.new (named left.old name.now value.now) }
 {
@@ -73,7 +77,7 @@ fn header_named(name: &[u8]) -> Header
     }
 }
 
-// The header of this long name with this value.
+// The header of this long name with this value, which has no blank at an end.
 #[tactic(auto, unfolding(sc_syntax::specs::Judging::taken))]
 fn take_value(
     left: &mut Left,
@@ -82,6 +86,10 @@ fn take_value(
     header: Header,
     value: &[u8],
 ) -> Result<(), LineRefused>
+    requires token { is_token name.now ≡ true }
+    requires long { long_name name.now ≡ name.now }
+    requires header { header ≡ header_named name.now }
+    requires value { trimmed value.now ≡ value.now }
     ensures { Takes result left.new (taken left.old name.now header value.now) }
 {
     match header {
@@ -199,8 +207,9 @@ fn take_cseq(left: &mut Left, alloc: Global, value: &[u8]) -> Result<(), LineRef
     }
 }
 
-#[tactic(auto, unfolding(sc_syntax::specs::Judging::taken_once, sc_syntax::specs::Judging::taken_as, sc_syntax::specs::Judging::in_line))]
+#[tactic(auto, unfolding(sc_syntax::specs::Judging::taken_once, sc_syntax::specs::Judging::taken_as, sc_syntax::specs::Judging::in_line), using(sc_syntax::proofs::ValueLaws::trimmed_is_value))]
 fn take_call_id(left: &mut Left, alloc: Global, value: &[u8]) -> Result<(), LineRefused>
+    requires { trimmed value.now ≡ value.now }
     ensures { Takes result left.new (taken_once (is_some left.old.singles.call_id) (with_call_id left.old) (in_line Some value.now)) }
 {
     if left.singles.call_id.is_some() {
@@ -209,8 +218,8 @@ fn take_call_id(left: &mut Left, alloc: Global, value: &[u8]) -> Result<(), Line
     if !is_one_line(value) {
         return Err(LineRefused::Fault(9));
     }
-    let text = Text::from_slice(alloc, value)?;
-    keeping::keep_call_id(left, text)
+    let id = HeaderValue::from_slice(alloc, value)?;
+    keeping::keep_call_id(left, id)
 }
 
 #[tactic(auto, unfolding(sc_syntax::specs::Judging::taken_once, sc_syntax::specs::Judging::taken_as, sc_syntax::specs::Judging::in_line))]
@@ -245,8 +254,12 @@ fn take_length(left: &mut Left, value: &[u8]) -> Result<(), LineRefused>
     }
 }
 
-#[tactic(auto, unfolding(sc_syntax::specs::Judging::taken_as, sc_syntax::specs::Judging::in_line))]
+#[tactic(auto, unfolding(sc_syntax::specs::Judging::taken_as, sc_syntax::specs::Judging::in_line), using(sc_syntax::proofs::ValueLaws::trimmed_is_value, sc_syntax::proofs::NameLaws::other_is_free))]
 fn take_field(left: &mut Left, alloc: Global, name: &[u8], value: &[u8]) -> Result<(), LineRefused>
+    requires token { is_token name.now ≡ true }
+    requires long { long_name name.now ≡ name.now }
+    requires other { header_named name.now ≡ headers.Other }
+    requires value { trimmed value.now ≡ value.now }
     ensures { Takes result left.new (taken_as (with_field left.old name.now) (in_line Some value.now)) }
 {
     if !is_one_line(value) {

@@ -2,18 +2,18 @@
 
 ghost use Rattle.std.specs.Prelude.{◌≡◌, ◌≤◌, ◌+◌, ◌^◌, length};
 ghost use Rattle.std.specs.Option.{option_copied, option_map_or};
-ghost use Rattle.sc_syntax.specs.Messages.{finished, message_in, message_of, placed};
+ghost use Rattle.sc_syntax.specs.Messages.{finished, message_in, message_of, parts_in, placed};
 ghost use Rattle.sc_syntax.specs.StartLines.{start_of};
 ghost use Rattle.sc_message_text.specs.Answers.{Reads};
-ghost use Rattle.sc_message_text.specs.Pieces.{message_behind};
+ghost use Rattle.sc_message_text.specs.Pieces.{parts_behind};
 
 use crate::ends::{begins_break, end_of, split_start};
-use crate::finishing::finish;
+use crate::finishing::put_together;
 use crate::heads::{nothing_left, refused_at, take_lines};
 use crate::refused::MessageRefused;
 use crate::starts::read_start;
-use sc_syntax::{Ending, Left, Start};
-use sc_value::Message;
+use sc_syntax::{Ending, HeadParts, Start};
+use sc_value::{Message, NoMemory, Text};
 use std::alloc::Global;
 
 /// The message that a text spells (RFC 3261 section 7): all of the text is read, the body as what
@@ -47,13 +47,28 @@ pub fn read_message(alloc: Global, b: &[u8]) -> Result<Message, MessageRefused>
 /// The message of a head, which is all before its empty line without the CR LF of the last line, and
 /// of a body, or the place and the kind of its first fault (RFC 3261 section 7). `NoMemory` says nothing
 /// of them.
+#[tactic(auto, using(crate::proofs::WholeSteps::parts_finished, crate::proofs::WholeSteps::parts_refused))]
 pub fn read_parts(alloc: Global, head: &[u8], body: &[u8]) -> Result<Message, MessageRefused>
     requires { length head.now + 4 ≤ 2 ^ 63 }
     ensures { Reads result (message_in head.now body.now) }
 {
+    match read_head(alloc, head) {
+        Ok(parts) => finish_at(alloc, parts, body, head.len() + 2),
+        Err(refused) => Err(refused),
+    }
+}
+
+/// The start line of a head and what its header lines leave, or the place and the kind of the first
+/// fault of the lines (RFC 3261 section 7). [`lacking`](crate::lacking) tells what the head lacks then,
+/// and [`put_together`](crate::put_together) makes the message, once the body is there. `NoMemory` says
+/// nothing of the head.
+pub fn read_head(alloc: Global, head: &[u8]) -> Result<HeadParts, MessageRefused>
+    requires { length head.now + 4 ≤ 2 ^ 63 }
+    ensures { Reads result (parts_in head.now) }
+{
     let (line, rest) = split_start(head);
     match read_first(alloc, line) {
-        Ok(start) => read_behind(alloc, start, rest, line.len() + 2, body, head.len() + 2),
+        Ok(start) => read_behind(alloc, start, rest, line.len() + 2),
         Err(refused) => Err(refused),
     }
 }
@@ -69,22 +84,19 @@ fn read_first(alloc: Global, line: &[u8]) -> Result<Start, MessageRefused>
     }
 }
 
-// What stands behind the start line: header lines, of which the first begins at this place, and a
-// body behind the empty line, which begins at `end`.
+// What stands behind the start line: header lines, of which the first begins at this place.
 fn read_behind(
     alloc: Global,
     start: Start,
     rest: Option<&[u8]>,
     at: usize,
-    body: &[u8],
-    end: usize,
-) -> Result<Message, MessageRefused>
+) -> Result<HeadParts, MessageRefused>
     requires { option_map_or (λ text. at + length text) (option_copied rest) 0 ≤ 2 ^ 63 }
-    ensures { Reads result (message_behind start (option_copied rest.entry) at body.now end) }
+    ensures { Reads result (parts_behind start (option_copied rest.entry) at) }
 {
     let mut left = nothing_left(alloc);
     match take_lines(&mut left, alloc, rest, at) {
-        Ok(()) => finish_at(alloc, start, left, body, end),
+        Ok(()) => Ok(HeadParts { start, left }),
         Err(refused) => {
             drop(left);
             drop(start);
@@ -93,19 +105,21 @@ fn read_behind(
     }
 }
 
-// The message, or the fault that shows at the empty line.
-#[tactic(auto, unfolding(sc_syntax::specs::Messages::placed), using(crate::proofs::HeadSteps::refusal_placed))]
+// The message, or the fault that shows at the empty line, which ends a line at this place.
+#[tactic(auto, unfolding(sc_syntax::specs::Messages::placed))]
 fn finish_at(
     alloc: Global,
-    start: Start,
-    left: Left,
+    parts: HeadParts,
     body: &[u8],
     end: usize,
 ) -> Result<Message, MessageRefused>
-    ensures { Reads result (placed end (finished start left body.now)) }
+    ensures { Reads result (placed end (finished parts.start parts.left body.now)) }
 {
-    match finish(alloc, start, left, body) {
-        Ok(message) => Ok(message),
-        Err(refused) => Err(refused_at(end, refused)),
+    match Text::from_slice(alloc, body) {
+        Ok(body) => match put_together(parts, body) {
+            Ok(message) => Ok(message),
+            Err(kind) => Err(MessageRefused::Refused { at: end, kind }),
+        },
+        Err(NoMemory) => Err(MessageRefused::NoMemory),
     }
 }

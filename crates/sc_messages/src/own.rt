@@ -1,14 +1,16 @@
 //! The marks by which the container knows its own: the Via of a branch, and the Record-Route and
 //! Contact of an application session.
 
-ghost use Rattle.std.specs.Prelude.{◌≡◌, ◌++◌, ◌∷◌, [], Some, decimal, IfOk, OnOk};
+ghost use Rattle.std.specs.Prelude.{◌≡◌, true, ◌++◌, ◌∷◌, [], Some, decimal, IfOk, OnOk};
+ghost use Rattle.sc_tokens.specs.Hosts.{is_host};
 ghost use Rattle.sc_value.specs.Params.{branch_name};
+ghost use Rattle.sc_value.specs.ParamRules.{AreHeaderParams, AreUriParams};
 ghost use Rattle.sc_model.specs.Names.{ap_name, ap_value, app_text, branch_text, loose_param, session_uri, tcp_param};
 ghost use Rattle.sc_model.specs.Records.{ip_text};
 ghost use Rattle.sc_hosts.specs.Messages.{own_address, own_via};
 
 use sc_terms::Config;
-use sc_value::{Address, AppId, List, NoMemory, Param, SipUri, Text, Uri, Via, write_u64};
+use sc_value::{Address, AppId, List, NoMemory, Param, SipUri, Text, Token, Uri, Via, write_u64};
 use std::alloc::Global;
 
 /// The text of an address, `a.b.c.d`.
@@ -18,6 +20,15 @@ pub fn ip_text(alloc: Global, ip: [u8; 4]) -> Result<Text, NoMemory>
     let mut text = Text::new(alloc);
     put_ip(ip, &mut text)?;
     Ok(text)
+}
+
+// The same, which is a host.
+#[tactic(auto, using(sc_model::proofs::HostFacts::ip_is_host))]
+fn own_host(alloc: Global, ip: [u8; 4]) -> Result<Text, NoMemory>
+    ensures host { IfOk result (λ t. is_host t ≡ true) }
+    ensures exact { IfOk result (λ t. t ≡ ip_text ip) }
+{
+    ip_text(alloc, ip)
 }
 
 #[tactic(auto, unfolding(sc_model::specs::Records::ip_text))]
@@ -39,7 +50,7 @@ fn put_pair(a: u8, b: u8, out: &mut Text) -> Result<(), NoMemory>
 }
 
 /// The Via of a branch (RFC 3261 section 8.1.1.7).
-#[tactic(auto, unfolding(sc_hosts::specs::Messages::own_via, sc_hosts::specs::Messages::tcp))]
+#[tactic(auto, unfolding(sc_hosts::specs::Messages::own_via, sc_hosts::specs::Messages::tcp, sc_tokens::specs::Tokens::is_token, sc_tokens::specs::Tokens::is_token_byte))]
 pub fn own_via(
     alloc: Global,
     config: &Config,
@@ -50,7 +61,7 @@ pub fn own_via(
     ensures { IfOk result (λ v. v ≡ own_via config.now epoch app branch) }
 {
     let transport = Text::from_slice(alloc, b"TCP")?;
-    let host = ip_text(alloc, config.listen.0)?;
+    let host = own_host(alloc, config.listen.0)?;
     let params = branch_params(alloc, &config.salt, epoch, app, branch)?;
     Ok(Via {
         transport,
@@ -60,29 +71,44 @@ pub fn own_via(
     })
 }
 
-#[tactic(auto, unfolding(sc_value::specs::Params::branch_name))]
+#[tactic(auto, using(sc_model::proofs::NameFacts::branch_kept))]
 fn branch_params(
     alloc: Global,
-    salt: &Text,
+    salt: &Token,
     epoch: u32,
     app: AppId,
     branch: u64,
 ) -> Result<List<Param>, NoMemory>
-    ensures { IfOk result (λ l. l ≡ record { name = branch_name; value = Some (branch_text salt.now epoch app branch) } ∷ []) }
+    ensures kept { IfOk result (λ l. AreHeaderParams l) }
+    ensures exact { IfOk result (λ l. l ≡ record { name = branch_name; value = Some (branch_text salt.now epoch app branch) } ∷ []) }
 {
-    let mut value = Text::new(alloc);
-    sc_names::branch(alloc, salt, epoch, app, branch, &mut value)?;
-    let name = Text::from_slice(alloc, b"branch")?;
+    salt.known();
     let mut params = List::new(alloc);
-    params.push(Param {
-        name,
-        value: Some(value),
-    })?;
+    params.push(branch_param(alloc, salt, epoch, app, branch)?)?;
     Ok(params)
 }
 
+#[tactic(auto, unfolding(sc_value::specs::Params::branch_name))]
+fn branch_param(
+    alloc: Global,
+    salt: &Token,
+    epoch: u32,
+    app: AppId,
+    branch: u64,
+) -> Result<Param, NoMemory>
+    ensures { IfOk result (λ p. p ≡ record { name = branch_name; value = Some (branch_text salt.now epoch app branch) }) }
+{
+    let mut value = Text::new(alloc);
+    sc_names::branch(alloc, salt.as_text(), epoch, app, branch, &mut value)?;
+    let name = Text::from_slice(alloc, b"branch")?;
+    Ok(Param {
+        name,
+        value: Some(value),
+    })
+}
+
 /// The Record-Route and Contact of an application session.
-#[tactic(auto, unfolding(sc_hosts::specs::Messages::own_address, sc_hosts::specs::Messages::plain))]
+#[tactic(auto, unfolding(sc_hosts::specs::Messages::own_address, sc_hosts::specs::Messages::plain, sc_tokens::specs::HeaderTokens::IsDisplay, sc_value::specs::AddressValues::IsUri, sc_value::specs::ParamRules::AreHeaderParams))]
 pub fn own_address(
     alloc: Global,
     config: &Config,
@@ -91,7 +117,7 @@ pub fn own_address(
 ) -> Result<Address, NoMemory>
     ensures { IfOk result (λ a. a ≡ own_address config.now epoch app) }
 {
-    let host = ip_text(alloc, config.listen.0)?;
+    let host = own_host(alloc, config.listen.0)?;
     let uri = session_uri(alloc, host, config.listen.1.get(), epoch, app)?;
     Ok(Address {
         display: None,
@@ -100,7 +126,7 @@ pub fn own_address(
     })
 }
 
-#[tactic(auto, unfolding(sc_model::specs::Names::session_uri, sc_model::specs::Names::own_uri))]
+#[tactic(auto, unfolding(sc_model::specs::Names::session_uri, sc_model::specs::Names::own_uri, sc_tokens::specs::UriTokens::IsUser))]
 fn session_uri(
     alloc: Global,
     host: Text,
@@ -108,6 +134,7 @@ fn session_uri(
     epoch: u32,
     app: AppId,
 ) -> Result<SipUri, NoMemory>
+    requires { is_host host ≡ true }
     ensures { IfOk result (λ u. u ≡ session_uri host port epoch app) }
 {
     let params = session_params(alloc, epoch, app)?;
@@ -120,8 +147,10 @@ fn session_uri(
     })
 }
 
+#[tactic(auto, using(sc_model::proofs::NameFacts::session_params_kept))]
 fn session_params(alloc: Global, epoch: u32, app: AppId) -> Result<List<Param>, NoMemory>
-    ensures { IfOk result (λ l. l ≡ tcp_param ∷ loose_param ∷ record { name = ap_name; value = Some (ap_value epoch app) } ∷ []) }
+    ensures kept { IfOk result (λ l. AreUriParams l) }
+    ensures exact { IfOk result (λ l. l ≡ tcp_param ∷ loose_param ∷ record { name = ap_name; value = Some (ap_value epoch app) } ∷ []) }
 {
     let mut params = List::new(alloc);
     params.push(tcp_param(alloc)?)?;

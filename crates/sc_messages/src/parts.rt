@@ -1,9 +1,10 @@
 //! The parts of a head, finished before the head is built, and changes of one part of a message.
 
-ghost use Rattle.std.specs.Prelude.{◌≡◌, [], IfOk};
+ghost use Rattle.std.specs.Prelude.{◌≡◌, ◌<◌, ◌^◌, [], IfOk};
 
 use sc_value::{
-    Address, CSeq, Contact, Field, Head, List, NoMemory, Request, Response, Text, Uri, Via,
+    Address, CSeq, CloneIn, Contact, Head, HeaderValue, List, NoMemory, Others, Request, Response,
+    Text, Token, Uri, Via,
 };
 use std::alloc::Global;
 
@@ -12,7 +13,7 @@ use std::alloc::Global;
 pub struct Names {
     pub from: Address,
     pub to: Address,
-    pub call_id: Text,
+    pub call_id: HeaderValue,
     pub cseq: CSeq,
 }
 
@@ -20,7 +21,7 @@ pub struct Names {
 #[derive(Drop)]
 pub struct Content {
     pub contact: List<Contact>,
-    pub others: List<Field>,
+    pub others: Others,
     pub body: Text,
 }
 
@@ -49,10 +50,12 @@ pub fn head_of(
 }
 
 /// A sequence number with its method.
-pub fn cseq(alloc: Global, number: u32, method: &[u8]) -> Result<CSeq, NoMemory>
+pub fn cseq(alloc: Global, number: u32, method: &Token) -> Result<CSeq, NoMemory>
+    requires { number < 2 ^ 31 }
     ensures { IfOk result (λ c. c ≡ record { number = number; method = method.now }) }
 {
-    let method = Text::from_slice(alloc, method)?;
+    let method = method.clone_in(alloc)?;
+    method.known();
     Ok(CSeq { number, method })
 }
 

@@ -10,10 +10,11 @@ use crate::parts::{
     Content, Names, cseq, head_of, set_contact, set_record_route, set_uri, set_via,
 };
 use crate::sides::{tagged, untagged};
-use sc_dialog::kept_fields;
+use sc_dialog::{asked_method, kept_fields};
 use sc_terms::{Ask, Config, View};
 use sc_value::{
-    Address, AppId, CloneIn, Contact, Head, List, NoMemory, Request, Response, Text, Uri, Via,
+    Address, AppId, CloneIn, Contact, Head, HeaderValue, List, NoMemory, Others, Request, Response,
+    Text, Token, Uri, Via,
 };
 use std::alloc::Global;
 
@@ -103,16 +104,16 @@ pub fn begins_dialog(request: &Request) -> bool
 #[tactic(auto, unfolding(sc_hosts::specs::Messages::asked_request))]
 pub fn asked_request(
     alloc: Global,
-    call_id: &Text,
+    call_id: &HeaderValue,
     tag: &Text,
     ask: &Ask,
 ) -> Result<Request, NoMemory>
     ensures { IfOk result (λ r. r ≡ asked_request call_id.now tag.now ask.now) }
 {
-    let method = ask.method.clone_in(alloc)?;
+    let method = asked_method(alloc, ask.method.as_bytes())?;
     let uri = ask.uri.clone_in(alloc)?;
     let content = asked_content(alloc, ask)?;
-    let names = begun_names(alloc, call_id, tag, &ask.from, &ask.to, &ask.method)?;
+    let names = begun_names(alloc, call_id, tag, &ask.from, &ask.to, &method)?;
     Ok(Request {
         method,
         uri,
@@ -137,16 +138,16 @@ fn asked_content(alloc: Global, ask: &Ask) -> Result<Content, NoMemory>
 // What names the first request of a dialog that the own side begins.
 fn begun_names(
     alloc: Global,
-    call_id: &Text,
+    call_id: &HeaderValue,
     tag: &Text,
     from: &Address,
     to: &Address,
-    method: &Text,
+    method: &Token,
 ) -> Result<Names, NoMemory>
     ensures { IfOk result (λ n. n ≡ record { from = tagged tag.now from.now; to = untagged to.now; call_id = call_id.now; cseq = record { number = 1; method = method.now } }) }
 {
     let call_id = call_id.clone_in(alloc)?;
-    let cseq = cseq(alloc, 1, method.as_bytes())?;
+    let cseq = cseq(alloc, 1, method)?;
     let from = tagged(alloc, tag.as_bytes(), from)?;
     let to = untagged(alloc, to)?;
     Ok(Names {
@@ -162,7 +163,7 @@ fn begun_names(
 #[tactic(auto, unfolding(sc_hosts::specs::Messages::leg_request))]
 pub fn leg_request(
     alloc: Global,
-    call_id: &Text,
+    call_id: &HeaderValue,
     tag: &Text,
     uri: &Option<Uri>,
     request: &Request,
@@ -193,7 +194,7 @@ fn uri_or(alloc: Global, uri: &Option<Uri>, other: &Uri) -> Result<Uri, NoMemory
 
 fn leg_names(
     alloc: Global,
-    call_id: &Text,
+    call_id: &HeaderValue,
     tag: &Text,
     request: &Request,
 ) -> Result<Names, NoMemory>
@@ -271,47 +272,50 @@ pub fn passed_request(alloc: Global, request: &Request) -> Result<Request, NoMem
 }
 
 /// The CANCEL of an INVITE as it was sent (RFC 3261 section 9.1).
-#[tactic(auto, unfolding(sc_hosts::specs::Messages::cancel_of, sc_hosts::specs::Words::cancel))]
+#[tactic(auto, unfolding(sc_hosts::specs::Messages::cancel_of, sc_hosts::specs::Words::cancel, sc_tokens::specs::Tokens::is_token, sc_tokens::specs::Tokens::is_token_byte))]
 pub fn cancel_of(alloc: Global, request: &Request) -> Result<Request, NoMemory>
     ensures { IfOk result (λ r. r ≡ cancel_of request.now) }
 {
-    kin(alloc, b"CANCEL", &request.head.to, request)
+    let method = Token::from_slice(alloc, b"CANCEL")?;
+    kin(alloc, method, &request.head.to, request)
 }
 
 /// The ACK to a final response other than 2xx to an INVITE as it was sent (RFC 3261 section
 /// 17.1.1.3).
-#[tactic(auto, unfolding(sc_hosts::specs::Messages::ack_of, sc_hosts::specs::Words::ack))]
+#[tactic(auto, unfolding(sc_hosts::specs::Messages::ack_of, sc_hosts::specs::Words::ack, sc_tokens::specs::Tokens::is_token, sc_tokens::specs::Tokens::is_token_byte))]
 pub fn ack_of(alloc: Global, request: &Request, response: &Response) -> Result<Request, NoMemory>
     ensures { IfOk result (λ r. r ≡ ack_of request.now response.now) }
 {
-    kin(alloc, b"ACK", &response.head.to, request)
+    let method = Token::from_slice(alloc, b"ACK")?;
+    kin(alloc, method, &response.head.to, request)
 }
 
 // A request of this method with the top Via, Request-URI, Route, From, Call-ID and CSeq number of
 // another, and with this To.
 #[tactic(auto, unfolding(sc_hosts::specs::Messages::kin))]
-fn kin(alloc: Global, method: &[u8], to: &Address, request: &Request) -> Result<Request, NoMemory>
-    ensures { IfOk result (λ r. r ≡ kin method.now to.now request.now) }
+fn kin(alloc: Global, method: Token, to: &Address, request: &Request) -> Result<Request, NoMemory>
+    ensures { IfOk result (λ r. r ≡ kin method to.now request.now) }
 {
-    let text = Text::from_slice(alloc, method)?;
     let uri = request.uri.clone_in(alloc)?;
     let via = top_via(alloc, request.head.via.as_slice())?;
     let route = request.head.route.clone_in(alloc)?;
-    let names = kin_names(alloc, method, to, &request.head)?;
+    let names = kin_names(alloc, &method, to, &request.head)?;
     let content = no_content(alloc);
     Ok(Request {
-        method: text,
+        method,
         uri,
         hops: 70,
         head: head_of(alloc, via, route, names, content),
     })
 }
 
-fn kin_names(alloc: Global, method: &[u8], to: &Address, head: &Head) -> Result<Names, NoMemory>
+fn kin_names(alloc: Global, method: &Token, to: &Address, head: &Head) -> Result<Names, NoMemory>
     ensures { IfOk result (λ n. n ≡ record { from = head.now.from; to = to.now; call_id = head.now.call_id; cseq = record { number = head.now.cseq.number; method = method.now } }) }
 {
     let call_id = head.call_id.clone_in(alloc)?;
-    let cseq = cseq(alloc, head.cseq.number, method)?;
+    let own = &head.cseq;
+    own.known();
+    let cseq = cseq(alloc, own.number, method)?;
     let from = head.from.clone_in(alloc)?;
     let to = to.clone_in(alloc)?;
     Ok(Names {
@@ -327,7 +331,7 @@ fn no_content(alloc: Global) -> Content
 {
     Content {
         contact: List::new(alloc),
-        others: List::new(alloc),
+        others: Others::new(alloc),
         body: Text::new(alloc),
     }
 }

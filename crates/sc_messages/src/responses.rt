@@ -12,7 +12,10 @@ use crate::requests::{begins_dialog, own_contact, sets_target};
 use crate::sides::with_tag;
 use sc_dialog::kept_fields;
 use sc_terms::{Answer, Answerable, Config, View};
-use sc_value::{CloneIn, Discard, Head, List, NoMemory, Request, Response, Text, Via};
+use sc_value::{
+    CloneIn, Discard, Head, List, NoMemory, Others, Reason, Request, Response, Text, Via,
+    is_one_line,
+};
 use std::alloc::Global;
 
 /// Whether a response of this code to a request that begins a dialog makes it: 101 to 299.
@@ -32,13 +35,24 @@ pub fn response_to(
 ) -> Result<Response, NoMemory>
     ensures { IfOk result (λ r. r ≡ response_to tag.now request.now answer.now) }
 {
-    let reason = answer.reason.clone_in(alloc)?;
+    let reason = asked_reason(alloc, answer.reason.as_bytes())?;
     let head = response_head(alloc, tag, request, answer)?;
     Ok(Response {
         code: answer.code,
         reason,
         head,
     })
+}
+
+// The reason of an answer.
+// An application's was found one line where the call was judged; it is tested again, since no type says so.
+fn asked_reason(alloc: Global, reason: &[u8]) -> Result<Reason, NoMemory>
+    ensures { IfOk result (λ r. r ≡ reason.now) }
+{
+    if !is_one_line(reason) {
+        return Err(NoMemory);
+    }
+    Reason::from_slice(alloc, reason)
 }
 
 #[tactic(auto, unfolding(sc_model::specs::Responses::response_head))]
@@ -201,16 +215,16 @@ pub fn trying_response(
 }
 
 /// The answer to a text that isn't a message.
-#[tactic(auto, unfolding(sc_hosts::specs::Messages::bad_response, sc_hosts::specs::Words::bad_request))]
+#[tactic(auto, unfolding(sc_hosts::specs::Messages::bad_response, sc_hosts::specs::Words::bad_request, sc_tokens::specs::Tokens::is_one_line, sc_tokens::specs::Tokens::is_line_break))]
 pub fn bad_response(alloc: Global, salt: &Text, heads: &Answerable) -> Result<Response, NoMemory>
     ensures { IfOk result (λ r. r ≡ bad_response salt.now heads.now) }
 {
-    let reason = Text::from_slice(alloc, b"Bad Request")?;
+    let reason = Reason::from_slice(alloc, b"Bad Request")?;
     let via = heads.via.clone_in(alloc)?;
     let names = bad_names(alloc, salt, heads)?;
     let content = Content {
         contact: List::new(alloc),
-        others: List::new(alloc),
+        others: Others::new(alloc),
         body: Text::new(alloc),
     };
     Ok(Response {

@@ -1,10 +1,11 @@
 //! The two sides of a message, with and without a tag (RFC 3261 section 19.3).
 
-ghost use Rattle.std.specs.Prelude.{◌≡◌, ◌++◌, ◌∷◌, [], not, filter, IfOk};
+ghost use Rattle.std.specs.Prelude.{◌≡◌, ◌++◌, ◌∷◌, [], not, filter, IfOk, true};
+ghost use Rattle.sc_value.specs.ParamRules.{AreHeaderParams};
 ghost use Rattle.sc_model.specs.Responses.{tag_param, with_tag};
 ghost use Rattle.sc_hosts.specs.Messages.{is_tag, tagged, untagged};
 
-use sc_value::{Address, CloneIn, List, NoMemory, Param, Text, same_name, tag};
+use sc_value::{Address, CloneIn, List, NoMemory, Param, Text, is_token, same_name, tag};
 use std::alloc::Global;
 
 /// The address with this tag, where it has none.
@@ -15,6 +16,7 @@ pub fn with_tag(alloc: Global, own_tag: &[u8], address: &Address) -> Result<Addr
     if tag(address).is_some() {
         return address.clone_in(alloc);
     }
+    address.known();
     let params = address.params.clone_in(alloc)?;
     tagged_by(alloc, own_tag, address, params)
 }
@@ -24,6 +26,7 @@ pub fn with_tag(alloc: Global, own_tag: &[u8], address: &Address) -> Result<Addr
 pub fn tagged(alloc: Global, own_tag: &[u8], address: &Address) -> Result<Address, NoMemory>
     ensures { IfOk result (λ a. a ≡ tagged own_tag.now address.now) }
 {
+    address.known();
     let params = other_params(alloc, address.params.as_slice())?;
     tagged_by(alloc, own_tag, address, params)
 }
@@ -33,29 +36,38 @@ pub fn tagged(alloc: Global, own_tag: &[u8], address: &Address) -> Result<Addres
 pub fn untagged(alloc: Global, address: &Address) -> Result<Address, NoMemory>
     ensures { IfOk result (λ a. a ≡ untagged address.now) }
 {
+    address.known();
     let params = other_params(alloc, address.params.as_slice())?;
     with_params(alloc, address, params)
 }
 
-// The address with these parameters, and behind them this tag.
+// The address with these parameters, and behind them this tag. An own tag is a token, and nothing where
+// there is none; it is tested, since no type says so.
+#[tactic(auto, using(sc_model::proofs::ParamFacts::token_is_value, sc_model::proofs::ParamFacts::nothing_is_value, sc_model::proofs::ParamFacts::token_is_line, sc_model::proofs::ParamFacts::nothing_is_line, sc_model::proofs::ParamFacts::tag_joined))]
 fn tagged_by(
     alloc: Global,
     own_tag: &[u8],
     address: &Address,
     params: List<Param>,
 ) -> Result<Address, NoMemory>
+    requires { AreHeaderParams params }
     ensures { IfOk result (λ a. a ≡ record address.now { params = params ++ tag_param own_tag.now ∷ [] }) }
 {
+    if !own_tag.is_empty() && !is_token(own_tag) {
+        return Err(NoMemory);
+    }
     let mut params = params;
     params.push(tag_param(alloc, own_tag)?)?;
     with_params(alloc, address, params)
 }
 
 fn with_params(alloc: Global, address: &Address, params: List<Param>) -> Result<Address, NoMemory>
+    requires { AreHeaderParams params }
     ensures { IfOk result (λ a. a ≡ record address.now { params = params }) }
 {
     let display = address.display.clone_in(alloc)?;
     let uri = address.uri.clone_in(alloc)?;
+    uri.known();
     Ok(Address {
         display,
         uri,
@@ -76,7 +88,16 @@ fn tag_param(alloc: Global, own_tag: &[u8]) -> Result<Param, NoMemory>
 }
 
 // All parameters but the tag.
+#[tactic(auto, using(sc_model::proofs::ParamFacts::params_filtered))]
 fn other_params(alloc: Global, params: &[Param]) -> Result<List<Param>, NoMemory>
+    requires { AreHeaderParams params.now }
+    ensures kept { IfOk result (λ l. AreHeaderParams l) }
+    ensures exact { IfOk result (λ l. l ≡ filter (λ param. not (is_tag param)) params.now) }
+{
+    without_tag(alloc, params)
+}
+
+fn without_tag(alloc: Global, params: &[Param]) -> Result<List<Param>, NoMemory>
     ensures { IfOk result (λ l. l ≡ filter (λ param. not (is_tag param)) params.now) }
 {
     let mut others = List::new(alloc);

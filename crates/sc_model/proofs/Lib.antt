@@ -16,3 +16,9 @@ pub mod ServerTransactionFacts
 pub mod ServerTransactions
 mod TransactionCases
 pub mod TransactionFacts
+pub mod ParamFacts
+pub mod UriFacts
+pub mod TokenFacts
+pub mod HostFacts
+pub mod ReasonFacts
+pub mod NameFacts

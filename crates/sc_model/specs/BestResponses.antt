@@ -5,7 +5,7 @@ use Rattle.std.specs.List.{list_all, flat_map, remove}
 use Rattle.std.specs.Option.{option_or, option_map_or}
 use Rattle.sc_value.specs.declared.message.Response.{Response}
 use Rattle.sc_value.specs.declared.parts.Field.{Field}
-use Rattle.sc_value.specs.Params.{same_name}
+use Rattle.sc_tokens.specs.Names.{same_name}
 use Rattle.sc_grammar.specs.Written.{Bytes}
 
 -- ## The choice

@@ -1,6 +1,6 @@
 -- Where an initial request goes: the choice of the Default Application Router (JSR 289 appendix C),
 -- with the routes of its tuples (JSR 289 section 15.6).
-use Rattle.std.specs.Prelude.{ℕ, Bool, true, false, ◌+◌, ◌==◌, ◌||◌, not, Option, Some, None, List, [], ◌∷◌, length, take, slice_get, if◌then◌else◌}
+use Rattle.std.specs.Prelude.{ℕ, Bool, true, false, ◌+◌, ◌==◌, Option, Some, None, List, [], ◌∷◌, length, take, slice_get, if◌then◌else◌}
 use Rattle.std.specs.List.{position}
 use Rattle.std.specs.Option.{option_map_or}
 use Rattle.sc_value.specs.declared.ids.Region.{Region}
@@ -11,7 +11,7 @@ use Rattle.sc_value.specs.declared.parts.Uri.TheVariants.{Sip}
 use Rattle.sc_terms.specs.declared.settings.Config.{Config}
 use Rattle.sc_terms.specs.declared.settings.Dar.{Dar}
 use Rattle.sc_terms.specs.declared.settings.Modifier.{Modifier}
-use Rattle.sc_terms.specs.declared.settings.Modifier.TheVariants.{Route, RouteBack, NoRoute}
+use Rattle.sc_terms.specs.declared.settings.Modifier.TheVariants.{Route, RouteBack}
 use Rattle.sc_terms.specs.declared.settings.Tuple.{Tuple}
 use Rattle.sc_parts.specs.declared.choice.Choice.{Choice}
 use Rattle.sc_parts.specs.declared.choice.Choice.TheVariants.{App, Send, Onward, NotFound}

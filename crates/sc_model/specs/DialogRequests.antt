@@ -4,9 +4,9 @@ use Rattle.std.specs.List.{list_all}
 use Rattle.sc_value.specs.declared.parts.Field.{Field}
 use Rattle.sc_value.specs.declared.message.Head.{Head}
 use Rattle.sc_value.specs.declared.message.Request.{Request}
-use Rattle.sc_value.specs.HeaderNames.{is_system_name}
-use Rattle.sc_value.specs.Params.{same_bytes}
-use Rattle.sc_value.specs.Tokens.{is_token, is_value}
+use Rattle.sc_tokens.specs.HeaderNames.{is_system_name}
+use Rattle.sc_tokens.specs.Names.{same_bytes}
+use Rattle.sc_tokens.specs.Tokens.{is_token, is_value}
 use Rattle.sc_terms.specs.declared.inside.Inside.{Inside}
 use Rattle.sc_grammar.specs.Written.{Bytes}
 use Rattle.sc_model.specs.Dialogs.{DialogState}

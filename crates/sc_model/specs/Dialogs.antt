@@ -12,7 +12,8 @@ use Rattle.sc_value.specs.declared.message.Request.{Request}
 use Rattle.sc_value.specs.declared.message.Response.{Response}
 use Rattle.sc_value.specs.declared.message.Message.{Message}
 use Rattle.sc_value.specs.declared.message.Message.TheVariants as messages
-use Rattle.sc_value.specs.Params.{same_bytes, param_value, tag_name}
+use Rattle.sc_tokens.specs.Names.{same_bytes}
+use Rattle.sc_value.specs.Params.{param_value, tag_name}
 use Rattle.sc_grammar.specs.Written.{Bytes}
 use Rattle.sc_model.specs.Responses.{tag_param}
 use Rattle.sc_model.specs.SessionStates.{invite}

@@ -1,7 +1,7 @@
 -- Which URIs lead to the container, and which it is responsible for. Hosts compare without case, as
 -- texts, and a port that is absent is 5060 (RFC 3261 section 19.1.2).
 use Rattle.std.specs.Prelude.{ℕ, Bool, true, false, ◌&&◌, ◌||◌, ◌==◌, unwrap_or}
-use Rattle.sc_value.specs.Params.{same_name}
+use Rattle.sc_tokens.specs.Names.{same_name}
 use Rattle.sc_value.specs.declared.parts.Uri.{Uri}
 use Rattle.sc_value.specs.declared.parts.Uri.TheVariants.{Sip, Other}
 use Rattle.sc_terms.specs.declared.settings.Config.{Config}

@@ -6,7 +6,7 @@ use Rattle.sc_value.specs.declared.parts.Field.{Field}
 use Rattle.sc_value.specs.declared.message.Head.{Head}
 use Rattle.sc_value.specs.declared.message.Request.{Request}
 use Rattle.sc_value.specs.declared.message.Response.{Response}
-use Rattle.sc_value.specs.HeaderNames.{long_name}
+use Rattle.sc_tokens.specs.HeaderNames.{long_name}
 use Rattle.sc_value.specs.Params.{param_value, tag_name}
 use Rattle.sc_terms.specs.declared.calls.Answer.{Answer}
 use Rattle.sc_grammar.specs.Written.{Bytes}

@@ -6,8 +6,8 @@ use Rattle.sc_value.specs.declared.parts.Contact.{Contact}
 use Rattle.sc_value.specs.declared.parts.Contact.TheVariants.{Star, At}
 use Rattle.sc_value.specs.declared.parts.Field.{Field}
 use Rattle.sc_value.specs.declared.message.Request.{Request}
-use Rattle.sc_value.specs.HeaderNames.{from_name, to_name, contact_name, long_name}
-use Rattle.sc_value.specs.Params.{same_name, same_bytes}
+use Rattle.sc_tokens.specs.HeaderNames.{from_name, to_name, contact_name, long_name}
+use Rattle.sc_tokens.specs.Names.{same_name, same_bytes}
 use Rattle.sc_terms.specs.declared.settings.Dar.{Dar}
 use Rattle.sc_terms.specs.declared.settings.MethodList.{MethodList}
 use Rattle.sc_grammar.specs.Written.{Bytes, uri_text}

@@ -1,7 +1,7 @@
 -- The state of a SipSession on the called side (JSR 289 section 6.2.1). That an answer to another
 -- initial request than INVITE ends the session is this project's profile.
 use Rattle.std.specs.Prelude.{ℕ, Bool, true, false, ◌&&◌, nat_lt, if◌then◌else◌, codes}
-use Rattle.sc_value.specs.Params.{same_bytes}
+use Rattle.sc_tokens.specs.Names.{same_bytes}
 use Rattle.sc_terms.specs.declared.views.State.{State}
 use Rattle.sc_terms.specs.declared.views.State.TheVariants.{Initial, Early, Confirmed, Terminated}
 use Rattle.sc_grammar.specs.Written.{Bytes}

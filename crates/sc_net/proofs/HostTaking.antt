@@ -16,7 +16,8 @@ use Rattle.sc_state.specs.declared.net.Net.{Net}
 use Rattle.sc_state.specs.declared.queue.Queued.{Queued}
 use Rattle.sc_state.specs.declared.session.Session.{Session}
 use Rattle.sc_hosts.specs.Nets.{host_at, put_reply, placed, queued_at, queue_for, deliver_at}
-use Rattle.sc_hosts.specs.Taking.{queue, takes}
+use Rattle.sc_hosts.specs.Inboxes.{queue}
+use Rattle.sc_hosts.specs.Taking.{takes}
 use Rattle.sc_net.specs.HostChanges.{host_after, told_after, net_after}
 
 -- the host at a place changed

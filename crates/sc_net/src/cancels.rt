@@ -7,7 +7,7 @@ ghost use Rattle.sc_value.specs.declared.message.Message.{Message};
 ghost use Rattle.sc_value.specs.Lists.{change_nth};
 ghost use Rattle.sc_hosts.specs.Messages.{cancel_of};
 ghost use Rattle.sc_hosts.specs.Nets.{change_host, host_at, send_cancel, cancel_by, cancel_for, client_at};
-ghost use Rattle.sc_hosts.specs.Taking.{cancelling};
+ghost use Rattle.sc_hosts.specs.TakingResponses.{cancelling};
 ghost use Rattle.sc_hosts.specs.Transacting.{is_client, pass_client};
 
 use crate::wire::{host_at, put, with_client_at};

@@ -4,7 +4,7 @@
 ghost use Rattle.std.specs.Prelude.{◌≡◌, ◌∷◌, [], Some, position, if◌then◌else◌};
 ghost use Rattle.std.specs.List.{find};
 ghost use Rattle.std.specs.Option.{option_copied};
-ghost use Rattle.sc_value.specs.Params.{same_name};
+ghost use Rattle.sc_tokens.specs.Names.{same_name};
 ghost use Rattle.sc_hosts.specs.Destinations.{localhost, literal, named_address, address_of, place_of_uri, next_uri, destination};
 
 use sc_terms::{Config, HostEntry};

@@ -3,9 +3,9 @@
 
 ghost use Rattle.std.specs.Prelude.{◌≡◌, ◌^◌, ◌∷◌, [], option_and_then, option_map, IfOk};
 ghost use Rattle.std.specs.Option.{option_copied, option_map_or};
-ghost use Rattle.sc_value.specs.Params.{same_bytes};
-ghost use Rattle.sc_syntax.specs.Cuts.{before};
-ghost use Rattle.sc_syntax.specs.Numbers.{number_below};
+ghost use Rattle.sc_tokens.specs.Names.{same_bytes};
+ghost use Rattle.sc_tokens.specs.Cuts.{before};
+ghost use Rattle.sc_tokens.specs.Numbers.{number_below};
 ghost use Rattle.sc_model.specs.Names.{ar_value, region_letter};
 ghost use Rattle.sc_model.specs.OwnHosts.{is_own};
 ghost use Rattle.sc_hosts.specs.Routes.{at_beginning, popped_route, unrouted_initial, ar_of, named_number, at_number, named_position, position_by, position_of};

@@ -4,7 +4,7 @@ ghost use Rattle.std.specs.Prelude.{◌≡◌, Some, slice_get, IfOk, OnOk};
 ghost use Rattle.std.specs.Option.{option_copied};
 ghost use Rattle.sc_value.specs.Lists.{change_nth};
 ghost use Rattle.sc_hosts.specs.Nets.{put, put_reply, change_host, host_at, queue_for};
-ghost use Rattle.sc_hosts.specs.Taking.{queue};
+ghost use Rattle.sc_hosts.specs.Inboxes.{queue};
 ghost use Rattle.sc_hosts.specs.Transacting.{with_client};
 ghost use Rattle.sc_net.specs.HostChanges.{with_own_client, host_after, told_after, net_after};
 

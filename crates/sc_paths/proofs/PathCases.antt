@@ -3,7 +3,7 @@ use Rattle.std.specs.Prelude.{ℕ, List, [], ◌∷◌, Bool, ◌&&◌, not, Non
 use Rattle.std.specs.Cmp.Lexicographic.{pointwise}
 use Rattle.std.specs.List.{list_all}
 use Rattle.sc_value.specs.declared.ids.AppId.{AppId}
-use Rattle.sc_value.specs.Params.{same_bytes}
+use Rattle.sc_tokens.specs.Names.{same_bytes}
 use Rattle.sc_parts.specs.declared.setup.Setup.{Setup}
 use Rattle.sc_grammar.specs.Written.{Bytes, address_text}
 use Rattle.sc_hosts.specs.Transacting.{is_same_app}

@@ -8,7 +8,7 @@ use Rattle.sc_value.specs.declared.message.Message.TheVariants as messages
 use Rattle.sc_value.specs.declared.message.Request.{Request}
 use Rattle.sc_value.specs.declared.parts.Uri.{Uri}
 use Rattle.sc_value.specs.declared.parts.Via.{Via}
-use Rattle.sc_value.specs.Params.{same_bytes}
+use Rattle.sc_tokens.specs.Names.{same_bytes}
 use Rattle.sc_terms.specs.declared.settings.Config.{Config}
 use Rattle.sc_terms.specs.declared.steps.Step.{Step}
 use Rattle.sc_terms.specs.declared.steps.Step.TheVariants as steps

@@ -22,7 +22,7 @@ fn request_view(
 ) -> Result<RequestView, NoMemory>
     ensures { IfOk result (λ r. r ≡ request_view req sess initial passed request.now) }
 {
-    let method = request.method.clone_in(alloc)?;
+    let method = request.method.as_text().clone_in(alloc)?;
     let ends = ends_subscription(request.method.as_bytes(), request.head.others.as_slice());
     Ok(RequestView {
         id: req,

@@ -5,7 +5,7 @@ ghost use Rattle.std.specs.Option.{option_map_or};
 ghost use Rattle.sc_terms.specs.declared.events.Event.{Event};
 ghost use Rattle.sc_model.specs.Dialogs.{tag_of};
 ghost use Rattle.sc_model.specs.Transactions.{is_success};
-ghost use Rattle.sc_hosts.specs.Effects.{answered_in, tidy};
+ghost use Rattle.sc_hosts.specs.ViewChanges.{answered_in, tidy};
 ghost use Rattle.sc_hosts.specs.Looking.{change_request, request_in, session_in};
 ghost use Rattle.sc_hosts.specs.PreparingResponses.{is_first_success, placed, prepared_own, responded, responded_in, settled_legs, with_success};
 ghost use Rattle.sc_prepare.specs.Shown.{prepared_as};

@@ -177,7 +177,7 @@ fn timeout_response(
     ensures { IfOk result (λ r. r ≡ own_response (edge_tag config.now.salt) 408 request_timeout request.now) }
 {
     let mut tag = Text::new(alloc);
-    sc_names::edge_tag(alloc, &config.salt, &mut tag)?;
+    sc_names::edge_tag(alloc, config.salt.as_text(), &mut tag)?;
     let response = timeout_answer(alloc, tag.as_bytes(), request)?;
     Shared::new(alloc, response)
 }

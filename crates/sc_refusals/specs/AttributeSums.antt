@@ -1,6 +1,6 @@
 -- The bytes of an attribute beside one of a name.
 use Rattle.std.specs.Prelude.{ℕ, ◌+◌, if◌then◌else◌, length}
-use Rattle.sc_value.specs.Params.{same_bytes}
+use Rattle.sc_tokens.specs.Names.{same_bytes}
 use Rattle.sc_value.specs.declared.parts.Field.{Field}
 use Rattle.sc_grammar.specs.Written.{Bytes}
 

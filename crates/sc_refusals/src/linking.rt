@@ -4,7 +4,7 @@ ghost use Rattle.std.specs.Prelude.{◌≡◌, ◌∷◌, [], ◌+◌, ◌==◌,
 ghost use Rattle.std.specs.List.{find, list_any};
 ghost use Rattle.std.specs.Option.{option_copied, option_or};
 ghost use Rattle.sc_terms.specs.declared.calls.Refusal.TheVariants.{NotLinked, NotSent, NotYours, BadText, Limit};
-ghost use Rattle.sc_value.specs.Params.{same_bytes};
+ghost use Rattle.sc_tokens.specs.Names.{same_bytes};
 ghost use Rattle.sc_hosts.specs.Looking.{request_in, session_in, partner, timer_in, same_session};
 ghost use Rattle.sc_hosts.specs.RefusalParts.{first_of};
 ghost use Rattle.sc_hosts.specs.Refusals.{awaits_ack, cancel_refusal, begun_by, b2b_respond_refusal, link_refusal, linked_refusal, is_zero_period, is_set, own_refusal};

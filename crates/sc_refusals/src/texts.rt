@@ -3,8 +3,8 @@
 ghost use Rattle.std.specs.Prelude.{◌≡◌, ◌+◌, ◌∷◌, [], min, not, position, option_map, Some};
 ghost use Rattle.std.specs.List.{list_any};
 ghost use Rattle.std.specs.Option.{option_or};
-ghost use Rattle.sc_value.specs.HeaderNames.{is_system_name};
-ghost use Rattle.sc_value.specs.Params.{same_bytes};
+ghost use Rattle.sc_tokens.specs.HeaderNames.{is_system_name};
+ghost use Rattle.sc_tokens.specs.Names.{same_bytes};
 ghost use Rattle.sc_model.specs.SessionStates.{invite};
 ghost use Rattle.sc_hosts.specs.Words.{ack, cancel, options, register};
 ghost use Rattle.sc_hosts.specs.RefusalParts.{is_bad_field, bad_field, has_system_name, answer_text, is_bad_method, asked_text, may_have_contact, has_system_answer, has_system_ask};

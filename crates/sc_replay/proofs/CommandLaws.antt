@@ -2,7 +2,7 @@
 use Rattle.std.proofs.Common.{◌≡◌, ◌<◌, ◌≤◌, ℕ, Option, None, Some, true, false, Bool, cond, codes, List, [], ◌∷◌, map, length, sym, ap, subst, refl, ◌∙◌, arith}
 use Rattle.std.specs.Prelude.{get_or}
 use Rattle.std.proofs.lemmas.Bool.{false≢true}
-use Rattle.sc_value.specs.Params.{same_bytes}
+use Rattle.sc_tokens.specs.Names.{same_bytes}
 use Rattle.sc_grammar.specs.Written.{Bytes}
 use Rattle.sc_replay.specs.declared.commanding.Command.TheVariants.{Usage}
 use Rattle.sc_replay.specs.Commands.{command_of, counted_command, settled_command, scripted_command}

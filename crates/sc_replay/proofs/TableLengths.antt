@@ -9,8 +9,8 @@ use Rattle.std.proofs.lemmas.List.{length-append}
 use Rattle.std.proofs.lemmas.List.Sums.{sum_by-le, sum_by_more_le}
 use Rattle.sc_terms.specs.declared.settings.Dar.{Dar}
 use Rattle.sc_terms.specs.declared.settings.MethodList.{MethodList}
-use Rattle.sc_syntax.specs.Bytes.{Bytes}
-use Rattle.sc_syntax.specs.Cuts.{pieces, onto_first}
+use Rattle.sc_tokens.specs.Bytes.{Bytes}
+use Rattle.sc_tokens.specs.Cuts.{pieces, onto_first}
 use Rattle.sc_dar.specs.Lines.{Line, lines, joined, before_lines, onto_next, ended, rows, ends, drop_blanks}
 use Rattle.sc_dar.specs.Tables.{LONG, Fault, list_of, then_line, judged, table_with, table_of}
 

@@ -1,7 +1,7 @@
 -- Which command the words of a command line are.
 use Rattle.std.specs.Prelude.{◌≡◌, ◌⊎◌, ℕ, nat_le, Option, Some, None, List, [], ◌∷◌, codes, if◌then◌else◌, is_some}
 use Rattle.std.specs.Option.{option_and_then}
-use Rattle.sc_value.specs.Params.{same_bytes}
+use Rattle.sc_tokens.specs.Names.{same_bytes}
 use Rattle.sc_grammar.specs.Written.{Bytes}
 use Rattle.sc_script.specs.ScriptTexts.{decimal_upto}
 use Rattle.sc_replay.specs.declared.commanding.Command.{Command}

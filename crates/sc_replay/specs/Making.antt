@@ -1,6 +1,6 @@
 -- What `make` promises.
 use Rattle.std.specs.Prelude.{◌≡◌, ℕ, Option, Some, None, List, [], ◌∷◌, codes, if◌then◌else◌}
-use Rattle.sc_value.specs.Params.{same_bytes}
+use Rattle.sc_tokens.specs.Names.{same_bytes}
 use Rattle.sc_grammar.specs.Written.{Bytes}
 use Rattle.sc_model.specs.Generated.{generated}
 use Rattle.sc_switch.specs.declared.ran.Status.{Status}

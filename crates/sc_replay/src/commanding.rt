@@ -5,7 +5,7 @@ ghost use Rattle.sc_grammar.specs.Written.{Bytes};
 ghost use Rattle.sc_replay.specs.Checking.{checked_names};
 ghost use Rattle.sc_replay.specs.Making.{made_count};
 ghost use Rattle.sc_replay.specs.Replaying.{IsReplay};
-ghost use Rattle.sc_value.specs.Params.{same_bytes};
+ghost use Rattle.sc_tokens.specs.Names.{same_bytes};
 ghost use Rattle.sc_replay.specs.Commands.{HasForm, IsNamed, command_of, count_in, counted_command, settled_command, scripted_command};
 ghost use Rattle.sc_replay.specs.declared.commanding.Command.{Command};
 

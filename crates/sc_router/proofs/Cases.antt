@@ -2,8 +2,8 @@
 use Rattle.std.proofs.Common.{◌≡◌, ℕ, Option, Some, None, List, [], ◌∷◌, refl}
 use Rattle.std.specs.Prelude.{codes}
 use Rattle.std.specs.Fmt.{digits}
-use Rattle.sc_value.specs.HeaderNames.{from_name, long_name}
-use Rattle.sc_value.specs.Params.{same_name}
+use Rattle.sc_tokens.specs.HeaderNames.{from_name, long_name}
+use Rattle.sc_tokens.specs.Names.{same_name}
 use Rattle.sc_value.specs.declared.ids.Region.{Region}
 use Rattle.sc_value.specs.declared.ids.Region.TheVariants.{Originating, Terminating, Neutral}
 use Rattle.sc_value.specs.declared.message.Request.{Request}

@@ -2,8 +2,8 @@
 
 ghost use Rattle.std.specs.Prelude.{◌≡◌, ◌≤◌, length, IsTrue, IfOk, position, nat_eq, if◌then◌else◌, drop};
 ghost use Rattle.std.specs.List.{find, starts_with};
-ghost use Rattle.sc_value.specs.HeaderNames.{from_name, to_name, contact_name};
-ghost use Rattle.sc_value.specs.Params.{same_name};
+ghost use Rattle.sc_tokens.specs.HeaderNames.{from_name, to_name, contact_name};
+ghost use Rattle.sc_tokens.specs.Names.{same_name};
 ghost use Rattle.sc_model.specs.Routing.{dar_prefix, request_uri_name, first_contact_text, field_value, header_text, subscriber_of};
 
 use sc_message_text::uri_text;
@@ -48,21 +48,21 @@ fn header_text(alloc: Global, name: &[u8], request: &Request) -> Result<Text, No
     field_value(alloc, request.head.others.as_slice(), name)
 }
 
-#[tactic(auto, unfolding(sc_value::specs::HeaderNames::from_name))]
+#[tactic(auto, unfolding(sc_tokens::specs::HeaderNames::from_name))]
 fn is_from(name: &[u8]) -> bool
     ensures { result ≡ same_name name.now from_name }
 {
     same_name(name, b"From")
 }
 
-#[tactic(auto, unfolding(sc_value::specs::HeaderNames::to_name))]
+#[tactic(auto, unfolding(sc_tokens::specs::HeaderNames::to_name))]
 fn is_to(name: &[u8]) -> bool
     ensures { result ≡ same_name name.now to_name }
 {
     same_name(name, b"To")
 }
 
-#[tactic(auto, unfolding(sc_value::specs::HeaderNames::contact_name))]
+#[tactic(auto, unfolding(sc_tokens::specs::HeaderNames::contact_name))]
 fn is_contact(name: &[u8]) -> bool
     ensures { result ≡ same_name name.now contact_name }
 {

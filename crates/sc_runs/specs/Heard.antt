@@ -5,7 +5,7 @@ use Rattle.sc_terms.specs.declared.steps.Step.{Step}
 use Rattle.sc_terms.specs.declared.steps.Step.TheVariants as steps
 use Rattle.sc_edge.specs.declared.edge.Polled.{Polled}
 use Rattle.sc_edge.specs.declared.edge.Polled.TheVariants as answers
-use Rattle.sc_syntax.specs.Bytes.{Bytes}
+use Rattle.sc_tokens.specs.Bytes.{Bytes}
 use Rattle.sc_runs.specs.Following.{Streams, IsKept, no_bytes}
 use Rattle.sc_runs.specs.Hearing.{Hears}
 

@@ -4,7 +4,7 @@ use Rattle.std.specs.Prelude.{nat_lt, nat_le, is_some, unwrap_or}
 use Rattle.std.proofs.lemmas.Bool.{false≢true}
 use Rattle.std.proofs.lemmas.Bool.Decides.{nat_tests}
 use Rattle.sc_grammar.specs.Written.{Bytes}
-use Rattle.sc_syntax.specs.Numbers.{is_digits, number_in, number_below, number_of}
+use Rattle.sc_tokens.specs.Numbers.{is_digits, number_in, number_below, number_of}
 use Rattle.sc_script.specs.ScriptTexts.{decimal_upto, is_plain}
 
 taken : (d s : Bool) (w m : ℕ) → cond (d && s) (Some w) None ≡ Some m → (d ≡ true) × (w ≡ m)

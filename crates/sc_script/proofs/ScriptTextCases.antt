@@ -3,9 +3,9 @@ use Rattle.std.proofs.Common.{◌≡◌, [], ◌∷◌, Ok, Err, refl}
 use Rattle.std.specs.Prelude.{codes}
 use Rattle.sc_value.specs.declared.ids.Place.TheVariants.{Back, To}
 use Rattle.sc_terms.specs.declared.steps.Line.TheVariants as lines
-use Rattle.sc_syntax.specs.Cuts.{before, after, onto_first, pieces}
-use Rattle.sc_syntax.specs.Hosts.{begins}
-use Rattle.sc_syntax.specs.Numbers.{is_digits, with_digit, number_in}
+use Rattle.sc_tokens.specs.Cuts.{before, after, onto_first, pieces}
+use Rattle.sc_tokens.specs.Hosts.{begins}
+use Rattle.sc_tokens.specs.Numbers.{is_digits, with_digit, number_in}
 use Rattle.sc_script.specs.ScriptTexts.{is_plain, decimal_upto, connection_of, all_four, ip_of, address_of, address_in, place_of, one_word, tick_line, lost_line, two_words, app_of, turn_line, drop_line, three_words, is_feed, incoming, size_of, alone, line_of, is_end, row_with, row_by, row_at, moment_after, with_first, followed, lines_in, script_of}
 
 -- bytes with a line feed among them, and every row

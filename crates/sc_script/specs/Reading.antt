@@ -1,7 +1,7 @@
 -- What the parts of the reader of scripts answer.
 use Rattle.std.specs.Prelude.{◌≡◌, ◌++◌, ℕ, List, [], Option, None, Some, Result, Ok, Err}
 use Rattle.sc_terms.specs.declared.steps.Line.{Line}
-use Rattle.sc_syntax.specs.Cuts.{pieces}
+use Rattle.sc_tokens.specs.Cuts.{pieces}
 use Rattle.sc_grammar.specs.Written.{Bytes}
 use Rattle.sc_script.specs.ScriptTexts.{Fault}
 use Rattle.sc_script.specs.declared.refused.ScriptRefused.{ScriptRefused}

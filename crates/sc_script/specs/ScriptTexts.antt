@@ -4,12 +4,12 @@ use Rattle.std.specs.List.{slice_get}
 use Rattle.sc_value.specs.declared.ids.AppId.{AppId}
 use Rattle.sc_value.specs.declared.ids.Place.{Place}
 use Rattle.sc_value.specs.declared.ids.Place.TheVariants.{Back, To}
-use Rattle.sc_value.specs.Params.{same_bytes}
+use Rattle.sc_tokens.specs.Names.{same_bytes}
 use Rattle.sc_terms.specs.declared.steps.Line.{Line}
 use Rattle.sc_terms.specs.declared.steps.Line.TheVariants as lines
-use Rattle.sc_syntax.specs.Cuts.{before, after, pieces}
-use Rattle.sc_syntax.specs.Hosts.{begins}
-use Rattle.sc_syntax.specs.Numbers.{is_digits, number_in}
+use Rattle.sc_tokens.specs.Cuts.{before, after, pieces}
+use Rattle.sc_tokens.specs.Hosts.{begins}
+use Rattle.sc_tokens.specs.Numbers.{is_digits, number_in}
 use Rattle.sc_grammar.specs.Written.{Bytes}
 
 -- where a text goes wrong, in bytes from its front, and how

@@ -3,7 +3,7 @@
 ghost use Rattle.std.specs.Prelude.{◌≡◌, ◌≤◌, ◌==◌, ◌+◌, ◌∷◌, IfSome, length};
 ghost use Rattle.std.specs.List.{position_or_len};
 ghost use Rattle.std.specs.Option.{option_copied};
-ghost use Rattle.sc_syntax.specs.Cuts.{before, after, pieces};
+ghost use Rattle.sc_tokens.specs.Cuts.{before, after, pieces};
 ghost use Rattle.sc_script.specs.Reading.{more_pieces};
 
 // The first place of the sign, or the length.
@@ -20,7 +20,7 @@ fn place_or_len(text: &[u8], sign: u8) -> usize
 }
 
 // What stands before the first such sign, or all, and what stands after it, where there is one.
-#[tactic(auto, unfolding(sc_syntax::specs::Cuts::before, sc_syntax::specs::Cuts::after))]
+#[tactic(auto, unfolding(sc_tokens::specs::Cuts::before, sc_tokens::specs::Cuts::after))]
 fn parted(text: &[u8], sign: u8) -> (&[u8], Option<&[u8]>)
     ensures front { result.0.now ≡ before sign text.now }
     ensures rest { option_copied result.1 ≡ after sign text.now }

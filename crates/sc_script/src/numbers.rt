@@ -1,7 +1,7 @@
 //! The numbers of scripts: decimals without leading zero.
 
 ghost use Rattle.std.specs.Prelude.{◌≡◌, ◌≤◌, ◌&&◌, nat_le, if◌then◌else◌, Some, None, IfSome};
-ghost use Rattle.sc_syntax.specs.Hosts.{begins};
+ghost use Rattle.sc_tokens.specs.Hosts.{begins};
 ghost use Rattle.sc_script.specs.ScriptTexts.{decimal_upto, is_plain};
 
 use sc_ascii::read_u64;
@@ -36,7 +36,7 @@ fn is_plain(text: &[u8]) -> bool
     text.len() == 1 || !begins(text, b'0')
 }
 
-#[tactic(auto, unfolding(sc_syntax::specs::Hosts::begins))]
+#[tactic(auto, unfolding(sc_tokens::specs::Hosts::begins))]
 fn begins(text: &[u8], sign: u8) -> bool
     ensures { result ≡ begins sign text.now }
 {

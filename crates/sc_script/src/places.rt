@@ -1,7 +1,7 @@
 //! The places of scripts.
 
 ghost use Rattle.std.specs.Prelude.{◌≡◌, ◌≤◌, IfSome};
-ghost use Rattle.sc_syntax.specs.Cuts.{pieces};
+ghost use Rattle.sc_tokens.specs.Cuts.{pieces};
 ghost use Rattle.sc_script.specs.ScriptTexts.{decimal_upto, connection_of, all_four, ip_of, address_of, address_in, place_of};
 ghost use Rattle.sc_script.specs.Reading.{more_pieces};
 

@@ -1,7 +1,7 @@
 ghost use Rattle.std.specs.Prelude.{◌≡◌, ◌<◌, ◌↔◌, [], ◌∷◌, ◌++◌, map, length, position, is_some, Option, Some, option_map, IsTrue, OnOk, OnErr, IfSome, IsErrOf, vec_len, vec_capacity};
 ghost use Rattle.std.specs.List.{slice_get};
 ghost use Rattle.sc_servlets.specs.Stated.{both_charters};
-ghost use Rattle.sc_value.specs.Params.{same_bytes};
+ghost use Rattle.sc_tokens.specs.Names.{same_bytes};
 
 use crate::{Listener, SipServlet};
 use sc_terms::{Charter, ListenerCharter};

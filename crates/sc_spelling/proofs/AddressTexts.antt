@@ -1,28 +1,30 @@
 -- The written forms of addresses, contacts, numbers and CSeq spell them, and are values of one line.
-use Rattle.std.proofs.Common.{◌≡◌, ℕ, suc, Bool, true, false, Option, Some, None, [], ◌∷◌, ◌++◌, ◌<◌, ◌≤◌, ◌^◌, inl, inr, length, decimal, refl, sym, ap, subst, ◌∙◌, append_assoc, length-append, arith}
+use Rattle.std.proofs.Common.{◌≡◌, ℕ, Bool, true, false, Option, Some, None, [], ◌∷◌, ◌++◌, ◌<◌, ◌≤◌, ◌^◌, inl, inr, decimal, refl, sym, ap, subst, ◌∙◌, append_assoc, arith}
 use Rattle.std.specs.Prelude.{unwrap_or}
 use Rattle.std.specs.Option.{option_map_or}
 use Rattle.std.specs.Char.{is_ascii_digit}
 use Rattle.std.proofs.lemmas.Bool.{false≢true}
-use Rattle.sc_value.specs.Tokens.{is_token_byte, is_blank, is_line_break, is_one_line}
+use Rattle.sc_tokens.specs.Tokens.{is_token_byte, is_blank, is_line_break, is_one_line}
 use Rattle.sc_value.specs.declared.parts.Address.{Address}
 use Rattle.sc_value.specs.declared.parts.Contact.{Contact}
 use Rattle.sc_value.specs.declared.parts.Contact.TheVariants.{Star, At}
 use Rattle.sc_value.specs.declared.parts.CSeq.{CSeq}
 use Rattle.sc_grammar.specs.Written.{params_text, ended_text, uri_text, address_text, contact_text, cseq_text}
-use Rattle.sc_syntax.specs.Bytes.{Bytes}
-use Rattle.sc_syntax.specs.Blanks.{trimmed_front, trimmed_back, trimmed}
-use Rattle.sc_syntax.specs.Parameters.{is_string}
+use Rattle.sc_tokens.specs.Bytes.{Bytes}
+use Rattle.sc_tokens.specs.Blanks.{trimmed_front, trimmed_back, trimmed}
+use Rattle.sc_tokens.specs.HeaderTokens.{is_string, IsWords, IsDisplay}
 use Rattle.sc_syntax.specs.SpelledParts.{IsBlanks}
-use Rattle.sc_syntax.specs.SpelledAddresses.{IsWords, IsDisplay, IsAddressIn, IsContactSpelled}
+use Rattle.sc_syntax.specs.SpelledAddresses.{IsAddressIn, IsContactSpelled}
 use Rattle.sc_syntax.specs.SpelledSequences.{IsCSeqSpelled}
-use Rattle.sc_syntax.proofs.BlankLaws.{front_more, trimmed_is_padded}
+use Rattle.sc_syntax.proofs.ValueLaws.{first_solid}
 use Rattle.sc_syntax.proofs.ClassLaws.{BeginsSolid, EndsSolid, begins_joined, ends_joined, class_begins, class_ends}
 use Rattle.sc_syntax.proofs.RunLaws.{comma_sign, string_is_closed}
 use Rattle.sc_syntax.proofs.ParameterLaws.{solid_by, token_is, token_solid}
 use Rattle.sc_syntax.proofs.DecimalLaws.{decimal_is_read}
+use Rattle.sc_value.specs.AddressValues.{IsAddress}
+use Rattle.sc_value.specs.ContactRules.{IsContact}
+use Rattle.sc_value.specs.SequenceValues.{IsCSeq}
 use Rattle.sc_spelling.specs.SpelledLines.{IsValue}
-use Rattle.sc_spelling.specs.Kept.{IsAddress, IsContact, IsCSeq}
 use Rattle.sc_spelling.proofs.StartLaws.{line_joined, token_line, digits_line}
 use Rattle.sc_spelling.proofs.PartTexts.{number_text, uri_spelled, uri_line, itself_padded, params_spelled, signs_line, params_line, params_end, solid_value, blank_gap}
 
@@ -55,13 +57,13 @@ address_is address =
     ap (λ l. l ++ params_text address.params) front
 
 pub address_spelled : (listed : Bool) (address : Address) → IsAddress address → IsAddressIn listed (address_text address) address
-address_spelled listed address (display, one, uri, params) = (
+address_spelled listed address kept = (
   named address,
   named address,
   params_text address.params,
-  inl (display, spaced address.display, uri_text address.uri, spaced_blank address.display, uri_spelled address.uri uri, refl),
+  inl (kept.display, spaced address.display, uri_text address.uri, spaced_blank address.display, uri_spelled address.uri kept.uri, refl),
   itself_padded (named address),
-  params_spelled address.params params,
+  params_spelled address.params kept.params,
   address_is address,
 )
 
@@ -78,20 +80,6 @@ bracket_solid : (is_blank 60 ≡ false) × (is_blank 62 ≡ false) × (is_blank 
 unfolding is_blank
 bracket_solid = (refl, refl, refl)
 
-pub length_trimmed : (text : Bytes) → length (trimmed text) ≤ length text
-length_trimmed text = let pad = trimmed_is_padded text in let len = ap length pad.4 in omega (arith, len, length-append pad.0 (trimmed text ++ pad.1), length-append (trimmed text) pad.1)
-
-trimmed_more : (b : ℕ) (bs : Bytes) → is_blank b ≡ true → trimmed (b ∷ bs) ≡ trimmed bs
-unfolding trimmed
-trimmed_more b bs h = ap trimmed_back (front_more b bs h)
-
--- a trimmed text begins with no blank
-pub first_solid : (b : ℕ) (bs : Bytes) → trimmed (b ∷ bs) ≡ b ∷ bs → is_blank b ≡ false
-first_solid b bs h = elim (is_blank b) as (λ (t : Bool). is_blank b ≡ t → t ≡ false) [
-  | false ↦ λ e. refl
-  | true ↦ λ e. absurd (let len : length (trimmed bs) ≡ suc (length bs) = ap length (sym (trimmed_more b bs e) ∙ h) in let less = length_trimmed bs in omega (arith, len, less))
-] refl
-
 words_begin : (text : Bytes) → IsWords text → BeginsSolid text
 words_begin [] h = absurd (false≢true (sym h.0))
 words_begin (b ∷ bs) h = (b, bs, first_solid b bs h.2, refl)
@@ -106,17 +94,17 @@ display_begins (Some text) rest (inl string) = begins_joined text (32 ∷ 60 ∷
 display_begins (Some text) rest (inr words) = begins_joined text (32 ∷ 60 ∷ rest) (words_begin text words)
 
 pub address_value : (address : Address) → IsAddress address → IsValue (address_text address)
-address_value address (display, one, uri, params) =
+address_value address kept =
     let shown = unwrap_or address.display [] in
     let gap = spaced address.display in
     let text = uri_text address.uri in
     let rest = params_text address.params in
     let line = line_joined (named address) rest
-    (line_joined shown (gap ++ 60 ∷ (text ++ 62 ∷ [])) (display_line address.display one) (line_joined gap (60 ∷ (text ++ 62 ∷ [])) (blank_line address.display) (line_joined (60 ∷ []) (text ++ 62 ∷ []) signs_line.2 (line_joined text (62 ∷ []) (uri_line address.uri uri) signs_line.3))))
-    (params_line address.params params) in
+    (line_joined shown (gap ++ 60 ∷ (text ++ 62 ∷ [])) (display_line address.display kept.line) (line_joined gap (60 ∷ (text ++ 62 ∷ [])) (blank_line address.display) (line_joined (60 ∷ []) (text ++ 62 ∷ []) signs_line.2 (line_joined text (62 ∷ []) (uri_line address.uri kept.uri) signs_line.3))))
+    (params_line address.params kept.params) in
     let last : EndsSolid (60 ∷ (text ++ 62 ∷ [])) = (60 ∷ text, 62, bracket_solid.1, refl) in
-    let end = params_end address.params (named address) (ends_joined shown (gap ++ 60 ∷ (text ++ 62 ∷ [])) (ends_joined gap (60 ∷ (text ++ 62 ∷ [])) last)) params in
-    let begin = begins_joined (named address) rest (display_begins address.display (text ++ 62 ∷ []) display) in
+    let end = params_end address.params (named address) (ends_joined shown (gap ++ 60 ∷ (text ++ 62 ∷ [])) (ends_joined gap (60 ∷ (text ++ 62 ∷ [])) last)) kept.params in
+    let begin = begins_joined (named address) rest (display_begins address.display (text ++ 62 ∷ []) kept.display) in
     subst IsValue (sym (address_is address)) (solid_value (named address ++ rest) line begin end)
 
 -- ## Contact
@@ -153,15 +141,15 @@ unfolding cseq_text
 cseq_is cseq = append_assoc (decimal cseq.number) (32 ∷ []) cseq.method
 
 pub cseq_spelled : (cseq : CSeq) → IsCSeq cseq → IsCSeqSpelled (cseq_text cseq) cseq
-cseq_spelled cseq (small, token) =
-    (cseq_text cseq, (token, decimal cseq.number, 32 ∷ [], decimal_is_read cseq.number (2 ^ 31) small_limit small, blank_gap, refl, cseq_is cseq), itself_padded (cseq_text cseq))
+cseq_spelled cseq kept =
+    (cseq_text cseq, (kept.method, decimal cseq.number, 32 ∷ [], decimal_is_read cseq.number (2 ^ 31) small_limit kept.number, blank_gap, refl, cseq_is cseq), itself_padded (cseq_text cseq))
 
 pub cseq_value : (cseq : CSeq) → IsCSeq cseq → IsValue (cseq_text cseq)
-cseq_value cseq (small, token) =
+cseq_value cseq kept =
     let digits = decimal cseq.number in
-    let is = number_text cseq.number (2 ^ 31) small_limit small in
-    let bytes = token_is cseq.method token in
-    let one = line_joined digits (32 ∷ cseq.method) (digits_line digits is.1) (line_joined (32 ∷ []) cseq.method signs_line.4 (token_line cseq.method token)) in
+    let is = number_text cseq.number (2 ^ 31) small_limit kept.number in
+    let bytes = token_is cseq.method kept.method in
+    let one = line_joined digits (32 ∷ cseq.method) (digits_line digits is.1) (line_joined (32 ∷ []) cseq.method signs_line.4 (token_line cseq.method kept.method)) in
     let begin = begins_joined digits (32 ∷ cseq.method) (class_begins is_ascii_digit digit_solid digits is.0 is.1) in
     let end = ends_joined digits (32 ∷ cseq.method) (ends_joined (32 ∷ []) cseq.method (class_ends is_token_byte token_solid cseq.method bytes.0 bytes.1)) in
     subst IsValue (sym (cseq_is cseq)) (solid_value (digits ++ 32 ∷ cseq.method) one begin end)

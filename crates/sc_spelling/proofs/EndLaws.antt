@@ -3,12 +3,12 @@ use Rattle.std.proofs.Common.{◌≡◌, ℕ, suc, Bool, true, false, cond, not,
 use Rattle.std.specs.List.{list_all}
 use Rattle.std.specs.Option.{option_map}
 use Rattle.std.proofs.Math.Seq.{take-append_seam}
-use Rattle.sc_value.specs.Tokens.{is_line_break, is_one_line, begins_blank}
+use Rattle.sc_tokens.specs.Tokens.{is_line_break, is_one_line, begins_blank}
 use Rattle.sc_syntax.specs.declared.ending.Ending.{Ending}
 use Rattle.sc_syntax.specs.declared.ending.Ending.TheVariants.{Any, Unfolded, Empty}
-use Rattle.sc_syntax.specs.Bytes.{Bytes}
-use Rattle.sc_syntax.specs.Cuts.{onto_first}
-use Rattle.sc_syntax.specs.Hosts.{begins}
+use Rattle.sc_tokens.specs.Bytes.{Bytes}
+use Rattle.sc_tokens.specs.Cuts.{onto_first}
+use Rattle.sc_tokens.specs.Hosts.{begins}
 use Rattle.sc_syntax.specs.Lines.{begins_break, is_end, end_of, pieces_at}
 use Rattle.sc_syntax.proofs.BlankLaws.{both, and_true}
 use Rattle.sc_syntax.proofs.ClassLaws.{neither, not_true}

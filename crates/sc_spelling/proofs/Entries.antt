@@ -3,13 +3,13 @@ use Rattle.std.proofs.Common.{◌≡◌, ℕ, Bool, true, false, cond, not, Resu
 use Rattle.std.specs.Prelude.{filter}
 use Rattle.std.specs.Char.{to_ascii_lowercase}
 use Rattle.std.proofs.lemmas.Bool.{false≢true}
-use Rattle.sc_value.specs.HeaderNames.{is_dialog_name, is_routing_name, via_name, route_name, record_route_name, max_forwards_name, from_name, to_name, call_id_name, cseq_name, contact_name, content_length_name}
-use Rattle.sc_value.specs.Params.{same_bytes, same_name}
+use Rattle.sc_tokens.specs.HeaderNames.{is_dialog_name, is_routing_name, via_name, route_name, record_route_name, max_forwards_name, from_name, to_name, call_id_name, cseq_name, contact_name, content_length_name}
+use Rattle.sc_tokens.specs.Names.{same_bytes, same_name}
 use Rattle.sc_value.specs.declared.parts.Field.{Field}
 use Rattle.sc_syntax.specs.declared.left.Left.{Left}
 use Rattle.sc_syntax.specs.declared.left.Header.{Header}
 use Rattle.sc_syntax.specs.declared.left.Header.TheVariants as headers
-use Rattle.sc_syntax.specs.Bytes.{Bytes}
+use Rattle.sc_tokens.specs.Bytes.{Bytes}
 use Rattle.sc_syntax.specs.Fronts.{values_of}
 use Rattle.sc_syntax.specs.Judging.{header_named, taken}
 use Rattle.sc_syntax.proofs.ListedLaws.{same_text}

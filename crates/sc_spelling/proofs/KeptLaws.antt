@@ -1,65 +1,33 @@
 -- A message that a text spells keeps the grammar.
-use Rattle.std.proofs.Common.{◌≡◌, ℕ, Bool, true, false, cond, Option, Some, None, Ok, List, [], ◌∷◌, ◌&&◌, ◌==◌, ◌<◌, ◌≤◌, ◌^◌, length, map, refl, sym, ap, subst, ◌∙◌, arith}
+use Rattle.std.proofs.Common.{◌≡◌, ℕ, Bool, true, false, cond, Option, Some, None, Ok, List, [], ◌∷◌, ◌<◌, ◌≤◌, ◌^◌, length, map, refl, sym, ap, subst, ◌∙◌, arith}
 use Rattle.std.specs.Prelude.{filter, unwrap_or}
 use Rattle.std.specs.List.{list_all}
-use Rattle.std.specs.Char.{to_ascii_lowercase}
-use Rattle.std.specs.Option.{option_map_or}
-use Rattle.sc_value.specs.HeaderNames.{long_of, long_name, via_name, from_name, to_name, call_id_name, contact_name, content_length_name, content_type_name, content_encoding_name, subject_name, supported_name, route_name, record_route_name, cseq_name, max_forwards_name}
-use Rattle.sc_value.specs.Params.{same_bytes, same_name}
-use Rattle.sc_value.specs.Tokens.{is_token, is_token_byte, is_one_line}
+use Rattle.sc_tokens.specs.HeaderNames.{long_name, via_name, from_name, to_name, call_id_name, contact_name, content_length_name, route_name, record_route_name, cseq_name, max_forwards_name}
+use Rattle.sc_tokens.specs.Names.{same_name}
+use Rattle.sc_tokens.specs.Tokens.{is_token, is_one_line}
 use Rattle.sc_value.specs.declared.parts.Field.{Field}
 use Rattle.sc_value.specs.declared.message.Head.{Head}
 use Rattle.sc_value.specs.declared.message.Message.{Message}
 use Rattle.sc_value.specs.declared.message.Message.TheVariants.{Request, Response}
 use Rattle.sc_grammar.specs.Written.{written}
-use Rattle.sc_syntax.specs.Bytes.{Bytes}
-use Rattle.sc_syntax.specs.Numbers.{number_of}
+use Rattle.sc_tokens.specs.Bytes.{Bytes}
+use Rattle.sc_tokens.specs.Numbers.{number_of}
 use Rattle.sc_syntax.specs.Sequences.{hops_of}
 use Rattle.sc_syntax.specs.Fronts.{values_of}
 use Rattle.sc_syntax.proofs.BlankLaws.{both, and_true}
-use Rattle.sc_syntax.proofs.ListedLaws.{same_text}
+use Rattle.sc_syntax.proofs.NameLaws.{long_is}
 use Rattle.sc_spelling.specs.SpelledLines.{IsValue, IsLineSpelled, AreLinesSpelled}
 use Rattle.sc_spelling.specs.SpelledHeads.{IsOnce, IsAtMostOnce, is_other, AreFieldsOf}
 use Rattle.sc_spelling.specs.SpelledStarts.{IsStartSpelled}
 use Rattle.sc_spelling.specs.SpelledMessages.{head_in, HasHops, IsSpelledBy, IsSpelled}
-use Rattle.sc_spelling.specs.Kept.{AllKeep, IsAddress, IsCSeq, IsField, IsHead, IsStart, KeepsGrammar, HasBranch, HasRoom}
+use Rattle.sc_value.specs.AddressValues.{IsAddress}
+use Rattle.sc_value.specs.SequenceValues.{IsCSeq}
+use Rattle.sc_spelling.specs.Kept.{AllKeep, IsField, IsHead, IsStart, KeepsGrammar, HasBranch, HasRoom}
 use Rattle.sc_syntax.specs.Messages.{message_of}
 use Rattle.sc_spelling.proofs.Segments.{IsWritable}
 use Rattle.sc_spelling.proofs.ReadWhole.{message_spelled_back}
 use Rattle.sc_spelling.proofs.WrittenLaws.{written_is_read}
 use Rattle.sc_spelling.proofs.KeptParts.{number_small, uri_kept, vias_kept, addresses_kept, contacts_kept, address_kept, cseq_kept}
-
--- ## Long names
-
--- a long name is a token, and its own long name
-abbrev is_long : Bytes → Bool
-is_long name = is_token name && same_bytes (long_name name) name
-
-by_letter : (t : Bool) (name : Bytes) (o : Option Bytes) → is_long name ≡ true → option_map_or is_long o true ≡ true → option_map_or is_long (cond t (Some name) o) true ≡ true
-by_letter true name o g h = g
-by_letter false name o g h = h
-
-long_ones : (is_long call_id_name ≡ true) × (is_long contact_name ≡ true) × (is_long content_encoding_name ≡ true) × (is_long content_length_name ≡ true) × (is_long content_type_name ≡ true)
-    × (is_long from_name ≡ true) × (is_long subject_name ≡ true) × (is_long supported_name ≡ true) × (is_long to_name ≡ true) × (is_long via_name ≡ true)
-unfolding long_name is_token is_token_byte call_id_name contact_name content_encoding_name content_length_name content_type_name from_name subject_name supported_name to_name via_name
-long_ones = (refl, refl, refl, refl, refl, refl, refl, refl, refl, refl)
-
-all_long : (letter : ℕ) → option_map_or is_long (long_of letter) true ≡ true
-unfolding long_of
-all_long letter =
-    by_letter (letter == 105) call_id_name _ long_ones.0 (by_letter (letter == 109) contact_name _ long_ones.1 (by_letter (letter == 101) content_encoding_name _ long_ones.2 (by_letter (letter == 108) content_length_name _ long_ones.3
-    (by_letter (letter == 99) content_type_name _ long_ones.4 (by_letter (letter == 102) from_name _ long_ones.5 (by_letter (letter == 115) subject_name _ long_ones.6 (by_letter (letter == 107) supported_name _ long_ones.7
-    (by_letter (letter == 116) to_name _ long_ones.8 (by_letter (letter == 118) via_name None long_ones.9 refl)))))))))
-
--- the long name of a token
-long_is : (name : Bytes) → is_token name ≡ true → (is_token (long_name name) ≡ true) × (long_name (long_name name) ≡ long_name name)
-unfolding long_name
-long_is [] h = (h, refl)
-long_is (letter ∷ []) h = elim (long_of (to_ascii_lowercase letter)) as (λ (o : Option Bytes). long_of (to_ascii_lowercase letter) ≡ o → (is_token (unwrap_or o (letter ∷ [])) ≡ true) × (long_name (unwrap_or o (letter ∷ [])) ≡ unwrap_or o (letter ∷ []))) [
-  | None ↦ λ e. (h, ap (λ o. unwrap_or o (letter ∷ [])) e)
-  | Some name ↦ λ e. let is = both (is_token name) (same_bytes (long_name name) name) (ap (λ o. option_map_or is_long o true) (sym e) ∙ all_long (to_ascii_lowercase letter)) in (is.0, same_text (long_name name) name is.1)
-] refl
-long_is (first ∷ second ∷ rest) h = (h, refl)
 
 -- ## Fields
 

@@ -1,10 +1,10 @@
 -- The parts of a text of one line keep the grammar.
 use Rattle.std.proofs.Common.{◌≡◌, ℕ, Bool, true, Option, Some, None, List, [], ◌∷◌, ◌++◌, ◌&&◌, ◌<◌, ◌^◌, ◌⊎◌, inl, inr, refl, sym, ap, subst, ◌∙◌, arith}
-use Rattle.std.specs.Prelude.{unwrap_or, nat_lt}
+use Rattle.std.specs.Prelude.{unwrap_or, nat_lt, IfSome}
 use Rattle.std.specs.List.{list_all}
 use Rattle.std.specs.Option.{option_map_or}
 use Rattle.std.proofs.lemmas.Bool.Decides.{nat_tests}
-use Rattle.sc_value.specs.Tokens.{is_one_line}
+use Rattle.sc_tokens.specs.Tokens.{is_one_line}
 use Rattle.sc_value.specs.declared.parts.Param.{Param}
 use Rattle.sc_value.specs.declared.parts.Uri.{Uri}
 use Rattle.sc_value.specs.declared.parts.Uri.TheVariants.{Sip, Other}
@@ -13,17 +13,24 @@ use Rattle.sc_value.specs.declared.parts.Contact.{Contact}
 use Rattle.sc_value.specs.declared.parts.Contact.TheVariants.{Star, At}
 use Rattle.sc_value.specs.declared.parts.Via.{Via}
 use Rattle.sc_value.specs.declared.parts.CSeq.{CSeq}
-use Rattle.sc_syntax.specs.Bytes.{Bytes}
-use Rattle.sc_syntax.specs.Numbers.{is_digits, number_in, number_below}
-use Rattle.sc_syntax.specs.SpelledUris.{led, IsPortSpelled, IsOtherSpelled, IsUriSpelled}
+use Rattle.sc_tokens.specs.Bytes.{Bytes}
+use Rattle.sc_tokens.specs.Numbers.{is_digits, number_in, number_below}
+use Rattle.sc_tokens.specs.UriTokens.{IsOtherSpelled}
+use Rattle.sc_syntax.specs.SpelledUris.{led, IsPortSpelled, IsUriSpelled}
 use Rattle.sc_syntax.specs.SpelledParts.{Padded, AreLed, AreListed, header_param, AreParamsSpelled}
 use Rattle.sc_syntax.specs.SpelledVias.{IsViaSpelled, AreViasSpelled}
-use Rattle.sc_syntax.specs.SpelledAddresses.{IsNamedSpelled, IsBareSpelled, IsAddressIn, AreAddressesSpelled, IsContactSpelled, AreContactsSpelled, IsDisplay}
+use Rattle.sc_tokens.specs.HeaderTokens.{IsDisplay}
+use Rattle.sc_syntax.specs.SpelledAddresses.{IsNamedSpelled, IsBareSpelled, IsAddressIn, AreAddressesSpelled, IsContactSpelled, AreContactsSpelled}
 use Rattle.sc_syntax.specs.SpelledSequences.{IsCSeqSpelled}
 use Rattle.sc_syntax.proofs.BlankLaws.{both}
 use Rattle.sc_syntax.proofs.ListedLaws.{if_some}
+use Rattle.sc_value.specs.AddressValues.{IsUri, IsAddress}
+use Rattle.sc_value.specs.ContactRules.{IsContact}
+use Rattle.sc_value.specs.ParamRules.{AreHeaderParams}
+use Rattle.sc_value.specs.SequenceValues.{IsCSeq}
+use Rattle.sc_value.specs.ViaValues.{IsVia}
 use Rattle.sc_spelling.specs.SpelledHeads.{AreInLines}
-use Rattle.sc_spelling.specs.Kept.{AllKeep, IsPort, IsUri, IsParam, IsVia, IsAddress, IsContact, IsCSeq}
+use Rattle.sc_spelling.specs.Kept.{AllKeep}
 use Rattle.sc_spelling.proofs.Segments.{keep_joined}
 use Rattle.sc_spelling.proofs.ReadLines.{line_split}
 
@@ -40,8 +47,8 @@ number_small limit text n h =
     let same : number_in text ≡ n = ap (λ o. unwrap_or o n) is.1 in
     subst (λ (k : ℕ). k < limit) same small
 
-port_kept : (text : Bytes) (port : Option ℕ) → IsPortSpelled text port → IsPort port
-unfolding IsPort IsPortSpelled
+port_kept : (text : Bytes) (port : Option ℕ) → IsPortSpelled text port → IfSome port (λ n. n < 65536)
+unfolding IsPortSpelled
 port_kept text None h = tt
 port_kept text (Some port) h = number_small 65536 h.0 port h.1
 
@@ -62,8 +69,8 @@ unfolding led
 led_line None h = refl
 led_line (Some value) h = (line_split (61 ∷ []) value h).1
 
-pub params_kept : (params : List Param) (text : Bytes) → AreParamsSpelled text params → is_one_line text ≡ true → AllKeep IsParam params
-unfolding AllKeep AreLed header_param
+pub params_kept : (params : List Param) (text : Bytes) → AreParamsSpelled text params → is_one_line text ≡ true → AreHeaderParams params
+unfolding AreHeaderParams AreLed header_param
 params_kept [] text h one = tt
 params_kept (param ∷ params) text (item, rest, (kept, pad), more, is) one =
     let parts = line_split item rest (line_split (59 ∷ []) (item ++ rest) (ap is_one_line (sym is) ∙ one)).1 in
@@ -75,7 +82,7 @@ params_kept (param ∷ params) text (item, rest, (kept, pad), more, is) one =
 via_kept : (text : Bytes) (via : Via) → is_one_line text ≡ true → IsViaSpelled text via → IsVia via
 via_kept text via one (name, version, inner, hop, rest, n, v, (token, host, gap, port, g, some, spelled, whole), pad, params, is) =
     let behind = line_split version (47 ∷ (hop ++ rest)) (line_split (47 ∷ []) (version ++ 47 ∷ (hop ++ rest)) (line_split name (47 ∷ (version ++ 47 ∷ (hop ++ rest))) (ap is_one_line (sym is) ∙ one)).1).1 in
-    (token, host, port_kept port via.port spelled, params_kept via.params rest params (line_split hop rest (line_split (47 ∷ []) (hop ++ rest) behind.1).1).1)
+    record { transport = token; host = host; port = port_kept port via.port spelled; params = params_kept via.params rest params (line_split hop rest (line_split (47 ∷ []) (hop ++ rest) behind.1).1).1 }
 
 -- ## Addresses
 
@@ -97,7 +104,7 @@ pub address_kept : (listed : Bool) (text : Bytes) (address : Address) → is_one
 address_kept listed text address one (inner, first, rest, form, pad, params, is) =
     let parts = line_split first rest (ap is_one_line (sym is) ∙ one) in
     let kept = form_kept listed inner address (padded_line inner first pad parts.0) form in
-    (kept.0, kept.1, kept.2, params_kept address.params rest params parts.1)
+    record { display = kept.0; line = kept.1; uri = kept.2; params = params_kept address.params rest params parts.1 }
 
 contact_kept : (text : Bytes) (contact : Contact) → is_one_line text ≡ true → IsContactSpelled text contact → IsContact contact
 unfolding IsContact IsContactSpelled
@@ -105,7 +112,7 @@ contact_kept text Star one h = tt
 contact_kept text (At address) one h = address_kept true text address one h
 
 pub cseq_kept : (text : Bytes) (cseq : CSeq) → IsCSeqSpelled text cseq → IsCSeq cseq
-cseq_kept text cseq (inner, (token, digits, gap, number, g, some, is), pad) = (number_small (2 ^ 31) digits cseq.number number, token)
+cseq_kept text cseq (inner, (token, digits, gap, number, g, some, is), pad) = record { number = number_small (2 ^ 31) digits cseq.number number; method = token }
 
 -- ## Lists
 

@@ -5,7 +5,7 @@ use Rattle.std.specs.List.{list_all}
 use Rattle.std.specs.Option.{option_map_or}
 use Rattle.std.proofs.lemmas.Bool.{false≢true}
 use Rattle.std.proofs.lemmas.Bool.Decides.{nat_tests}
-use Rattle.sc_value.specs.Tokens.{is_one_line}
+use Rattle.sc_tokens.specs.Tokens.{is_one_line}
 use Rattle.sc_value.specs.declared.parts.Via.{Via}
 use Rattle.sc_value.specs.declared.parts.Field.{Field}
 use Rattle.sc_syntax.specs.declared.left.Left.{Left}
@@ -13,7 +13,7 @@ use Rattle.sc_syntax.specs.declared.left.Lists.{Lists}
 use Rattle.sc_syntax.specs.declared.left.Singles.{Singles}
 use Rattle.sc_syntax.specs.declared.left.Header.{Header}
 use Rattle.sc_syntax.specs.declared.left.Header.TheVariants as headers
-use Rattle.sc_syntax.specs.Bytes.{Bytes}
+use Rattle.sc_tokens.specs.Bytes.{Bytes}
 use Rattle.sc_syntax.specs.Vias.{vias_of}
 use Rattle.sc_syntax.specs.Addresses.{addresses_of, contacts_of}
 use Rattle.sc_syntax.specs.Judging.{counted, taken_as, has_branch, begins_well, with_vias, with_routes, with_record_routes, with_contacts, with_field, in_line, taken}

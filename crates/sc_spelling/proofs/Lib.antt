@@ -22,5 +22,6 @@ pub mod ReadWhole
 pub mod KeptParts
 pub mod KeptLaws
 mod SpellingCases
-pub mod ValueLaws
 mod ResponseCase
+pub mod MadeLaws
+pub mod NeverAnother

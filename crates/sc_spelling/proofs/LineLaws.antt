@@ -3,16 +3,16 @@ use Rattle.std.proofs.Common.{◌≡◌, ℕ, true, false, cond, not, Result, Ok
 use Rattle.std.specs.List.{list_all, flat_map}
 use Rattle.std.specs.Option.{option_map_or}
 use Rattle.std.proofs.lemmas.Bool.{false≢true}
-use Rattle.sc_value.specs.HeaderNames.{long_name}
-use Rattle.sc_value.specs.Tokens.{is_token_byte, is_blank, is_line_break, is_one_line, begins_blank}
+use Rattle.sc_tokens.specs.HeaderNames.{long_name}
+use Rattle.sc_tokens.specs.Tokens.{is_token_byte, is_blank, is_line_break, is_one_line, begins_blank}
 use Rattle.sc_value.specs.declared.parts.Field.{Field}
 use Rattle.sc_syntax.specs.declared.ending.Ending.{Ending}
 use Rattle.sc_syntax.specs.declared.ending.Ending.TheVariants.{Any, Unfolded, Empty}
 use Rattle.sc_syntax.specs.declared.left.Left.{Left}
-use Rattle.sc_syntax.specs.Bytes.{Bytes}
-use Rattle.sc_syntax.specs.Cuts.{before, after}
+use Rattle.sc_tokens.specs.Bytes.{Bytes}
+use Rattle.sc_tokens.specs.Cuts.{before, after}
 use Rattle.sc_syntax.specs.UriParts.{then_read}
-use Rattle.sc_syntax.specs.Blanks.{trimmed, trimmed_back}
+use Rattle.sc_tokens.specs.Blanks.{trimmed, trimmed_back}
 use Rattle.sc_syntax.specs.Lines.{is_end, pieces_at}
 use Rattle.sc_syntax.specs.Folds.{all_continued, joined}
 use Rattle.sc_syntax.specs.Judging.{header_named, taken, named, judged}

@@ -1,20 +1,20 @@
 -- The written forms of parts spell them, and are values of one line.
 use Rattle.std.proofs.Common.{◌≡◌, ℕ, true, false, Option, Some, None, List, [], ◌∷◌, ◌++◌, ◌==◌, ◌<◌, ◌≤◌, ◌^◌, inl, inr, length, decimal, refl, sym, ap, subst, ◌∙◌, append_assoc, append-nil, arith}
-use Rattle.std.specs.Prelude.{codes, is_some}
+use Rattle.std.specs.Prelude.{codes, is_some, IfSome}
 use Rattle.std.specs.List.{list_all, flat_map}
 use Rattle.std.specs.Option.{option_map_or}
 use Rattle.std.specs.Char.{is_ascii_digit}
-use Rattle.sc_value.specs.Params.{same_name}
-use Rattle.sc_value.specs.Tokens.{is_token, is_token_byte, is_blank, is_line_break, is_one_line}
+use Rattle.sc_tokens.specs.Names.{same_name}
+use Rattle.sc_tokens.specs.Tokens.{is_token, is_token_byte, is_blank, is_line_break, is_one_line}
 use Rattle.sc_value.specs.declared.parts.Param.{Param}
 use Rattle.sc_value.specs.declared.parts.SipUri.{SipUri}
 use Rattle.sc_value.specs.declared.parts.Uri.{Uri}
 use Rattle.sc_value.specs.declared.parts.Uri.TheVariants.{Sip, Other}
 use Rattle.sc_value.specs.declared.parts.Via.{Via}
 use Rattle.sc_grammar.specs.Written.{version, signed_text, param_text, params_text, ended_text, port_text, scheme, sip_uri_text, uri_text, via_text}
-use Rattle.sc_syntax.specs.Bytes.{Bytes}
-use Rattle.sc_syntax.specs.Parameters.{is_value_byte, is_string, is_param_text}
-use Rattle.sc_syntax.specs.Uris.{sip_scheme}
+use Rattle.sc_tokens.specs.Bytes.{Bytes}
+use Rattle.sc_tokens.specs.HeaderTokens.{is_value_byte, is_string, is_param_text}
+use Rattle.sc_tokens.specs.UriTokens.{sip_scheme}
 use Rattle.sc_syntax.specs.SpelledUris.{led, closed_by, IsPortSpelled, spelled_param, IsSipSpelled, IsUriSpelled}
 use Rattle.sc_syntax.specs.SpelledParts.{IsBlanks, Padded, AreLed, header_param, AreParamsSpelled}
 use Rattle.sc_syntax.specs.SpelledVias.{IsViaSpelled}
@@ -25,8 +25,10 @@ use Rattle.sc_syntax.proofs.HostLaws.{is_sent_byte, sent_bytes, number_digits, d
 use Rattle.sc_syntax.proofs.SpelledViaLaws.{sent_solid}
 use Rattle.sc_syntax.proofs.SpelledUriLaws.{uri_is_open}
 use Rattle.sc_syntax.proofs.DecimalLaws.{decimal_is_read}
+use Rattle.sc_value.specs.AddressValues.{IsUri}
+use Rattle.sc_value.specs.ParamRules.{AreHeaderParams}
+use Rattle.sc_value.specs.ViaValues.{IsVia}
 use Rattle.sc_spelling.specs.SpelledLines.{IsValue}
-use Rattle.sc_spelling.specs.Kept.{AllKeep, IsPort, IsUri, IsParam, IsVia}
 use Rattle.sc_spelling.proofs.StartLaws.{line_joined, class_line, token_line, open_line}
 
 -- ## Numbers and ports
@@ -34,8 +36,8 @@ use Rattle.sc_spelling.proofs.StartLaws.{line_joined, class_line, token_line, op
 pub number_text : (n limit : ℕ) → limit ≤ 2 ^ 64 → n < limit → ((length (decimal n) == 0) ≡ false) × (list_all is_ascii_digit (decimal n) ≡ true)
 number_text n limit less small = digits_are (decimal n) (number_digits limit (decimal n) (ap is_some (decimal_is_read n limit less small)))
 
-pub port_spelled : (port : Option ℕ) → IsPort port → IsPortSpelled (port_text port) port
-unfolding IsPort IsPortSpelled port_text
+pub port_spelled : (port : Option ℕ) → IfSome port (λ n. n < 65536) → IsPortSpelled (port_text port) port
+unfolding IsPortSpelled port_text
 port_spelled None h = refl
 port_spelled (Some port) h = (decimal port, decimal_is_read port 65536 (omega arith) h, refl)
 
@@ -91,8 +93,8 @@ uri_line uri h = open_line (uri_text uri) (uri_is_open (uri_text uri) uri (uri_s
 pub itself_padded : (text : Bytes) → Padded text text
 itself_padded text = ([], [], refl, refl, sym (append-nil text))
 
-pub params_spelled : (params : List Param) → AllKeep IsParam params → AreParamsSpelled (params_text params) params
-unfolding AllKeep AreLed params_text param_text header_param
+pub params_spelled : (params : List Param) → AreHeaderParams params → AreParamsSpelled (params_text params) params
+unfolding AreHeaderParams AreLed params_text param_text header_param
 params_spelled [] h = refl
 params_spelled (param ∷ params) h =
     let one = param.name ++ led 61 param.value in (
@@ -112,8 +114,8 @@ unfolding signed_text
 value_line None h = signs_line.5
 value_line (Some value) h = line_joined (61 ∷ []) value signs_line.1 h
 
-pub params_line : (params : List Param) → AllKeep IsParam params → is_one_line (params_text params) ≡ true
-unfolding AllKeep params_text param_text
+pub params_line : (params : List Param) → AreHeaderParams params → is_one_line (params_text params) ≡ true
+unfolding AreHeaderParams params_text param_text
 params_line [] h = signs_line.5
 params_line (param ∷ params) h =
     line_joined (59 ∷ (param.name ++ signed_text 61 param.value)) (params_text params)
@@ -141,8 +143,8 @@ param_ends name None n v = let t = token_is name n in subst EndsSolid (sym (appe
 param_ends name (Some value) n v = ends_joined name (61 ∷ value) (value_ends value v)
 
 -- a text that ends solid does so with parameters behind it
-pub params_end : (params : List Param) (front : Bytes) → EndsSolid front → AllKeep IsParam params → EndsSolid (front ++ params_text params)
-unfolding AllKeep params_text param_text
+pub params_end : (params : List Param) (front : Bytes) → EndsSolid front → AreHeaderParams params → EndsSolid (front ++ params_text params)
+unfolding AreHeaderParams params_text param_text
 params_end [] front e h = subst EndsSolid (sym (append-nil front)) e
 params_end (param ∷ params) front e h =
     let one = 59 ∷ (param.name ++ signed_text 61 param.value) in
@@ -166,7 +168,7 @@ unfolding is_blank
 blank_gap = refl
 
 pub via_spelled : (via : Via) → IsVia via → IsViaSpelled (via_text via) via
-via_spelled via (token, host, port, params) =
+via_spelled via kept =
     let sent = via.host ++ port_text via.port in
     let inner = via.transport ++ (32 ∷ sent) in (
       codes "SIP",
@@ -176,9 +178,9 @@ via_spelled via (token, host, port, params) =
       params_text via.params,
       itself_padded (codes "SIP"),
       itself_padded (codes "2.0"),
-      (token, host, 32 ∷ [], port_text via.port, blank_gap, refl, port_spelled via.port port, refl),
+      (kept.transport, kept.host, 32 ∷ [], port_text via.port, blank_gap, refl, port_spelled via.port kept.port, refl),
       itself_padded inner,
-      params_spelled via.params params,
+      params_spelled via.params kept.params,
       via_is via ∙ ap (λ l. codes "SIP/2.0/" ++ (via.transport ++ 32 ∷ l)) (sym (append_assoc via.host (port_text via.port) (params_text via.params)))
           ∙ ap (λ l. codes "SIP/2.0/" ++ l) (sym (append_assoc via.transport (32 ∷ sent) (params_text via.params))),
     )
@@ -192,14 +194,14 @@ unfolding is_blank
 letter_solid = refl
 
 pub via_value : (via : Via) → IsVia via → IsValue (via_text via)
-via_value via (token, host, port, params) =
+via_value via kept =
     let sent = via.host ++ port_text via.port in
-    let bytes = sent_bytes via.host (port_text via.port) via.port host (port_spelled via.port port) in
+    let bytes = sent_bytes via.host (port_text via.port) via.port kept.host (port_spelled via.port kept.port) in
     let front = codes "SIP/2.0/" ++ (via.transport ++ 32 ∷ sent) in
     let is : via_text via ≡ front ++ params_text via.params =
     via_is via ∙ ap (λ l. codes "SIP/2.0/" ++ (via.transport ++ 32 ∷ l)) (sym (append_assoc via.host (port_text via.port) (params_text via.params)))
     ∙ ap (λ l. codes "SIP/2.0/" ++ l) (sym (append_assoc via.transport (32 ∷ sent) (params_text via.params))) in
-    let one = line_joined front (params_text via.params) (line_joined (codes "SIP/2.0/") (via.transport ++ 32 ∷ sent) signs_line.6 (line_joined via.transport (32 ∷ sent) (token_line via.transport token) (line_joined (32 ∷ []) sent signs_line.4 (sent_line sent bytes.0)))) (params_line via.params params) in
-    let end = params_end via.params front (ends_joined (codes "SIP/2.0/") (via.transport ++ 32 ∷ sent) (ends_joined via.transport (32 ∷ sent) (ends_joined (32 ∷ []) sent (class_ends is_sent_byte sent_solid sent bytes.1 bytes.0)))) params in
+    let one = line_joined front (params_text via.params) (line_joined (codes "SIP/2.0/") (via.transport ++ 32 ∷ sent) signs_line.6 (line_joined via.transport (32 ∷ sent) (token_line via.transport kept.transport) (line_joined (32 ∷ []) sent signs_line.4 (sent_line sent bytes.0)))) (params_line via.params kept.params) in
+    let end = params_end via.params front (ends_joined (codes "SIP/2.0/") (via.transport ++ 32 ∷ sent) (ends_joined via.transport (32 ∷ sent) (ends_joined (32 ∷ []) sent (class_ends is_sent_byte sent_solid sent bytes.1 bytes.0)))) kept.params in
     let begin : BeginsSolid (front ++ params_text via.params) = (83, codes "IP/2.0/" ++ ((via.transport ++ 32 ∷ sent) ++ params_text via.params), letter_solid, refl) in
     subst IsValue (sym is) (solid_value (front ++ params_text via.params) one begin end)

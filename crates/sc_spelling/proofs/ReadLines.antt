@@ -6,18 +6,18 @@ use Rattle.std.specs.Option.{option_map_or}
 use Rattle.std.proofs.lemmas.Bool.{false≢true}
 use Rattle.std.proofs.lemmas.List.{reverse-reverse, reverse-append}
 use Rattle.std.proofs.lemmas.List.Folds.{list_all-append}
-use Rattle.sc_value.specs.HeaderNames.{long_name}
-use Rattle.sc_value.specs.Tokens.{is_token, is_token_byte, is_blank, is_line_break, is_one_line, begins_blank}
+use Rattle.sc_tokens.specs.HeaderNames.{long_name}
+use Rattle.sc_tokens.specs.Tokens.{is_token, is_token_byte, is_blank, is_line_break, is_one_line, begins_blank}
 use Rattle.sc_value.specs.declared.parts.Field.{Field}
 use Rattle.sc_syntax.specs.declared.ending.Ending.TheVariants.{Any}
 use Rattle.sc_syntax.specs.declared.left.Left.{Left}
 use Rattle.sc_syntax.specs.declared.left.Header.{Header}
 use Rattle.sc_syntax.specs.declared.left.Header.TheVariants as headers
-use Rattle.sc_syntax.specs.Bytes.{Bytes}
-use Rattle.sc_syntax.specs.Numbers.{number_of}
-use Rattle.sc_syntax.specs.Cuts.{before, after}
+use Rattle.sc_tokens.specs.Bytes.{Bytes}
+use Rattle.sc_tokens.specs.Numbers.{number_of}
+use Rattle.sc_tokens.specs.Cuts.{before, after}
 use Rattle.sc_syntax.specs.UriParts.{Fault}
-use Rattle.sc_syntax.specs.Blanks.{trimmed_front, trimmed_back, trimmed}
+use Rattle.sc_tokens.specs.Blanks.{trimmed_front, trimmed_back, trimmed}
 use Rattle.sc_syntax.specs.Lines.{pieces_at}
 use Rattle.sc_syntax.specs.Folds.{continued, all_continued, joined}
 use Rattle.sc_syntax.specs.Vias.{vias_of}

@@ -4,8 +4,8 @@ use Rattle.std.specs.Prelude.{slice_get, unwrap_or}
 use Rattle.std.specs.Option.{option_map, option_map_or}
 use Rattle.std.proofs.lemmas.Bool.{false≢true}
 use Rattle.std.proofs.lemmas.List.{drop-drop}
-use Rattle.sc_value.specs.HeaderNames.{via_name, route_name, record_route_name, max_forwards_name, from_name, to_name, call_id_name, cseq_name, contact_name, content_length_name}
-use Rattle.sc_value.specs.Tokens.{is_one_line}
+use Rattle.sc_tokens.specs.HeaderNames.{via_name, route_name, record_route_name, max_forwards_name, from_name, to_name, call_id_name, cseq_name, contact_name, content_length_name}
+use Rattle.sc_tokens.specs.Tokens.{is_one_line}
 use Rattle.sc_value.specs.declared.parts.Via.{Via}
 use Rattle.sc_value.specs.declared.parts.Field.{Field}
 use Rattle.sc_value.specs.declared.message.Head.{Head}
@@ -17,8 +17,8 @@ use Rattle.sc_syntax.specs.declared.left.Header.TheVariants as headers
 use Rattle.sc_syntax.specs.declared.left.Lists.{Lists}
 use Rattle.sc_syntax.specs.declared.left.Singles.{Singles}
 use Rattle.sc_syntax.specs.declared.left.Start.{Start}
-use Rattle.sc_syntax.specs.Bytes.{Bytes}
-use Rattle.sc_syntax.specs.Numbers.{number_of}
+use Rattle.sc_tokens.specs.Bytes.{Bytes}
+use Rattle.sc_tokens.specs.Numbers.{number_of}
 use Rattle.sc_syntax.specs.UriParts.{Fault}
 use Rattle.sc_syntax.specs.Lines.{begins_break, is_end, end_of, start_line, lines_behind, behind_start, header_lines}
 use Rattle.sc_syntax.specs.Vias.{vias_of}
@@ -159,7 +159,7 @@ all_room : nothing_left.room ≡ 128
 unfolding nothing_left
 all_room = refl
 
-spelled_by : (line : Bytes) (fields : List Field) (body : Bytes) (start : Start) (left : Left) (message : Message) → IsStartLine line start → all_taken nothing_left (map entry_of fields) ≡ Ok left → finished start left body ≡ Ok message → IsSpelledBy line fields body message
+pub spelled_by : (line : Bytes) (fields : List Field) (body : Bytes) (start : Start) (left : Left) (message : Message) → IsStartLine line start → all_taken nothing_left (map entry_of fields) ≡ Ok left → finished start left body ≡ Ok message → IsSpelledBy line fields body message
 spelled_by line fields body start left message begins taken_so h =
     let was = all_left (map entry_of fields) nothing_left left nothing_begun taken_so in
     let lists : was.lists ≡ left.lists = sym (was.lists_are ∙ from_nothing was.lists) in

@@ -3,9 +3,9 @@ use Rattle.std.proofs.Common.{◌≡◌, ℕ, Bool, true, false, cond, Option, S
 use Rattle.std.specs.Prelude.{filter, slice_get}
 use Rattle.std.specs.List.{list_all}
 use Rattle.std.specs.Option.{option_map_or}
-use Rattle.sc_value.specs.HeaderNames.{via_name, route_name, record_route_name, max_forwards_name, from_name, to_name, call_id_name, cseq_name, contact_name, content_length_name}
-use Rattle.sc_value.specs.Params.{same_name}
-use Rattle.sc_value.specs.Tokens.{is_one_line}
+use Rattle.sc_tokens.specs.HeaderNames.{via_name, route_name, record_route_name, max_forwards_name, from_name, to_name, call_id_name, cseq_name, contact_name, content_length_name}
+use Rattle.sc_tokens.specs.Names.{same_name}
+use Rattle.sc_tokens.specs.Tokens.{is_one_line}
 use Rattle.sc_value.specs.declared.parts.Via.{Via}
 use Rattle.sc_value.specs.declared.parts.Field.{Field}
 use Rattle.sc_value.specs.declared.message.Head.{Head}
@@ -13,8 +13,8 @@ use Rattle.sc_syntax.specs.declared.left.Lists.{Lists}
 use Rattle.sc_syntax.specs.declared.left.Singles.{Singles}
 use Rattle.sc_syntax.specs.declared.left.Header.{Header}
 use Rattle.sc_syntax.specs.declared.left.Header.TheVariants as headers
-use Rattle.sc_syntax.specs.Bytes.{Bytes}
-use Rattle.sc_syntax.specs.Numbers.{number_of}
+use Rattle.sc_tokens.specs.Bytes.{Bytes}
+use Rattle.sc_tokens.specs.Numbers.{number_of}
 use Rattle.sc_syntax.specs.Vias.{vias_of}
 use Rattle.sc_syntax.specs.Addresses.{address_of, addresses_of, contacts_of}
 use Rattle.sc_syntax.specs.Sequences.{cseq_of, hops_of}

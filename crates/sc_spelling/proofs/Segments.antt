@@ -4,14 +4,14 @@ use Rattle.std.specs.Prelude.{filter}
 use Rattle.std.specs.List.{list_all, flat_map}
 use Rattle.std.proofs.lemmas.Bool.{false≢true}
 use Rattle.std.proofs.lemmas.List.Elements.{filter-append}
-use Rattle.sc_value.specs.HeaderNames.{long_name, is_dialog_name, is_routing_name}
-use Rattle.sc_value.specs.Params.{same_name}
-use Rattle.sc_value.specs.Tokens.{is_token, is_token_byte, is_blank, is_line_break, is_one_line, begins_blank}
+use Rattle.sc_tokens.specs.HeaderNames.{long_name, is_dialog_name, is_routing_name}
+use Rattle.sc_tokens.specs.Names.{same_name}
+use Rattle.sc_tokens.specs.Tokens.{is_token, is_token_byte, is_blank, is_line_break, is_one_line, begins_blank}
 use Rattle.sc_value.specs.declared.parts.Field.{Field}
 use Rattle.sc_grammar.specs.Written.{crlf, line, field_line}
 use Rattle.sc_syntax.specs.declared.left.Header.{Header}
 use Rattle.sc_syntax.specs.declared.left.Header.TheVariants as headers
-use Rattle.sc_syntax.specs.Bytes.{Bytes}
+use Rattle.sc_tokens.specs.Bytes.{Bytes}
 use Rattle.sc_syntax.specs.Fronts.{values_of}
 use Rattle.sc_syntax.specs.Judging.{header_named}
 use Rattle.sc_syntax.specs.SpelledParts.{IsBlanks, Padded}

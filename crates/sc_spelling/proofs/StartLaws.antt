@@ -8,16 +8,16 @@ use Rattle.std.specs.Char.{is_ascii_digit, to_ascii_lowercase}
 use Rattle.std.proofs.lemmas.Bool.{false≢true}
 use Rattle.std.proofs.lemmas.Bool.Decides.{nat_tests}
 use Rattle.std.proofs.lemmas.List.Folds.{list_all-append}
-use Rattle.sc_value.specs.Params.{same_bytes, same_name}
-use Rattle.sc_value.specs.Tokens.{is_token, is_token_byte, is_line_break, is_one_line}
+use Rattle.sc_tokens.specs.Names.{same_bytes, same_name}
+use Rattle.sc_tokens.specs.Tokens.{is_token, is_token_byte, is_line_break, is_one_line}
 use Rattle.sc_value.specs.declared.parts.Uri.{Uri}
 use Rattle.sc_value.specs.declared.message.Message.{Message}
 use Rattle.sc_value.specs.declared.message.Message.TheVariants as messages
 use Rattle.sc_syntax.specs.declared.left.Start.{Start}
 use Rattle.sc_syntax.specs.declared.left.Start.TheVariants.{Request, Status}
-use Rattle.sc_syntax.specs.Bytes.{Bytes, is_closed, is_open}
-use Rattle.sc_syntax.specs.Numbers.{number_below}
-use Rattle.sc_syntax.specs.Cuts.{has, before}
+use Rattle.sc_tokens.specs.Bytes.{Bytes, is_closed, is_open}
+use Rattle.sc_tokens.specs.Numbers.{number_below}
+use Rattle.sc_tokens.specs.Cuts.{has, before}
 use Rattle.sc_syntax.specs.Uris.{uri_of}
 use Rattle.sc_syntax.specs.StartLines.{is_version, request_in, request_behind, request_of, at_least_100, code_of, status_in, status_behind, status_of, is_status_line, is_broken, start_of}
 use Rattle.sc_syntax.proofs.BlankLaws.{both, and_true}

@@ -1,14 +1,14 @@
 -- What is spelled is taken: a header that is a list, or one without structure, and those behind it.
 use Rattle.std.proofs.Common.{◌≡◌, suc, true, cond, Some, None, Ok, Err, List, [], ◌∷◌, ◌++◌, ◌+◌, ◌-◌, ◌≤◌, length, refl, sym, ap, ◌∙◌, append_assoc, length-append, arith}
 use Rattle.std.specs.List.{list_all}
-use Rattle.sc_value.specs.Tokens.{is_one_line}
+use Rattle.sc_tokens.specs.Tokens.{is_one_line}
 use Rattle.sc_value.specs.declared.parts.Via.{Via}
 use Rattle.sc_value.specs.declared.parts.Field.{Field}
 use Rattle.sc_syntax.specs.declared.left.Left.{Left}
 use Rattle.sc_syntax.specs.declared.left.Lists.{Lists}
 use Rattle.sc_syntax.specs.declared.left.Singles.{Singles}
 use Rattle.sc_syntax.specs.declared.left.Header.TheVariants as headers
-use Rattle.sc_syntax.specs.Bytes.{Bytes}
+use Rattle.sc_tokens.specs.Bytes.{Bytes}
 use Rattle.sc_syntax.specs.Vias.{vias_of}
 use Rattle.sc_syntax.specs.Judging.{counted, taken_as, begins_well, with_vias, with_routes, with_record_routes, with_contacts, with_field, in_line, taken}
 use Rattle.sc_spelling.proofs.Entries.{Entry, Of, is_kind, number_at, values_at, fields_at}

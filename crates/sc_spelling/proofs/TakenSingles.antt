@@ -4,8 +4,8 @@ use Rattle.std.specs.Prelude.{is_some}
 use Rattle.sc_syntax.specs.declared.left.Left.{Left}
 use Rattle.sc_syntax.specs.declared.left.Singles.{Singles}
 use Rattle.sc_syntax.specs.declared.left.Header.TheVariants as headers
-use Rattle.sc_syntax.specs.Bytes.{Bytes}
-use Rattle.sc_syntax.specs.Numbers.{number_of}
+use Rattle.sc_tokens.specs.Bytes.{Bytes}
+use Rattle.sc_tokens.specs.Numbers.{number_of}
 use Rattle.sc_syntax.specs.Addresses.{address_of}
 use Rattle.sc_syntax.specs.Sequences.{cseq_of, hops_of}
 use Rattle.sc_syntax.specs.Judging.{counted, taken_as, taken_once, with_from, with_to, with_call_id, with_cseq, with_hops, with_length, in_line, taken}

@@ -6,8 +6,8 @@ use Rattle.std.specs.Option.{option_map, option_map_or}
 use Rattle.std.proofs.lemmas.Bool.{false≢true}
 use Rattle.std.proofs.lemmas.Bool.Decides.{nat_tests}
 use Rattle.std.proofs.Math.Seq.{take-append_seam}
-use Rattle.sc_value.specs.Params.{same_bytes}
-use Rattle.sc_value.specs.Tokens.{is_line_break, is_one_line, begins_blank}
+use Rattle.sc_tokens.specs.Names.{same_bytes}
+use Rattle.sc_tokens.specs.Tokens.{is_line_break, is_one_line, begins_blank}
 use Rattle.sc_value.specs.declared.parts.Via.{Via}
 use Rattle.sc_value.specs.declared.parts.Field.{Field}
 use Rattle.sc_value.specs.declared.message.Head.{Head}
@@ -18,8 +18,8 @@ use Rattle.sc_syntax.specs.declared.ending.Ending.TheVariants.{Any, Unfolded, Em
 use Rattle.sc_syntax.specs.declared.left.Lists.{Lists}
 use Rattle.sc_syntax.specs.declared.left.Singles.{Singles}
 use Rattle.sc_syntax.specs.declared.left.Start.TheVariants.{Request}
-use Rattle.sc_syntax.specs.Bytes.{Bytes}
-use Rattle.sc_syntax.specs.Hosts.{begins}
+use Rattle.sc_tokens.specs.Bytes.{Bytes}
+use Rattle.sc_tokens.specs.Hosts.{begins}
 use Rattle.sc_syntax.specs.UriParts.{Fault, then_read}
 use Rattle.sc_syntax.specs.Lines.{begins_break, is_end, end_of, pieces_at, start_line, lines_behind, behind_start, header_lines}
 use Rattle.sc_syntax.specs.StartLines.{start_of}
@@ -43,13 +43,13 @@ use Rattle.sc_spelling.proofs.Running.{all_run, AreOneLine, lists_of, singles_of
 abbrev pub block : List Bytes → Bytes
 block lines = flat_map ended lines
 
-record LinesOf (text : Bytes) (fields : List Field) : Type 0 where
-  lines : List Bytes
-  spelled : AreSpelledBy lines fields
-  is : ended text ≡ block lines ++ ended []
-  one : AreOneLine fields
+pub record LinesOf (text : Bytes) (fields : List Field) : Type 0 where
+  pub lines : List Bytes
+  pub spelled : AreSpelledBy lines fields
+  pub is : ended text ≡ block lines ++ ended []
+  pub one : AreOneLine fields
 
-lines_of : (fields : List Field) (text : Bytes) → AreLinesSpelled text fields → LinesOf text fields
+pub lines_of : (fields : List Field) (text : Bytes) → AreLinesSpelled text fields → LinesOf text fields
 unfolding AreLinesSpelled AreSpelledBy
 lines_of [] text h = record { lines = []; spelled = tt; is = ap ended h; one = refl }
 lines_of (field ∷ fields) text (line, rest, spelled, more, is) =
@@ -98,7 +98,7 @@ start_end start lines line one = end_behind Any start (line ++ block lines) (lin
 alone_end : (start : Bytes) → is_one_line start ≡ true → end_of Any (start ++ []) ≡ None
 alone_end start one = ap (end_of Any) (append-nil start) ∙ no_end Any start (line_clear Any start [] one)
 
-start_is : (start : Bytes) (lines : List Bytes) → is_one_line start ≡ true → start_line (start ++ block lines) ≡ start
+pub start_is : (start : Bytes) (lines : List Bytes) → is_one_line start ≡ true → start_line (start ++ block lines) ≡ start
 unfolding start_line
 start_is start [] one = ap (λ o. option_map_or (λ end. take end (start ++ [])) o (start ++ [])) (alone_end start one) ∙ append-nil start
 start_is start (line ∷ more) one =
@@ -109,7 +109,7 @@ behind_seam : (text rest : Bytes) → drop (length text + 2) (text ++ ended rest
 behind_seam [] rest = refl
 behind_seam (b ∷ bs) rest = let one : ◌≡◌ {A = ℕ} (suc (length bs) + 2) (suc (length bs + 2)) = omega arith in rw one (behind_seam bs rest)
 
-lines_are : (start : Bytes) (lines : List Bytes) (fields : List Field) → is_one_line start ≡ true → AreSpelledBy lines fields → header_lines (start ++ block lines) ≡ lines
+pub lines_are : (start : Bytes) (lines : List Bytes) (fields : List Field) → is_one_line start ≡ true → AreSpelledBy lines fields → header_lines (start ++ block lines) ≡ lines
 unfolding header_lines behind_start lines_behind AreSpelledBy
 lines_are start [] fields one h = ap (λ o. lines_behind (option_map (λ end. drop (end + 2) (start ++ [])) o)) (alone_end start one)
 lines_are start (line ∷ more) [] one h = absurd h
@@ -123,7 +123,7 @@ request_done : (hops : Option ℕ) (head : Head) (request : Asked) → request.h
 unfolding message_with
 request_done hops head request h is = ap (λ n. messages.Request (record request { hops = n; head = head })) (sym h) ∙ ap (λ l. messages.Request (record request { head = l })) is
 
-message_done : (hops : Option ℕ) (head : Head) (message : Message) → HasHops hops message → head ≡ head_in message → message_with (start_at message) hops head ≡ message
+pub message_done : (hops : Option ℕ) (head : Head) (message : Message) → HasHops hops message → head ≡ head_in message → message_with (start_at message) hops head ≡ message
 unfolding message_with start_at HasHops head_in
 message_done hops head (messages.Request request) h is = request_done hops head request h is
 message_done hops head (messages.Response response) h is = ap (λ l. messages.Response (record response { head = l })) is
@@ -192,7 +192,7 @@ no_break_first text rest one (b, bs, is) =
     let free = no_return b (both (not (is_line_break b)) (list_all (λ c. not (is_line_break c)) bs) (sym (ap (list_all (λ c. not (is_line_break c))) is) ∙ one)).0 in
     ap (λ l. begins_break (l ++ rest)) is ∙ ap (λ t. t && begins 10 (bs ++ rest)) free
 
-text_cut : (start : Bytes) (lines : List Bytes) (fields : List Field) (body : Bytes) → is_one_line start ≡ true → ((b : ℕ) × (bs : Bytes) × (start ≡ b ∷ bs)) → AreSpelledBy lines fields
+pub text_cut : (start : Bytes) (lines : List Bytes) (fields : List Field) (body : Bytes) → is_one_line start ≡ true → ((b : ℕ) × (bs : Bytes) × (start ≡ b ∷ bs)) → AreSpelledBy lines fields
     → message_of ((start ++ block lines) ++ ended (ended body)) ≡ message_in (start ++ block lines) body
 unfolding message_of
 text_cut start lines fields body one some spelled =

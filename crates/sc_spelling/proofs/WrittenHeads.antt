@@ -3,15 +3,15 @@ use Rattle.std.proofs.Common.{◌≡◌, ℕ, true, false, Option, Some, None, L
 use Rattle.std.specs.Prelude.{filter}
 use Rattle.std.specs.List.{list_all, flat_map}
 use Rattle.std.proofs.lemmas.List.Elements.{filter-append}
-use Rattle.sc_value.specs.HeaderNames.{long_name, is_dialog_name, is_routing_name, via_name, route_name, record_route_name, max_forwards_name, from_name, to_name, call_id_name, cseq_name, contact_name, content_length_name}
-use Rattle.sc_value.specs.Params.{same_name}
-use Rattle.sc_value.specs.Tokens.{is_token, is_token_byte}
+use Rattle.sc_tokens.specs.HeaderNames.{long_name, is_dialog_name, is_routing_name, via_name, route_name, record_route_name, max_forwards_name, from_name, to_name, call_id_name, cseq_name, contact_name, content_length_name}
+use Rattle.sc_tokens.specs.Names.{same_name}
+use Rattle.sc_tokens.specs.Tokens.{is_token, is_token_byte}
 use Rattle.sc_value.specs.declared.message.Head.{Head}
 use Rattle.sc_grammar.specs.Written.{via_text, address_text, contact_text, cseq_text, field_line}
 use Rattle.sc_syntax.specs.declared.left.Header.{Header}
 use Rattle.sc_syntax.specs.declared.left.Header.TheVariants as headers
-use Rattle.sc_syntax.specs.Bytes.{Bytes}
-use Rattle.sc_syntax.specs.Numbers.{number_of}
+use Rattle.sc_tokens.specs.Bytes.{Bytes}
+use Rattle.sc_tokens.specs.Numbers.{number_of}
 use Rattle.sc_syntax.specs.Sequences.{hops_of}
 use Rattle.sc_syntax.specs.Fronts.{values_of}
 use Rattle.sc_syntax.specs.SpelledParts.{AreLed, AreListed}
@@ -20,7 +20,10 @@ use Rattle.sc_syntax.specs.SpelledAddresses.{IsAddressIn, AreAddressesSpelled, A
 use Rattle.sc_syntax.proofs.DecimalLaws.{decimal_is_read}
 use Rattle.sc_spelling.specs.SpelledLines.{IsValue, AreLinesSpelled}
 use Rattle.sc_spelling.specs.SpelledHeads.{AreInLines, IsOnce, IsAtMostOnce, is_other, AreFieldsOf}
-use Rattle.sc_spelling.specs.Kept.{AllKeep, IsVia, IsAddress, IsContact, IsField, IsHead}
+use Rattle.sc_value.specs.AddressValues.{IsAddress}
+use Rattle.sc_value.specs.ContactRules.{IsContact}
+use Rattle.sc_value.specs.ViaValues.{IsVia}
+use Rattle.sc_spelling.specs.Kept.{AllKeep, IsField, IsHead}
 use Rattle.sc_spelling.proofs.Entries.{is_kind, number_at, Tells, via_tells, route_tells, record_route_tells, contact_tells, from_tells, to_tells, call_id_tells, cseq_tells, max_forwards_tells, content_length_tells}
 use Rattle.sc_spelling.proofs.PartTexts.{via_spelled, via_value}
 use Rattle.sc_spelling.proofs.AddressTexts.{address_spelled, address_value, contact_spelled, contact_value, number_value, cseq_spelled, cseq_value}

@@ -9,7 +9,7 @@ use Rattle.sc_value.specs.declared.message.Response.{Response as Answered}
 use Rattle.sc_value.specs.declared.message.Message.{Message}
 use Rattle.sc_value.specs.declared.message.Message.TheVariants.{Request, Response}
 use Rattle.sc_grammar.specs.Written.{crlf, version, uri_text, head_text, request_line, status_line, written}
-use Rattle.sc_syntax.specs.Bytes.{Bytes}
+use Rattle.sc_tokens.specs.Bytes.{Bytes}
 use Rattle.sc_syntax.proofs.DecimalLaws.{decimal_is_read}
 use Rattle.sc_spelling.specs.SpelledLines.{ended}
 use Rattle.sc_spelling.specs.SpelledStarts.{IsCodeSpelled, IsStartSpelled}
@@ -45,11 +45,11 @@ unfolding Digits
 code_spelled code least most = ((decimal_by_steps Digits one_digit more_digits code (omega (arith, most))).2 least (omega (arith, most)), decimal_is_read code 700 (omega arith) (omega (arith, most)), least)
 
 -- the start line of the written form
-unfoldable first_line : Message → Bytes
+unfoldable pub first_line : Message → Bytes
 first_line (Request request) = request.method ++ 32 ∷ (uri_text request.uri ++ 32 ∷ codes "SIP/2.0")
 first_line (Response response) = codes "SIP/2.0" ++ 32 ∷ (decimal response.code ++ 32 ∷ response.reason)
 
-start_spelled : (message : Message) → IsStart message → IsStartSpelled (first_line message) message
+pub start_spelled : (message : Message) → IsStart message → IsStartSpelled (first_line message) message
 unfolding IsStart IsStartSpelled first_line
 start_spelled (Request request) h = (h.0, uri_text request.uri, uri_spelled request.uri h.1, refl)
 start_spelled (Response response) h = (h.2, decimal response.code, code_spelled response.code h.0 h.1, refl)
@@ -67,13 +67,13 @@ status_is response = regroup (codes "SIP/2.0") (32 ∷ []) (decimal response.cod
 
 -- ## The whole
 
-abbrev fields_of : Message → List Field
+abbrev pub fields_of : Message → List Field
 fields_of message = fields_for (written_hops message) (head_in message)
 
 with_head : (line start : Bytes) (hops : Option ℕ) (head : Head) → line ≡ start ++ ended [] → line ++ head_text hops head ≡ start ++ ended (text_of (fields_for hops head) ++ ended head.body)
 with_head line start hops head is = ap (λ l. l ++ head_text hops head) is ∙ append_assoc start (ended []) (head_text hops head) ∙ ap (λ l. start ++ ended l) (text_is hops head)
 
-written_is : (message : Message) → written message ≡ first_line message ++ ended (text_of (fields_of message) ++ ended (head_in message).body)
+pub written_is : (message : Message) → written message ≡ first_line message ++ ended (text_of (fields_of message) ++ ended (head_in message).body)
 unfolding written first_line written_hops head_in
 written_is (Request request) = with_head (request_line request) (request.method ++ 32 ∷ (uri_text request.uri ++ 32 ∷ codes "SIP/2.0")) (Some request.hops) request.head (request_is request)
 written_is (Response response) = with_head (status_line response) (codes "SIP/2.0" ++ 32 ∷ (decimal response.code ++ 32 ∷ response.reason)) None response.head (status_is response)
@@ -83,7 +83,7 @@ unfolding IsStart written_hops
 small_hops (Request request) h n is = let some : ◌≡◌ {A = Option ℕ} (Some request.hops) (Some n) = is in let same : request.hops ≡ n = cc in subst (λ (k : ℕ). k ≤ 255) same h.2
 small_hops (Response response) h n is = let bad : ◌≡◌ {A = Option ℕ} None (Some n) = is in cc
 
-hops_kept : (message : Message) → HasHops (written_hops message) message
+pub hops_kept : (message : Message) → HasHops (written_hops message) message
 unfolding HasHops written_hops
 hops_kept (Request request) = refl
 hops_kept (Response response) = tt

@@ -1,26 +1,18 @@
 -- What a message keeps whose written form can be read (RFC 3261 section 25.1): each part is one of its
--- kind.
+-- kind. The parts with structure keep the rules of their types.
 use Rattle.std.specs.Prelude.{◌≡◌, ℕ, true, false, List, [], ◌∷◌, Option, None, Some, ◌≤◌, ◌<◌, ◌^◌, length, slice_get, ⊤}
 use Rattle.std.specs.Option.{option_map_or}
-use Rattle.sc_value.specs.HeaderNames.{long_name}
-use Rattle.sc_value.specs.Tokens.{is_token, is_one_line}
-use Rattle.sc_value.specs.declared.parts.Param.{Param}
-use Rattle.sc_value.specs.declared.parts.Uri.{Uri}
-use Rattle.sc_value.specs.declared.parts.Uri.TheVariants.{Sip, Other}
-use Rattle.sc_value.specs.declared.parts.Address.{Address}
-use Rattle.sc_value.specs.declared.parts.Contact.{Contact}
-use Rattle.sc_value.specs.declared.parts.Contact.TheVariants.{Star, At}
-use Rattle.sc_value.specs.declared.parts.Via.{Via}
-use Rattle.sc_value.specs.declared.parts.CSeq.{CSeq}
+use Rattle.sc_tokens.specs.HeaderNames.{long_name}
+use Rattle.sc_tokens.specs.Tokens.{is_token, is_one_line}
 use Rattle.sc_value.specs.declared.parts.Field.{Field}
 use Rattle.sc_value.specs.declared.message.Head.{Head}
 use Rattle.sc_value.specs.declared.message.Message.{Message}
 use Rattle.sc_value.specs.declared.message.Message.TheVariants.{Request, Response}
-use Rattle.sc_syntax.specs.Hosts.{is_host}
 use Rattle.sc_syntax.specs.Judging.{has_branch}
-use Rattle.sc_syntax.specs.SpelledUris.{IsSipUri, IsOtherSpelled}
-use Rattle.sc_syntax.specs.SpelledParts.{IsHeaderParam}
-use Rattle.sc_syntax.specs.SpelledAddresses.{IsDisplay}
+use Rattle.sc_value.specs.AddressValues.{IsUri, IsAddress}
+use Rattle.sc_value.specs.ContactRules.{IsContact}
+use Rattle.sc_value.specs.SequenceValues.{IsCSeq}
+use Rattle.sc_value.specs.ViaValues.{IsVia}
 use Rattle.sc_spelling.specs.SpelledLines.{IsValue}
 use Rattle.sc_spelling.specs.SpelledHeads.{is_other, value_count}
 use Rattle.sc_spelling.specs.SpelledMessages.{head_in, HasMethod}
@@ -31,32 +23,6 @@ AllKeep Keeps [] = ⊤
 AllKeep Keeps (x ∷ xs) = Keeps x × AllKeep Keeps xs
 
 -- ## Parts
-
-unfoldable pub IsPort : Option ℕ → Type 0
-IsPort None = ⊤
-IsPort (Some port) = port < 65536
-
--- a `sip:` URI, or a text of open bytes with another scheme
-unfoldable pub IsUri : Uri → Type 0
-IsUri (Sip uri) = IsSipUri uri × IsPort uri.port
-IsUri (Other text) = IsOtherSpelled text text
-
--- a parameter of a header, of one line
-abbrev pub IsParam : Param → Type 0
-IsParam param = IsHeaderParam param × (option_map_or is_one_line param.value true ≡ true)
-
-abbrev pub IsVia : Via → Type 0
-IsVia via = (is_token via.transport ≡ true) × (is_host via.host ≡ true) × IsPort via.port × AllKeep IsParam via.params
-
-abbrev pub IsAddress : Address → Type 0
-IsAddress address = IsDisplay address.display × (option_map_or is_one_line address.display true ≡ true) × IsUri address.uri × AllKeep IsParam address.params
-
-unfoldable pub IsContact : Contact → Type 0
-IsContact Star = ⊤
-IsContact (At address) = IsAddress address
-
-abbrev pub IsCSeq : CSeq → Type 0
-IsCSeq cseq = (cseq.number < 2 ^ 31) × (is_token cseq.method ≡ true)
 
 -- a header without structure: its name is long, and none of those with structure
 abbrev pub IsField : Field → Type 0

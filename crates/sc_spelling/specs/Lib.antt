@@ -3,3 +3,4 @@ pub mod SpelledStarts
 pub mod SpelledHeads
 pub mod SpelledMessages
 pub mod Kept
+pub mod Made

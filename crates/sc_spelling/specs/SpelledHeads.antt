@@ -1,11 +1,11 @@
 -- Which header lines spell the head of a message (RFC 3261 sections 7.3.1 and 20): the lines are fields,
 -- with their long names and their values.
 use Rattle.std.specs.Prelude.{◌≡◌, ℕ, Bool, List, [], ◌∷◌, ◌++◌, Option, None, Some, not, ◌||◌, ◌+◌, filter, length}
-use Rattle.sc_value.specs.HeaderNames.{is_dialog_name, is_routing_name, via_name, route_name, record_route_name, max_forwards_name, from_name, to_name, call_id_name, cseq_name, contact_name, content_length_name}
+use Rattle.sc_tokens.specs.HeaderNames.{is_dialog_name, is_routing_name, via_name, route_name, record_route_name, max_forwards_name, from_name, to_name, call_id_name, cseq_name, contact_name, content_length_name}
 use Rattle.sc_value.specs.declared.parts.Field.{Field}
 use Rattle.sc_value.specs.declared.message.Head.{Head}
-use Rattle.sc_syntax.specs.Bytes.{Bytes}
-use Rattle.sc_syntax.specs.Numbers.{number_of}
+use Rattle.sc_tokens.specs.Bytes.{Bytes}
+use Rattle.sc_tokens.specs.Numbers.{number_of}
 use Rattle.sc_syntax.specs.Sequences.{hops_of}
 use Rattle.sc_syntax.specs.Fronts.{values_of}
 use Rattle.sc_syntax.specs.SpelledVias.{AreViasSpelled}

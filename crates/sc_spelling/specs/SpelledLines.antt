@@ -2,11 +2,11 @@
 -- with its CR LF, and folds.
 use Rattle.std.specs.Prelude.{◌≡◌, true, false, List, [], ◌∷◌, ◌++◌, ◌==◌, length, ⊤}
 use Rattle.std.specs.List.{fold, flat_map}
-use Rattle.sc_value.specs.HeaderNames.{long_name}
-use Rattle.sc_value.specs.Tokens.{is_token, is_one_line, begins_blank}
+use Rattle.sc_tokens.specs.HeaderNames.{long_name}
+use Rattle.sc_tokens.specs.Tokens.{is_token, is_one_line, begins_blank}
 use Rattle.sc_value.specs.declared.parts.Field.{Field}
-use Rattle.sc_syntax.specs.Bytes.{Bytes}
-use Rattle.sc_syntax.specs.Blanks.{trimmed}
+use Rattle.sc_tokens.specs.Bytes.{Bytes}
+use Rattle.sc_tokens.specs.Blanks.{trimmed}
 use Rattle.sc_syntax.specs.Folds.{continued}
 use Rattle.sc_syntax.specs.SpelledParts.{IsBlanks, Padded}
 

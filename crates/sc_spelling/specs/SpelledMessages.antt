@@ -6,7 +6,7 @@ use Rattle.sc_value.specs.declared.parts.Field.{Field}
 use Rattle.sc_value.specs.declared.message.Head.{Head}
 use Rattle.sc_value.specs.declared.message.Message.{Message}
 use Rattle.sc_value.specs.declared.message.Message.TheVariants.{Request, Response}
-use Rattle.sc_syntax.specs.Bytes.{Bytes}
+use Rattle.sc_tokens.specs.Bytes.{Bytes}
 use Rattle.sc_syntax.specs.Judging.{has_branch}
 use Rattle.sc_spelling.specs.SpelledLines.{ended, AreLinesSpelled}
 use Rattle.sc_spelling.specs.SpelledStarts.{IsStartSpelled}

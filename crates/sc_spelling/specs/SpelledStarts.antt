@@ -1,11 +1,11 @@
 -- Which texts spell a start line (RFC 3261 sections 7.1 and 7.2): one space between its parts.
 use Rattle.std.specs.Prelude.{◌≡◌, ℕ, true, Some, ◌∷◌, ◌++◌, ◌≤◌, codes, length}
-use Rattle.sc_value.specs.Tokens.{is_token, is_one_line}
+use Rattle.sc_tokens.specs.Tokens.{is_token, is_one_line}
 use Rattle.sc_value.specs.declared.parts.Uri.{Uri}
 use Rattle.sc_value.specs.declared.message.Message.{Message}
 use Rattle.sc_value.specs.declared.message.Message.TheVariants.{Request, Response}
-use Rattle.sc_syntax.specs.Bytes.{Bytes}
-use Rattle.sc_syntax.specs.Numbers.{number_below}
+use Rattle.sc_tokens.specs.Bytes.{Bytes}
+use Rattle.sc_tokens.specs.Numbers.{number_below}
 use Rattle.sc_syntax.specs.SpelledUris.{IsUriSpelled}
 
 -- three digits, 100 to 699

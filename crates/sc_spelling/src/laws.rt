@@ -1,6 +1,6 @@
 ghost use Rattle.std.specs.Prelude.{◌≡◌, Ok, List, ℕ, true};
 ghost use Rattle.sc_value.specs.declared.message.Message.{Message};
-ghost use Rattle.sc_value.specs.Tokens.{is_value};
+ghost use Rattle.sc_tokens.specs.Tokens.{is_value};
 ghost use Rattle.sc_grammar.specs.Written.{written};
 ghost use Rattle.sc_syntax.specs.Messages.{message_of};
 ghost use Rattle.sc_spelling.specs.Kept.{KeepsGrammar, HasBranch, HasRoom};

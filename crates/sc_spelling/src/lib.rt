@@ -3,5 +3,7 @@
 #![tactic(auto)]
 
 mod laws;
+mod made;
 
 pub use laws::{read_keeps_grammar, spelled_exactly, value_is_trimmed, written_is_spelled};
+pub use made::written_again;

@@ -20,7 +20,7 @@ use Rattle.sc_hosts.specs.Histories.{as_session}
 use Rattle.sc_hosts.specs.Nets.{change_host, obeyed, queue_for}
 use Rattle.sc_hosts.specs.Sessions.{entries_of}
 use Rattle.sc_hosts.specs.Steps.{inbox_of, invalidated, live_at, outcome_by, still_fired, turn_of}
-use Rattle.sc_hosts.specs.Taking.{is_live}
+use Rattle.sc_hosts.specs.Inboxes.{is_live}
 use Rattle.sc_hosts.specs.Transacting.{tidied}
 
 -- ## The live session

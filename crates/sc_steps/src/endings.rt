@@ -5,7 +5,7 @@ ghost use Rattle.sc_value.specs.Lists.{change_nth, remove_first};
 ghost use Rattle.sc_hosts.specs.Histories.{as_session};
 ghost use Rattle.sc_hosts.specs.Nets.{obeyed};
 ghost use Rattle.sc_hosts.specs.Steps.{without_live, inbox_of, invalidated, withdrawn, live_at};
-ghost use Rattle.sc_hosts.specs.Taking.{is_live};
+ghost use Rattle.sc_hosts.specs.Inboxes.{is_live};
 ghost use Rattle.sc_steps.specs.TurnParts.{host_without};
 
 use crate::lives::live_copy;

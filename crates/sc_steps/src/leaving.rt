@@ -3,7 +3,7 @@
 ghost use Rattle.std.specs.Prelude.{◌≡◌, ◌++◌, IfOk, OnOk, drop, filter};
 ghost use Rattle.sc_value.specs.Lists.{change_first, change_nth};
 ghost use Rattle.sc_hosts.specs.Steps.{still_fired};
-ghost use Rattle.sc_hosts.specs.Taking.{is_live};
+ghost use Rattle.sc_hosts.specs.Inboxes.{is_live};
 ghost use Rattle.sc_steps.specs.TurnParts.{is_running, live_after, host_after, net_after};
 
 use sc_state::{Fired, Host, Live, Net, Session, Waiting};

@@ -7,8 +7,8 @@ use Rattle.sc_value.specs.declared.message.Message.{Message}
 use Rattle.sc_syntax.specs.declared.front.Answerable.{Answerable}
 use Rattle.sc_syntax.specs.declared.front.Front.{Front}
 use Rattle.sc_syntax.specs.declared.front.Front.TheVariants as fronts
-use Rattle.sc_syntax.specs.Bytes.{Bytes}
-use Rattle.sc_syntax.specs.Hosts.{begins}
+use Rattle.sc_tokens.specs.Bytes.{Bytes}
+use Rattle.sc_tokens.specs.Hosts.{begins}
 use Rattle.sc_syntax.specs.Lines.{begins_break}
 use Rattle.sc_syntax.specs.Fronts.{behind_breaks}
 use Rattle.sc_stream.specs.declared.streams.Heard.{Heard}

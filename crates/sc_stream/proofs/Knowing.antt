@@ -1,29 +1,29 @@
 -- What is known of the first message of a stream.
-use Rattle.std.proofs.Common.{◌≡◌, ℕ, zero, suc, Bool, true, false, cond, Option, Some, None, [], ◌∷◌, ◌++◌, ◌+◌, ◌-◌, ◌≤◌, ◌<◌, Result, Ok, Err, length, take, drop, refl, sym, ap, subst, ◌∙◌, arith}
-use Rattle.std.specs.Prelude.{IfOk, nat_le, ◌==◌, is_some, if◌then◌else◌}
+use Rattle.std.proofs.Common.{◌≡◌, ℕ, zero, suc, Bool, true, false, cond, Option, Some, None, [], ◌∷◌, ◌++◌, ◌+◌, ◌-◌, ◌≤◌, ◌<◌, Result, Ok, length, take, drop, refl, sym, ap, subst, ◌∙◌, arith}
+use Rattle.std.specs.Prelude.{IfOk, nat_le, is_some, if◌then◌else◌}
 use Rattle.std.specs.Option.{option_map}
 use Rattle.std.proofs.lemmas.Bool.{false≢true}
 use Rattle.std.proofs.lemmas.Bool.Decides.{nat_tests}
-use Rattle.std.proofs.lemmas.List.{drop-append-le, drop-drop, length-append, length-drop, length-take, take-append-le, take-take, take_all, take_min}
-use Rattle.sc_value.specs.declared.message.Message.{Message}
+use Rattle.std.proofs.lemmas.List.{drop-append-le, drop-drop, length-append, length-drop, length-take, length-take-le, take-append-le, take-take, take_all, take_min}
 use Rattle.sc_syntax.specs.declared.ending.Ending.TheVariants.{Empty}
+use Rattle.sc_syntax.specs.declared.left.HeadParts.{HeadParts}
 use Rattle.sc_syntax.specs.declared.front.Front.{Front}
 use Rattle.sc_syntax.specs.declared.front.Front.TheVariants.{Open, Long}
-use Rattle.sc_syntax.specs.Bytes.{Bytes}
-use Rattle.sc_syntax.specs.UriParts.{Fault}
+use Rattle.sc_tokens.specs.Bytes.{Bytes}
 use Rattle.sc_syntax.specs.Lines.{begins_break, is_end, end_of}
-use Rattle.sc_syntax.specs.Messages.{message_in}
-use Rattle.sc_syntax.specs.Fronts.{bad, behind_breaks, body_len, front_of, headed, sized, whole}
+use Rattle.sc_syntax.specs.Messages.{message_in, parts_in}
+use Rattle.sc_syntax.specs.Fronts.{behind_breaks, front_of, headed, sized, whole}
 use Rattle.sc_stream.specs.declared.first.First.{First}
 use Rattle.sc_stream.specs.declared.first.Known.{Known}
-use Rattle.sc_stream.specs.declared.first.Known.TheVariants.{Searched, Sized}
+use Rattle.sc_stream.specs.declared.first.Known.TheVariants.{Searched, Read}
 use Rattle.sc_stream.specs.declared.fronts.Wanted.{Wanted}
 use Rattle.sc_stream.specs.declared.fronts.Wanted.TheVariants as wanted
 use Rattle.sc_stream.specs.Frames.{front_behind}
-use Rattle.sc_stream.specs.Knowing.{IsFirst, IsKnown, IsSized, Tells, TellsOf}
+use Rattle.sc_stream.specs.Knowing.{IsFirst, IsKnown, IsSized, Tells}
 use Rattle.sc_stream.proofs.FrontLaws.{by_end, end_alike, front_is, limit_stays, room_in}
 use Rattle.sc_stream.proofs.FrameLaws.{break_alike, skip_on}
 use Rattle.sc_stream.proofs.HearSteps.{skip_none}
+use Rattle.sc_stream.proofs.Telling.{nothing_read}
 
 -- ## The search goes on
 
@@ -83,64 +83,57 @@ pub search_room : (searched : ℕ) (text : Bytes) → IsKnown (Searched searched
 unfolding IsKnown
 search_room searched text (there, within, none) = let len = length-take 65535 text in omega (arith, len, there, within)
 
--- ## What a head tells
-
-pub told_read : (told : Wanted) (head : Bytes) (message : Message) → message_in head [] ≡ Ok message → TellsOf told head (length head + 4 + body_len head) → Tells told head
-unfolding headed
-told_read (wanted.Bytes len) head message e (least, most, same) = (least, most, λ text. ap (headed text head) e ∙ ap (sized text head) (sym same))
-told_read (wanted.Nothing front) head message e tells = λ text. ap (headed text head) e ∙ tells text
-
-by_kind : (text head : Bytes) (fault : Fault) → (fault.kind == 12) ≡ true → headed text head (Err fault) ≡ sized text head (length head + 4 + body_len head)
-unfolding headed
-by_kind text head fault h = ap (λ c. cond c (sized text head (length head + 4 + body_len head)) (bad head fault)) h
-
-pub told_unfit : (told : Wanted) (head : Bytes) (at kind : ℕ) → message_in head [] ≡ Err (record { at = at; kind = kind }) → kind ≡ 12 → TellsOf told head (length head + 4 + body_len head) → Tells told head
-told_unfit (wanted.Bytes len) head at kind e h (least, most, same) = (least, most, λ text. ap (headed text head) e ∙ by_kind text head (record { at = at; kind = kind }) (ap (λ k. k == 12) h) ∙ ap (sized text head) (sym same))
-told_unfit (wanted.Nothing front) head at kind e h tells = λ text. ap (headed text head) e ∙ by_kind text head (record { at = at; kind = kind }) (ap (λ k. k == 12) h) ∙ tells text
-
-not_12 : (kind : ℕ) → ¬ (kind ≡ 12) → (kind == 12) ≡ false
-not_12 kind h = grind (arith, nat_tests, h)
-
-pub told_bad : (told : Wanted) (head : Bytes) (at kind : ℕ) → message_in head [] ≡ Err (record { at = at; kind = kind }) → ¬ (kind ≡ 12) → told ≡ wanted.Nothing (bad head (record { at = at; kind = kind })) → Tells told head
-unfolding headed
-told_bad told head at kind e h is =
-    subst (λ t. Tells t head) (sym is) (λ text. ap (headed text head) e ∙ ap (λ c. cond c (sized text head (length head + 4 + body_len head)) (bad head (record { at = at; kind = kind }))) (not_12 kind h))
-
--- where it was read
-pub told_ok : {E X : Type 0} {P Q : X → Type 0} (read : Result X E) → ((x : X) → P x → Q x) → IfOk read P → IfOk read Q
-told_ok {E} {X} {P} {Q} (Ok x) more h = more x h
-told_ok {E} {X} {P} {Q} (Err e) more h = h
-
-pub bytes_read : {E : Type 0} (read : Result Front E) (told : Wanted) (text head : Bytes) (len : ℕ) → told ≡ wanted.Bytes len → Tells told head → IfOk read (λ front. front ≡ sized text head len) → IfOk read (λ front. front ≡ headed text head (message_in head []))
-bytes_read {E} read told text head len is tells h =
-    let sure : IsSized head len = subst (λ t. Tells t head) is tells in subst (λ f. IfOk read (λ front. front ≡ f)) (sym (sized_as text head len sure)) h
-  where
-    sized_as : (t h : Bytes) (n : ℕ) → IsSized h n → headed t h (message_in h []) ≡ sized t h n
-    sized_as t h n (least, most, same) = same t
-
-pub nothing_read : (told : Wanted) (text head : Bytes) (front : Front) → told ≡ wanted.Nothing front → Tells told head → front ≡ headed text head (message_in head [])
-nothing_read told text head front is tells = let sure : Tells (wanted.Nothing front) head = subst (λ t. Tells t head) is tells in sym (sure text)
-
-pub too_long : (text head : Bytes) (len : ℕ) → 65535 < len → sized text head len ≡ Long
-unfolding sized
-too_long text head len more = ap (λ c. cond c (cond (nat_le len (length text)) (whole head len (message_in head (drop (length head + 4) (take len text)))) Open) Long) (past len more)
-  where
-    past : (n : ℕ) → 65535 < n → nat_le n 65535 ≡ false
-    past n h = grind (arith, nat_tests, h)
-
 -- ## What is known, by the front
 
-pub sized_front : (text : Bytes) (end len : ℕ) → IsKnown (Sized end len) text → front_of text ≡ sized text (take end text) len
+pub read_front : (text : Bytes) (end len : ℕ) (parts : HeadParts) → IsKnown (Read end len parts) text → front_of text ≡ sized text (take end text) len
 unfolding IsKnown
-sized_front text end len (begins, ended, (least, most, told)) = front_is text ∙ ap (by_end text) ended ∙ told text
+read_front text end len parts (begins, ended, (least, most, told), read) = front_is text ∙ ap (by_end text) ended ∙ told text
 
-pub sized_room : (text : Bytes) (end len : ℕ) → IsKnown (Sized end len) text → end ≤ length text
+pub read_room : (text : Bytes) (end len : ℕ) (parts : HeadParts) → IsKnown (Read end len parts) text → length (take end text) ≡ end
 unfolding IsKnown
-sized_room text end len (begins, ended, told) = let room = room_in text end ended in omega (arith, room)
+read_room text end len parts (begins, ended, told, read) = let room = room_in text end ended in length-take-le end text (omega (arith, room))
 
-pub sized_len : (text : Bytes) (end len : ℕ) → IsKnown (Sized end len) text → (length (take end text) + 4 ≤ len) × (len ≤ 65535)
+pub read_len : (text : Bytes) (end len : ℕ) (parts : HeadParts) → IsKnown (Read end len parts) text → (end ≤ length text) × (end + 4 ≤ len) × (len ≤ 65535)
 unfolding IsKnown
-sized_len text end len (begins, ended, (least, most, told)) = (least, most)
+read_len text end len parts (begins, ended, (least, most, told), read) =
+    let room = room_in text end ended in
+    let same = length-take-le end text (omega (arith, room)) in (omega (arith, room), omega (arith, least, same), most)
+
+pub read_parts : (text : Bytes) (end len : ℕ) (parts : HeadParts) → IsKnown (Read end len parts) text → parts_in (take end text) ≡ Ok parts
+unfolding IsKnown
+read_parts text end len parts (begins, ended, told, read) = read
+
+-- as much as there is, where the body isn't there whole
+pub read_open : (text : Bytes) (end len : ℕ) (parts : HeadParts) → IsKnown (Read end len parts) text → length text < len → Open ≡ front_of text
+unfolding sized
+read_open text end len parts known more =
+    let head = take end text in
+    let whole_there = whole head len (message_in head (drop (length head + 4) (take len text))) in
+    sym (
+    read_front text end len parts known ∙ ap (λ t. cond t (cond (nat_le len (length text)) whole_there Open) Long) (within len (read_len text end len parts known).2)
+    ∙ ap (λ t. cond t whole_there Open) (past len (length text) more)
+    )
+  where
+    within : (n : ℕ) → n ≤ 65535 → nat_le n 65535 ≡ true
+    within n h = grind (arith, nat_tests, h)
+
+    past : (n m : ℕ) → m < n → nat_le n m ≡ false
+    past n m h = grind (arith, nat_tests, h)
+
+pub read_whole : (text : Bytes) (end len : ℕ) (parts : HeadParts) (body : Bytes) → IsKnown (Read end len parts) text → len ≤ length text → body ≡ drop (end + 4) (take len text) → whole (take end text) len (message_in (take end text) body) ≡ front_of text
+unfolding sized
+read_whole text end len parts body known there is =
+    let head = take end text in
+    let whole_of = λ (b : Bytes). whole head len (message_in head b) in
+    let rest = drop (length head + 4) (take len text) in
+    sym (
+    read_front text end len parts known ∙ ap (λ t. cond t (cond (nat_le len (length text)) (whole_of rest) Open) Long) (within len 65535 (read_len text end len parts known).2)
+    ∙ ap (λ t. cond t (whole_of rest) Open) (within len (length text) there)
+    ∙ ap (λ n. whole_of (drop (n + 4) (take len text))) (read_room text end len parts known) ∙ ap whole_of (sym is)
+    )
+  where
+    within : (n m : ℕ) → n ≤ m → nat_le n m ≡ true
+    within n m h = grind (arith, nat_tests, h)
 
 pub headed_front : (text : Bytes) (end : ℕ) → end_of Empty (take 65535 text) ≡ Some end → front_of text ≡ headed text (take end text) (message_in (take end text) [])
 headed_front text end ended = front_is text ∙ ap (by_end text) ended
@@ -158,9 +151,10 @@ searched_first text none = let len = length-take 65535 text in (omega (arith, le
 pub searched_all : (text first : Bytes) → first ≡ take 65535 text → end_of Empty (take 65535 text) ≡ None → IsKnown (Searched (length first)) text
 searched_all text first is none = subst (λ t. IsKnown (Searched (length t)) text) (sym is) (searched_first text none)
 
-pub is_sized : (text : Bytes) (end len : ℕ) → begins_break text ≡ false → end_of Empty (take 65535 text) ≡ Some end → IsSized (take end text) len → IsKnown (Sized end len) text
+pub is_read : (text head : Bytes) (told : Wanted) (end len : ℕ) (parts : HeadParts) → head ≡ take end text → begins_break text ≡ false → end_of Empty (take 65535 text) ≡ Some end → told ≡ wanted.Body len parts → Tells told head → IsKnown (Read end len parts) text
 unfolding IsKnown
-is_sized text end len begins ended told = (begins, ended, told)
+is_read text head told end len parts is begins ended body tells =
+    let sure : Tells (wanted.Body len parts) (take end text) = subst (λ h. Tells (wanted.Body len parts) h) is (subst (λ t. Tells t head) body tells) in (begins, ended, sure.0, sure.1)
 
 -- ## More bytes
 
@@ -172,11 +166,13 @@ begins_stays (b ∷ c ∷ bs) more few = break_alike b c (bs ++ more) bs
 known_more : (known : Known) (text more : Bytes) → IsKnown known text → IsKnown known (text ++ more)
 unfolding IsKnown
 known_more (Searched len) text more (there, within, none) = (let all = length-append text more in omega (arith, there, all), within, ap (end_of Empty) (take-append-le len text more there) ∙ none)
-known_more (Sized end len) text more (begins, ended, told) =
-    let room = room_in text end ended in (
+known_more (Read end len parts) text more (begins, ended, told, read) =
+    let room = room_in text end ended in
+    let head = take-append-le end text more (omega (arith, room)) in (
       begins_stays text more (omega (arith, room)) ∙ begins,
       limit_stays text more (ap is_some ended) ∙ ended,
-      subst (λ head. IsSized head len) (sym (take-append-le end text more (omega (arith, room)))) told,
+      subst (λ head. IsSized head len) (sym head) told,
+      ap parts_in head ∙ read,
     )
 
 pub first_more : (first : First) (text more : Bytes) → IsFirst first text → IsFirst first (text ++ more)
@@ -189,7 +185,7 @@ first_more first text more (there, behind, known) = (
 
 -- ## Line ends
 
-nothing_searched : (text : Bytes) → IsKnown (Searched 0) text
+pub nothing_searched : (text : Bytes) → IsKnown (Searched 0) text
 unfolding IsKnown end_of
 nothing_searched text = (omega arith, omega arith, refl)
 

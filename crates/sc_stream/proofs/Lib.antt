@@ -4,3 +4,4 @@ mod FrontLaws
 mod HearSteps
 mod Knowing
 mod ReadSteps
+pub mod Telling

@@ -1,28 +1,33 @@
 -- What an answer needs, part by part.
-use Rattle.std.proofs.Common.{◌≡◌, ℕ, suc, Bool, true, false, cond, Option, Some, None, Ok, Err, List, [], ◌∷◌, ◌++◌, ◌+◌, ◌<◌, ◌≤◌, ◌^◌, Bor, length, drop, get_or, refl, sym, ap, ◌∙◌, append_assoc, append-nil, arith}
-use Rattle.std.specs.Prelude.{filter_map, filter, map, unwrap_or, IfSome}
+use Rattle.std.proofs.Common.{◌≡◌, ℕ, suc, Bool, true, false, cond, Option, Some, None, List, [], ◌∷◌, ◌++◌, ◌+◌, ◌<◌, ◌≤◌, length, drop, get_or, refl, sym, ap, subst, ◌∙◌, append_assoc, append-nil, arith}
+use Rattle.std.specs.Prelude.{filter_map, filter, map, ⊤}
 use Rattle.std.specs.List.{flat_map, position_or_len}
-use Rattle.std.specs.Option.{option_map, option_map_or, option_and_then, option_copied}
-use Rattle.sc_value.specs.HeaderNames.{via_name}
-use Rattle.sc_value.specs.Params.{same_name}
+use Rattle.std.specs.Option.{option_map, option_and_then}
+use Rattle.sc_tokens.specs.Blanks.{trimmed, trimmed_back}
+use Rattle.sc_tokens.specs.Cuts.{before, after}
+use Rattle.sc_tokens.specs.HeaderNames.{via_name, long_name}
+use Rattle.sc_tokens.specs.Names.{same_name}
+use Rattle.sc_tokens.specs.Tokens.{is_token, is_one_line, is_value}
 use Rattle.sc_value.specs.declared.parts.Field.{Field}
 use Rattle.sc_value.specs.declared.parts.Via.{Via}
 use Rattle.sc_syntax.specs.declared.ending.Ending.TheVariants.{Unfolded}
-use Rattle.sc_syntax.specs.declared.left.Left.{Left}
-use Rattle.sc_syntax.specs.Bytes.{Bytes}
-use Rattle.sc_syntax.specs.UriParts.{Fault as SomeFault}
+use Rattle.sc_tokens.specs.Bytes.{Bytes}
 use Rattle.sc_syntax.specs.Vias.{vias_of}
 use Rattle.sc_syntax.specs.Scanning.{with_first, all_read}
 use Rattle.sc_syntax.specs.Judging.{in_line}
 use Rattle.sc_syntax.specs.Lines.{lines_behind, pieces_at}
-use Rattle.sc_syntax.specs.Messages.{all_judged}
-use Rattle.sc_syntax.specs.Fronts.{only, values_of}
+use Rattle.sc_syntax.specs.Folds.{joined}
+use Rattle.sc_syntax.specs.Fronts.{field_of, only, values_of}
+use Rattle.sc_syntax.proofs.CutLaws.{none_some, some_same}
+use Rattle.sc_syntax.proofs.DisplayLaws.{trimmed_again}
+use Rattle.sc_syntax.proofs.ListedLaws.{if_some, map_some}
+use Rattle.sc_syntax.proofs.ValueLaws.{trimmed_is_value}
 use Rattle.sc_head_text.specs.declared.unread.Unread.{Unread}
 use Rattle.sc_head_text.specs.declared.unread.Unread.TheVariants.{Fault, NoMemory}
 use Rattle.sc_head_text.specs.Answers.{Fails}
 use Rattle.sc_message_text.specs.Pieces.{pieces_behind}
 use Rattle.sc_stream.specs.Answers.{all_vias, vias_at}
-use Rattle.sc_stream.specs.Fields.{is_of, with_some, len_told}
+use Rattle.sc_stream.specs.Fields.{AreTrimmed, is_of, with_some}
 
 -- ## Fields of a name
 
@@ -164,15 +169,47 @@ line_put {X} read old now lines more line is put = ap (λ l. l ++ filter_map rea
     by_field None e = rw e refl
     by_field (Some x) e = rw e (append_assoc old (x ∷ []) (filter_map read more))
 
--- ## The length of the body
+-- ## Values without blanks at their ends
 
-pub told_here : (at : ℕ) (first left : Left) (rest : Option Bytes) → all_judged at first (pieces_behind Unfolded rest) ≡ Ok left → unwrap_or left.singles.length 0 ≡ len_told (all_judged at first (lines_behind rest))
-told_here at first left rest h = sym (ap len_told (sym (ap (all_judged at first) (lines_are rest)) ∙ h))
+field_trimmed : (line : Bytes) (field : Field) → field_of line ≡ Some field → trimmed field.value ≡ field.value
+unfolding field_of
+field_trimmed line field h =
+    let name = trimmed_back (before 58 line) in
+    let is = map_some (λ value. record { name = long_name name; value = trimmed value }) (after 58 line) field (if_some (is_token name) (option_map (λ value. record { name = long_name name; value = trimmed value }) (after 58 line)) field h).1 in
+    subst (λ (f : Field). trimmed f.value ≡ f.value) is.2 (trimmed_again is.0)
 
-pub told_none : (at : ℕ) (first : Left) (rest : Option Bytes) (fault : SomeFault) → all_judged at first (pieces_behind Unfolded rest) ≡ Err fault → 0 ≡ len_told (all_judged at first (lines_behind rest))
-told_none at first rest fault h = sym (ap len_told (sym (ap (all_judged at first) (lines_are rest)) ∙ h))
+pub fields_trimmed : (lines : List Bytes) → AreTrimmed (filter_map (λ line. field_of (joined line)) lines)
+unfolding AreTrimmed
+fields_trimmed [] = tt
+fields_trimmed (line ∷ lines) = by_field (field_of (joined line)) refl (fields_trimmed lines)
+  where
+    by_field : (o : Option Field) → field_of (joined line) ≡ o → AreTrimmed (filter_map (λ l. field_of (joined l)) lines) → AreTrimmed (filter_map (λ l. field_of (joined l)) (line ∷ lines))
+    by_field None e h = rw e h
+    by_field (Some field) e h = rw e (field_trimmed (joined line) field e, h)
 
--- the places of the header lines fit
-pub first_room : (line head : ℕ) (rest : Option (Bor Bytes)) → head + 4 ≤ 65535 → IfSome rest (λ r. line + 2 + length r.now ≡ head) → option_map_or (λ t. line + 2 + length t) (option_copied rest) 0 ≤ 2 ^ 63
-first_room line head None fits less = omega (arith)
-first_room line head (Some r) fits less = omega (arith, fits, less)
+pub are_trimmed : (fields : List Field) (lines : List Bytes) → fields ≡ filter_map (λ line. field_of (joined line)) lines → AreTrimmed fields
+are_trimmed fields lines is = subst AreTrimmed (sym is) (fields_trimmed lines)
+
+all_trimmed : List Bytes → Type 0
+all_trimmed [] = ⊤
+all_trimmed (value ∷ values) = (trimmed value ≡ value) × all_trimmed values
+
+values_trimmed : (name : Bytes) (fields : List Field) → AreTrimmed fields → all_trimmed (values_of name fields)
+unfolding AreTrimmed values_of all_trimmed
+values_trimmed name [] h = tt
+values_trimmed name (field ∷ fields) h =
+    let more = filter (λ (f : Field). same_name f.name name) fields in
+    elim (same_name field.name name) as (λ (t : Bool). all_trimmed (map (λ (f : Field). f.value) (cond t (field ∷ more) more))) [
+      | true ↦ (h.0, values_trimmed name fields h.1)
+      | false ↦ values_trimmed name fields h.1
+    ]
+
+only_trimmed : (values : List Bytes) (value : Bytes) → all_trimmed values → only values ≡ Some value → trimmed value ≡ value
+unfolding all_trimmed only
+only_trimmed [] value all h = absurd (none_some value h)
+only_trimmed (one ∷ []) value all h = subst (λ (v : Bytes). trimmed v ≡ v) (some_same one value h) all.0
+only_trimmed (one ∷ next ∷ more) value all h = absurd (none_some value h)
+
+-- the value of a header that stands once, where it is one line
+pub only_is_value : (name : Bytes) (fields : List Field) (value : Bytes) → AreTrimmed fields → only (values_of name fields) ≡ Some value → is_one_line value ≡ true → is_value value ≡ true
+only_is_value name fields value all h one = trimmed_is_value value one (only_trimmed (values_of name fields) value (values_trimmed name fields all) h)

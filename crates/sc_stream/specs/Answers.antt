@@ -2,8 +2,8 @@
 use Rattle.std.specs.Prelude.{◌≡◌, List, [], ◌++◌, Option, Some, Result, Ok, Err, if◌then◌else◌}
 use Rattle.std.specs.List.{flat_map}
 use Rattle.std.specs.Option.{option_map}
-use Rattle.sc_value.specs.HeaderNames.{via_name}
-use Rattle.sc_value.specs.Params.{same_name}
+use Rattle.sc_tokens.specs.HeaderNames.{via_name}
+use Rattle.sc_tokens.specs.Names.{same_name}
 use Rattle.sc_value.specs.declared.parts.Field.{Field}
 use Rattle.sc_value.specs.declared.parts.Via.{Via}
 use Rattle.sc_syntax.specs.Vias.{vias_of}

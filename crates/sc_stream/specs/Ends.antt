@@ -3,7 +3,7 @@ use Rattle.std.specs.Prelude.{◌≡◌, ℕ, Option, Some, None, [], ◌≤◌,
 use Rattle.std.specs.Option.{option_map}
 use Rattle.sc_syntax.specs.declared.front.Answerable.{Answerable}
 use Rattle.sc_syntax.specs.declared.front.Front.TheVariants as fronts
-use Rattle.sc_syntax.specs.Bytes.{Bytes}
+use Rattle.sc_tokens.specs.Bytes.{Bytes}
 use Rattle.sc_stream.specs.declared.ends.Ended.{Ended}
 use Rattle.sc_stream.specs.declared.ends.Ended.TheVariants as ends
 use Rattle.sc_stream.specs.declared.first.First.{First}

@@ -1,12 +1,9 @@
 -- The fields of a head.
-use Rattle.std.specs.Prelude.{ℕ, Bool, Result, unwrap_or, List, [], ◌∷◌, ◌++◌, Option, Some, None}
-use Rattle.std.specs.Option.{option_map_or}
-use Rattle.std.specs.Result.{result_ok}
-use Rattle.sc_value.specs.Params.{same_name}
+use Rattle.std.specs.Prelude.{◌≡◌, Bool, List, [], ◌∷◌, ◌++◌, Option, Some, None, ⊤}
+use Rattle.sc_tokens.specs.Blanks.{trimmed}
+use Rattle.sc_tokens.specs.Names.{same_name}
 use Rattle.sc_value.specs.declared.parts.Field.{Field}
-use Rattle.sc_syntax.specs.declared.left.Left.{Left}
-use Rattle.sc_syntax.specs.Bytes.{Bytes}
-use Rattle.sc_syntax.specs.UriParts.{Fault}
+use Rattle.sc_tokens.specs.Bytes.{Bytes}
 
 -- one more at the end, where there is one
 abbrev pub with_some : {X : Type 0} → List X → Option X → List X
@@ -17,6 +14,7 @@ with_some xs (Some x) = xs ++ x ∷ []
 abbrev pub is_of : Bytes → Field → Bool
 is_of name field = same_name field.name name
 
--- the Content-Length that the lines have left, where none has a fault; a missing one is 0
-abbrev pub len_told : Result Left Fault → ℕ
-len_told read = option_map_or (λ left. unwrap_or left.singles.length 0) (result_ok read) 0
+-- no value has a blank at an end
+unfoldable pub AreTrimmed : List Field → Type 0
+AreTrimmed [] = ⊤
+AreTrimmed (field ∷ fields) = (trimmed field.value ≡ field.value) × AreTrimmed fields

@@ -4,7 +4,7 @@ use Rattle.std.specs.Prelude.{◌≡◌, ℕ, Bool, true, false, List, [], ◌�
 use Rattle.sc_value.specs.declared.message.Message.{Message}
 use Rattle.sc_syntax.specs.declared.front.Front.{Front}
 use Rattle.sc_syntax.specs.declared.front.Front.TheVariants.{Open, Whole, Bad, Long}
-use Rattle.sc_syntax.specs.Bytes.{Bytes}
+use Rattle.sc_tokens.specs.Bytes.{Bytes}
 use Rattle.sc_syntax.specs.Fronts.{behind_breaks, front_of}
 
 -- what a text begins with, behind the line ends that are skipped

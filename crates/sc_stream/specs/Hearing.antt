@@ -4,7 +4,7 @@ use Rattle.std.specs.Option.{option_map}
 use Rattle.sc_value.specs.declared.message.Message.{Message}
 use Rattle.sc_syntax.specs.declared.front.Answerable.{Answerable}
 use Rattle.sc_syntax.specs.declared.front.Front.TheVariants as fronts
-use Rattle.sc_syntax.specs.Bytes.{Bytes}
+use Rattle.sc_tokens.specs.Bytes.{Bytes}
 use Rattle.sc_syntax.specs.Fronts.{behind_breaks}
 use Rattle.sc_terms.specs.declared.steps.Answerable.{Answerable as Heads}
 use Rattle.sc_stream.specs.declared.streams.Heard.{Heard}

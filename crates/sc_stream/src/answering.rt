@@ -2,7 +2,7 @@
 
 ghost use Rattle.std.specs.Prelude.{◌≡◌, ◌++◌, Some, Option, IfOk, OnOk, false, take, slice_get, filter_map};
 ghost use Rattle.std.specs.Option.{option_copied, option_map, option_map_or, option_zip};
-ghost use Rattle.sc_value.specs.HeaderNames.{call_id_name, cseq_name, from_name, to_name};
+ghost use Rattle.sc_tokens.specs.HeaderNames.{call_id_name, cseq_name, from_name, to_name};
 ghost use Rattle.sc_syntax.specs.Addresses.{address_of};
 ghost use Rattle.sc_syntax.specs.Sequences.{cseq_of};
 ghost use Rattle.sc_syntax.specs.Vias.{vias_of};
@@ -13,17 +13,20 @@ ghost use Rattle.sc_syntax.specs.StartLines.{is_status_line};
 ghost use Rattle.sc_syntax.specs.Fronts.{answerable_in, answerable_of, answerable_with, field_of, once, vias_in, with_branch};
 ghost use Rattle.sc_head_text.specs.Answers.{Gives};
 ghost use Rattle.sc_stream.specs.Answers.{TakesVias, all_vias, vias_at};
+ghost use Rattle.sc_stream.specs.Fields.{AreTrimmed};
 
 use crate::fields::{fields_behind, only_value};
 use crate::names;
 use sc_head_text::{Unread, read_address, read_cseq, read_vias};
 use sc_message_text::split_start;
 use sc_syntax::Answerable;
-use sc_value::{Address, CSeq, Field, List, NoMemory, Text, Via, branch, is_one_line, same_name};
+use sc_value::{
+    Address, CSeq, Field, HeaderValue, List, NoMemory, Via, branch, is_one_line, same_name,
+};
 use std::alloc::Global;
 
 // The Vias, From and To, and Call-ID and CSeq.
-type Parts = ((List<Via>, (Address, Address)), (Text, CSeq));
+type Parts = ((List<Via>, (Address, Address)), (HeaderValue, CSeq));
 
 // What an answer to a head with a fault of this kind needs, where the head has it.
 #[tactic(auto, unfolding(sc_syntax::specs::Fronts::answerable_of, sc_syntax::specs::Lines::header_lines))]
@@ -37,6 +40,7 @@ pub fn answerable_of(alloc: Global, head: &[u8], kind: u8) -> Result<Option<Answ
     answerable_behind(alloc, rest)
 }
 
+#[tactic(auto, using(crate::proofs::ReadSteps::are_trimmed))]
 fn answerable_behind(alloc: Global, rest: Option<&[u8]>) -> Result<Option<Answerable>, NoMemory>
     ensures { IfOk result (λ heads. heads ≡ answerable_in (filter_map (λ line. field_of (joined line)) (lines_behind (option_copied rest.entry)))) }
 {
@@ -60,6 +64,7 @@ fn first_four(line: &[u8]) -> &[u8]
 // The five headers, where each is there, readable and not doubled.
 #[tactic(auto, unfolding(sc_syntax::specs::Fronts::answerable_in))]
 fn answerable_in(alloc: Global, fields: &[Field]) -> Result<Option<Answerable>, NoMemory>
+    requires { AreTrimmed fields.now }
     ensures { IfOk result (λ heads. heads ≡ answerable_in fields.now) }
 {
     let call = read_call(alloc, fields)?;
@@ -120,7 +125,8 @@ fn told<X: Drop>(read: Result<X, Unread>) -> Result<Option<X>, NoMemory>
 }
 
 // Call-ID and CSeq.
-fn read_call(alloc: Global, fields: &[Field]) -> Result<Option<(Text, CSeq)>, NoMemory>
+fn read_call(alloc: Global, fields: &[Field]) -> Result<Option<(HeaderValue, CSeq)>, NoMemory>
+    requires { AreTrimmed fields.now }
     ensures { IfOk result (λ call. call ≡ option_zip (once Some call_id_name fields.now) (once cseq_of cseq_name fields.now)) }
 {
     let call_id = read_call_id(alloc, fields)?;
@@ -128,8 +134,9 @@ fn read_call(alloc: Global, fields: &[Field]) -> Result<Option<(Text, CSeq)>, No
     Ok(call_id.zip(cseq))
 }
 
-#[tactic(auto, unfolding(sc_syntax::specs::Fronts::once, sc_syntax::specs::Judging::in_line))]
-fn read_call_id(alloc: Global, fields: &[Field]) -> Result<Option<Text>, NoMemory>
+#[tactic(auto, unfolding(sc_syntax::specs::Fronts::once, sc_syntax::specs::Judging::in_line), using(crate::proofs::ReadSteps::only_is_value))]
+fn read_call_id(alloc: Global, fields: &[Field]) -> Result<Option<HeaderValue>, NoMemory>
+    requires { AreTrimmed fields.now }
     ensures { IfOk result (λ text. text ≡ once Some call_id_name fields.now) }
 {
     match only_value(fields, names::call_id()) {
@@ -137,7 +144,7 @@ fn read_call_id(alloc: Global, fields: &[Field]) -> Result<Option<Text>, NoMemor
             if !is_one_line(value) {
                 return Ok(None);
             }
-            Ok(Some(Text::from_slice(alloc, value)?))
+            Ok(Some(HeaderValue::from_slice(alloc, value)?))
         }
         None => Ok(None),
     }

@@ -1,7 +1,7 @@
 //! The end of a stream: an answer that stays the same whatever comes (RFC 3261 section 18.3).
 
 ghost use Rattle.std.specs.Prelude.{◌≡◌, IfOk, IfErr};
-ghost use Rattle.sc_syntax.specs.Bytes.{Bytes};
+ghost use Rattle.sc_tokens.specs.Bytes.{Bytes};
 ghost use Rattle.sc_stream.specs.Hearing.{Hears};
 ghost use Rattle.sc_stream.specs.Ends.{EndsWith, GoesOn, IsAgain, IsEnd};
 

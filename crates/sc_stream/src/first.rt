@@ -3,21 +3,21 @@
 
 ghost use Rattle.std.specs.Prelude.{◌≡◌, ◌≤◌, ◌<◌, ◌+◌, ◌^◌, false, None, IfOk, IfSome, length, take, drop};
 ghost use Rattle.sc_syntax.specs.declared.ending.Ending.TheVariants.{Empty};
-ghost use Rattle.sc_syntax.specs.Bytes.{Bytes};
+ghost use Rattle.sc_tokens.specs.Bytes.{Bytes};
 ghost use Rattle.sc_syntax.specs.Lines.{begins_break, end_of};
 ghost use Rattle.sc_syntax.specs.Fronts.{behind_breaks, front_of};
 ghost use Rattle.sc_stream.specs.declared.first.First.{First};
-ghost use Rattle.sc_stream.specs.declared.first.Known.TheVariants.{Searched, Sized};
+ghost use Rattle.sc_stream.specs.declared.first.Known.TheVariants.{Searched, Read};
 ghost use Rattle.sc_stream.specs.Knowing.{IsFirst, IsKnown};
 
-use crate::fronts::{Wanted, sized, unended, wanted_by, within_limit};
+use crate::fronts::{Wanted, body_in, sized, unended, wanted_by, whole, within_limit};
 use sc_message_text::{begins_break, end_of};
-use sc_syntax::{Ending, Front};
-use sc_value::NoMemory;
+use sc_syntax::{Ending, Front, HeadParts};
+use sc_value::{Boxed, NoMemory, Text};
 use std::alloc::Global;
 
 /// What is known of the first message.
-#[derive(Clone, Copy)]
+#[derive(Drop)]
 pub struct First {
     /// So many bytes of line ends stand before it.
     pub breaks: usize,
@@ -26,12 +26,16 @@ pub struct First {
 }
 
 /// What is known of a head.
-#[derive(Clone, Copy)]
+#[derive(Drop)]
 pub enum Known {
     /// No empty line ends within so many bytes.
     Searched(usize),
-    /// The head ends at `end` and has no fault. With its body it has `len` bytes.
-    Sized { end: usize, len: usize },
+    /// The head ends at `end`, and is read: it has no fault. With its body it has `len` bytes.
+    Read {
+        end: usize,
+        len: usize,
+        parts: Boxed<HeadParts>,
+    },
 }
 
 /// Nothing is known.
@@ -97,17 +101,41 @@ pub fn look(alloc: Global, text: &[u8], known: Known) -> (Result<Front, NoMemory
 {
     match known {
         Known::Searched(searched) => search(alloc, text, searched),
-        Known::Sized { end, len } => (look_sized(alloc, text, end, len), known),
+        Known::Read { end, len, parts } => look_read(alloc, text, end, len, parts),
     }
 }
 
-// The same, where head and body have so many bytes.
-#[tactic(auto, using(crate::proofs::Knowing::sized_room, crate::proofs::Knowing::sized_len, crate::proofs::Knowing::sized_front))]
-fn look_sized(alloc: Global, text: &[u8], end: usize, len: usize) -> Result<Front, NoMemory>
-    requires { IsKnown (Sized end len) text.now }
-    ensures { IfOk result (λ front. front ≡ front_of text.now) }
+fn head_in(text: &[u8], end: usize) -> &[u8]
+    requires { end ≤ length text.now }
+    ensures exact { result.now ≡ take end text.now }
+    ensures len { length result.now ≡ end }
 {
-    sized(alloc, text, &text[..end], len)
+    &text[..end]
+}
+
+// The same, where the head is read. It stays so until the body is there and copied.
+#[tactic(auto, using(crate::proofs::Knowing::nothing_searched))]
+fn look_read(
+    alloc: Global,
+    text: &[u8],
+    end: usize,
+    len: usize,
+    parts: Boxed<HeadParts>,
+) -> (Result<Front, NoMemory>, Known)
+    requires { IsKnown (Read end len parts) text.now }
+    ensures front { IfOk result.0 (λ front. front ≡ front_of text.now) }
+    ensures known { IsKnown result.1 text.now }
+{
+    if len > text.len() {
+        return (Ok(Front::Open), Known::Read { end, len, parts });
+    }
+    match Text::from_slice(alloc, body_in(text, end, len)) {
+        Ok(body) => {
+            let front = whole(alloc, head_in(text, end), body, len, parts.into_inner());
+            (front, Known::Searched(0))
+        }
+        Err(NoMemory) => (Err(NoMemory), Known::Read { end, len, parts }),
+    }
 }
 
 // The same, where the empty line is still looked for.
@@ -140,7 +168,7 @@ fn end_behind(text: &[u8], searched: usize) -> Option<usize>
 }
 
 // The head ends here: what it tells.
-#[tactic(auto, using(crate::proofs::Knowing::headed_front, crate::proofs::Knowing::is_sized))]
+#[tactic(auto, using(crate::proofs::Knowing::is_read))]
 fn judge(
     alloc: Global,
     text: &[u8],
@@ -155,10 +183,34 @@ fn judge(
     ensures front { IfOk result.0 (λ front. front ≡ front_of text.now) }
     ensures known { IsKnown result.1 text.now }
 {
-    let head = &text[..end];
-    match wanted_by(alloc, head) {
-        Ok(Wanted::Bytes(len)) => (sized(alloc, text, head, len), Known::Sized { end, len }),
+    match wanted_by(alloc, &text[..end]) {
+        Ok(Wanted::Body { len, parts }) => judge_body(alloc, text, end, searched, len, parts),
         Ok(Wanted::Nothing(front)) => (Ok(front), Known::Searched(searched)),
         Err(NoMemory) => (Err(NoMemory), Known::Searched(searched)),
     }
+}
+
+// The head is read: the message, where it is there whole. Else the head is kept so, where there is
+// memory for it; where there is none, it will be read again.
+fn judge_body(
+    alloc: Global,
+    text: &[u8],
+    end: usize,
+    searched: usize,
+    len: usize,
+    parts: HeadParts,
+) -> (Result<Front, NoMemory>, Known)
+    requires known { IsKnown (Searched searched) text.now }
+    requires read { IsKnown (Read end len parts) text.now }
+    ensures front { IfOk result.0 (λ front. front ≡ front_of text.now) }
+    ensures known { IsKnown result.1 text.now }
+{
+    if len > text.len() {
+        return match Boxed::new(alloc, parts) {
+            Ok(parts) => (Ok(Front::Open), Known::Read { end, len, parts }),
+            Err(NoMemory) => (Ok(Front::Open), Known::Searched(searched)),
+        };
+    }
+    let front = sized(alloc, text, head_in(text, end), len, parts);
+    (front, Known::Searched(searched))
 }

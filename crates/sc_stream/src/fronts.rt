@@ -1,20 +1,18 @@
 //! What the bytes of a stream begin with (RFC 3261 sections 7.5 and 18.3).
 
-ghost use Rattle.std.specs.Prelude.{◌≡◌, ◌≤◌, ◌+◌, [], IfOk, IfSome, ◌^◌, if◌then◌else◌, length, nat_le, take};
-ghost use Rattle.std.specs.Option.{option_copied, option_map_or};
+ghost use Rattle.std.specs.Prelude.{◌≡◌, ◌≤◌, ◌+◌, [], Ok, None, IfOk, IfSome, if◌then◌else◌, drop, length, nat_le, take, unwrap_or};
 ghost use Rattle.sc_syntax.specs.declared.ending.Ending.TheVariants.{Empty};
-ghost use Rattle.sc_syntax.specs.Lines.{end_of, lines_behind};
-ghost use Rattle.sc_syntax.specs.Messages.{all_judged, message_in};
-ghost use Rattle.sc_syntax.specs.Fronts.{bad, body_len, front_of, headed, sized, whole};
+ghost use Rattle.sc_syntax.specs.Lines.{end_of};
+ghost use Rattle.sc_syntax.specs.Messages.{lacking, message_in, parts_in};
+ghost use Rattle.sc_syntax.specs.Fronts.{bad, front_of, headed, sized, whole};
 ghost use Rattle.sc_syntax.specs.declared.front.Front.TheVariants.{Open, Long};
 ghost use Rattle.sc_stream.specs.declared.fronts.Wanted.TheVariants.{Nothing};
-ghost use Rattle.sc_stream.specs.Fields.{len_told};
-ghost use Rattle.sc_stream.specs.Knowing.{Tells, TellsOf};
+ghost use Rattle.sc_stream.specs.Knowing.{IsLenOf, Tells};
 
 use crate::answering::answerable_of;
-use sc_message_text::{MessageRefused, end_of, nothing_left, read_parts, split_start, take_lines};
-use sc_syntax::{Ending, Front, Left};
-use sc_value::NoMemory;
+use sc_message_text::{MessageRefused, end_of, lacking, put_together, read_head};
+use sc_syntax::{Ending, Front, HeadParts};
+use sc_value::{NoMemory, Text};
 use std::alloc::Global;
 
 /// What a text begins with whose first bytes are no CR LF (RFC 3261 sections 7.5 and 18.3): exactly
@@ -72,7 +70,7 @@ fn headed(alloc: Global, text: &[u8], head: &[u8]) -> Result<Front, NoMemory>
     ensures { IfOk result (λ front. front ≡ headed text.now head.now (message_in head.now [])) }
 {
     match wanted_by(alloc, head) {
-        Ok(Wanted::Bytes(len)) => sized(alloc, text, head, len),
+        Ok(Wanted::Body { len, parts }) => sized(alloc, text, head, len, parts),
         Ok(Wanted::Nothing(front)) => Ok(front),
         Err(NoMemory) => Err(NoMemory),
     }
@@ -81,29 +79,20 @@ fn headed(alloc: Global, text: &[u8], head: &[u8]) -> Result<Front, NoMemory>
 /// What a head tells of its message.
 #[derive(Drop)]
 pub enum Wanted {
-    /// It has so many bytes with its body, at most 65,535.
-    Bytes(usize),
+    /// It has so many bytes with its body, at most 65,535, and its head is read.
+    Body { len: usize, parts: HeadParts },
     /// No more is wanted: every text with the head begins with this.
     Nothing(Front),
 }
 
-/// What this head tells. Only the length of its body can't be at fault yet.
+/// What this head tells, which is read once. Only the length of its body can't be at fault yet.
 pub fn wanted_by(alloc: Global, head: &[u8]) -> Result<Wanted, NoMemory>
     requires { length head.now + 4 ≤ 65535 }
     ensures { IfOk result (λ wanted. Tells wanted head.now) }
 {
-    match read_parts(alloc, head, b"") {
-        Ok(message) => {
-            drop(message);
-            wanted_as_told(alloc, head)
-        }
-        Err(MessageRefused::Refused { at, kind }) => {
-            if kind == 12 {
-                wanted_as_told(alloc, head)
-            } else {
-                wanted_never(alloc, head, at, kind)
-            }
-        }
+    match read_head(alloc, head) {
+        Ok(parts) => wanted_with(alloc, head, parts),
+        Err(MessageRefused::Refused { at, kind }) => wanted_never(alloc, head, at, kind),
         Err(MessageRefused::NoMemory) => Err(NoMemory),
     }
 }
@@ -118,79 +107,98 @@ fn wanted_never(alloc: Global, head: &[u8], at: usize, kind: u8) -> Result<Wante
     }
 }
 
-// A head that has no fault but for the length of its body.
-fn wanted_as_told(alloc: Global, head: &[u8]) -> Result<Wanted, NoMemory>
-    requires { length head.now + 4 ≤ 65535 }
-    ensures { IfOk result (λ wanted. TellsOf wanted head.now (length head.now + 4 + body_len head.now)) }
+// A head whose lines have no fault.
+fn wanted_with(alloc: Global, head: &[u8], parts: HeadParts) -> Result<Wanted, NoMemory>
+    requires within { length head.now + 4 ≤ 65535 }
+    requires read { parts_in head.now ≡ Ok parts }
+    ensures { IfOk result (λ wanted. Tells wanted head.now) }
 {
-    let body = body_len(alloc, head)?;
-    Ok(wanted_with(head, body))
+    match lacking(&parts) {
+        Some(kind) => wanted_never(alloc, head, head.len() + 2, kind),
+        None => Ok(wanted_body(head, parts)),
+    }
 }
 
-// A head whose body has so many bytes.
-#[tactic(auto, using(crate::proofs::Knowing::too_long))]
-fn wanted_with(head: &[u8], body: u64) -> Wanted
-    requires { length head.now + 4 ≤ 65535 }
-    ensures { TellsOf result head.now (length head.now + 4 + body) }
+// A head that lacks nothing.
+#[tactic(auto, using(crate::proofs::Telling::body_told, crate::proofs::Telling::long_told))]
+fn wanted_body(head: &[u8], parts: HeadParts) -> Wanted
+    requires within { length head.now + 4 ≤ 65535 }
+    requires read { parts_in head.now ≡ Ok parts }
+    requires none { lacking parts ≡ None }
+    ensures { Tells result head.now }
 {
+    match len_with(head, parts.left.singles.length) {
+        Some(len) => Wanted::Body { len, parts },
+        None => Wanted::Nothing(Front::Long),
+    }
+}
+
+// How many bytes a head has with a body of this Content-Length, where they are within the limit.
+fn len_with(head: &[u8], told: Option<u64>) -> Option<usize>
+    requires { length head.now + 4 ≤ 65535 }
+    ensures { IsLenOf result (length head.now + 4 + unwrap_or told 0) }
+{
+    let body = told.unwrap_or(0);
     if body > 65_535 {
-        return Wanted::Nothing(Front::Long);
+        return None;
     }
     let len = head.len() + 4 + body as usize;
     if len > 65_535 {
-        return Wanted::Nothing(Front::Long);
+        return None;
     }
-    Wanted::Bytes(len)
+    Some(len)
 }
 
-// The Content-Length of a head whose lines have no fault.
-#[tactic(auto, unfolding(sc_syntax::specs::Fronts::body_len, sc_syntax::specs::Lines::header_lines), using(crate::proofs::ReadSteps::first_room))]
-fn body_len(alloc: Global, head: &[u8]) -> Result<u64, NoMemory>
-    requires { length head.now + 4 ≤ 65535 }
-    ensures { IfOk result (λ len. len ≡ body_len head.now) }
-{
-    let (line, rest) = split_start(head);
-    let mut left = nothing_left(alloc);
-    told_len(&mut left, alloc, rest, line.len() + 2)
-}
-
-// The Content-Length of the lines behind an end, of which the first begins at this place.
-#[tactic(auto, using(crate::proofs::ReadSteps::told_here, crate::proofs::ReadSteps::told_none))]
-fn told_len(left: &mut Left, alloc: Global, rest: Option<&[u8]>, at: usize) -> Result<u64, NoMemory>
-    requires { option_map_or (λ text. at + length text) (option_copied rest) 0 ≤ 2 ^ 63 }
-    ensures { IfOk result (λ len. len ≡ len_told (all_judged at left.old (lines_behind (option_copied rest.entry)))) }
-{
-    match take_lines(left, alloc, rest, at) {
-        Ok(()) => Ok(left.singles.length.unwrap_or(0)),
-        Err(MessageRefused::Refused { at: _, kind: _ }) => Ok(0),
-        Err(MessageRefused::NoMemory) => Err(NoMemory),
-    }
-}
-
-/// Head and body, which have so many bytes together.
+/// Head and body, which have so many bytes together. The head is read.
 #[tactic(auto, unfolding(sc_syntax::specs::Fronts::sized))]
-pub fn sized(alloc: Global, text: &[u8], head: &[u8], len: usize) -> Result<Front, NoMemory>
+pub fn sized(
+    alloc: Global,
+    text: &[u8],
+    head: &[u8],
+    len: usize,
+    parts: HeadParts,
+) -> Result<Front, NoMemory>
     requires whole { length head.now + 4 ≤ len }
     requires within { len ≤ 65535 }
+    requires read { parts_in head.now ≡ Ok parts }
     ensures { IfOk result (λ front. front ≡ sized text.now head.now len) }
 {
     if len > text.len() {
         return Ok(Front::Open);
     }
-    let message = &text[..len];
-    whole(alloc, head, &message[head.len() + 4..], len)
+    match Text::from_slice(alloc, body_in(text, head.len(), len)) {
+        Ok(body) => whole(alloc, head, body, len, parts),
+        Err(NoMemory) => Err(NoMemory),
+    }
 }
 
-// A message that is there whole.
-#[tactic(auto, unfolding(sc_syntax::specs::Fronts::whole))]
-fn whole(alloc: Global, head: &[u8], body: &[u8], len: usize) -> Result<Front, NoMemory>
-    requires { length head.now + 4 ≤ 65535 }
-    ensures { IfOk result (λ front. front ≡ whole head.now len (message_in head.now body.now)) }
+/// The body of a message of so many bytes, whose head ends at this place.
+pub fn body_in(text: &[u8], end: usize, len: usize) -> &[u8]
+    requires whole { end + 4 ≤ len }
+    requires there { len ≤ length text.now }
+    requires within { len ≤ 65535 }
+    ensures { result.now ≡ drop (end + 4) (take len text.now) }
 {
-    match read_parts(alloc, head, body) {
+    let message = &text[..len];
+    &message[end + 4..]
+}
+
+/// A message that is there whole. Its head is read.
+#[tactic(auto, using(crate::proofs::Telling::whole_bad))]
+pub fn whole(
+    alloc: Global,
+    head: &[u8],
+    body: Text,
+    len: usize,
+    parts: HeadParts,
+) -> Result<Front, NoMemory>
+    requires within { length head.now + 4 ≤ 65535 }
+    requires read { parts_in head.now ≡ Ok parts }
+    ensures { IfOk result (λ front. front ≡ whole head.now len (message_in head.now body)) }
+{
+    match put_together(parts, body) {
         Ok(message) => Ok(Front::Whole { len, message }),
-        Err(MessageRefused::Refused { at, kind }) => bad(alloc, head, at, kind),
-        Err(MessageRefused::NoMemory) => Err(NoMemory),
+        Err(kind) => bad(alloc, head, head.len() + 2, kind),
     }
 }
 

@@ -1,5 +1,5 @@
 ghost use Rattle.std.specs.Prelude.{◌≡◌, ◌++◌, ◌≤◌, false, length};
-ghost use Rattle.sc_syntax.specs.Bytes.{Bytes};
+ghost use Rattle.sc_tokens.specs.Bytes.{Bytes};
 ghost use Rattle.sc_syntax.specs.Fronts.{front_of};
 ghost use Rattle.sc_stream.specs.Frames.{front_behind, is_open, len_of};
 

@@ -4,7 +4,7 @@
 ghost use Rattle.std.specs.Prelude.{◌≡◌, ◌≤◌, ◌<◌, ◌^◌, ◌++◌, [], List, IfOk, OnOk, OnErr, drop, length};
 ghost use Rattle.std.specs.Option.{option_map};
 ghost use Rattle.sc_value.specs.declared.message.Message.{Message};
-ghost use Rattle.sc_syntax.specs.Bytes.{Bytes};
+ghost use Rattle.sc_tokens.specs.Bytes.{Bytes};
 ghost use Rattle.sc_syntax.specs.Fronts.{behind_breaks};
 ghost use Rattle.sc_stream.specs.Frames.{Splits, front_behind};
 ghost use Rattle.sc_stream.specs.Hearing.{Hears, IsBad, given_after, with_heads};
@@ -18,6 +18,7 @@ use sc_terms::Bad;
 use sc_value::{Boxed, Message, NoMemory};
 use std::alloc::Global;
 use std::marker::Model;
+use std::mem::replace;
 
 /// What a stream answers.
 #[derive(Drop)]
@@ -37,7 +38,8 @@ pub enum Heard {
 /// The bytes of a stream behind the messages that were given. A contract sees these bytes.
 ///
 /// What is known of the first message there is kept, so that the work grows with the bytes that come,
-/// in whatever pieces, and not with those that are kept.
+/// in whatever pieces, and not with those that are kept. Its head is read once, when its empty line has
+/// come, and is kept read beside its bytes until the body has come; only for want of memory it is read again.
 ///
 /// Once `Bad` or `Long` was answered the stream has ended: it keeps that answer, no byte and no memory
 /// for one, and what comes is let go at once. The model's invariant says so. The bytes of which
@@ -106,8 +108,9 @@ impl Stream {
         if let Some(ended) = &self.ended {
             return again(self.alloc, ended);
         }
+        let first = replace(&mut self.first, nothing_known());
         let text = behind(self.kept.as_slice(), self.from);
-        let (heard, first, taken) = hear(self.alloc, text, self.first);
+        let (heard, first, taken) = hear(self.alloc, text, first);
         match parted(heard) {
             Ok(heard) => {
                 self.first = first;
@@ -115,6 +118,7 @@ impl Stream {
                 heard
             }
             Err(ended) => {
+                drop(first);
                 let heard = again(self.alloc, &ended);
                 self.gone = Gone::of(text);
                 self.kept = Vec::new(self.alloc);
@@ -148,8 +152,8 @@ fn hear(alloc: Global, text: &[u8], first: First) -> (Heard, First, usize)
     ensures within { result.2 ≤ length text.now }
 {
     let first = pass_breaks(text, first);
-    let (front, known) = look(alloc, behind(text, first.breaks), first.known);
     let breaks = first.breaks;
+    let (front, known) = look(alloc, behind(text, breaks), first.known);
     hear_front(alloc, text, front, First { breaks, known })
 }
 

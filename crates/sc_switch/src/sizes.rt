@@ -70,7 +70,7 @@ impl Measured for Uri {
     fn size(&self) -> u64 {
         match self {
             Uri::Sip(uri) => sip_uri_size(uri),
-            Uri::Other(text) => length_of(text),
+            Uri::Other(text) => length_of(text.as_text()),
         }
     }
 }

@@ -5,19 +5,19 @@ use Rattle.std.specs.Option.{option_map}
 use Rattle.std.specs.Result.{result_ok}
 use Rattle.std.proofs.lemmas.Bool.{false≢true}
 use Rattle.std.proofs.lemmas.Bool.Decides.{nat_tests}
-use Rattle.sc_value.specs.Params.{same_bytes}
-use Rattle.sc_value.specs.Tokens.{is_blank}
+use Rattle.sc_tokens.specs.Names.{same_bytes}
+use Rattle.sc_tokens.specs.Tokens.{is_blank}
 use Rattle.sc_value.specs.declared.parts.Param.{Param}
 use Rattle.sc_value.specs.declared.parts.Address.{Address}
 use Rattle.sc_value.specs.declared.parts.Contact.{Contact}
 use Rattle.sc_value.specs.declared.parts.Contact.TheVariants.{Star, At}
 use Rattle.sc_syntax.specs.declared.scan.Scan.{Scan}
 use Rattle.sc_syntax.specs.declared.scan.Scan.TheVariants.{Front, Word, Params}
-use Rattle.sc_syntax.specs.Bytes.{Bytes}
-use Rattle.sc_syntax.specs.Cuts.{has}
-use Rattle.sc_syntax.specs.Hosts.{begins}
+use Rattle.sc_tokens.specs.Bytes.{Bytes}
+use Rattle.sc_tokens.specs.Cuts.{has}
+use Rattle.sc_tokens.specs.Hosts.{begins}
 use Rattle.sc_syntax.specs.Uris.{uri_of}
-use Rattle.sc_syntax.specs.Blanks.{trimmed_front, trimmed}
+use Rattle.sc_tokens.specs.Blanks.{trimmed_front, trimmed}
 use Rattle.sc_syntax.specs.Scanning.{is_outside, past_front, past_word, past, is_part_end}
 use Rattle.sc_syntax.specs.Parameters.{params_of}
 use Rattle.sc_syntax.specs.Addresses.{Named, named_in, with_uri, address_with, address_in, address_of, addresses_of, contact_of, contacts_of}

@@ -6,9 +6,9 @@ use Rattle.std.proofs.Math.Bool.{and_comm}
 use Rattle.std.proofs.Math.Seq.{take-append_seam}
 use Rattle.std.proofs.lemmas.List.{take-append-drop, reverse-reverse, reverse-append, length-reverse}
 use Rattle.std.proofs.lemmas.List.Folds.{list_all-append}
-use Rattle.sc_value.specs.Tokens.{is_blank}
-use Rattle.sc_syntax.specs.Bytes.{Bytes}
-use Rattle.sc_syntax.specs.Blanks.{trimmed_front, trimmed_back, trimmed}
+use Rattle.sc_tokens.specs.Tokens.{is_blank}
+use Rattle.sc_tokens.specs.Bytes.{Bytes}
+use Rattle.sc_tokens.specs.Blanks.{trimmed_front, trimmed_back, trimmed}
 use Rattle.sc_syntax.specs.SpelledParts.{IsBlanks, Padded}
 
 pub both : (a b : Bool) → (a && b) ≡ true → (a ≡ true) × (b ≡ true)

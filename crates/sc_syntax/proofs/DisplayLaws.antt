@@ -6,16 +6,15 @@ use Rattle.std.specs.Option.{option_map, option_map_or, option_and_then}
 use Rattle.std.proofs.lemmas.Bool.{false≢true}
 use Rattle.std.proofs.lemmas.Bool.Decides.{nat_tests}
 use Rattle.std.proofs.lemmas.List.{take-append-drop, length-take}
-use Rattle.sc_syntax.specs.Bytes.{Bytes}
-use Rattle.sc_syntax.specs.Cuts.{before, after}
-use Rattle.sc_syntax.specs.Hosts.{begins, is_none_left}
-use Rattle.sc_syntax.specs.Quoted.{closing, is_quote_at, quoted_end}
-use Rattle.sc_syntax.specs.Blanks.{trimmed}
-use Rattle.sc_syntax.specs.Parameters.{is_string}
-use Rattle.sc_syntax.specs.Addresses.{Named, is_display_byte, enclosed, in_brackets, quoted_named, unless_empty, token_named, named_in}
+use Rattle.sc_tokens.specs.Bytes.{Bytes}
+use Rattle.sc_tokens.specs.Cuts.{before, after}
+use Rattle.sc_tokens.specs.Hosts.{begins, is_none_left}
+use Rattle.sc_tokens.specs.Quoted.{closing, is_quote_at, quoted_end}
+use Rattle.sc_tokens.specs.Blanks.{trimmed}
+use Rattle.sc_tokens.specs.HeaderTokens.{is_string, is_display_byte, IsDisplay}
+use Rattle.sc_syntax.specs.Addresses.{Named, enclosed, in_brackets, quoted_named, unless_empty, token_named, named_in}
 use Rattle.sc_syntax.specs.SpelledUris.{led}
 use Rattle.sc_syntax.specs.SpelledParts.{IsBlanks, Padded}
-use Rattle.sc_syntax.specs.SpelledAddresses.{IsDisplay}
 use Rattle.sc_syntax.proofs.CutLaws.{some_same, none_some}
 use Rattle.sc_syntax.proofs.PartLaws.{led_text}
 use Rattle.sc_syntax.proofs.BlankLaws.{trimmed_is_padded, trimmed_padded}

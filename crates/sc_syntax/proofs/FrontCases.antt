@@ -5,20 +5,23 @@ use Rattle.sc_value.specs.declared.parts.Uri.{Uri}
 use Rattle.sc_value.specs.declared.parts.Uri.TheVariants.{Sip}
 use Rattle.sc_value.specs.declared.message.Message.TheVariants as messages
 use Rattle.sc_syntax.specs.declared.front.Front.TheVariants.{Open, Whole, Bad, Long}
-use Rattle.sc_value.specs.HeaderNames.{long_of, long_name, via_name, route_name, record_route_name, max_forwards_name, from_name, to_name, call_id_name, cseq_name, contact_name, content_length_name, content_type_name, content_encoding_name, subject_name, supported_name}
-use Rattle.sc_value.specs.Params.{same_name, branch_name, param_value}
-use Rattle.sc_value.specs.Tokens.{is_token, is_token_byte, is_blank, begins_blank, is_line_break, is_one_line}
-use Rattle.sc_syntax.specs.Bytes.{Bytes, is_host_byte, is_scheme_byte, is_closed, is_open}
-use Rattle.sc_syntax.specs.Numbers.{is_digits, with_digit, number_in, number_below}
-use Rattle.sc_syntax.specs.Cuts.{has, before, after, onto_first}
-use Rattle.sc_syntax.specs.Hosts.{is_host_name, begins, is_none_left, is_host, host_len}
+use Rattle.sc_tokens.specs.HeaderNames.{long_of, long_name, via_name, route_name, record_route_name, max_forwards_name, from_name, to_name, call_id_name, cseq_name, contact_name, content_length_name, content_type_name, content_encoding_name, subject_name, supported_name}
+use Rattle.sc_tokens.specs.Names.{same_name}
+use Rattle.sc_value.specs.Params.{branch_name, param_value}
+use Rattle.sc_tokens.specs.Tokens.{is_token, is_token_byte, is_blank, begins_blank, is_line_break, is_one_line}
+use Rattle.sc_tokens.specs.Bytes.{Bytes, is_host_byte, is_scheme_byte, is_closed, is_open}
+use Rattle.sc_tokens.specs.Numbers.{is_digits, with_digit, number_in, number_below}
+use Rattle.sc_tokens.specs.Cuts.{has, before, after, onto_first}
+use Rattle.sc_tokens.specs.Hosts.{is_host_name, begins, is_none_left, is_host, host_len}
 use Rattle.sc_syntax.specs.UriParts.{then_read, port_in, is_port_start, sent_at, params_at, headers_at}
-use Rattle.sc_syntax.specs.Uris.{is_scheme, sip_scheme, user_in, behind_user, sent_in, params_text_in, sip_behind, sip_at, other_of, uri_behind, uri_of}
-use Rattle.sc_syntax.specs.Blanks.{trimmed_front, trimmed_back, trimmed, first_word, behind_word}
+use Rattle.sc_tokens.specs.UriTokens.{is_scheme, sip_scheme}
+use Rattle.sc_syntax.specs.Uris.{user_in, behind_user, sent_in, params_text_in, sip_behind, sip_at, other_of, uri_behind, uri_of}
+use Rattle.sc_tokens.specs.Blanks.{trimmed_front, trimmed_back, trimmed, first_word, behind_word}
 use Rattle.sc_syntax.specs.Scanning.{is_outside, past_front, past_word, past_bracketed, past_params, in_string, past, is_part_end, parts, with_first, all_read}
-use Rattle.sc_syntax.specs.Parameters.{is_value_byte, is_param_text, param_in, param_of}
+use Rattle.sc_tokens.specs.HeaderTokens.{is_value_byte, is_param_text, is_display_byte}
+use Rattle.sc_syntax.specs.Parameters.{param_in, param_of}
 use Rattle.sc_syntax.specs.Vias.{behind_slash, behind_version, hop_in, via_with, via_in, via_of, vias_of}
-use Rattle.sc_syntax.specs.Addresses.{enclosed, unless_empty, token_named, is_display_byte, named_in, with_uri, address_with, address_in, address_of, addresses_of}
+use Rattle.sc_syntax.specs.Addresses.{enclosed, unless_empty, token_named, named_in, with_uri, address_with, address_in, address_of, addresses_of}
 use Rattle.sc_syntax.specs.Sequences.{cseq_in, cseq_of, hops_of}
 use Rattle.sc_syntax.specs.Lines.{begins_break, is_end, end_of, pieces_at, start_line, lines_behind, behind_start, header_lines}
 use Rattle.sc_syntax.specs.Folds.{continued, all_continued, joined}

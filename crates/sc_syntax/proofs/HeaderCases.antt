@@ -1,22 +1,24 @@
 -- Worked cases: parameters, Vias, addresses and sequence numbers, read and refused.
 use Rattle.std.proofs.Common.{◌≡◌, Some, None, [], ◌∷◌, refl}
 use Rattle.std.specs.Prelude.{codes}
-use Rattle.sc_value.specs.Params.{same_name}
-use Rattle.sc_value.specs.Tokens.{is_token, is_token_byte, is_blank}
+use Rattle.sc_tokens.specs.Names.{same_name}
+use Rattle.sc_tokens.specs.Tokens.{is_token, is_token_byte, is_blank}
 use Rattle.sc_value.specs.declared.parts.Uri.TheVariants.{Sip, Other}
 use Rattle.sc_value.specs.declared.parts.Contact.TheVariants.{Star, At}
-use Rattle.sc_syntax.specs.Bytes.{is_host_byte, is_scheme_byte, is_closed, is_open}
-use Rattle.sc_syntax.specs.Numbers.{is_digits, with_digit, number_in, number_below}
-use Rattle.sc_syntax.specs.Cuts.{before, after, onto_first, pieces}
-use Rattle.sc_syntax.specs.Hosts.{is_host_name, begins, is_group, groups_of, sum_of, groups_in, groups, begins_gap, gap_of, leaves_gap, is_ipv6, is_none_left, is_literal_end, is_host, host_len}
-use Rattle.sc_syntax.specs.Quoted.{closing, is_quote_at, quoted_end}
+use Rattle.sc_tokens.specs.Bytes.{is_host_byte, is_scheme_byte, is_closed, is_open}
+use Rattle.sc_tokens.specs.Numbers.{is_digits, with_digit, number_in, number_below}
+use Rattle.sc_tokens.specs.Cuts.{before, after, onto_first, pieces}
+use Rattle.sc_tokens.specs.Hosts.{is_host_name, begins, is_group, groups_of, sum_of, groups_in, groups, begins_gap, gap_of, leaves_gap, is_ipv6, is_none_left, is_literal_end, is_host, host_len}
+use Rattle.sc_tokens.specs.Quoted.{closing, is_quote_at, quoted_end}
 use Rattle.sc_syntax.specs.UriParts.{then_read, port_in, is_port_start, sent_at, params_at, headers_at}
-use Rattle.sc_syntax.specs.Uris.{is_scheme, sip_scheme, user_in, behind_user, sent_in, params_text_in, sip_behind, sip_at, other_of, uri_behind, uri_of}
-use Rattle.sc_syntax.specs.Blanks.{trimmed_front, trimmed_back, trimmed, first_word, behind_word}
+use Rattle.sc_tokens.specs.UriTokens.{is_scheme, sip_scheme}
+use Rattle.sc_syntax.specs.Uris.{user_in, behind_user, sent_in, params_text_in, sip_behind, sip_at, other_of, uri_behind, uri_of}
+use Rattle.sc_tokens.specs.Blanks.{trimmed_front, trimmed_back, trimmed, first_word, behind_word}
 use Rattle.sc_syntax.specs.Scanning.{is_outside, past_front, past_word, past_bracketed, past_params, in_string, past, is_part_end, parts, with_first, all_read}
-use Rattle.sc_syntax.specs.Parameters.{is_value_byte, is_string, is_param_text, param_in, param_of}
+use Rattle.sc_tokens.specs.HeaderTokens.{is_value_byte, is_string, is_param_text, is_display_byte}
+use Rattle.sc_syntax.specs.Parameters.{param_in, param_of}
 use Rattle.sc_syntax.specs.Vias.{behind_slash, behind_version, hop_in, via_with, via_in, via_of, vias_of}
-use Rattle.sc_syntax.specs.Addresses.{is_display_byte, enclosed, in_brackets, quoted_named, unless_empty, token_named, named_in, with_uri, address_with, address_in, address_of, addresses_of, contact_of, contacts_of}
+use Rattle.sc_syntax.specs.Addresses.{enclosed, in_brackets, quoted_named, unless_empty, token_named, named_in, with_uri, address_with, address_in, address_of, addresses_of, contact_of, contacts_of}
 use Rattle.sc_syntax.specs.Sequences.{cseq_in, cseq_of, hops_of}
 
 -- ## Parameters

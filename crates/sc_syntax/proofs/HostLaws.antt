@@ -8,10 +8,10 @@ use Rattle.std.proofs.lemmas.Bool.{false≢true}
 use Rattle.std.proofs.lemmas.Bool.Decides.{nat_tests}
 use Rattle.std.proofs.lemmas.List.Folds.{list_all-append}
 use Rattle.std.proofs.Math.Seq.{take-append_seam, drop-append_seam}
-use Rattle.sc_syntax.specs.Bytes.{Bytes, is_host_byte}
-use Rattle.sc_syntax.specs.Numbers.{is_digits, number_in, number_below, port_of}
-use Rattle.sc_syntax.specs.Cuts.{has, before, after, onto_first, pieces}
-use Rattle.sc_syntax.specs.Hosts.{is_host_name, begins, is_octet, is_ipv4, is_group, groups_of, sum_of, groups_in, groups, begins_gap, gap_of, leaves_gap, is_full, is_ipv6, is_none_left, is_literal_end, is_host, host_len}
+use Rattle.sc_tokens.specs.Bytes.{Bytes, is_host_byte}
+use Rattle.sc_tokens.specs.Numbers.{is_digits, number_in, number_below, port_of}
+use Rattle.sc_tokens.specs.Cuts.{has, before, after, onto_first, pieces}
+use Rattle.sc_tokens.specs.Hosts.{is_host_name, begins, is_octet, is_ipv4, is_group, groups_of, sum_of, groups_in, groups, begins_gap, gap_of, leaves_gap, is_full, is_ipv6, is_none_left, is_literal_end, is_host, host_len}
 use Rattle.sc_syntax.specs.UriParts.{Fault, port_fault, then_read, port_in, is_port_start, sent_at}
 use Rattle.sc_syntax.specs.SpelledUris.{led, IsPortSpelled}
 use Rattle.sc_syntax.proofs.CutLaws.{some_same, none_some}

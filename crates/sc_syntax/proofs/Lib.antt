@@ -20,3 +20,7 @@ pub mod SpelledViaLaws
 pub mod SpelledUriLaws
 pub mod SpelledAddressLaws
 pub mod SequenceLaws
+pub mod NameLaws
+pub mod ValueLaws
+pub mod KindLaws
+pub mod HeadLaws

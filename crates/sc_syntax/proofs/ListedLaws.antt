@@ -4,10 +4,10 @@ use Rattle.std.specs.Prelude.{nat_eq}
 use Rattle.std.specs.List.{list_any, list_all}
 use Rattle.std.specs.Option.{option_map, option_and_then}
 use Rattle.std.proofs.lemmas.Bool.{false≢true}
-use Rattle.sc_value.specs.Params.{same_bytes}
+use Rattle.sc_tokens.specs.Names.{same_bytes}
 use Rattle.sc_syntax.specs.declared.scan.Scan.{Scan}
-use Rattle.sc_syntax.specs.Bytes.{Bytes}
-use Rattle.sc_syntax.specs.Cuts.{onto_first}
+use Rattle.sc_tokens.specs.Bytes.{Bytes}
+use Rattle.sc_tokens.specs.Cuts.{onto_first}
 use Rattle.sc_syntax.specs.Scanning.{is_outside, past, is_part_end, parts, with_first, all_read}
 use Rattle.sc_syntax.specs.SpelledParts.{AreLed, AreListed}
 use Rattle.sc_syntax.proofs.CutLaws.{some_same, none_some}

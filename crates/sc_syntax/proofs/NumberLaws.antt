@@ -3,8 +3,8 @@ use Rattle.std.proofs.Common.{◌≡◌, ℕ, Bool, true, false, cond, Some, Non
 use Rattle.std.specs.Prelude.{nat_lt, is_some, unwrap_or}
 use Rattle.std.proofs.lemmas.Bool.{false≢true}
 use Rattle.std.proofs.lemmas.Bool.Decides.{nat_tests}
-use Rattle.sc_syntax.specs.Bytes.{Bytes}
-use Rattle.sc_syntax.specs.Numbers.{is_digits, number_in, number_below, number_of}
+use Rattle.sc_tokens.specs.Bytes.{Bytes}
+use Rattle.sc_tokens.specs.Numbers.{is_digits, number_in, number_below, number_of}
 
 taken : (d s : Bool) (w m : ℕ) → cond (d && s) (Some w) None ≡ Some m → (d ≡ true) × (w ≡ m)
 taken true true w m e = (refl, ap (λ o. unwrap_or o w) e)

@@ -2,15 +2,16 @@
 use Rattle.std.proofs.Common.{◌≡◌, ℕ, Bool, true, false, cond, not, Option, Some, None, List, [], ◌∷◌, ◌++◌, ◌&&◌, ◌||◌, ◌==◌, ◌⊎◌, inl, inr, length, refl, sym, ap, subst, ◌∙◌, append-nil}
 use Rattle.std.specs.List.{list_all}
 use Rattle.std.specs.Option.{option_map_or}
-use Rattle.sc_value.specs.Tokens.{is_blank, is_token, is_token_byte}
+use Rattle.sc_tokens.specs.Tokens.{is_blank, is_token, is_token_byte}
 use Rattle.sc_value.specs.declared.parts.Param.{Param}
 use Rattle.sc_syntax.specs.declared.scan.Scan.{Scan}
 use Rattle.sc_syntax.specs.declared.scan.Scan.TheVariants.{Params}
-use Rattle.sc_syntax.specs.Bytes.{Bytes}
-use Rattle.sc_syntax.specs.Cuts.{before, after}
-use Rattle.sc_syntax.specs.Blanks.{trimmed}
+use Rattle.sc_tokens.specs.Bytes.{Bytes}
+use Rattle.sc_tokens.specs.Cuts.{before, after}
+use Rattle.sc_tokens.specs.Blanks.{trimmed}
 use Rattle.sc_syntax.specs.Scanning.{is_outside, past_params, past, is_part_end, parts}
-use Rattle.sc_syntax.specs.Parameters.{is_value_byte, is_string, is_param_text, param_in, param_of, params_of}
+use Rattle.sc_tokens.specs.HeaderTokens.{is_value_byte, is_string, is_param_text}
+use Rattle.sc_syntax.specs.Parameters.{param_in, param_of, params_of}
 use Rattle.sc_syntax.specs.SpelledUris.{led}
 use Rattle.sc_syntax.specs.SpelledParts.{IsBlanks, Padded, header_param, IsParamSpelled, AreLed, AreParamsSpelled}
 use Rattle.sc_syntax.proofs.BlankLaws.{both, and_true, padded_is_trimmed}

@@ -8,12 +8,14 @@ use Rattle.std.proofs.lemmas.Bool.{false≢true}
 use Rattle.std.proofs.lemmas.Bool.Decides.{nat_tests}
 use Rattle.std.proofs.lemmas.List.{take-append-drop}
 use Rattle.sc_value.specs.declared.parts.Param.{Param}
-use Rattle.sc_syntax.specs.Bytes.{Bytes, is_open}
-use Rattle.sc_syntax.specs.Numbers.{port_of}
-use Rattle.sc_syntax.specs.Cuts.{has, before, after, onto_first, pieces}
-use Rattle.sc_syntax.specs.Hosts.{begins, is_host, host_len}
-use Rattle.sc_syntax.specs.UriParts.{Fault, port_fault, then_read, port_in, is_port_start, sent_at, is_param_name, is_param_value, param_at, params_in, params_at, headers_at}
-use Rattle.sc_syntax.specs.SpelledUris.{led, IsPortSpelled, spelled_param, IsUriParam, AreUriParams}
+use Rattle.sc_tokens.specs.Bytes.{Bytes, is_open}
+use Rattle.sc_tokens.specs.Numbers.{port_of}
+use Rattle.sc_tokens.specs.Cuts.{has, before, after, onto_first, pieces}
+use Rattle.sc_tokens.specs.Hosts.{begins, is_host, host_len}
+use Rattle.sc_tokens.specs.UriTokens.{is_param_name, is_param_value}
+use Rattle.sc_syntax.specs.UriParts.{Fault, port_fault, then_read, port_in, is_port_start, sent_at, param_at, params_in, params_at, headers_at}
+use Rattle.sc_value.specs.ParamRules.{IsUriParam, AreUriParams}
+use Rattle.sc_syntax.specs.SpelledUris.{led, IsPortSpelled, spelled_param}
 use Rattle.sc_syntax.proofs.CutLaws.{some_same, none_some, before_here, before_on, after_here, after_on}
 
 -- ## Answers

@@ -3,14 +3,14 @@ use Rattle.std.proofs.Common.{◌≡◌, ℕ, suc, Bool, true, false, cond, not,
 use Rattle.std.specs.List.{list_all}
 use Rattle.std.specs.Option.{option_map_or}
 use Rattle.std.proofs.lemmas.Bool.{false≢true}
-use Rattle.sc_value.specs.Tokens.{is_blank}
+use Rattle.sc_tokens.specs.Tokens.{is_blank}
 use Rattle.sc_syntax.specs.declared.scan.Scan.{Scan}
 use Rattle.sc_syntax.specs.declared.scan.Scan.TheVariants.{Word, Display, DisplayEscaped, Params, Quoted, Escaped}
-use Rattle.sc_syntax.specs.Bytes.{Bytes}
-use Rattle.sc_syntax.specs.Cuts.{onto_first}
-use Rattle.sc_syntax.specs.Quoted.{closing, quoted_end}
+use Rattle.sc_tokens.specs.Bytes.{Bytes}
+use Rattle.sc_tokens.specs.Cuts.{onto_first}
+use Rattle.sc_tokens.specs.Quoted.{closing, quoted_end}
 use Rattle.sc_syntax.specs.Scanning.{is_outside, past_params, in_string, past, is_part_end, parts, with_first, all_read}
-use Rattle.sc_syntax.specs.Parameters.{is_string}
+use Rattle.sc_tokens.specs.HeaderTokens.{is_string}
 use Rattle.sc_syntax.specs.SpelledParts.{AreLed, AreListed}
 use Rattle.sc_syntax.proofs.CutLaws.{some_same, none_some}
 use Rattle.sc_syntax.proofs.BlankLaws.{both, and_true}

@@ -6,11 +6,11 @@ use Rattle.std.specs.Option.{option_map}
 use Rattle.std.specs.Char.{is_ascii_digit}
 use Rattle.std.proofs.lemmas.Bool.{false≢true}
 use Rattle.std.proofs.lemmas.Bool.Decides.{nat_tests}
-use Rattle.sc_value.specs.Tokens.{is_token, is_token_byte}
+use Rattle.sc_tokens.specs.Tokens.{is_token, is_token_byte}
 use Rattle.sc_value.specs.declared.parts.CSeq.{CSeq}
-use Rattle.sc_syntax.specs.Bytes.{Bytes}
-use Rattle.sc_syntax.specs.Numbers.{number_below}
-use Rattle.sc_syntax.specs.Blanks.{trimmed, first_word, behind_word}
+use Rattle.sc_tokens.specs.Bytes.{Bytes}
+use Rattle.sc_tokens.specs.Numbers.{number_below}
+use Rattle.sc_tokens.specs.Blanks.{trimmed, first_word, behind_word}
 use Rattle.sc_syntax.specs.Sequences.{cseq_in, cseq_of}
 use Rattle.sc_syntax.specs.SpelledParts.{IsBlanks}
 use Rattle.sc_syntax.specs.SpelledSequences.{IsSequenceSpelled, IsCSeqSpelled}

@@ -8,8 +8,8 @@ use Rattle.std.specs.Char.{is_ascii_alphabetic}
 use Rattle.std.proofs.lemmas.Bool.{false≢true}
 use Rattle.std.proofs.lemmas.Bool.Decides.{nat_tests}
 use Rattle.std.proofs.Math.Seq.{take-append_seam, drop-append_seam}
-use Rattle.sc_value.specs.Params.{same_bytes}
-use Rattle.sc_value.specs.Tokens.{is_blank, is_token_byte}
+use Rattle.sc_tokens.specs.Names.{same_bytes}
+use Rattle.sc_tokens.specs.Tokens.{is_blank, is_token_byte}
 use Rattle.sc_value.specs.declared.parts.Param.{Param}
 use Rattle.sc_value.specs.declared.parts.Uri.{Uri}
 use Rattle.sc_value.specs.declared.parts.Address.{Address}
@@ -17,19 +17,21 @@ use Rattle.sc_value.specs.declared.parts.Contact.{Contact}
 use Rattle.sc_value.specs.declared.parts.Contact.TheVariants.{Star, At}
 use Rattle.sc_syntax.specs.declared.scan.Scan.{Scan}
 use Rattle.sc_syntax.specs.declared.scan.Scan.TheVariants.{Front, Word, Display, DisplayEscaped, Bracketed, Params}
-use Rattle.sc_syntax.specs.Bytes.{Bytes, is_scheme_byte, is_closed, is_open}
-use Rattle.sc_syntax.specs.Cuts.{has, before, after}
-use Rattle.sc_syntax.specs.Hosts.{begins, is_none_left}
-use Rattle.sc_syntax.specs.Quoted.{closing, quoted_end}
+use Rattle.sc_tokens.specs.Bytes.{Bytes, is_scheme_byte, is_closed, is_open}
+use Rattle.sc_tokens.specs.Cuts.{has, before, after}
+use Rattle.sc_tokens.specs.Hosts.{begins, is_none_left}
+use Rattle.sc_tokens.specs.Quoted.{closing, quoted_end}
 use Rattle.sc_syntax.specs.UriParts.{scheme_fault}
-use Rattle.sc_syntax.specs.Uris.{is_scheme, uri_behind, uri_of}
-use Rattle.sc_syntax.specs.Blanks.{trimmed_front, trimmed_back, trimmed}
+use Rattle.sc_tokens.specs.UriTokens.{is_scheme}
+use Rattle.sc_syntax.specs.Uris.{uri_behind, uri_of}
+use Rattle.sc_tokens.specs.Blanks.{trimmed_front, trimmed_back, trimmed}
 use Rattle.sc_syntax.specs.Scanning.{is_outside, past_front, past_word, past_bracketed, past_params, past, is_part_end, address_parts, all_read}
-use Rattle.sc_syntax.specs.Parameters.{is_string, params_of}
-use Rattle.sc_syntax.specs.Addresses.{is_display_byte, enclosed, in_brackets, quoted_named, unless_empty, token_named, named_in, with_uri, address_with, address_in, address_of, addresses_of, contact_of, contacts_of}
+use Rattle.sc_tokens.specs.HeaderTokens.{is_string, is_display_byte, IsWords, IsDisplay}
+use Rattle.sc_syntax.specs.Parameters.{params_of}
+use Rattle.sc_syntax.specs.Addresses.{enclosed, in_brackets, quoted_named, unless_empty, token_named, named_in, with_uri, address_with, address_in, address_of, addresses_of, contact_of, contacts_of}
 use Rattle.sc_syntax.specs.SpelledUris.{IsUriSpelled}
 use Rattle.sc_syntax.specs.SpelledParts.{IsBlanks, Padded, AreLed, AreParamsSpelled}
-use Rattle.sc_syntax.specs.SpelledAddresses.{IsWords, IsDisplay, IsNamedSpelled, IsBareSpelled, IsAddressIn, AreAddressesSpelled, IsContactSpelled, AreContactsSpelled}
+use Rattle.sc_syntax.specs.SpelledAddresses.{IsNamedSpelled, IsBareSpelled, IsAddressIn, AreAddressesSpelled, IsContactSpelled, AreContactsSpelled}
 use Rattle.sc_syntax.proofs.PartLaws.{if_ok}
 use Rattle.sc_syntax.proofs.CutLaws.{none_some, before_here, before_on}
 use Rattle.sc_syntax.proofs.BlankLaws.{both, front_more, trimmed_is_padded, trimmed_padded, padded_is_trimmed, padded_twice}

@@ -7,16 +7,19 @@ use Rattle.std.specs.Char.{to_ascii_lowercase, is_ascii_alphabetic, is_ascii_alp
 use Rattle.std.proofs.lemmas.Bool.{false≢true}
 use Rattle.std.proofs.lemmas.Bool.Decides.{nat_tests}
 use Rattle.std.proofs.lemmas.List.Folds.{list_all-append}
-use Rattle.sc_value.specs.Params.{same_bytes, same_name}
+use Rattle.sc_tokens.specs.Names.{same_bytes, same_name}
 use Rattle.sc_value.specs.declared.parts.Param.{Param}
 use Rattle.sc_value.specs.declared.parts.SipUri.{SipUri}
 use Rattle.sc_value.specs.declared.parts.Uri.{Uri}
 use Rattle.sc_value.specs.declared.parts.Uri.TheVariants.{Sip, Other}
-use Rattle.sc_syntax.specs.Bytes.{Bytes, is_host_byte, is_scheme_byte, is_mark, is_param_sign, is_param_byte, is_closed, is_open}
-use Rattle.sc_syntax.specs.Cuts.{has, before, after, onto_first, pieces}
-use Rattle.sc_syntax.specs.UriParts.{Fault, scheme_fault, host_fault, param_fault, then_read, sent_at, is_param_name, is_param_value, param_at, params_in, params_at, headers_at}
-use Rattle.sc_syntax.specs.Uris.{is_scheme, sip_scheme, user_in, behind_user, sent_in, params_text_in, sip_behind, sip_at, other_of, uri_behind, uri_of}
-use Rattle.sc_syntax.specs.SpelledUris.{led, closed_by, IsPortSpelled, spelled_param, AreUriParams, IsUser, IsSipUri, spelled_behind, IsSipSpelled, IsOtherSpelled, IsUriSpelled}
+use Rattle.sc_tokens.specs.Bytes.{Bytes, is_host_byte, is_scheme_byte, is_mark, is_param_sign, is_param_byte, is_closed, is_open}
+use Rattle.sc_tokens.specs.Cuts.{has, before, after, onto_first, pieces}
+use Rattle.sc_tokens.specs.UriTokens.{is_param_name, is_param_value, is_scheme, sip_scheme, IsUser, IsOtherSpelled}
+use Rattle.sc_syntax.specs.UriParts.{Fault, scheme_fault, host_fault, param_fault, then_read, sent_at, param_at, params_in, params_at, headers_at}
+use Rattle.sc_syntax.specs.Uris.{user_in, behind_user, sent_in, params_text_in, sip_behind, sip_at, other_of, uri_behind, uri_of}
+use Rattle.sc_value.specs.ParamRules.{AreUriParams}
+use Rattle.sc_value.specs.UriValues.{IsSipUri}
+use Rattle.sc_syntax.specs.SpelledUris.{led, closed_by, IsPortSpelled, spelled_param, spelled_behind, IsSipSpelled, IsUriSpelled}
 use Rattle.sc_syntax.proofs.BlankLaws.{both, and_true}
 use Rattle.sc_syntax.proofs.ClassLaws.{itself, neither, both_false, differs, all_weaker, class_lacks, before_joined, after_joined, before_all, after_none, has_append}
 use Rattle.sc_syntax.proofs.HostLaws.{is_sent_byte, sent_bytes, sent_is_read}

@@ -7,16 +7,16 @@ use Rattle.std.specs.Result.{result_ok}
 use Rattle.std.proofs.lemmas.Bool.{false≢true}
 use Rattle.std.proofs.lemmas.List.Folds.{list_all-append}
 use Rattle.std.proofs.Math.Seq.{take-append_seam, drop-append_seam}
-use Rattle.sc_value.specs.Params.{same_bytes}
-use Rattle.sc_value.specs.Tokens.{is_blank, is_token, is_token_byte}
+use Rattle.sc_tokens.specs.Names.{same_bytes}
+use Rattle.sc_tokens.specs.Tokens.{is_blank, is_token, is_token_byte}
 use Rattle.sc_value.specs.declared.parts.Param.{Param}
 use Rattle.sc_value.specs.declared.parts.Via.{Via}
 use Rattle.sc_syntax.specs.declared.scan.Scan.TheVariants.{Params}
-use Rattle.sc_syntax.specs.Bytes.{Bytes}
-use Rattle.sc_syntax.specs.Cuts.{has, after}
-use Rattle.sc_syntax.specs.Hosts.{is_host}
+use Rattle.sc_tokens.specs.Bytes.{Bytes}
+use Rattle.sc_tokens.specs.Cuts.{has, after}
+use Rattle.sc_tokens.specs.Hosts.{is_host}
 use Rattle.sc_syntax.specs.UriParts.{sent_at}
-use Rattle.sc_syntax.specs.Blanks.{trimmed_front, trimmed_back, trimmed, first_word, behind_word}
+use Rattle.sc_tokens.specs.Blanks.{trimmed_front, trimmed_back, trimmed, first_word, behind_word}
 use Rattle.sc_syntax.specs.Scanning.{via_parts}
 use Rattle.sc_syntax.specs.Vias.{behind_slash, behind_version, hop_in, via_with, via_in, via_of, vias_of}
 use Rattle.sc_syntax.specs.SpelledUris.{IsPortSpelled}

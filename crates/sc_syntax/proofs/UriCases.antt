@@ -1,15 +1,16 @@
 -- Worked cases: the URIs of RFC 3261 section 19.1.3, and refusals of each kind.
 use Rattle.std.proofs.Common.{◌≡◌, true, false, Some, None, Ok, Err, [], ◌∷◌, refl}
 use Rattle.std.specs.Prelude.{codes}
-use Rattle.sc_value.specs.Params.{same_name}
+use Rattle.sc_tokens.specs.Names.{same_name}
 use Rattle.sc_value.specs.declared.parts.Uri.TheVariants.{Sip, Other}
-use Rattle.sc_syntax.specs.Bytes.{is_host_byte, is_scheme_byte, is_mark, is_param_sign, is_param_byte, is_closed, is_open}
-use Rattle.sc_syntax.specs.Numbers.{is_digits, with_digit, number_in, number_below, number_of}
-use Rattle.sc_syntax.specs.Cuts.{before, after, onto_first, pieces}
-use Rattle.sc_syntax.specs.Hosts.{is_host_name, begins, is_octet, is_ipv4, is_group, groups_of, sum_of, groups_in, groups, begins_gap, gap_of, leaves_gap, is_ipv6, is_none_left, is_literal_end, is_host, host_len}
-use Rattle.sc_syntax.specs.Quoted.{closing, is_quote_at, quoted_end}
-use Rattle.sc_syntax.specs.UriParts.{then_read, port_in, is_port_start, sent_at, is_param_name, is_param_value, param_at, params_in, params_at, headers_at}
-use Rattle.sc_syntax.specs.Uris.{is_scheme, sip_scheme, user_in, behind_user, sent_in, params_text_in, sip_behind, sip_at, other_of, uri_behind, uri_of}
+use Rattle.sc_tokens.specs.Bytes.{is_host_byte, is_scheme_byte, is_mark, is_param_sign, is_param_byte, is_closed, is_open}
+use Rattle.sc_tokens.specs.Numbers.{is_digits, with_digit, number_in, number_below, number_of}
+use Rattle.sc_tokens.specs.Cuts.{before, after, onto_first, pieces}
+use Rattle.sc_tokens.specs.Hosts.{is_host_name, begins, is_octet, is_ipv4, is_group, groups_of, sum_of, groups_in, groups, begins_gap, gap_of, leaves_gap, is_ipv6, is_none_left, is_literal_end, is_host, host_len}
+use Rattle.sc_tokens.specs.Quoted.{closing, is_quote_at, quoted_end}
+use Rattle.sc_tokens.specs.UriTokens.{is_param_name, is_param_value, is_scheme, sip_scheme}
+use Rattle.sc_syntax.specs.UriParts.{then_read, port_in, is_port_start, sent_at, param_at, params_in, params_at, headers_at}
+use Rattle.sc_syntax.specs.Uris.{user_in, behind_user, sent_in, params_text_in, sip_behind, sip_at, other_of, uri_behind, uri_of}
 
 -- ## URIs that are read
 

@@ -3,15 +3,17 @@ use Rattle.std.proofs.Common.{◌≡◌, ℕ, Bool, true, false, cond, Option, S
 use Rattle.std.specs.Prelude.{unwrap_or}
 use Rattle.std.specs.List.{flat_map}
 use Rattle.std.specs.Option.{option_map, option_map_or}
-use Rattle.sc_value.specs.Params.{same_name}
+use Rattle.sc_tokens.specs.Names.{same_name}
 use Rattle.sc_value.specs.declared.parts.SipUri.{SipUri}
 use Rattle.sc_value.specs.declared.parts.Uri.{Uri}
 use Rattle.sc_value.specs.declared.parts.Uri.TheVariants.{Sip, Other}
-use Rattle.sc_syntax.specs.Bytes.{Bytes, is_open}
-use Rattle.sc_syntax.specs.Cuts.{before, after}
+use Rattle.sc_tokens.specs.Bytes.{Bytes, is_open}
+use Rattle.sc_tokens.specs.Cuts.{before, after}
 use Rattle.sc_syntax.specs.UriParts.{Fault, scheme_fault, sent_at, params_at, headers_at}
-use Rattle.sc_syntax.specs.Uris.{is_scheme, sip_scheme, user_in, behind_user, sent_in, params_text_in, sip_behind, sip_at, other_of, uri_behind, uri_of}
-use Rattle.sc_syntax.specs.SpelledUris.{led, closed_by, IsPortSpelled, spelled_param, IsUser, IsSipUri, spelled_behind, IsUriSpelled}
+use Rattle.sc_tokens.specs.UriTokens.{is_scheme, sip_scheme, IsUser}
+use Rattle.sc_syntax.specs.Uris.{user_in, behind_user, sent_in, params_text_in, sip_behind, sip_at, other_of, uri_behind, uri_of}
+use Rattle.sc_value.specs.UriValues.{IsSipUri}
+use Rattle.sc_syntax.specs.SpelledUris.{led, closed_by, IsPortSpelled, spelled_param, spelled_behind, IsUriSpelled}
 use Rattle.sc_syntax.proofs.PartLaws.{ok_same, err_ok, if_ok, then_ok, led_text, lacks_before, lacks_all, lacks_after, params_spelled, sent_spelled, headers_are}
 
 -- the parts behind the user, put together

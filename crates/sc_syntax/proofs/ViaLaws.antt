@@ -7,20 +7,22 @@ use Rattle.std.specs.Result.{result_ok}
 use Rattle.std.proofs.lemmas.Bool.{false≢true}
 use Rattle.std.proofs.lemmas.Bool.Decides.{nat_tests}
 use Rattle.std.proofs.lemmas.List.{take-append-drop}
-use Rattle.sc_value.specs.Params.{same_bytes}
-use Rattle.sc_value.specs.Tokens.{is_blank, is_token}
+use Rattle.sc_tokens.specs.Names.{same_bytes}
+use Rattle.sc_tokens.specs.Tokens.{is_blank, is_token}
 use Rattle.sc_value.specs.declared.parts.Param.{Param}
 use Rattle.sc_value.specs.declared.parts.Via.{Via}
 use Rattle.sc_syntax.specs.declared.scan.Scan.TheVariants.{Params}
-use Rattle.sc_syntax.specs.Bytes.{Bytes}
-use Rattle.sc_syntax.specs.Cuts.{before, after}
-use Rattle.sc_syntax.specs.Hosts.{begins, is_host_name, is_host}
+use Rattle.sc_tokens.specs.Bytes.{Bytes}
+use Rattle.sc_tokens.specs.Cuts.{before, after}
+use Rattle.sc_tokens.specs.Hosts.{begins, is_host_name, is_host}
 use Rattle.sc_syntax.specs.UriParts.{Fault, sent_at}
-use Rattle.sc_syntax.specs.Blanks.{trimmed_front, trimmed_back, trimmed, first_word, behind_word}
-use Rattle.sc_syntax.specs.Parameters.{is_param_text, param_in, param_of, params_of}
+use Rattle.sc_tokens.specs.Blanks.{trimmed_front, trimmed_back, trimmed, first_word, behind_word}
+use Rattle.sc_tokens.specs.HeaderTokens.{is_param_text}
+use Rattle.sc_syntax.specs.Parameters.{param_in, param_of, params_of}
 use Rattle.sc_syntax.specs.Vias.{behind_slash, behind_version, hop_in, via_with, via_in, via_of, vias_of}
 use Rattle.sc_syntax.specs.SpelledUris.{led}
-use Rattle.sc_syntax.specs.SpelledParts.{IsBlanks, Padded, header_param, IsHeaderParam, IsParamSpelled, AreParamsSpelled}
+use Rattle.sc_value.specs.ParamRules.{IsHeaderParam}
+use Rattle.sc_syntax.specs.SpelledParts.{IsBlanks, Padded, header_param, IsParamSpelled, AreParamsSpelled}
 use Rattle.sc_syntax.specs.SpelledVias.{IsHopSpelled, IsViaSpelled, AreViasSpelled}
 use Rattle.sc_syntax.proofs.CutLaws.{some_same, none_some}
 use Rattle.sc_syntax.proofs.PartLaws.{led_text, sent_spelled}

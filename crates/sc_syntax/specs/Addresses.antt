@@ -1,32 +1,28 @@
 -- Addresses: `display <uri>;params`, or a bare URI whose semicolons begin header parameters (RFC
 -- 3261 sections 20.10 and 25.1: name-addr, addr-spec). A display is kept as written: a quoted
 -- string, or tokens with blanks between.
-use Rattle.std.specs.Prelude.{ℕ, Bool, List, [], ◌∷◌, Option, Some, None, ◌||◌, ◌==◌, length, take, drop, if◌then◌else◌}
+use Rattle.std.specs.Prelude.{ℕ, List, [], ◌∷◌, Option, Some, None, ◌==◌, length, take, drop, if◌then◌else◌}
 use Rattle.std.specs.List.{list_all}
 use Rattle.std.specs.Option.{option_map, option_map_or, option_and_then}
 use Rattle.std.specs.Result.{result_ok}
-use Rattle.sc_value.specs.Params.{same_bytes}
-use Rattle.sc_value.specs.Tokens.{is_blank, is_token_byte}
+use Rattle.sc_tokens.specs.HeaderTokens.{is_display_byte}
+use Rattle.sc_tokens.specs.Names.{same_bytes}
 use Rattle.sc_value.specs.declared.parts.Param.{Param}
 use Rattle.sc_value.specs.declared.parts.Address.{Address}
 use Rattle.sc_value.specs.declared.parts.Contact.{Contact}
 use Rattle.sc_value.specs.declared.parts.Contact.TheVariants.{Star, At}
-use Rattle.sc_syntax.specs.Bytes.{Bytes}
-use Rattle.sc_syntax.specs.Cuts.{before, after}
-use Rattle.sc_syntax.specs.Hosts.{begins, is_none_left}
-use Rattle.sc_syntax.specs.Quoted.{quoted_end}
+use Rattle.sc_tokens.specs.Bytes.{Bytes}
+use Rattle.sc_tokens.specs.Cuts.{before, after}
+use Rattle.sc_tokens.specs.Hosts.{begins, is_none_left}
+use Rattle.sc_tokens.specs.Quoted.{quoted_end}
 use Rattle.sc_syntax.specs.Uris.{uri_of}
-use Rattle.sc_syntax.specs.Blanks.{trimmed}
+use Rattle.sc_tokens.specs.Blanks.{trimmed}
 use Rattle.sc_syntax.specs.Scanning.{address_items, address_parts, all_read}
 use Rattle.sc_syntax.specs.Parameters.{params_of}
 
 -- the display, where there is one, and the text of the URI
 abbrev pub Named : Type 0
 Named = Option Bytes × Bytes
-
--- the byte of a token, or a blank
-unfoldable pub is_display_byte : ℕ → Bool
-is_display_byte b = is_token_byte b || is_blank b
 
 -- behind the opening bracket: the URI up to the closing one, which ends the text
 unfoldable pub enclosed : Bytes → Option Bytes

@@ -3,8 +3,8 @@
 use Rattle.std.specs.Prelude.{List, [], ◌∷◌, ◌++◌}
 use Rattle.std.specs.List.{fold}
 use Rattle.sc_syntax.specs.declared.ending.Ending.TheVariants.{Any}
-use Rattle.sc_syntax.specs.Bytes.{Bytes}
-use Rattle.sc_syntax.specs.Blanks.{trimmed_front, trimmed_back}
+use Rattle.sc_tokens.specs.Bytes.{Bytes}
+use Rattle.sc_tokens.specs.Blanks.{trimmed_front, trimmed_back}
 use Rattle.sc_syntax.specs.Lines.{pieces_at}
 
 -- a text, and the piece that continues it

@@ -4,9 +4,9 @@ use Rattle.std.specs.Prelude.{ℕ, false, List, [], ◌∷◌, Option, Some, Non
 use Rattle.std.specs.List.{flat_map, filter_map}
 use Rattle.std.specs.Option.{option_map, option_map_or, option_and_then, option_zip}
 use Rattle.std.specs.Result.{result_ok}
-use Rattle.sc_value.specs.HeaderNames.{long_name, via_name, from_name, to_name, call_id_name, cseq_name}
-use Rattle.sc_value.specs.Params.{same_name}
-use Rattle.sc_value.specs.Tokens.{is_token}
+use Rattle.sc_tokens.specs.HeaderNames.{long_name, via_name, from_name, to_name, call_id_name, cseq_name}
+use Rattle.sc_tokens.specs.Names.{same_name}
+use Rattle.sc_tokens.specs.Tokens.{is_token}
 use Rattle.sc_value.specs.declared.message.Message.{Message}
 use Rattle.sc_value.specs.declared.parts.Address.{Address}
 use Rattle.sc_value.specs.declared.parts.CSeq.{CSeq}
@@ -16,10 +16,10 @@ use Rattle.sc_syntax.specs.declared.ending.Ending.TheVariants.{Empty}
 use Rattle.sc_syntax.specs.declared.front.Answerable.{Answerable}
 use Rattle.sc_syntax.specs.declared.front.Front.{Front}
 use Rattle.sc_syntax.specs.declared.front.Front.TheVariants.{Open, Whole, Bad, Long}
-use Rattle.sc_syntax.specs.Bytes.{Bytes}
-use Rattle.sc_syntax.specs.Cuts.{before, after}
+use Rattle.sc_tokens.specs.Bytes.{Bytes}
+use Rattle.sc_tokens.specs.Cuts.{before, after}
 use Rattle.sc_syntax.specs.UriParts.{Fault}
-use Rattle.sc_syntax.specs.Blanks.{trimmed, trimmed_back}
+use Rattle.sc_tokens.specs.Blanks.{trimmed, trimmed_back}
 use Rattle.sc_syntax.specs.Scanning.{all_read}
 use Rattle.sc_syntax.specs.Vias.{vias_of}
 use Rattle.sc_syntax.specs.Addresses.{address_of}

@@ -3,9 +3,10 @@
 -- lowest counts.
 use Rattle.std.specs.Prelude.{ℕ, Bool, false, List, [], ◌∷◌, ◌++◌, Option, Some, None, Result, Ok, Err, not, ◌||◌, ◌==◌, ◌-◌, nat_le, is_some, length, slice_get, if◌then◌else◌}
 use Rattle.std.specs.Option.{option_map_or}
-use Rattle.sc_value.specs.HeaderNames.{long_name, via_name, route_name, record_route_name, max_forwards_name, from_name, to_name, call_id_name, cseq_name, contact_name, content_length_name}
-use Rattle.sc_value.specs.Params.{same_name, param_value, branch_name}
-use Rattle.sc_value.specs.Tokens.{is_token, is_one_line}
+use Rattle.sc_tokens.specs.HeaderNames.{long_name, via_name, route_name, record_route_name, max_forwards_name, from_name, to_name, call_id_name, cseq_name, contact_name, content_length_name}
+use Rattle.sc_tokens.specs.Names.{same_name}
+use Rattle.sc_value.specs.Params.{param_value, branch_name}
+use Rattle.sc_tokens.specs.Tokens.{is_token, is_one_line}
 use Rattle.sc_value.specs.declared.parts.Via.{Via}
 use Rattle.sc_value.specs.declared.parts.Address.{Address}
 use Rattle.sc_value.specs.declared.parts.Contact.{Contact}
@@ -13,10 +14,10 @@ use Rattle.sc_value.specs.declared.parts.CSeq.{CSeq}
 use Rattle.sc_syntax.specs.declared.left.Left.{Left}
 use Rattle.sc_syntax.specs.declared.left.Header.{Header}
 use Rattle.sc_syntax.specs.declared.left.Header.TheVariants as headers
-use Rattle.sc_syntax.specs.Bytes.{Bytes}
-use Rattle.sc_syntax.specs.Numbers.{number_of}
-use Rattle.sc_syntax.specs.Cuts.{before, after}
-use Rattle.sc_syntax.specs.Blanks.{trimmed, trimmed_back}
+use Rattle.sc_tokens.specs.Bytes.{Bytes}
+use Rattle.sc_tokens.specs.Numbers.{number_of}
+use Rattle.sc_tokens.specs.Cuts.{before, after}
+use Rattle.sc_tokens.specs.Blanks.{trimmed, trimmed_back}
 use Rattle.sc_syntax.specs.Vias.{vias_of}
 use Rattle.sc_syntax.specs.Addresses.{address_of, addresses_of, contacts_of}
 use Rattle.sc_syntax.specs.Sequences.{cseq_of, hops_of}

@@ -1,12 +1,6 @@
-pub mod Bytes
-pub mod Numbers
-pub mod Cuts
-pub mod Hosts
 pub mod UriParts
 pub mod Uris
 pub mod SpelledUris
-pub mod Quoted
-pub mod Blanks
 pub mod Scanning
 pub mod Parameters
 pub mod Vias

@@ -3,12 +3,12 @@
 -- looked for before folds are.
 use Rattle.std.specs.Prelude.{ℕ, Bool, List, [], ◌∷◌, Option, Some, None, not, ◌&&◌, ◌+◌, take, drop, if◌then◌else◌}
 use Rattle.std.specs.Option.{option_map, option_map_or}
-use Rattle.sc_value.specs.Tokens.{begins_blank}
+use Rattle.sc_tokens.specs.Tokens.{begins_blank}
 use Rattle.sc_syntax.specs.declared.ending.Ending.{Ending}
 use Rattle.sc_syntax.specs.declared.ending.Ending.TheVariants.{Any, Unfolded, Empty}
-use Rattle.sc_syntax.specs.Bytes.{Bytes}
-use Rattle.sc_syntax.specs.Cuts.{onto_first}
-use Rattle.sc_syntax.specs.Hosts.{begins}
+use Rattle.sc_tokens.specs.Bytes.{Bytes}
+use Rattle.sc_tokens.specs.Cuts.{onto_first}
+use Rattle.sc_tokens.specs.Hosts.{begins}
 
 -- CR LF stands at the front
 unfoldable pub begins_break : Bytes → Bool

@@ -2,21 +2,22 @@
 -- bytes from 0, and its kind: those of StartLines.antt at 0, those of Judging.antt at the first byte of
 -- their line; at the empty line 7 a missing From, To, Call-ID, CSeq or Via, 10 a CSeq of another method,
 -- 12 a body of another length than Content-Length; and 1 at the end of a text without an empty line.
-use Rattle.std.specs.Prelude.{ℕ, Bool, List, [], ◌∷◌, Option, None, Result, Ok, Err, not, true, ◌==◌, ◌+◌, length, take, drop, unwrap_or, if◌then◌else◌}
+use Rattle.std.specs.Prelude.{ℕ, Bool, List, [], ◌∷◌, Option, None, Some, Result, Ok, Err, not, true, ◌==◌, ◌+◌, length, take, drop, unwrap_or, if◌then◌else◌}
 use Rattle.std.specs.Option.{option_map_or, option_zip}
-use Rattle.sc_value.specs.Params.{same_bytes}
+use Rattle.sc_tokens.specs.Names.{same_bytes}
 use Rattle.sc_value.specs.declared.parts.Address.{Address}
 use Rattle.sc_value.specs.declared.parts.CSeq.{CSeq}
 use Rattle.sc_value.specs.declared.message.Head.{Head}
 use Rattle.sc_value.specs.declared.message.Message.{Message}
 use Rattle.sc_value.specs.declared.message.Message.TheVariants as messages
 use Rattle.sc_syntax.specs.declared.ending.Ending.TheVariants.{Empty}
+use Rattle.sc_syntax.specs.declared.left.HeadParts.{HeadParts}
 use Rattle.sc_syntax.specs.declared.left.Left.{Left}
 use Rattle.sc_syntax.specs.declared.left.Lists.{Lists}
 use Rattle.sc_syntax.specs.declared.left.Singles.{Singles}
 use Rattle.sc_syntax.specs.declared.left.Start.{Start}
 use Rattle.sc_syntax.specs.declared.left.Start.TheVariants.{Request, Status}
-use Rattle.sc_syntax.specs.Bytes.{Bytes}
+use Rattle.sc_tokens.specs.Bytes.{Bytes}
 use Rattle.sc_syntax.specs.UriParts.{Fault, then_read}
 use Rattle.sc_syntax.specs.Lines.{begins_break, end_of, start_line, header_lines}
 use Rattle.sc_syntax.specs.Folds.{joined}
@@ -93,6 +94,21 @@ unfoldable pub finished : Start → Left → Bytes → Result Message ℕ
 finished start left body =
     if length left.lists.via == 0 then Err 7
     else option_map_or (finished_with start left.lists left.singles.hops left.singles.length body) (peers_of left.singles) (Err 7)
+
+-- ## The head alone
+
+-- start line and header lines, read
+unfoldable pub parts_in : Bytes → Result HeadParts Fault
+parts_in head =
+    then_read (placed 0 (start_of (start_line head))) (λ start.
+    then_read (all_judged (length (start_line head) + 2) nothing_left (header_lines head)) (λ left.
+    Ok (record { start = start; left = left })))
+
+-- the kind of the fault that shows at the empty line, whatever the body is
+unfoldable pub lacking : HeadParts → Option ℕ
+lacking parts =
+    if length parts.left.lists.via == 0 then Some 7
+    else option_map_or (λ peers. if is_method_of parts.start peers.1.1.method then None else Some 10) (peers_of parts.left.singles) (Some 7)
 
 -- ## The text
 

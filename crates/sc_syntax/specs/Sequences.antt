@@ -2,11 +2,11 @@
 -- That of Content-Length is `number_of`.
 use Rattle.std.specs.Prelude.{ℕ, Option, None, ◌^◌, if◌then◌else◌}
 use Rattle.std.specs.Option.{option_map}
-use Rattle.sc_value.specs.Tokens.{is_token}
+use Rattle.sc_tokens.specs.Tokens.{is_token}
 use Rattle.sc_value.specs.declared.parts.CSeq.{CSeq}
-use Rattle.sc_syntax.specs.Bytes.{Bytes}
-use Rattle.sc_syntax.specs.Numbers.{number_below}
-use Rattle.sc_syntax.specs.Blanks.{trimmed, first_word, behind_word}
+use Rattle.sc_tokens.specs.Bytes.{Bytes}
+use Rattle.sc_tokens.specs.Numbers.{number_below}
+use Rattle.sc_tokens.specs.Blanks.{trimmed, first_word, behind_word}
 
 -- a number below 2^31, blanks, and a method
 unfoldable pub cseq_in : Bytes → Option CSeq

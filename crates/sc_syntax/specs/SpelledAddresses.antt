@@ -1,26 +1,14 @@
 -- Which texts spell an address (RFC 3261 sections 20.10 and 25.1): its written form, with blanks round
 -- its parts, or the bare URI where that can be told from what follows it.
-use Rattle.std.specs.Prelude.{◌≡◌, Bool, true, false, Option, Some, None, List, [], ◌∷◌, ◌++◌, ◌==◌, ◌&&◌, ◌⊎◌, length, unwrap_or, ⊤}
-use Rattle.std.specs.List.{list_all}
+use Rattle.std.specs.Prelude.{◌≡◌, Bool, true, false, None, List, [], ◌∷◌, ◌++◌, ◌&&◌, ◌⊎◌, unwrap_or}
+use Rattle.sc_tokens.specs.HeaderTokens.{IsDisplay}
 use Rattle.sc_value.specs.declared.parts.Address.{Address}
 use Rattle.sc_value.specs.declared.parts.Contact.{Contact}
 use Rattle.sc_value.specs.declared.parts.Contact.TheVariants.{Star, At}
-use Rattle.sc_syntax.specs.Bytes.{Bytes}
-use Rattle.sc_syntax.specs.Cuts.{has}
-use Rattle.sc_syntax.specs.Blanks.{trimmed}
-use Rattle.sc_syntax.specs.Parameters.{is_string}
-use Rattle.sc_syntax.specs.Addresses.{is_display_byte}
+use Rattle.sc_tokens.specs.Bytes.{Bytes}
+use Rattle.sc_tokens.specs.Cuts.{has}
 use Rattle.sc_syntax.specs.SpelledUris.{IsUriSpelled}
 use Rattle.sc_syntax.specs.SpelledParts.{IsBlanks, Padded, AreListed, AreParamsSpelled}
-
--- one token or more with blanks between, and none at the ends
-abbrev pub IsWords : Bytes → Type 0
-IsWords text = ((length text == 0) ≡ false) × (list_all is_display_byte text ≡ true) × (trimmed text ≡ text)
-
--- what a display is: a quoted string, or words
-unfoldable pub IsDisplay : Option Bytes → Type 0
-IsDisplay None = ⊤
-IsDisplay (Some text) = (is_string text ≡ true) ⊎ IsWords text
 
 -- the display, blanks or none, and the URI in its brackets
 abbrev pub IsNamedSpelled : Bytes → Address → Type 0

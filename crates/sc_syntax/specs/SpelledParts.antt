@@ -2,12 +2,11 @@
 -- and 25.1). The one freedom of a parameter is blanks round it.
 use Rattle.std.specs.Prelude.{◌≡◌, ℕ, true, List, [], ◌∷◌, ◌++◌}
 use Rattle.std.specs.List.{list_all}
-use Rattle.std.specs.Option.{option_map_or}
-use Rattle.sc_value.specs.Tokens.{is_blank, is_token}
+use Rattle.sc_tokens.specs.Tokens.{is_blank}
 use Rattle.sc_value.specs.declared.parts.Param.{Param}
-use Rattle.sc_syntax.specs.Bytes.{Bytes}
-use Rattle.sc_syntax.specs.Parameters.{is_param_text}
+use Rattle.sc_tokens.specs.Bytes.{Bytes}
 use Rattle.sc_syntax.specs.SpelledUris.{led}
+use Rattle.sc_value.specs.ParamRules.{IsHeaderParam}
 
 -- spaces and tabs alone, or nothing
 abbrev pub IsBlanks : Bytes → Type 0
@@ -28,10 +27,6 @@ AreListed sign Spells text [] = ⊥
 AreListed sign Spells text (x ∷ xs) = (item rest : Bytes) × Spells item x × AreLed sign Spells rest xs × (text ≡ item ++ rest)
 
 -- ## Header parameters
-
--- a token as name; as value nothing, a run of token bytes and []: or a quoted string
-abbrev pub IsHeaderParam : Param → Type 0
-IsHeaderParam param = (is_token param.name ≡ true) × (option_map_or is_param_text param.value true ≡ true)
 
 -- `name` or `name=value`
 unfoldable pub header_param : Param → Bytes

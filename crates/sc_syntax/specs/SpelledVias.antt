@@ -1,10 +1,10 @@
 -- Which texts spell a Via: its written form, with blanks round its signs, and with leading zeros of
 -- the port (RFC 3261 sections 20.42 and 25.1).
 use Rattle.std.specs.Prelude.{◌≡◌, true, false, List, ◌∷◌, ◌++◌, ◌==◌, length, codes}
-use Rattle.sc_value.specs.Tokens.{is_token}
+use Rattle.sc_tokens.specs.Tokens.{is_token}
 use Rattle.sc_value.specs.declared.parts.Via.{Via}
-use Rattle.sc_syntax.specs.Bytes.{Bytes}
-use Rattle.sc_syntax.specs.Hosts.{is_host}
+use Rattle.sc_tokens.specs.Bytes.{Bytes}
+use Rattle.sc_tokens.specs.Hosts.{is_host}
 use Rattle.sc_syntax.specs.SpelledUris.{IsPortSpelled}
 use Rattle.sc_syntax.specs.SpelledParts.{IsBlanks, Padded, AreListed, AreParamsSpelled}
 

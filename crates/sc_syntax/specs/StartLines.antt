@@ -3,13 +3,13 @@
 use Rattle.std.specs.Prelude.{ℕ, Bool, Option, Some, None, Result, Ok, Err, not, ◌||◌, ◌==◌, nat_le, codes, length, take, if◌then◌else◌}
 use Rattle.std.specs.Option.{option_map_or, option_and_then}
 use Rattle.std.specs.Result.{result_ok}
-use Rattle.sc_value.specs.Params.{same_bytes, same_name}
-use Rattle.sc_value.specs.Tokens.{is_token, is_one_line}
+use Rattle.sc_tokens.specs.Names.{same_bytes, same_name}
+use Rattle.sc_tokens.specs.Tokens.{is_token, is_one_line}
 use Rattle.sc_syntax.specs.declared.left.Start.{Start}
 use Rattle.sc_syntax.specs.declared.left.Start.TheVariants.{Request, Status}
-use Rattle.sc_syntax.specs.Bytes.{Bytes}
-use Rattle.sc_syntax.specs.Numbers.{number_below}
-use Rattle.sc_syntax.specs.Cuts.{has, before, after}
+use Rattle.sc_tokens.specs.Bytes.{Bytes}
+use Rattle.sc_tokens.specs.Numbers.{number_below}
+use Rattle.sc_tokens.specs.Cuts.{has, before, after}
 use Rattle.sc_syntax.specs.Uris.{uri_of}
 
 -- `SIP/2.0`, with these letters

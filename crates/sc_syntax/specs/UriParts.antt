@@ -1,12 +1,12 @@
 -- The parts of a `sip:` URI, and which of them is at fault (RFC 3261 sections 19.1.1 and 25.1).
-use Rattle.std.specs.Prelude.{ℕ, Bool, true, Option, Some, None, List, [], ◌∷◌, Result, Ok, Err, not, ◌||◌, ◌&&◌, ◌==◌, ◌+◌, length, take, drop, if◌then◌else◌}
-use Rattle.std.specs.List.{list_all}
+use Rattle.std.specs.Prelude.{ℕ, Bool, true, Option, Some, None, List, [], ◌∷◌, Result, Ok, Err, ◌||◌, ◌&&◌, ◌==◌, ◌+◌, length, take, drop, if◌then◌else◌}
 use Rattle.std.specs.Option.{option_map_or}
+use Rattle.sc_tokens.specs.UriTokens.{is_param_name, is_param_value}
 use Rattle.sc_value.specs.declared.parts.Param.{Param}
-use Rattle.sc_syntax.specs.Bytes.{Bytes, is_param_byte, is_open}
-use Rattle.sc_syntax.specs.Numbers.{port_of}
-use Rattle.sc_syntax.specs.Cuts.{before, after, pieces}
-use Rattle.sc_syntax.specs.Hosts.{begins, is_host, host_len}
+use Rattle.sc_tokens.specs.Bytes.{Bytes, is_open}
+use Rattle.sc_tokens.specs.Numbers.{port_of}
+use Rattle.sc_tokens.specs.Cuts.{before, after, pieces}
+use Rattle.sc_tokens.specs.Hosts.{begins, is_host, host_len}
 
 -- where the first part at fault begins, and which part it is: 1 the scheme, 2 the host, 3 the
 -- port, 4 a parameter or the headers
@@ -50,14 +50,6 @@ sent_at at text =
     else Err (host_fault at)
 
 -- ## Parameters
-
--- bytes of a parameter, one or more
-unfoldable pub is_param_name : Bytes → Bool
-is_param_name text = not (length text == 0) && list_all is_param_byte text
-
--- bytes of a parameter, where there is a value
-unfoldable pub is_param_value : Option Bytes → Bool
-is_param_value value = option_map_or (list_all is_param_byte) value true
 
 -- `name` or `name=value`, at this place
 unfoldable pub param_at : ℕ → Bytes → Result Param Fault

@@ -1,21 +1,13 @@
 -- Which URI a text is, or which part of it is at fault (RFC 3261 sections 19.1.1 and 25.1).
-use Rattle.std.specs.Prelude.{ℕ, Option, Result, Ok, Err, Bool, true, false, ◌&&◌, ◌+◌, ◌-◌, length, codes, unwrap_or, slice_get, if◌then◌else◌}
-use Rattle.std.specs.List.{list_all}
+use Rattle.std.specs.Prelude.{ℕ, Option, Result, Ok, Err, true, ◌+◌, ◌-◌, length, unwrap_or, if◌then◌else◌}
 use Rattle.std.specs.Option.{option_map, option_map_or}
-use Rattle.std.specs.Char.{is_ascii_alphabetic}
-use Rattle.sc_value.specs.Params.{same_name}
+use Rattle.sc_tokens.specs.UriTokens.{is_scheme, sip_scheme}
+use Rattle.sc_tokens.specs.Names.{same_name}
 use Rattle.sc_value.specs.declared.parts.Uri.{Uri}
 use Rattle.sc_value.specs.declared.parts.Uri.TheVariants.{Sip, Other}
-use Rattle.sc_syntax.specs.Bytes.{Bytes, is_scheme_byte, is_open}
-use Rattle.sc_syntax.specs.Cuts.{before, after}
+use Rattle.sc_tokens.specs.Bytes.{Bytes, is_open}
+use Rattle.sc_tokens.specs.Cuts.{before, after}
 use Rattle.sc_syntax.specs.UriParts.{Fault, scheme_fault, host_fault, then_read, sent_at, params_at, headers_at}
-
--- a letter, then letters, digits and +-.
-unfoldable pub is_scheme : Bytes → Bool
-is_scheme text = option_map_or is_ascii_alphabetic (slice_get text 0) false && list_all is_scheme_byte text
-
-unfoldable pub sip_scheme : Bytes
-sip_scheme = codes "sip"
 
 -- ## The parts of a `sip:` URI, whole
 

@@ -4,14 +4,14 @@
 use Rattle.std.specs.Prelude.{List, [], ◌∷◌, Option, None, codes, if◌then◌else◌}
 use Rattle.std.specs.Option.{option_map, option_and_then}
 use Rattle.std.specs.Result.{result_ok}
-use Rattle.sc_value.specs.Params.{same_bytes}
-use Rattle.sc_value.specs.Tokens.{is_token}
+use Rattle.sc_tokens.specs.Names.{same_bytes}
+use Rattle.sc_tokens.specs.Tokens.{is_token}
 use Rattle.sc_value.specs.declared.parts.Param.{Param}
 use Rattle.sc_value.specs.declared.parts.Via.{Via}
-use Rattle.sc_syntax.specs.Bytes.{Bytes}
-use Rattle.sc_syntax.specs.Cuts.{before, after}
+use Rattle.sc_tokens.specs.Bytes.{Bytes}
+use Rattle.sc_tokens.specs.Cuts.{before, after}
 use Rattle.sc_syntax.specs.UriParts.{sent_at}
-use Rattle.sc_syntax.specs.Blanks.{trimmed, first_word, behind_word}
+use Rattle.sc_tokens.specs.Blanks.{trimmed, first_word, behind_word}
 use Rattle.sc_syntax.specs.Scanning.{via_items, via_parts, all_read}
 use Rattle.sc_syntax.specs.Parameters.{params_of}
 

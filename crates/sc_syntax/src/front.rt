@@ -1,4 +1,4 @@
-use sc_value::{Address, CSeq, List, Message, Text, Via};
+use sc_value::{Address, CSeq, HeaderValue, List, Message, Via};
 
 /// What an answer takes from a request (RFC 3261 section 8.2.6.2). The list of Vias isn't empty, and
 /// the first one has its branch.
@@ -7,7 +7,7 @@ pub struct Answerable {
     pub via: List<Via>,
     pub from: Address,
     pub to: Address,
-    pub call_id: Text,
+    pub call_id: HeaderValue,
     pub cseq: CSeq,
 }
 

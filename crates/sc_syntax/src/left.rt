@@ -1,12 +1,12 @@
-use sc_value::{Address, CSeq, Contact, Field, List, Text, Uri, Via};
+use sc_value::{Address, CSeq, Contact, HeaderValue, List, Others, Reason, Token, Uri, Via};
 
 /// The start line of a message (RFC 3261 sections 7.1 and 7.2).
 #[derive(Drop)]
 pub enum Start {
     /// A request line.
-    Request { method: Text, uri: Uri },
+    Request { method: Token, uri: Uri },
     /// A status line: the code is 100 to 699.
-    Status { code: u16, reason: Text },
+    Status { code: u16, reason: Reason },
 }
 
 /// The headers that are lists and those without structure, each in order (RFC 3261 section 20).
@@ -16,7 +16,7 @@ pub struct Lists {
     pub route: List<Address>,
     pub record_route: List<Address>,
     pub contact: List<Contact>,
-    pub others: List<Field>,
+    pub others: Others,
 }
 
 /// The headers that stand once at most: what has come of them (RFC 3261 section 20).
@@ -24,7 +24,7 @@ pub struct Lists {
 pub struct Singles {
     pub from: Option<Address>,
     pub to: Option<Address>,
-    pub call_id: Option<Text>,
+    pub call_id: Option<HeaderValue>,
     pub cseq: Option<CSeq>,
     /// Max-Forwards.
     pub hops: Option<u8>,
@@ -39,6 +39,13 @@ pub struct Left {
     pub room: usize,
     pub lists: Lists,
     pub singles: Singles,
+}
+
+/// A head that is read: its start line, and what its header lines have left.
+#[derive(Drop)]
+pub struct HeadParts {
+    pub start: Start,
+    pub left: Left,
 }
 
 /// The headers that a reader tells apart (RFC 3261 section 20).

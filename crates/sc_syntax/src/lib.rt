@@ -10,5 +10,5 @@ mod scan;
 
 pub use ending::Ending;
 pub use front::{Answerable, Front};
-pub use left::{Header, Left, Lists, Singles, Start};
+pub use left::{HeadParts, Header, Left, Lists, Singles, Start};
 pub use scan::Scan;

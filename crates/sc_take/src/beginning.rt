@@ -1,7 +1,7 @@
 //! Requests that begin a session.
 
 ghost use Rattle.std.specs.Prelude.{◌≡◌, ◌+◌, ◌∷◌, ◌++◌, [], IfOk, OnOk};
-ghost use Rattle.sc_value.specs.Params.{same_bytes};
+ghost use Rattle.sc_tokens.specs.Names.{same_bytes};
 ghost use Rattle.sc_state.specs.declared.queue.Queued.{Queued};
 ghost use Rattle.sc_model.specs.Dialogs.{update};
 ghost use Rattle.sc_model.specs.Names.{tag_text};
@@ -80,7 +80,7 @@ fn first_tag(alloc: Global, config: &Config, epoch: u32, app: AppId) -> Result<T
     ensures { IfOk result (λ t. t ≡ tag_text config.now.salt epoch app 1) }
 {
     let mut text = Text::new(alloc);
-    tag(alloc, &config.salt, epoch, app, 1, &mut text)?;
+    tag(alloc, config.salt.as_text(), epoch, app, 1, &mut text)?;
     Ok(text)
 }
 
@@ -98,7 +98,7 @@ fn with_live(
     Ok(())
 }
 
-#[tactic(auto, unfolding(sc_hosts::specs::Taking::begun, sc_hosts::specs::Taking::quiet))]
+#[tactic(auto, unfolding(sc_hosts::specs::Taking::begun, sc_hosts::specs::Inboxes::quiet))]
 fn begun(
     alloc: Global,
     config: &Config,

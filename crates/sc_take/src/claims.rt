@@ -8,7 +8,8 @@ ghost use Rattle.sc_state.specs.declared.queue.Queued.{Queued};
 ghost use Rattle.sc_state.specs.declared.host.Host.{Host};
 ghost use Rattle.sc_state.specs.declared.session.Session.{Session};
 ghost use Rattle.sc_hosts.specs.Messages.{own_response};
-ghost use Rattle.sc_hosts.specs.Taking.{quiet, queue, cancelled, again_if, repeated, claim_of, is_claimed};
+ghost use Rattle.sc_hosts.specs.Inboxes.{quiet, queue};
+ghost use Rattle.sc_hosts.specs.Taking.{cancelled, again_if, repeated, claim_of, is_claimed};
 ghost use Rattle.sc_hosts.specs.Transacting.{has_final, is_cancelled_by, is_acked_by, is_repeated_by};
 ghost use Rattle.sc_hosts.specs.Words.{ok};
 ghost use Rattle.sc_take.specs.TakenParts.{taken_by};
@@ -25,7 +26,7 @@ use sc_transact::{
 use sc_value::{CloneIn, Message, NoMemory, Request, Response, Shared};
 use std::alloc::Global;
 
-#[tactic(auto, unfolding(sc_hosts::specs::Taking::quiet))]
+#[tactic(auto, unfolding(sc_hosts::specs::Inboxes::quiet))]
 fn tell_cancelled(
     alloc: Global,
     now: u64,
@@ -69,7 +70,7 @@ pub fn cancelled(
     replying(alloc, from, Message::Response(response), told)
 }
 
-#[tactic(auto, unfolding(sc_hosts::specs::Taking::last_again, sc_hosts::specs::Taking::again_if, sc_hosts::specs::Taking::quiet))]
+#[tactic(auto, unfolding(sc_hosts::specs::Taking::last_again, sc_hosts::specs::Taking::again_if, sc_hosts::specs::Inboxes::quiet))]
 fn last_again(alloc: Global, server: &Server, again: bool, count: u64) -> Result<Told, NoMemory>
     ensures { IfOk result (λ t. (host : Host Session) → again_if again server.now (quiet host count) ≡ taken_by host t) }
 {

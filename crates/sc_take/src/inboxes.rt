@@ -4,7 +4,7 @@ ghost use Rattle.std.specs.Prelude.{◌≡◌, ◌==◌, length, position, if◌
 ghost use Rattle.std.specs.List.{find};
 ghost use Rattle.std.specs.Option.{option_copied};
 ghost use Rattle.sc_value.specs.Lists.{change_first};
-ghost use Rattle.sc_hosts.specs.Taking.{is_live, live_in, with_event, queue, is_full, is_full_at};
+ghost use Rattle.sc_hosts.specs.Inboxes.{is_live, live_in, with_event, queue, is_full, is_full_at};
 ghost use Rattle.sc_take.specs.TakenParts.{taken_by};
 
 use crate::told::{Told, quiet};
@@ -46,7 +46,7 @@ fn since_with(now: u64, live: &Live<Session>) -> u64
     }
 }
 
-#[tactic(auto, unfolding(sc_hosts::specs::Taking::with_event))]
+#[tactic(auto, unfolding(sc_hosts::specs::Inboxes::with_event))]
 fn with_event(
     alloc: Global,
     number: u64,
@@ -81,7 +81,7 @@ fn queue_in(
 }
 
 /// Queues an event where its session lives; else it is dropped.
-#[tactic(auto, unfolding(sc_hosts::specs::Taking::queue, sc_hosts::specs::Taking::quiet))]
+#[tactic(auto, unfolding(sc_hosts::specs::Inboxes::queue, sc_hosts::specs::Inboxes::quiet))]
 pub fn queue(
     alloc: Global,
     serial: u64,
@@ -101,14 +101,14 @@ pub fn queue(
 }
 
 /// Whether as many events wait as may.
-#[tactic(auto, unfolding(sc_hosts::specs::Taking::is_full))]
+#[tactic(auto, unfolding(sc_hosts::specs::Inboxes::is_full))]
 pub fn is_full(live: &Live<Session>) -> bool
     ensures { result ≡ is_full live.now }
 {
     64 <= live.inbox.len()
 }
 
-#[tactic(auto, unfolding(sc_hosts::specs::Taking::is_full_at))]
+#[tactic(auto, unfolding(sc_hosts::specs::Inboxes::is_full_at))]
 pub fn is_full_at(serial: u64, host: &Host<Session>) -> bool
     ensures { result ≡ is_full_at serial host.now }
 {

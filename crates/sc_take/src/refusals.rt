@@ -29,12 +29,12 @@ pub fn edge_response(
     ensures { IfOk result (λ r. r ≡ own_response (edge_tag config.now.salt) code reason.now request.now) }
 {
     let mut tag = Text::new(alloc);
-    edge_tag(alloc, &config.salt, &mut tag)?;
+    edge_tag(alloc, config.salt.as_text(), &mut tag)?;
     own_response(alloc, tag.as_bytes(), code, reason, request)
 }
 
 // An ACK gets no answer.
-#[tactic(auto, unfolding(sc_hosts::specs::Taking::refuse, sc_hosts::specs::Taking::quiet))]
+#[tactic(auto, unfolding(sc_hosts::specs::Taking::refuse, sc_hosts::specs::Inboxes::quiet))]
 fn refuse(
     alloc: Global,
     config: &Config,

@@ -3,7 +3,8 @@
 ghost use Rattle.std.specs.Prelude.{◌≡◌, IfOk};
 ghost use Rattle.sc_value.specs.declared.message.Message.{Message};
 ghost use Rattle.sc_hosts.specs.Messages.{cancel_of};
-ghost use Rattle.sc_hosts.specs.Taking.{replying, told, told_by, cancelling, with_reply, response_for, response_to, take_response};
+ghost use Rattle.sc_hosts.specs.Inboxes.{replying};
+ghost use Rattle.sc_hosts.specs.TakingResponses.{told, told_by, cancelling, with_reply, response_for, response_to, take_response};
 ghost use Rattle.sc_hosts.specs.Transacting.{client_for, with_client};
 ghost use Rattle.sc_take.specs.TakenParts.{taken_by};
 
@@ -19,7 +20,7 @@ use std::alloc::Global;
 
 // A provisional response finds no room in a full inbox, and the answer to a CANCEL tells nobody
 // anything.
-#[tactic(auto, unfolding(sc_hosts::specs::Taking::told, sc_hosts::specs::Taking::quiet))]
+#[tactic(auto, unfolding(sc_hosts::specs::TakingResponses::told, sc_hosts::specs::Inboxes::quiet))]
 fn told(
     alloc: Global,
     now: u64,
@@ -41,7 +42,7 @@ fn told(
     queue(alloc, client.app.serial, now, event, count, host)
 }
 
-#[tactic(auto, unfolding(sc_hosts::specs::Taking::told_by, sc_hosts::specs::Taking::quiet))]
+#[tactic(auto, unfolding(sc_hosts::specs::TakingResponses::told_by, sc_hosts::specs::Inboxes::quiet))]
 fn told_by(
     alloc: Global,
     code: Option<u16>,
@@ -60,7 +61,7 @@ fn told_by(
 }
 
 /// The client transaction of a CANCEL.
-#[tactic(auto, unfolding(sc_hosts::specs::Taking::cancelling))]
+#[tactic(auto, unfolding(sc_hosts::specs::TakingResponses::cancelling))]
 pub fn cancelling(alloc: Global, now: u64, client: &Client) -> Result<Client, NoMemory>
     ensures { IfOk result (λ c. c ≡ cancelling now client.now) }
 {
@@ -91,7 +92,7 @@ fn cancel_with(
 }
 
 // An ACK to a final response other than 2xx, or a CANCEL that waited.
-#[tactic(auto, unfolding(sc_hosts::specs::Taking::with_reply))]
+#[tactic(auto, unfolding(sc_hosts::specs::TakingResponses::with_reply))]
 fn with_reply(
     alloc: Global,
     out: ClientOut,
@@ -113,7 +114,7 @@ fn with_reply(
     Ok(told)
 }
 
-#[tactic(auto, unfolding(sc_hosts::specs::Taking::response_for))]
+#[tactic(auto, unfolding(sc_hosts::specs::TakingResponses::response_for))]
 fn response_for(
     alloc: Global,
     now: u64,
@@ -141,7 +142,7 @@ fn response_for(
     with_reply(alloc, out, now, client, response, told, host)
 }
 
-#[tactic(auto, unfolding(sc_hosts::specs::Taking::response_to, sc_hosts::specs::Taking::quiet))]
+#[tactic(auto, unfolding(sc_hosts::specs::TakingResponses::response_to, sc_hosts::specs::Inboxes::quiet))]
 fn response_to(
     alloc: Global,
     now: u64,
@@ -175,7 +176,7 @@ fn found_client(
 }
 
 /// A response that belongs to no client transaction is dropped.
-#[tactic(auto, unfolding(sc_hosts::specs::Taking::take_response))]
+#[tactic(auto, unfolding(sc_hosts::specs::TakingResponses::take_response))]
 pub fn take_response(
     alloc: Global,
     config: &Config,

@@ -122,7 +122,7 @@ pub fn with_trying(
     if !is_invite(request) {
         return Ok(told);
     }
-    let response = trying(alloc, request)?;
     try_in(alloc, told.count, request, now, &mut host.servers.items)?;
+    let response = trying(alloc, request)?;
     replying(alloc, from, Message::Response(response), told)
 }

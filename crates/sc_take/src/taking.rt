@@ -92,7 +92,7 @@ fn take_cancel(
     }
 }
 
-#[tactic(auto, unfolding(sc_hosts::specs::Taking::take_claimed, sc_hosts::specs::Taking::claim_by, sc_hosts::specs::Taking::quiet))]
+#[tactic(auto, unfolding(sc_hosts::specs::Taking::take_claimed, sc_hosts::specs::Taking::claim_by, sc_hosts::specs::Inboxes::quiet))]
 fn take_ack(
     alloc: Global,
     config: &Config,

@@ -1,7 +1,7 @@
 //! A configuration and a routing table as plain data.
 
 use crate::{Apps, Expires, Port, Within};
-use sc_value::{Address, List, Region, Text};
+use sc_value::{Address, List, Region, Text, Token};
 
 /// The settings of a container. Each number keeps its range.
 #[derive(Drop)]
@@ -11,7 +11,7 @@ pub struct Config {
     /// The domain whose requests are the container's own.
     pub domain: Text,
     /// 1 to 16 letters and digits that begin all names that the container draws.
-    pub salt: Text,
+    pub salt: Token,
     /// The number of worker threads, 1 to 32.
     pub workers: Within<1, 32>,
     /// After so many connections the server ends, 0 for never; at most 1,000,000.

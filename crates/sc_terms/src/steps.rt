@@ -1,5 +1,5 @@
 use crate::{CallRecord, End};
-use sc_value::{Address, AppId, Boxed, CSeq, List, Message, Place, Text, Via};
+use sc_value::{Address, AppId, Boxed, CSeq, HeaderValue, List, Message, Place, Text, Via};
 
 /// The headers of a text that isn't a message from which it can be answered.
 #[derive(Drop)]
@@ -7,7 +7,7 @@ pub struct Answerable {
     pub via: List<Via>,
     pub from: Address,
     pub to: Address,
-    pub call_id: Text,
+    pub call_id: HeaderValue,
     pub cseq: CSeq,
 }
 

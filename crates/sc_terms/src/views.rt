@@ -1,6 +1,6 @@
 //! What a turn shows of an application session (JSR 289 sections 6 and 7).
 
-use sc_value::{AppId, Field, List, ReqId, SessId, Text, TimerId};
+use sc_value::{AppId, Field, HeaderValue, List, ReqId, SessId, Text, TimerId, Token};
 
 /// The state of a SipSession (JSR 289 section 6.2.1).
 #[derive(Clone, Copy, Debug, PartialEq, Eq)]
@@ -28,7 +28,7 @@ pub struct SessionView {
     pub id: SessId,
     pub state: State,
     pub role: Role,
-    pub call_id: Text,
+    pub call_id: HeaderValue,
     /// The tag that the container drew for its side of the dialog.
     pub own_tag: Text,
     /// The peer's tag, where it gave one.
@@ -91,7 +91,7 @@ pub struct View {
     /// The epoch of the container's run, from 0.
     pub epoch: u32,
     /// The salt of all names that the container draws.
-    pub salt: Text,
+    pub salt: Token,
     /// The host that the container listens at.
     pub ip: [u8; 4],
     /// The application's parameters in the configuration.

@@ -4,7 +4,7 @@ ghost use Rattle.std.specs.Prelude.{◌≡◌, OnOk};
 ghost use Rattle.sc_value.specs.Lists.{change_first, change_nth};
 ghost use Rattle.sc_hosts.specs.Nets.{change_host};
 ghost use Rattle.sc_hosts.specs.Ticks.{mark_fired};
-ghost use Rattle.sc_hosts.specs.Taking.{is_live};
+ghost use Rattle.sc_hosts.specs.Inboxes.{is_live};
 ghost use Rattle.sc_ticks.specs.Items.{with_fired};
 
 use sc_due::DueKey;

@@ -4,7 +4,7 @@ ghost use Rattle.std.specs.Prelude.{◌≡◌, false, filter, map, position, IfO
 ghost use Rattle.std.specs.List.{find};
 ghost use Rattle.std.specs.Option.{option_copied, option_map_or};
 ghost use Rattle.sc_value.specs.Lists.{change_first};
-ghost use Rattle.sc_value.specs.Params.{same_bytes};
+ghost use Rattle.sc_tokens.specs.Names.{same_bytes};
 ghost use Rattle.sc_model.specs.Names.{branch_text};
 ghost use Rattle.sc_hosts.specs.Transacting.{due_of_client, out_of_client, is_client, is_answered_by, client_for, client_passed, pass_client, with_client, ringing_branches, top_via, branch_of};
 ghost use Rattle.sc_transact.specs.Kept.{is_ringing};

@@ -1,7 +1,7 @@
 //! Methods of requests (RFC 3261 section 7.1).
 
 ghost use Rattle.std.specs.Prelude.{◌≡◌};
-ghost use Rattle.sc_value.specs.Params.{same_bytes};
+ghost use Rattle.sc_tokens.specs.Names.{same_bytes};
 ghost use Rattle.sc_model.specs.SessionStates.{invite};
 ghost use Rattle.sc_hosts.specs.Words.{ack, cancel};
 ghost use Rattle.sc_hosts.specs.Transacting.{method_of, is_invite_client, is_invite_server, is_cancel_client};

@@ -2,7 +2,7 @@
 
 ghost use Rattle.std.specs.Prelude.{◌≡◌, false};
 ghost use Rattle.std.specs.Option.{option_map_or};
-ghost use Rattle.sc_value.specs.Params.{same_bytes};
+ghost use Rattle.sc_tokens.specs.Names.{same_bytes};
 ghost use Rattle.sc_model.specs.Names.{branch_text, ap_value};
 ghost use Rattle.sc_hosts.specs.Transacting.{is_same_app};
 ghost use Rattle.sc_transact.specs.Named.{is_named};

@@ -4,9 +4,9 @@ use Rattle.std.specs.List.{list_all}
 use Rattle.std.specs.Option.{option_map}
 use Rattle.std.proofs.lemmas.List.{at_drop_all, drop_more, take_all, length-drop}
 use Rattle.std.proofs.lemmas.Bool.Decides.{nat_tests}
-use Rattle.sc_syntax.specs.Bytes.{Bytes}
-use Rattle.sc_syntax.specs.Cuts.{before, after, pieces}
-use Rattle.sc_syntax.specs.Hosts.{begins_gap, gap_of, is_group, groups_of, sum_of, groups_in, is_octet, is_ipv4}
+use Rattle.sc_tokens.specs.Bytes.{Bytes}
+use Rattle.sc_tokens.specs.Cuts.{before, after, pieces}
+use Rattle.sc_tokens.specs.Hosts.{begins_gap, gap_of, is_group, groups_of, sum_of, groups_in, is_octet, is_ipv4}
 use Rattle.sc_syntax.proofs.CutLaws.{pieces_more, pieces_last}
 
 -- ## Two colons

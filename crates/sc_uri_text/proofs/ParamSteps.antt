@@ -1,8 +1,8 @@
 -- Parameters, read from the front.
 use Rattle.std.proofs.Common.{◌≡◌, ℕ, Option, Some, None, Result, Ok, Err, List, [], ◌∷◌, ◌++◌, ◌+◌, length, refl, sym, ap, ◌∙◌, append_assoc, arith}
 use Rattle.sc_value.specs.declared.parts.Param.{Param}
-use Rattle.sc_syntax.specs.Bytes.{Bytes}
-use Rattle.sc_syntax.specs.Cuts.{before, after, pieces}
+use Rattle.sc_tokens.specs.Bytes.{Bytes}
+use Rattle.sc_tokens.specs.Cuts.{before, after, pieces}
 use Rattle.sc_syntax.specs.UriParts.{Fault, then_read, param_at, params_in}
 use Rattle.sc_syntax.proofs.CutLaws.{pieces_more, pieces_last}
 

@@ -1,17 +1,32 @@
 -- A `sip:` URI, part by part.
-use Rattle.std.proofs.Common.{◌≡◌, ℕ, true, false, cond, Option, Some, None, Result, Ok, Err, List, ◌+◌, ◌-◌, ◌≤◌, ◌^◌, Bor, length, refl, sym, ap, ◌∙◌, arith}
+use Rattle.std.proofs.Common.{◌≡◌, ℕ, true, false, cond, Option, Some, None, Result, Ok, Err, List, ◌∷◌, ◌++◌, ◌+◌, ◌-◌, ◌≤◌, ◌^◌, Bor, length, refl, sym, ap, ◌∙◌, arith}
 use Rattle.std.specs.Prelude.{unwrap_or, IfSome}
 use Rattle.std.specs.Option.{option_map, option_map_or}
 use Rattle.sc_value.specs.declared.parts.Param.{Param}
 use Rattle.sc_value.specs.declared.parts.Uri.{Uri}
 use Rattle.sc_value.specs.declared.parts.Uri.TheVariants.{Sip}
-use Rattle.sc_syntax.specs.Bytes.{Bytes, is_open}
-use Rattle.sc_syntax.specs.Cuts.{before, after}
+use Rattle.sc_tokens.specs.Bytes.{Bytes, is_open}
+use Rattle.sc_tokens.specs.Cuts.{has, before, after}
+use Rattle.sc_tokens.specs.Names.{same_name}
+use Rattle.sc_tokens.specs.UriTokens.{IsOtherSpelled, IsUser, is_scheme, sip_scheme}
 use Rattle.sc_syntax.specs.UriParts.{Fault, host_fault, then_read, sent_at, params_at, headers_at}
+use Rattle.sc_syntax.specs.SpelledUris.{led}
+use Rattle.sc_syntax.proofs.PartLaws.{led_text, lacks_before, lacks_all, lacks_after}
 use Rattle.sc_uri_text.specs.Answers.{IsFault}
 use Rattle.sc_uri_text.specs.declared.refused.UriRefused.{UriRefused}
 use Rattle.sc_uri_text.specs.declared.refused.UriRefused.TheVariants.{Refused, NoMemory}
 use Rattle.sc_syntax.specs.Uris.{user_in, behind_user, sent_in, params_text_in, sip_behind, sip_at}
+
+-- ## The scheme
+
+-- what stands before the colon, and behind it
+pub parts_joined : (text scheme rest : Bytes) → scheme ≡ before 58 text → after 58 text ≡ Some rest → text ≡ scheme ++ 58 ∷ rest
+unfolding led
+parts_joined text scheme rest is h = sym (led_text 58 text) ∙ ap (λ r. before 58 text ++ led 58 r) h ∙ ap (λ s. s ++ 58 ∷ rest) (sym is)
+
+-- an open text of another scheme is a URI
+pub other_kept : (text scheme rest : Bytes) → text ≡ scheme ++ 58 ∷ rest → is_scheme scheme ≡ true → same_name scheme sip_scheme ≡ false → is_open text ≡ true → IsOtherSpelled text text
+other_kept text scheme rest is named other free = (refl, free, scheme, rest, named, other, is)
 
 -- ## The user
 
@@ -42,6 +57,22 @@ pub no_user : (at : ℕ) (text : Bytes) → after 64 text ≡ None → sip_at at
 no_user at text h =
     let place : ◌≡◌ {A = ℕ} (at + (length text - length text)) at = omega arith in
     by_user_is at text ∙ ap (by_user at text) h ∙ ap (λ n. sip_behind n None text) place
+
+-- a user has no @; without one the text has none
+pub user_kept : (text user rest : Bytes) → user ≡ before 64 text → is_open user ≡ true → IsUser (Some user) (Some rest)
+unfolding IsUser
+user_kept text user rest is free = (free, ap (has 64) is ∙ lacks_before 64 text)
+
+pub no_user_kept : (text : Bytes) → after 64 text ≡ None → IsUser None (Some text)
+unfolding IsUser
+no_user_kept text h = lacks_all 64 text h
+
+-- and so have the headers
+pub user_of_text : (user : Option Bytes) (text : Bytes) (headers : Option Bytes) → IsUser user (Some text) → headers ≡ after 63 text → IsUser user headers
+unfolding IsUser
+user_of_text (Some user) text headers h is = h
+user_of_text None text None h is = tt
+user_of_text None text (Some headers) h is = lacks_after 64 63 text headers (sym is) h
 
 -- ## Behind the user
 

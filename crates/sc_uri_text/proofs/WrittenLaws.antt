@@ -3,13 +3,14 @@
 use Rattle.std.proofs.Common.{◌≡◌, ℕ, true, Option, Some, None, List, [], ◌∷◌, ◌++◌, ◌<◌, decimal, refl, ap, ◌∙◌, arith, append_assoc}
 use Rattle.std.specs.Prelude.{codes, IfSome}
 use Rattle.std.specs.List.{flat_map}
-use Rattle.sc_value.specs.Params.{same_name}
+use Rattle.sc_tokens.specs.Names.{same_name}
 use Rattle.sc_value.specs.declared.parts.Param.{Param}
 use Rattle.sc_value.specs.declared.parts.SipUri.{SipUri}
 use Rattle.sc_value.specs.declared.parts.Uri.TheVariants.{Sip}
 use Rattle.sc_grammar.specs.Written.{Bytes, signed_text, param_text, params_text, ended_text, port_text, scheme, sip_uri_text, uri_text}
-use Rattle.sc_syntax.specs.Uris.{sip_scheme}
-use Rattle.sc_syntax.specs.SpelledUris.{led, closed_by, IsPortSpelled, spelled_param, IsSipUri, spelled_behind, IsUriSpelled}
+use Rattle.sc_tokens.specs.UriTokens.{sip_scheme}
+use Rattle.sc_value.specs.UriValues.{IsSipUri}
+use Rattle.sc_syntax.specs.SpelledUris.{led, closed_by, IsPortSpelled, spelled_param, spelled_behind, IsUriSpelled}
 use Rattle.sc_syntax.proofs.DecimalLaws.{decimal_is_read}
 
 led_is : (sign : ℕ) (text : Option Bytes) → signed_text sign text ≡ led sign text

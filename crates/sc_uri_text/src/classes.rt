@@ -4,26 +4,25 @@ ghost use Rattle.std.specs.Prelude.{◌≡◌, false, slice_get};
 ghost use Rattle.std.specs.List.{list_all};
 ghost use Rattle.std.specs.Option.{option_map_or};
 ghost use Rattle.std.specs.Char.{is_ascii_alphabetic};
-ghost use Rattle.sc_syntax.specs.Bytes.{is_closed, is_host_byte, is_mark, is_open, is_param_byte, is_param_sign, is_scheme_byte};
-ghost use Rattle.sc_syntax.specs.Hosts.{is_host_name};
-ghost use Rattle.sc_syntax.specs.UriParts.{is_param_name};
-ghost use Rattle.sc_syntax.specs.Uris.{is_scheme};
+ghost use Rattle.sc_tokens.specs.Bytes.{is_closed, is_host_byte, is_mark, is_open, is_param_byte, is_param_sign, is_scheme_byte};
+ghost use Rattle.sc_tokens.specs.Hosts.{is_host_name};
+ghost use Rattle.sc_tokens.specs.UriTokens.{is_param_name, is_scheme};
 
-#[tactic(auto, unfolding(sc_syntax::specs::Bytes::is_host_byte))]
+#[tactic(auto, unfolding(sc_tokens::specs::Bytes::is_host_byte))]
 fn is_host_byte(b: u8) -> bool
     ensures { result ≡ is_host_byte b }
 {
     b.is_ascii_alphanumeric() || b == b'-' || b == b'.'
 }
 
-#[tactic(auto, unfolding(sc_syntax::specs::Bytes::is_scheme_byte))]
+#[tactic(auto, unfolding(sc_tokens::specs::Bytes::is_scheme_byte))]
 fn is_scheme_byte(b: u8) -> bool
     ensures { result ≡ is_scheme_byte b }
 {
     is_host_byte(b) || b == b'+'
 }
 
-#[tactic(auto, unfolding(sc_syntax::specs::Bytes::is_mark))]
+#[tactic(auto, unfolding(sc_tokens::specs::Bytes::is_mark))]
 fn is_mark(b: u8) -> bool
     ensures { result ≡ is_mark b }
 {
@@ -38,7 +37,7 @@ fn is_mark(b: u8) -> bool
         || b == b')'
 }
 
-#[tactic(auto, unfolding(sc_syntax::specs::Bytes::is_param_sign))]
+#[tactic(auto, unfolding(sc_tokens::specs::Bytes::is_param_sign))]
 fn is_param_sign(b: u8) -> bool
     ensures { result ≡ is_param_sign b }
 {
@@ -52,14 +51,14 @@ fn is_param_sign(b: u8) -> bool
         || b == b'%'
 }
 
-#[tactic(auto, unfolding(sc_syntax::specs::Bytes::is_param_byte))]
+#[tactic(auto, unfolding(sc_tokens::specs::Bytes::is_param_byte))]
 fn is_param_byte(b: u8) -> bool
     ensures { result ≡ is_param_byte b }
 {
     b.is_ascii_alphanumeric() || is_mark(b) || is_param_sign(b)
 }
 
-#[tactic(auto, unfolding(sc_syntax::specs::Bytes::is_closed))]
+#[tactic(auto, unfolding(sc_tokens::specs::Bytes::is_closed))]
 fn is_closed(b: u8) -> bool
     ensures { result ≡ is_closed b }
 {
@@ -67,7 +66,7 @@ fn is_closed(b: u8) -> bool
 }
 
 // Whether no byte of the text is a blank, an angle bracket, CR, LF or NUL.
-#[tactic(auto, unfolding(sc_syntax::specs::Bytes::is_open))]
+#[tactic(auto, unfolding(sc_tokens::specs::Bytes::is_open))]
 pub fn is_open(text: &[u8]) -> bool
     ensures { result ≡ is_open text.now }
 {
@@ -75,7 +74,7 @@ pub fn is_open(text: &[u8]) -> bool
 }
 
 // One or more letters, digits, `-` and `.`.
-#[tactic(auto, unfolding(sc_syntax::specs::Hosts::is_host_name))]
+#[tactic(auto, unfolding(sc_tokens::specs::Hosts::is_host_name))]
 pub fn is_host_name(text: &[u8]) -> bool
     ensures { result ≡ is_host_name text.now }
 {
@@ -89,7 +88,7 @@ fn has_host_bytes(text: &[u8]) -> bool
 }
 
 // One or more bytes of a parameter.
-#[tactic(auto, unfolding(sc_syntax::specs::UriParts::is_param_name))]
+#[tactic(auto, unfolding(sc_tokens::specs::UriTokens::is_param_name))]
 pub fn is_param_name(text: &[u8]) -> bool
     ensures { result ≡ is_param_name text.now }
 {
@@ -103,7 +102,7 @@ pub fn has_param_bytes(text: &[u8]) -> bool
 }
 
 // A letter, then letters, digits, `+`, `-` and `.`.
-#[tactic(auto, unfolding(sc_syntax::specs::Uris::is_scheme))]
+#[tactic(auto, unfolding(sc_tokens::specs::UriTokens::is_scheme))]
 pub fn is_scheme(text: &[u8]) -> bool
     ensures { result ≡ is_scheme text.now }
 {

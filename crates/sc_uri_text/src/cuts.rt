@@ -3,8 +3,8 @@
 ghost use Rattle.std.specs.Prelude.{◌≡◌, ◌≤◌, ◌<◌, ◌==◌, ◌+◌, IfSome, IsTrue, length};
 ghost use Rattle.std.specs.List.{position_or_len};
 ghost use Rattle.std.specs.Option.{option_copied};
-ghost use Rattle.sc_syntax.specs.Cuts.{before, after};
-ghost use Rattle.sc_syntax.specs.Hosts.{begins};
+ghost use Rattle.sc_tokens.specs.Cuts.{before, after};
+ghost use Rattle.sc_tokens.specs.Hosts.{begins};
 
 // The first place of the sign, or the length.
 pub fn place_or_len(text: &[u8], sign: u8) -> usize
@@ -20,7 +20,7 @@ pub fn place_or_len(text: &[u8], sign: u8) -> usize
 }
 
 /// What stands before the first such sign, or all, and what stands after it, where there is one.
-#[tactic(auto, unfolding(sc_syntax::specs::Cuts::before, sc_syntax::specs::Cuts::after))]
+#[tactic(auto, unfolding(sc_tokens::specs::Cuts::before, sc_tokens::specs::Cuts::after))]
 pub fn cut(text: &[u8], sign: u8) -> (&[u8], Option<&[u8]>)
     ensures front { result.0.now ≡ before sign text.now }
     ensures rest { option_copied result.1 ≡ after sign text.now }
@@ -36,7 +36,7 @@ pub fn cut(text: &[u8], sign: u8) -> (&[u8], Option<&[u8]>)
 }
 
 /// Whether the text begins with this byte.
-#[tactic(auto, unfolding(sc_syntax::specs::Hosts::begins))]
+#[tactic(auto, unfolding(sc_tokens::specs::Hosts::begins))]
 pub fn begins(text: &[u8], sign: u8) -> bool
     ensures exact { result ≡ begins sign text.now }
     ensures within { IsTrue result → 0 < length text.now }

@@ -3,9 +3,9 @@
 ghost use Rattle.std.specs.Prelude.{◌≡◌, ◌≤◌, ◌+◌, IfSome, IsTrue, is_some, length};
 ghost use Rattle.std.specs.List.{list_all};
 ghost use Rattle.std.specs.Char.{is_ascii_hexdigit};
-ghost use Rattle.sc_syntax.specs.Numbers.{number_below};
-ghost use Rattle.sc_syntax.specs.Cuts.{pieces};
-ghost use Rattle.sc_syntax.specs.Hosts.{begins_gap, gap_of, groups, groups_in, groups_of, host_len, is_group, is_host, is_ipv4, is_ipv6, is_literal_end, is_octet};
+ghost use Rattle.sc_tokens.specs.Numbers.{number_below};
+ghost use Rattle.sc_tokens.specs.Cuts.{pieces};
+ghost use Rattle.sc_tokens.specs.Hosts.{begins_gap, gap_of, groups, groups_in, groups_of, host_len, is_group, is_host, is_ipv4, is_ipv6, is_literal_end, is_octet};
 
 use crate::classes::is_host_name;
 use crate::cuts::{begins, cut, place_or_len};
@@ -13,7 +13,7 @@ use sc_ascii::read_u64;
 
 /// Whether the text is a host: a name of letters, digits, `-` and `.`, or an IPv6 literal in its
 /// brackets (RFC 3261 section 25.1).
-#[tactic(auto, unfolding(sc_syntax::specs::Hosts::is_host))]
+#[tactic(auto, unfolding(sc_tokens::specs::Hosts::is_host))]
 pub fn is_host(text: &[u8]) -> bool
     ensures { result ≡ is_host text.now }
 {
@@ -25,7 +25,7 @@ pub fn is_host(text: &[u8]) -> bool
 }
 
 // How many bytes of a host with its port are the host's.
-#[tactic(auto, unfolding(sc_syntax::specs::Hosts::host_len))]
+#[tactic(auto, unfolding(sc_tokens::specs::Hosts::host_len))]
 pub fn host_len(text: &[u8]) -> usize
     ensures exact { result ≡ host_len text.now }
     ensures within { result ≤ length text.now }
@@ -37,7 +37,7 @@ pub fn host_len(text: &[u8]) -> usize
     }
 }
 
-#[tactic(auto, unfolding(sc_syntax::specs::Hosts::is_literal_end, sc_syntax::specs::Hosts::is_none_left))]
+#[tactic(auto, unfolding(sc_tokens::specs::Hosts::is_literal_end, sc_tokens::specs::Hosts::is_none_left))]
 fn is_literal_end(text: &[u8]) -> bool
     ensures { result ≡ is_literal_end text.now }
 {
@@ -48,7 +48,7 @@ fn is_literal_end(text: &[u8]) -> bool
 }
 
 // With `::` the groups number at most seven, else eight.
-#[tactic(auto, unfolding(sc_syntax::specs::Hosts::is_ipv6, sc_syntax::specs::Hosts::leaves_gap, sc_syntax::specs::Hosts::sum_of, sc_syntax::specs::Hosts::is_full))]
+#[tactic(auto, unfolding(sc_tokens::specs::Hosts::is_ipv6, sc_tokens::specs::Hosts::leaves_gap, sc_tokens::specs::Hosts::sum_of, sc_tokens::specs::Hosts::is_full))]
 fn is_ipv6(text: &[u8]) -> bool
     ensures { result ≡ is_ipv6 text.now }
 {
@@ -78,7 +78,7 @@ fn gap_of(text: &[u8]) -> Option<usize>
     None
 }
 
-#[tactic(auto, unfolding(sc_syntax::specs::Hosts::begins_gap))]
+#[tactic(auto, unfolding(sc_tokens::specs::Hosts::begins_gap))]
 fn begins_gap(text: &[u8]) -> bool
     ensures exact { result ≡ begins_gap text.now }
     ensures within { IsTrue result → 2 ≤ length text.now }
@@ -87,7 +87,7 @@ fn begins_gap(text: &[u8]) -> bool
 }
 
 // How many groups of 16 bits the text has, colons between; None where a part is no group.
-#[tactic(auto, unfolding(sc_syntax::specs::Hosts::groups))]
+#[tactic(auto, unfolding(sc_tokens::specs::Hosts::groups))]
 fn groups(text: &[u8], ipv4: bool) -> Option<usize>
     ensures exact { result ≡ groups ipv4 text.now }
     ensures within { IfSome result (λ n. n ≤ length text.now + 2) }
@@ -124,7 +124,7 @@ fn groups_in(text: &[u8], ipv4: bool) -> Option<usize>
     }
 }
 
-#[tactic(auto, unfolding(sc_syntax::specs::Hosts::groups_of))]
+#[tactic(auto, unfolding(sc_tokens::specs::Hosts::groups_of))]
 fn groups_of(piece: &[u8], ipv4: bool) -> Option<usize>
     ensures exact { result ≡ groups_of ipv4 piece.now }
     ensures few { IfSome result (λ n. n ≤ 2) }
@@ -160,7 +160,7 @@ fn is_ipv4(text: &[u8]) -> bool
 }
 
 // A number up to 255 without leading zero.
-#[tactic(auto, unfolding(sc_syntax::specs::Hosts::is_octet))]
+#[tactic(auto, unfolding(sc_tokens::specs::Hosts::is_octet))]
 fn is_octet(text: &[u8]) -> bool
     ensures { result ≡ is_octet text.now }
 {
@@ -178,7 +178,7 @@ fn is_byte(text: &[u8]) -> bool
 }
 
 // One to four hexadecimal digits.
-#[tactic(auto, unfolding(sc_syntax::specs::Hosts::is_group))]
+#[tactic(auto, unfolding(sc_tokens::specs::Hosts::is_group))]
 fn is_group(text: &[u8]) -> bool
     ensures { result ≡ is_group text.now }
 {

@@ -2,8 +2,9 @@
 
 ghost use Rattle.std.specs.Prelude.{◌≡◌, ◌≤◌, ◌+◌, ◌^◌, ◌++◌, ◌∷◌, [], IfSome, OnOk, length};
 ghost use Rattle.std.specs.Option.{option_copied};
-ghost use Rattle.sc_syntax.specs.Cuts.{pieces};
-ghost use Rattle.sc_syntax.specs.UriParts.{is_param_value, param_at, params_at, params_in};
+ghost use Rattle.sc_tokens.specs.Cuts.{pieces};
+ghost use Rattle.sc_tokens.specs.UriTokens.{is_param_value};
+ghost use Rattle.sc_syntax.specs.UriParts.{param_at, params_at, params_in};
 ghost use Rattle.sc_uri_text.specs.Answers.{IsRead};
 
 use crate::UriRefused;
@@ -70,7 +71,7 @@ fn read_param(alloc: Global, text: &[u8], at: usize) -> Result<Param, UriRefused
     Ok(Param { name, value })
 }
 
-#[tactic(auto, unfolding(sc_syntax::specs::UriParts::is_param_value))]
+#[tactic(auto, unfolding(sc_tokens::specs::UriTokens::is_param_value))]
 fn is_param_value(value: Option<&[u8]>) -> bool
     ensures { result ≡ is_param_value (option_copied value.entry) }
 {

@@ -1,4 +1,9 @@
-pub mod HeaderNames
 pub mod Lists
 pub mod Params
-pub mod Tokens
+pub mod ParamRules
+pub mod SequenceValues
+pub mod UriValues
+pub mod ViaValues
+pub mod AddressValues
+pub mod ContactRules
+pub mod OtherFields

@@ -1,17 +1,8 @@
--- Names of headers and parameters, and looking a parameter up (RFC 3261 sections 7.3.1 and 19.1.4).
-use Rattle.std.specs.Prelude.{List, ℕ, Bool, Option, map, codes, nat_eq, option_and_then}
+-- Looking a parameter up by its name (RFC 3261 sections 7.3.1 and 19.1.4).
+use Rattle.std.specs.Prelude.{List, ℕ, Bool, Option, codes, option_and_then}
 use Rattle.std.specs.List.{find}
-use Rattle.std.specs.Char.{to_ascii_lowercase}
-use Rattle.std.specs.Cmp.Lexicographic.{pointwise}
+use Rattle.sc_tokens.specs.Names.{same_name}
 use Rattle.sc_value.specs.declared.parts.Param.{Param}
-
--- the two texts have the same bytes
-abbrev pub same_bytes : List ℕ → List ℕ → Bool
-same_bytes a b = pointwise nat_eq a b
-
--- the two names are the same without case
-unfoldable pub same_name : List ℕ → List ℕ → Bool
-same_name a b = same_bytes (map to_ascii_lowercase a) (map to_ascii_lowercase b)
 
 unfoldable pub tag_name : List ℕ
 tag_name = codes "tag"

@@ -1,6 +1,8 @@
 //! Messages (RFC 3261 section 7).
 
-use crate::{Address, CSeq, Contact, Field, List, Place, Text, Uri, Via};
+use crate::{
+    Address, CSeq, Contact, HeaderValue, List, Others, Place, Reason, Text, Token, Uri, Via,
+};
 
 /// The headers and the body of a message. Max-Forwards stands in the request, and Content-Length
 /// is the length of the body.
@@ -11,18 +13,18 @@ pub struct Head {
     pub record_route: List<Address>,
     pub from: Address,
     pub to: Address,
-    pub call_id: Text,
+    pub call_id: HeaderValue,
     pub cseq: CSeq,
     pub contact: List<Contact>,
     /// The headers without structure, in order.
-    pub others: List<Field>,
+    pub others: Others,
     pub body: Text,
 }
 
 /// A request (RFC 3261 section 7.1).
 #[derive(Drop)]
 pub struct Request {
-    pub method: Text,
+    pub method: Token,
     pub uri: Uri,
     /// Max-Forwards; 70 where the request had none.
     pub hops: u8,
@@ -34,7 +36,7 @@ pub struct Request {
 pub struct Response {
     /// The status code, 100 to 699.
     pub code: u16,
-    pub reason: Text,
+    pub reason: Reason,
     pub head: Head,
 }
 

@@ -3,8 +3,8 @@
 ghost use Rattle.std.specs.Prelude.{◌≡◌, IfOk};
 
 use crate::{
-    Address, CSeq, CloneIn, Contact, Field, Head, List, Message, NoMemory, Request, Response, Same,
-    Text, Via,
+    Address, CSeq, CloneIn, Contact, Head, HeaderValue, List, Message, NoMemory, Others, Request,
+    Response, Same, Text, Via,
 };
 use std::alloc::Global;
 
@@ -21,7 +21,7 @@ struct Routing {
 struct Names {
     from: Address,
     to: Address,
-    call_id: Text,
+    call_id: HeaderValue,
     cseq: CSeq,
 }
 
@@ -29,7 +29,7 @@ struct Names {
 #[derive(Drop)]
 struct Content {
     contact: List<Contact>,
-    others: List<Field>,
+    others: Others,
     body: Text,
 }
 

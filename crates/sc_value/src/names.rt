@@ -2,11 +2,11 @@
 
 ghost use Rattle.std.specs.Prelude.{◌≡◌, ◌||◌, Bool};
 ghost use Rattle.std.specs.Option.{option_copied};
-ghost use Rattle.sc_value.specs.HeaderNames.{long_of, long_name, is_system_name, is_dialog_name, is_routing_name};
-ghost use Rattle.sc_value.specs.Params.{same_name};
+ghost use Rattle.sc_tokens.specs.HeaderNames.{long_of, long_name, is_system_name, is_dialog_name, is_routing_name};
+ghost use Rattle.sc_tokens.specs.Names.{same_name};
 
 /// Whether two names are the same without case (RFC 3261 section 7.3.1).
-#[tactic(auto, unfolding(crate::specs::Params::same_name))]
+#[tactic(auto, unfolding(sc_tokens::specs::Names::same_name))]
 pub fn same_name(a: &[u8], b: &[u8]) -> bool
     ensures { result ≡ same_name a.now b.now }
 {
@@ -14,7 +14,7 @@ pub fn same_name(a: &[u8], b: &[u8]) -> bool
 }
 
 /// The name of a header, a compact one as its long one (RFC 3261 section 7.3.3).
-#[tactic(auto, unfolding(crate::specs::HeaderNames::long_name))]
+#[tactic(auto, unfolding(sc_tokens::specs::HeaderNames::long_name))]
 pub fn long_name(name: &[u8]) -> &[u8]
     ensures { result.now ≡ long_name name.now }
 {
@@ -27,7 +27,7 @@ pub fn long_name(name: &[u8]) -> &[u8]
     }
 }
 
-#[tactic(auto, unfolding(crate::specs::HeaderNames::long_of, crate::specs::HeaderNames::call_id_name, crate::specs::HeaderNames::contact_name, crate::specs::HeaderNames::content_encoding_name, crate::specs::HeaderNames::content_length_name, crate::specs::HeaderNames::content_type_name, crate::specs::HeaderNames::from_name, crate::specs::HeaderNames::subject_name, crate::specs::HeaderNames::supported_name, crate::specs::HeaderNames::to_name, crate::specs::HeaderNames::via_name))]
+#[tactic(auto, unfolding(sc_tokens::specs::HeaderNames::long_of, sc_tokens::specs::HeaderNames::call_id_name, sc_tokens::specs::HeaderNames::contact_name, sc_tokens::specs::HeaderNames::content_encoding_name, sc_tokens::specs::HeaderNames::content_length_name, sc_tokens::specs::HeaderNames::content_type_name, sc_tokens::specs::HeaderNames::from_name, sc_tokens::specs::HeaderNames::subject_name, sc_tokens::specs::HeaderNames::supported_name, sc_tokens::specs::HeaderNames::to_name, sc_tokens::specs::HeaderNames::via_name))]
 fn long_of(letter: u8) -> Option<&'static [u8]>
     ensures { option_copied result ≡ long_of letter }
 {
@@ -47,7 +47,7 @@ fn long_of(letter: u8) -> Option<&'static [u8]>
 }
 
 /// Whether a name, long or compact, is that of a header which the container sets itself.
-#[tactic(auto, unfolding(crate::specs::HeaderNames::is_system_name))]
+#[tactic(auto, unfolding(sc_tokens::specs::HeaderNames::is_system_name))]
 pub fn is_system_name(name: &[u8]) -> bool
     ensures { result ≡ is_system_name name.now }
 {
@@ -55,7 +55,7 @@ pub fn is_system_name(name: &[u8]) -> bool
     is_dialog_name(long) || is_routing_name(long)
 }
 
-#[tactic(auto, unfolding(crate::specs::HeaderNames::is_dialog_name, crate::specs::HeaderNames::call_id_name, crate::specs::HeaderNames::cseq_name, crate::specs::HeaderNames::from_name, crate::specs::HeaderNames::to_name, crate::specs::HeaderNames::contact_name))]
+#[tactic(auto, unfolding(sc_tokens::specs::HeaderNames::is_dialog_name, sc_tokens::specs::HeaderNames::call_id_name, sc_tokens::specs::HeaderNames::cseq_name, sc_tokens::specs::HeaderNames::from_name, sc_tokens::specs::HeaderNames::to_name, sc_tokens::specs::HeaderNames::contact_name))]
 fn is_dialog_name(name: &[u8]) -> bool
     ensures { result ≡ is_dialog_name name.now }
 {
@@ -66,7 +66,7 @@ fn is_dialog_name(name: &[u8]) -> bool
         || same_name(name, b"Contact")
 }
 
-#[tactic(auto, unfolding(crate::specs::HeaderNames::is_routing_name, crate::specs::HeaderNames::via_name, crate::specs::HeaderNames::route_name, crate::specs::HeaderNames::record_route_name, crate::specs::HeaderNames::max_forwards_name, crate::specs::HeaderNames::content_length_name))]
+#[tactic(auto, unfolding(sc_tokens::specs::HeaderNames::is_routing_name, sc_tokens::specs::HeaderNames::via_name, sc_tokens::specs::HeaderNames::route_name, sc_tokens::specs::HeaderNames::record_route_name, sc_tokens::specs::HeaderNames::max_forwards_name, sc_tokens::specs::HeaderNames::content_length_name))]
 fn is_routing_name(name: &[u8]) -> bool
     ensures { result ≡ is_routing_name name.now }
 {

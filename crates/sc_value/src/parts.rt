@@ -4,7 +4,8 @@ ghost use Rattle.std.specs.Prelude.{◌≡◌, position};
 ghost use Rattle.std.specs.Option.{option_copied};
 ghost use Rattle.sc_value.specs.Params.{param_value, branch_name, tag_name, is_named};
 
-use crate::{List, Text, same_name};
+use crate::{List, OtherUri, Text, Token, same_name};
+use std::marker::Model;
 
 /// A parameter of a URI, an address or a Via: `;name` or `;name=value`. An empty value is not the
 /// same as none.
@@ -25,11 +26,21 @@ pub struct SipUri {
     pub headers: Option<Text>,
 }
 
+impl Model for SipUri {
+    ghost use Rattle.sc_value.specs.UriValues.{SipValue, IsSip};
+
+    ghost Value = { SipValue };
+
+    ghost view = { λ u. record { user = u.user; host = u.host; port = u.port; params = u.params; headers = u.headers } };
+
+    ghost invariant = { λ u. IsSip (record { user = u.user; host = u.host; port = u.port; params = u.params; headers = u.headers }) };
+}
+
 /// A `sip:` URI in its parts, or a URI of another scheme as written.
 #[derive(Drop)]
 pub enum Uri {
     Sip(SipUri),
-    Other(Text),
+    Other(OtherUri),
 }
 
 /// An address with its header parameters (RFC 3261 section 20.10). The display is as written, with
@@ -39,6 +50,16 @@ pub struct Address {
     pub display: Option<Text>,
     pub uri: Uri,
     pub params: List<Param>,
+}
+
+impl Model for Address {
+    ghost use Rattle.sc_value.specs.AddressValues.{AddressValue, IsAddress};
+
+    ghost Value = { AddressValue };
+
+    ghost view = { λ a. record { display = a.display; uri = a.uri; params = a.params } };
+
+    ghost invariant = { λ a. IsAddress (record { display = a.display; uri = a.uri; params = a.params }) };
 }
 
 /// An item of a Contact header: `*` or an address.
@@ -57,11 +78,31 @@ pub struct Via {
     pub params: List<Param>,
 }
 
+impl Model for Via {
+    ghost use Rattle.sc_value.specs.ViaValues.{ViaValue, IsVia};
+
+    ghost Value = { ViaValue };
+
+    ghost view = { λ v. record { transport = v.transport; host = v.host; port = v.port; params = v.params } };
+
+    ghost invariant = { λ v. IsVia (record { transport = v.transport; host = v.host; port = v.port; params = v.params }) };
+}
+
 /// The sequence number of a request with its method (RFC 3261 section 20.16).
 #[derive(Drop)]
 pub struct CSeq {
     pub number: u32,
-    pub method: Text,
+    pub method: Token,
+}
+
+impl Model for CSeq {
+    ghost use Rattle.sc_value.specs.SequenceValues.{Sequence, IsCSeq};
+
+    ghost Value = { Sequence };
+
+    ghost view = { λ c. record { number = c.number; method = c.method } };
+
+    ghost invariant = { λ c. IsCSeq (record { number = c.number; method = c.method }) };
 }
 
 /// A header that has no structure here: its name, never in compact form, and its value.

@@ -2,10 +2,10 @@
 
 ghost use Rattle.std.specs.Prelude.{◌≡◌};
 ghost use Rattle.std.specs.List.{list_all};
-ghost use Rattle.sc_value.specs.Tokens.{is_token, is_token_byte, is_value, is_one_line, is_line_break, is_blank, begins_blank, ends_blank};
+ghost use Rattle.sc_tokens.specs.Tokens.{is_token, is_token_byte, is_value, is_one_line, is_line_break, is_blank, begins_blank, ends_blank};
 
 /// Whether the text is a token: one or more letters, digits and bytes of ``-.!%*_+`'~``.
-#[tactic(auto, unfolding(crate::specs::Tokens::is_token))]
+#[tactic(auto, unfolding(sc_tokens::specs::Tokens::is_token))]
 pub fn is_token(text: &[u8]) -> bool
     ensures { result ≡ is_token text.now }
 {
@@ -21,7 +21,7 @@ fn has_token_bytes(text: &[u8]) -> bool
     text.iter().all(|b| is_token_byte(*b))
 }
 
-#[tactic(auto, unfolding(crate::specs::Tokens::is_token_byte))]
+#[tactic(auto, unfolding(sc_tokens::specs::Tokens::is_token_byte))]
 fn is_token_byte(b: u8) -> bool
     ensures { result ≡ is_token_byte b }
 {
@@ -39,14 +39,14 @@ fn is_token_byte(b: u8) -> bool
 }
 
 /// Whether the text has neither CR, LF nor NUL.
-#[tactic(auto, unfolding(crate::specs::Tokens::is_one_line))]
+#[tactic(auto, unfolding(sc_tokens::specs::Tokens::is_one_line))]
 pub fn is_one_line(text: &[u8]) -> bool
     ensures { result ≡ is_one_line text.now }
 {
     text.iter().all(|b| !is_line_break(*b))
 }
 
-#[tactic(auto, unfolding(crate::specs::Tokens::is_line_break))]
+#[tactic(auto, unfolding(sc_tokens::specs::Tokens::is_line_break))]
 fn is_line_break(b: u8) -> bool
     ensures { result ≡ is_line_break b }
 {
@@ -54,21 +54,21 @@ fn is_line_break(b: u8) -> bool
 }
 
 /// Whether the text can be the value of a header: neither CR, LF nor NUL, and no blank at an end.
-#[tactic(auto, unfolding(crate::specs::Tokens::is_value))]
+#[tactic(auto, unfolding(sc_tokens::specs::Tokens::is_value))]
 pub fn is_value(text: &[u8]) -> bool
     ensures { result ≡ is_value text.now }
 {
     is_one_line(text) && !begins_blank(text) && !ends_blank(text)
 }
 
-#[tactic(auto, unfolding(crate::specs::Tokens::is_blank))]
+#[tactic(auto, unfolding(sc_tokens::specs::Tokens::is_blank))]
 fn is_blank(b: u8) -> bool
     ensures { result ≡ is_blank b }
 {
     b == b' ' || b == b'\t'
 }
 
-#[tactic(auto, unfolding(crate::specs::Tokens::begins_blank))]
+#[tactic(auto, unfolding(sc_tokens::specs::Tokens::begins_blank))]
 fn begins_blank(text: &[u8]) -> bool
     ensures { result ≡ begins_blank text.now }
 {
@@ -78,7 +78,7 @@ fn begins_blank(text: &[u8]) -> bool
     }
 }
 
-#[tactic(auto, unfolding(crate::specs::Tokens::ends_blank))]
+#[tactic(auto, unfolding(sc_tokens::specs::Tokens::ends_blank))]
 fn ends_blank(text: &[u8]) -> bool
     ensures { result ≡ ends_blank text.now }
 {

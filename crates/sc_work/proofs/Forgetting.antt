@@ -8,7 +8,8 @@ use Rattle.sc_state.specs.declared.working.Asked.TheVariants as asked
 use Rattle.sc_state.specs.declared.working.Working.{Working}
 use Rattle.sc_state.specs.declared.working.Written.{Written}
 use Rattle.sc_model.specs.Dialogs.{DialogState}
-use Rattle.sc_hosts.specs.Working.{forgets, sends_written, sends_initial, sends_in, sends_later, keeps_sent, dialog_in}
+use Rattle.sc_hosts.specs.Giving.{forgets}
+use Rattle.sc_hosts.specs.Working.{sends_written, sends_initial, sends_in, sends_later, keeps_sent, dialog_in}
 
 forgets_in : (config : Config) (sess : SessId) (ask : Inside) (dialog : Option DialogState) (number : ℕ) (working : Working) → forgets number (sends_in config sess ask dialog working) ≡ sends_in config sess ask dialog (forgets number working)
 unfolding forgets sends_in sends_later keeps_sent

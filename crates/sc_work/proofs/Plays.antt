@@ -23,7 +23,8 @@ use Rattle.sc_hosts.specs.Looking.{request_in}
 use Rattle.sc_hosts.specs.Preparing.{kept_of}
 use Rattle.sc_hosts.specs.Refusals.{awaits_ack, begun_by}
 use Rattle.sc_hosts.specs.RefusalParts.{draft_in}
-use Rattle.sc_hosts.specs.Working.{answering, writes, drafts_own, drafts_later, drafts_leg, is_written, directs, forgets, keeps_sent, sends_initial, sends_later, dialog_in, sends_in, sends_written, sends, ack_with, acknowledges, cancels, invalidates, does, does_by}
+use Rattle.sc_hosts.specs.Giving.{answering, writes, drafts_own, drafts_later, drafts_leg, is_written, directs, forgets}
+use Rattle.sc_hosts.specs.Working.{keeps_sent, sends_initial, sends_later, dialog_in, sends_in, sends_written, sends, ack_with, acknowledges, cancels, invalidates, does, does_by}
 
 answering_play : (config : Config) (request : Option RequestView) (answer : Answer) (working : Working) → (answering config request answer working).play ≡ working.play
 unfolding answering

@@ -1,7 +1,7 @@
 -- What the end of SipSessions sends, piece by piece.
 use Rattle.std.specs.Prelude.{ℕ, List, [], Bool, true, ◌&&◌, Option, None, Some, if◌then◌else◌, map}
 use Rattle.sc_value.specs.declared.ids.SessId.{SessId}
-use Rattle.sc_value.specs.Params.{same_bytes}
+use Rattle.sc_tokens.specs.Names.{same_bytes}
 use Rattle.sc_terms.specs.declared.settings.Config.{Config}
 use Rattle.sc_terms.specs.declared.views.RequestView.{RequestView}
 use Rattle.sc_terms.specs.declared.views.View.{View}

@@ -13,7 +13,8 @@ use Rattle.sc_state.specs.declared.working.Working.{Working}
 use Rattle.sc_state.specs.declared.working.Written.{Written}
 use Rattle.sc_hosts.specs.Legs.{change_leg}
 use Rattle.sc_hosts.specs.Messages.{on_branch}
-use Rattle.sc_hosts.specs.Working.{giving, keeps_sent, next_branch, router_state, worked}
+use Rattle.sc_hosts.specs.Giving.{giving}
+use Rattle.sc_hosts.specs.Working.{keeps_sent, next_branch, router_state, worked}
 
 unfoldable pub directed : Directive → Option ReqId → Written → Written
 directed directive origin draft = record draft { directive = directive; origin = origin }

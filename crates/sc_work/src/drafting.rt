@@ -6,10 +6,10 @@ ghost use Rattle.std.specs.Option.{option_copied};
 ghost use Rattle.sc_value.specs.Lists.{change_first, remove_first};
 ghost use Rattle.sc_value.specs.declared.ids.Directive.{Directive};
 ghost use Rattle.sc_state.specs.declared.working.Asked.{Asked};
-ghost use Rattle.sc_hosts.specs.Effects.{new_call_id, new_tag};
+ghost use Rattle.sc_hosts.specs.ViewChanges.{new_call_id, new_tag};
 ghost use Rattle.sc_hosts.specs.Messages.{asked_request, leg_request};
 ghost use Rattle.sc_hosts.specs.Preparing.{kept_of};
-ghost use Rattle.sc_hosts.specs.Working.{writes, with_leg, drafts_own, drafts_later, drafts_leg, is_written, directs, forgets};
+ghost use Rattle.sc_hosts.specs.Giving.{writes, with_leg, drafts_own, drafts_later, drafts_leg, is_written, directs, forgets};
 ghost use Rattle.sc_work.specs.Pieces.{directed};
 
 use sc_effects::{kept_of, new_call_id, new_tag};
@@ -20,7 +20,7 @@ use sc_terms::{Ask, Inside, View};
 use sc_value::{CloneIn, Directive, NoMemory, ReqId, Request, Shared, Uri, sum_u32};
 use std::alloc::Global;
 
-#[tactic(auto, unfolding(sc_hosts::specs::Working::writes))]
+#[tactic(auto, unfolding(sc_hosts::specs::Giving::writes))]
 fn writes(working: &mut Working, draft: Written) -> Result<(), NoMemory>
     ensures { OnOk result (working.new ≡ writes draft working.old) }
 {
@@ -46,7 +46,7 @@ fn own_request(alloc: Global, view: &View, ask: &Ask) -> Result<Shared<Request>,
 }
 
 /// Writes the draft of an initial request.
-#[tactic(auto, unfolding(sc_hosts::specs::Working::drafts_own))]
+#[tactic(auto, unfolding(sc_hosts::specs::Giving::drafts_own))]
 pub fn drafts_own(alloc: Global, ask: &Ask, working: &mut Working) -> Result<(), NoMemory>
     ensures { OnOk result (working.new ≡ drafts_own ask.now working.old) }
 {
@@ -63,7 +63,7 @@ pub fn drafts_own(alloc: Global, ask: &Ask, working: &mut Working) -> Result<(),
 }
 
 /// Writes the draft of a request in a dialog.
-#[tactic(auto, unfolding(sc_hosts::specs::Working::drafts_later))]
+#[tactic(auto, unfolding(sc_hosts::specs::Giving::drafts_later))]
 pub fn drafts_later(alloc: Global, ask: &Inside, working: &mut Working) -> Result<(), NoMemory>
     ensures { OnOk result (working.new ≡ drafts_later ask.now working.old) }
 {
@@ -112,7 +112,7 @@ fn leg_draft(
 }
 
 /// Writes the draft of a received request's second leg.
-#[tactic(auto, unfolding(sc_hosts::specs::Working::drafts_leg))]
+#[tactic(auto, unfolding(sc_hosts::specs::Giving::drafts_leg))]
 pub fn drafts_leg(
     alloc: Global,
     req: ReqId,
@@ -163,7 +163,7 @@ fn direct_in(written: &mut [Written], number: u32, directive: Directive, origin:
 }
 
 /// Says how the router goes on for a draft.
-#[tactic(auto, unfolding(sc_hosts::specs::Working::directs, crate::specs::Pieces::directed))]
+#[tactic(auto, unfolding(sc_hosts::specs::Giving::directs, crate::specs::Pieces::directed))]
 pub fn directs(number: u32, directive: Directive, origin: Option<ReqId>, working: &mut Working)
     ensures { working.new ≡ directs number directive origin working.old }
 {
@@ -171,7 +171,7 @@ pub fn directs(number: u32, directive: Directive, origin: Option<ReqId>, working
 }
 
 /// Forgets a draft.
-#[tactic(auto, unfolding(sc_hosts::specs::Working::forgets), using(sc_value::proofs::ListFacts::remove_first_position, sc_value::proofs::ListFacts::remove_first_none))]
+#[tactic(auto, unfolding(sc_hosts::specs::Giving::forgets), using(sc_value::proofs::ListFacts::remove_first_position, sc_value::proofs::ListFacts::remove_first_none))]
 pub fn forgets(number: u32, working: &mut Working)
     ensures { working.new ≡ forgets number working.old }
 {

@@ -8,7 +8,8 @@ ghost use Rattle.sc_hosts.specs.Branches.{new_proxy, with_targets};
 ghost use Rattle.sc_hosts.specs.Looking.{same_request};
 ghost use Rattle.sc_hosts.specs.PreparingResponses.{change_proxy};
 ghost use Rattle.sc_hosts.specs.Preparing.{kept_of};
-ghost use Rattle.sc_hosts.specs.Working.{cancels, event_of, proxies, proxies_first, giving};
+ghost use Rattle.sc_hosts.specs.Giving.{giving};
+ghost use Rattle.sc_hosts.specs.Working.{cancels, event_of, proxies, proxies_first};
 
 use sc_branches::{new_proxy, with_targets};
 use sc_effects::{kept_of, proxy_of, proxy_place};

@@ -6,7 +6,7 @@ ghost use Rattle.sc_hosts.specs.Looking.{request_in};
 ghost use Rattle.sc_hosts.specs.Messages.{given_response};
 ghost use Rattle.sc_hosts.specs.Refusals.{begun_by};
 ghost use Rattle.sc_hosts.specs.Preparing.{kept_of};
-ghost use Rattle.sc_hosts.specs.Working.{giving, answer_order, answers, answering};
+ghost use Rattle.sc_hosts.specs.Giving.{giving, answer_order, answers, answering};
 
 use sc_effects::{kept_of, own_tag_of};
 use sc_messages::given_response;
@@ -32,7 +32,7 @@ fn given(
 }
 
 // Puts the answer to a request that came at the end of a list.
-#[tactic(auto, unfolding(sc_hosts::specs::Working::answer_order))]
+#[tactic(auto, unfolding(sc_hosts::specs::Giving::answer_order))]
 fn answer_order(
     alloc: Global,
     config: &Config,
@@ -57,7 +57,7 @@ fn answer_order(
 }
 
 /// Puts the answer to a request, where it is kept and came, at the end of a list.
-#[tactic(auto, unfolding(sc_hosts::specs::Working::answers))]
+#[tactic(auto, unfolding(sc_hosts::specs::Giving::answers))]
 pub fn answers(
     alloc: Global,
     config: &Config,
@@ -98,7 +98,7 @@ fn answered_to(
 }
 
 /// Gives the answer to a request that is shown.
-#[tactic(auto, unfolding(sc_hosts::specs::Working::answering))]
+#[tactic(auto, unfolding(sc_hosts::specs::Giving::answering))]
 pub fn answering(
     alloc: Global,
     config: &Config,
@@ -112,7 +112,7 @@ pub fn answering(
 }
 
 /// Gives the answer to the request of this number.
-#[tactic(auto, unfolding(sc_hosts::specs::Working::answering))]
+#[tactic(auto, unfolding(sc_hosts::specs::Giving::answering))]
 pub fn answering_by(
     alloc: Global,
     config: &Config,
@@ -132,7 +132,7 @@ pub fn answering_by(
 }
 
 /// Gives the answer to the received request that began a SipSession.
-#[tactic(auto, unfolding(sc_hosts::specs::Working::answering))]
+#[tactic(auto, unfolding(sc_hosts::specs::Giving::answering))]
 pub fn answering_begun(
     alloc: Global,
     config: &Config,

@@ -12,7 +12,8 @@ ghost use Rattle.sc_hosts.specs.Messages.{from_here, on_branch};
 ghost use Rattle.sc_hosts.specs.Preparing.{kept_of};
 ghost use Rattle.sc_hosts.specs.Refusals.{awaits_ack};
 ghost use Rattle.sc_hosts.specs.RefusalParts.{draft_in};
-ghost use Rattle.sc_hosts.specs.Working.{router_state, next_branch, keeps_sent, sends_later, dialog_in, sends_in, sends_written, is_written, forgets, sends_initial, sends, ack_with, acknowledges};
+ghost use Rattle.sc_hosts.specs.Giving.{is_written, forgets};
+ghost use Rattle.sc_hosts.specs.Working.{router_state, next_branch, keeps_sent, sends_later, dialog_in, sends_in, sends_written, sends_initial, sends, ack_with, acknowledges};
 ghost use Rattle.sc_work.specs.Pieces.{begins, with_first};
 
 use crate::drafting::written_at;
@@ -260,7 +261,7 @@ fn sends_written(
 }
 
 // Takes what a draft was written with; it is forgotten.
-#[tactic(auto, unfolding(sc_hosts::specs::Working::forgets), using(sc_value::proofs::ListFacts::find_position, sc_value::proofs::ListFacts::find_none, sc_value::proofs::ListFacts::remove_first_position, sc_value::proofs::ListFacts::remove_first_none))]
+#[tactic(auto, unfolding(sc_hosts::specs::Giving::forgets), using(sc_value::proofs::ListFacts::find_position, sc_value::proofs::ListFacts::find_none, sc_value::proofs::ListFacts::remove_first_position, sc_value::proofs::ListFacts::remove_first_none))]
 fn take_written(working: &mut Working, number: u32) -> Option<Written>
     ensures written { result ≡ find (is_written number) working.old.written }
     ensures working { working.new ≡ forgets number working.old }
@@ -318,8 +319,9 @@ fn acknowledgement(
     ensures { IfOk result (λ r. r ≡ on_branch config.now working.now.play.view (next_branch working.now) (ack_request dialog.now kept.now.request.head.cseq.number body.now)) }
 {
     let branch = next_branch(working)?;
-    let number = kept.request.get().head.cseq.number;
-    let request = ack_request(alloc, dialog, number, body)?;
+    let cseq = &kept.request.get().head.cseq;
+    cseq.known();
+    let request = ack_request(alloc, dialog, cseq.number, body)?;
     ack_on(alloc, config, &working.play.view, branch, request)
 }
 

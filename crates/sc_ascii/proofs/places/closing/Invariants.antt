@@ -1,5 +1,5 @@
 use Rattle.std.proofs.Common.{◌≡◌, ◌-◌, length}
-use Rattle.sc_syntax.specs.Quoted.{closing}
+use Rattle.sc_tokens.specs.Quoted.{closing}
 use Rattle.sc_ascii.proofs.Closings.{closing_from}
 use Rattle.sc_ascii.proofs.places.closing.Given as goal
 

@@ -1,6 +1,6 @@
 use Rattle.std.proofs.Common.{◌≡◌, not, drop, ◌+◌}
 use Rattle.std.specs.List.{position_or_len}
-use Rattle.sc_value.specs.Tokens.{is_token_byte}
+use Rattle.sc_tokens.specs.Tokens.{is_token_byte}
 use Rattle.sc_ascii.proofs.places.token_len.Given as goal
 
 abbrev pub invariant-loop-i : goal.invariant-loop-i

@@ -3,5 +3,5 @@ use Rattle.std.specs.Prelude.{filter}
 use Rattle.sc_model.specs.BestResponses.{is_challenge}
 use Rattle.sc_best.proofs.forwarding.add_some.Given as goal
 
-abbrev pub invariant-loop-field : goal.invariant-loop-field
-invariant-loop-field l = l.fields ≡ l.fn.fields ++ filter is_challenge (take l.field-index l.others)
+abbrev pub invariant-loop-at : goal.invariant-loop-at
+invariant-loop-at l = l.fields ≡ l.fn.fields ++ filter is_challenge (take l.at l.others)

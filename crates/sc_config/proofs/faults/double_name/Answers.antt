@@ -1,6 +1,6 @@
 use Rattle.std.proofs.Common.{◌≡◌, true, false, Some, None, take, get_or, ap, sym, ◌∙◌}
 use Rattle.std.specs.List.{list_any}
-use Rattle.sc_value.specs.Params.{same_bytes}
+use Rattle.sc_tokens.specs.Names.{same_bytes}
 use Rattle.toml.specs.declared.value.Value.{Value}
 use Rattle.sc_config.specs.Documents.{Bytes}
 use Rattle.sc_config.proofs.NameLaws.{name_in, doubled_here, doubled_next, doubled_end, double_name_is}

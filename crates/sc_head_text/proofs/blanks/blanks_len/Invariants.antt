@@ -1,6 +1,6 @@
 use Rattle.std.proofs.Common.{◌≡◌, ◌+◌, drop}
 use Rattle.std.specs.List.{prefix_len}
-use Rattle.sc_value.specs.Tokens.{is_blank}
+use Rattle.sc_tokens.specs.Tokens.{is_blank}
 use Rattle.sc_head_text.proofs.blanks.blanks_len.Given as goal
 
 abbrev pub invariant-loop-i : goal.invariant-loop-i

@@ -1,6 +1,6 @@
 use Rattle.std.proofs.Common.{◌≡◌, ◌≤◌, ◌-◌, length, take}
 use Rattle.std.specs.List.{suffix_len}
-use Rattle.sc_value.specs.Tokens.{is_blank}
+use Rattle.sc_tokens.specs.Tokens.{is_blank}
 use Rattle.sc_head_text.proofs.blanks.front_len.Given as goal
 
 abbrev pub invariant-loop-len : goal.invariant-loop-len

@@ -1,7 +1,7 @@
 use Rattle.sc_syntax.specs.Sequences.{cseq_of}
 use Rattle.sc_syntax.specs.SpelledSequences.{IsCSeqSpelled}
 use Rattle.sc_syntax.proofs.SequenceLaws.{cseq_is_spelled, cseq_is_read}
-use Rattle.sc_head_text.specs.Kept.{IsCSeq}
+use Rattle.sc_value.specs.SequenceValues.{IsCSeq}
 use Rattle.sc_head_text.proofs.KeptValues.{holds_of_given, cseq_kept}
 use Rattle.sc_head_text.proofs.ValueSteps.{given_is_spelled}
 use Rattle.sc_head_text.proofs.sequences.read_cseq.Goals as goal

@@ -1,6 +1,6 @@
 use Rattle.std.proofs.Common.{◌≡◌, length}
 use Rattle.std.specs.List.{list_any}
-use Rattle.sc_value.specs.Params.{same_name}
+use Rattle.sc_tokens.specs.Names.{same_name}
 use Rattle.sc_hosts.specs.HelperParts.{items_of}
 use Rattle.sc_helpers.proofs.fields.has_item.Given as goal
 

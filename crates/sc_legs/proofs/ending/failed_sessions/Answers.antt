@@ -1,5 +1,5 @@
 use Rattle.std.proofs.Common.{arith}
-use Rattle.sc_hosts.specs.Legs.{failed_session}
+use Rattle.sc_hosts.specs.DerivedSessions.{failed_session}
 use Rattle.sc_effects.proofs.Steps.{map_step}
 use Rattle.sc_legs.proofs.ending.failed_sessions.Goals as goal
 

@@ -1,5 +1,5 @@
 use Rattle.std.proofs.Common.{◌≡◌, ◌++◌, map, take, drop}
-use Rattle.sc_hosts.specs.Legs.{failed_session}
+use Rattle.sc_hosts.specs.DerivedSessions.{failed_session}
 use Rattle.sc_legs.proofs.ending.failed_sessions.Given as goal
 
 abbrev pub invariant-loop-i : goal.invariant-loop-i

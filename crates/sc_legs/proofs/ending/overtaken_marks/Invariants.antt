@@ -1,5 +1,5 @@
 use Rattle.std.proofs.Common.{◌≡◌, map, take}
-use Rattle.sc_hosts.specs.Legs.{is_overtaken}
+use Rattle.sc_hosts.specs.DerivedSessions.{is_overtaken}
 use Rattle.sc_legs.proofs.ending.overtaken_marks.Given as goal
 
 abbrev pub invariant-loop-session : goal.invariant-loop-session

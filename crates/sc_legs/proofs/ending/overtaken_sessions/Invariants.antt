@@ -1,5 +1,5 @@
 use Rattle.std.proofs.Common.{◌≡◌, ◌++◌, map, take, drop}
-use Rattle.sc_hosts.specs.Legs.{overtaken_session}
+use Rattle.sc_hosts.specs.DerivedSessions.{overtaken_session}
 use Rattle.sc_legs.proofs.ending.overtaken_sessions.Given as goal
 
 abbrev pub invariant-loop-i : goal.invariant-loop-i

@@ -1,6 +1,6 @@
-use Rattle.std.proofs.Common.{◌∙◌, ap, sym, Ok}
-use Rattle.sc_message_text.proofs.FinishSteps.{finished_well}
+use Rattle.sc_message_text.proofs.FinishSteps.{finished_made}
 use Rattle.sc_message_text.proofs.finishing.finish_with.Goals as goal
 
-pub returns-in-Ok : goal.returns-in-Ok
-returns-in-Ok c = finished_well c.args.start c.args.lists c.args.hops c.args.length c.args.body.now c.args.peers c.in-None.ensures ∙ ap Ok (sym c.in-Ok.ensures)
+pub returns-in-None : goal.returns-in-None
+returns-in-None c =
+    finished_made c.args.start c.args.lists c.args.hops c.args.length c.as_bytes.result.now c.args.body c.args.peers c.head_of.result c.message_with.result c.as_bytes.ensures c.in-None.ensures c.head_of.ensures c.message_with.ensures

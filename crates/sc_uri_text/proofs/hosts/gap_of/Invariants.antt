@@ -1,5 +1,5 @@
 use Rattle.std.proofs.Common.{◌≡◌}
-use Rattle.sc_syntax.specs.Hosts.{gap_of}
+use Rattle.sc_tokens.specs.Hosts.{gap_of}
 use Rattle.sc_uri_text.proofs.Addresses.{gap_from}
 use Rattle.sc_uri_text.proofs.hosts.gap_of.Given as goal
 

@@ -1,6 +1,6 @@
 use Rattle.std.proofs.Common.{◌≡◌, ◌≤◌, ◌+◌, Some, length}
-use Rattle.sc_syntax.specs.Cuts.{pieces}
-use Rattle.sc_syntax.specs.Hosts.{groups_in, sum_of}
+use Rattle.sc_tokens.specs.Cuts.{pieces}
+use Rattle.sc_tokens.specs.Hosts.{groups_in, sum_of}
 use Rattle.sc_uri_text.proofs.hosts.groups_in.Given as goal
 
 abbrev pub invariant-loop-piece : goal.invariant-loop-piece

@@ -1,5 +1,5 @@
 use Rattle.std.proofs.Common.{◌≡◌, ◌≤◌, ◌+◌, length}
-use Rattle.sc_syntax.specs.Hosts.{is_ipv4}
+use Rattle.sc_tokens.specs.Hosts.{is_ipv4}
 use Rattle.sc_uri_text.proofs.Addresses.{ipv4_with}
 use Rattle.sc_uri_text.proofs.hosts.is_ipv4.Given as goal
 

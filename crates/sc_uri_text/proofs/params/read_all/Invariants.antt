@@ -1,5 +1,5 @@
 use Rattle.std.proofs.Common.{◌≡◌, ◌≤◌, ◌+◌, length}
-use Rattle.sc_syntax.specs.Cuts.{pieces}
+use Rattle.sc_tokens.specs.Cuts.{pieces}
 use Rattle.sc_syntax.specs.UriParts.{params_in}
 use Rattle.sc_uri_text.proofs.ParamSteps.{behind}
 use Rattle.sc_uri_text.proofs.params.read_all.Given as goal

@@ -1,6 +1,0 @@
-use Rattle.std.proofs.Common.{◌≡◌, not, filter, take}
-use Rattle.sc_hosts.specs.Messages.{is_tag}
-use Rattle.sc_messages.proofs.sides.other_params.Given as goal
-
-abbrev pub invariant-loop-param : goal.invariant-loop-param
-invariant-loop-param l = l.others ≡ filter (λ param. not (is_tag param)) (take l.param-index l.params)

@@ -1,0 +1,2 @@
+pub mod SubLaws
+pub mod SubLed

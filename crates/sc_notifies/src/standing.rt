@@ -1,0 +1,147 @@
+//! How the subscription of a SipSession stands, read before the first call of a turn.
+
+ghost use Rattle.std.specs.Prelude.{◌≡◌, [], IfOk, option_and_then, unwrap_or};
+ghost use Rattle.sc_tokens.specs.Cuts.{pieces};
+ghost use Rattle.sc_hosts.specs.Scripting.{attribute};
+ghost use Rattle.sc_hosts.specs.Subscriptions.{event_of, is_pending, seconds_left, subscription_in, subscription_of};
+ghost use Rattle.sc_notifies.specs.SubScripts.{change_of, standing_of, timer_of_sub};
+
+use crate::sub_texts::{Subscribed, ev_name, seconds_left, sub_name, subscription_in};
+use sc_apps::attribute;
+use sc_helpers::{has_attribute, timer_named};
+use sc_terms::View;
+use sc_value::{CloneIn, NoMemory, SessId, Text, TimerId};
+use std::alloc::Global;
+
+/// How a subscription stands at the beginning of a turn.
+#[derive(Clone, Copy, Debug)]
+pub struct Standing {
+    /// The moment of the turn, in milliseconds.
+    pub moment: u64,
+    /// Its timer, where that runs.
+    pub running: Option<TimerId>,
+    /// Whether there is the attribute that tells of it.
+    pub told: bool,
+    /// Whether there is the attribute that keeps its Event.
+    pub named: bool,
+    /// Whether it is pending.
+    pub pending: bool,
+}
+
+/// What there is to tell of a subscription whose state has changed.
+#[derive(Drop)]
+pub struct Change {
+    /// The Event of the subscription.
+    pub event: Text,
+    /// Whether it is active.
+    pub active: bool,
+    /// How many seconds are left, rounded up.
+    pub left: u64,
+}
+
+fn subscription_at(view: &View, name: &[u8]) -> Option<Subscribed>
+    ensures { result ≡ option_and_then (λ text. subscription_in (pieces 32 text)) (attribute name.now view.entry.now) }
+{
+    match attribute(view, name) {
+        Some(text) => subscription_in(text.as_bytes()),
+        None => None,
+    }
+}
+
+/// The subscription of a SipSession.
+#[tactic(auto, unfolding(sc_hosts::specs::Subscriptions::subscription_of))]
+pub fn subscription_of(
+    alloc: Global,
+    view: &View,
+    sess: SessId,
+) -> Result<Option<Subscribed>, NoMemory>
+    ensures { IfOk result (λ sub. sub ≡ subscription_of view.entry.now sess) }
+{
+    let name = sub_name(alloc, sess)?;
+    Ok(subscription_at(view, name.as_bytes()))
+}
+
+fn text_at(alloc: Global, view: &View, name: &[u8]) -> Result<Text, NoMemory>
+    ensures { IfOk result (λ text. text ≡ unwrap_or (attribute name.now view.entry.now) []) }
+{
+    match attribute(view, name) {
+        Some(text) => text.clone_in(alloc),
+        None => Ok(Text::new(alloc)),
+    }
+}
+
+/// The Event of a SipSession's subscription, nothing where none is kept.
+#[tactic(auto, unfolding(sc_hosts::specs::Subscriptions::event_of))]
+pub fn event_of(alloc: Global, view: &View, sess: SessId) -> Result<Text, NoMemory>
+    ensures { IfOk result (λ text. text ≡ event_of view.entry.now sess) }
+{
+    let name = ev_name(alloc, sess)?;
+    text_at(alloc, view, name.as_bytes())
+}
+
+#[tactic(auto, unfolding(crate::specs::SubScripts::timer_of_sub))]
+fn timer_of(view: &View, sub: &Option<Subscribed>) -> Option<TimerId>
+    ensures { result ≡ timer_of_sub view.entry.now sub.now }
+{
+    match sub {
+        Some(sub) => timer_named(view, sub.timer),
+        None => None,
+    }
+}
+
+#[tactic(auto, unfolding(sc_hosts::specs::Subscriptions::is_pending))]
+fn is_pending(sub: &Option<Subscribed>) -> bool
+    ensures { result ≡ is_pending sub.now }
+{
+    match sub {
+        Some(sub) => !sub.active,
+        None => false,
+    }
+}
+
+/// How a subscription of a SipSession stands.
+#[tactic(auto, unfolding(crate::specs::SubScripts::standing_of))]
+pub fn standing_of(
+    alloc: Global,
+    view: &View,
+    sess: SessId,
+    sub: &Option<Subscribed>,
+) -> Result<Standing, NoMemory>
+    ensures { IfOk result (λ standing. standing ≡ standing_of view.entry.now sess sub.now) }
+{
+    let told = sub_name(alloc, sess)?;
+    let named = ev_name(alloc, sess)?;
+    Ok(Standing {
+        moment: view.now,
+        running: timer_of(view, sub),
+        told: has_attribute(view, told.as_bytes()),
+        named: has_attribute(view, named.as_bytes()),
+        pending: is_pending(sub),
+    })
+}
+
+fn change_by(alloc: Global, view: &View, sess: SessId, sub: &Subscribed) -> Result<Change, NoMemory>
+    ensures { IfOk result (λ change. change ≡ record { event = event_of view.entry.now sess; active = sub.now.active; left = seconds_left sub.now.due view.entry.now.now }) }
+{
+    let event = event_of(alloc, view, sess)?;
+    let left = seconds_left(sub.due, view.now)?;
+    Ok(Change {
+        event,
+        active: sub.active,
+        left,
+    })
+}
+
+/// What there is to tell of a SipSession's subscription, None where there is none.
+#[tactic(auto, unfolding(crate::specs::SubScripts::change_of))]
+pub fn change_of(alloc: Global, view: &View, sess: SessId) -> Result<Option<Change>, NoMemory>
+    ensures { IfOk result (λ change. change ≡ change_of view.entry.now sess) }
+{
+    match subscription_of(alloc, view, sess)? {
+        Some(sub) => {
+            let change = change_by(alloc, view, sess, &sub)?;
+            Ok(Some(change))
+        }
+        None => Ok(None),
+    }
+}

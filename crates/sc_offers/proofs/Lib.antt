@@ -1,0 +1,3 @@
+pub mod OfferLaws
+pub mod RackLaws
+pub mod WordLaws

@@ -1,0 +1,145 @@
+//! The application that answers INVITEs by reliable provisional responses first.
+
+ghost use Rattle.std.specs.Prelude.{◌≡◌, ◌+◌, ◌<◌, [], codes, false, option_and_then, if◌then◌else◌, OnOk};
+ghost use Rattle.sc_tokens.specs.Names.{same_bytes};
+ghost use Rattle.sc_terms.specs.declared.charters.Charter.{Charter};
+ghost use Rattle.sc_model.specs.SessionStates.{invite};
+ghost use Rattle.sc_hosts.specs.Charters.{reply_ok};
+ghost use Rattle.sc_hosts.specs.HelperParts.{cancel_first_timer, lists_option, strict_number};
+ghost use Rattle.sc_hosts.specs.Offers.{after_word, early_script, first_offer, late_offer, rel_option, take_prack};
+ghost use Rattle.sc_hosts.specs.RefusalParts.{MOST_CALLS};
+ghost use Rattle.sc_hosts.specs.Scripting.{only, reply, then_make, where_some};
+ghost use Rattle.sc_hosts.specs.Words.{ok, prack, ringing};
+ghost use Rattle.sc_turn.specs.Working.{play_of};
+ghost use Rattle.sc_apps.specs.Scripted.{IsPlayed};
+
+use crate::late::late_offer;
+use crate::offering::first_offer;
+use crate::pracks::take_prack;
+use sc_apps::{ended, reply_180, reply_200, reply_ok};
+use sc_helpers::{lists_option, number_after};
+use sc_refusals::is_invite;
+use sc_servlets::SipServlet;
+use sc_terms::{Charter, End, Event};
+use sc_turn::Turn;
+use sc_value::{NoMemory, ReqId, Request, SessId, Text, TimerId};
+
+/// Answers the INVITE that began the application session 183 `Session Progress`, reliably (RFC 3262
+/// section 3), where its Supported or Require has `100rel`. The PRACK whose RAck names that response it
+/// answers 200 `OK`, and then the INVITE so; another PRACK 481 `Call/Transaction Does Not Exist`.
+/// Where no PRACK has come after 32 seconds, it answers the INVITE 500 `Server Internal Error`. An
+/// INVITE without `100rel` it answers 180 `Ringing` and 200 `OK`, and each other request but an ACK 200
+/// `OK`. When the INVITE is cancelled it ends the timer. At all other events it makes no call. It has no
+/// parameters.
+#[derive(Clone, Copy, Debug)]
+pub struct Offers;
+
+impl SipServlet for Offers {
+    ghost stated = { λ _. Charter.Early };
+
+    fn charter(&self) -> Charter {
+        Charter::Early
+    }
+
+    #[tactic(auto, unfolding(sc_servlets::specs::Brought::Promises, sc_hosts::specs::Bringing::servlet_script), using(sc_apps::proofs::Playing::keeps))]
+    fn turn(&self, t: &mut Turn, e: &Event) -> End {
+        ended(handle(t, e))
+    }
+}
+
+#[tactic(auto, unfolding(sc_hosts::specs::Offers::early_script), using(sc_apps::proofs::Playing::played_done))]
+fn handle(t: &mut Turn, e: &Event) -> Result<(), NoMemory>
+    requires calls { t.old.calls ≡ [] }
+    requires memory { t.old.starved ≡ false }
+    ensures same { t.new.shown ≡ t.old.shown }
+    ensures played { OnOk result (IsPlayed (early_script t.old.shown e.now) t.old t.new) }
+{
+    match e {
+        Event::Initial { req, request, .. } => begin(t, *req, request.get()),
+        Event::Request { req, sess, request } => take_later(t, *req, *sess, request.get()),
+        Event::Response { .. } => Ok(()),
+        Event::Branch { .. } => Ok(()),
+        Event::Cancelled { .. } => cancel_first(t),
+        Event::Timer { id, info } => time_out(t, *id, info),
+        Event::Expired => Ok(()),
+        Event::Ready => Ok(()),
+    }
+}
+
+#[tactic(auto, unfolding(sc_hosts::specs::Scripting::where_some), using(sc_apps::proofs::Playing::played_done))]
+fn time_out(t: &mut Turn, id: TimerId, info: &Text) -> Result<(), NoMemory>
+    requires calls { t.old.calls ≡ [] }
+    requires memory { t.old.starved ≡ false }
+    ensures same { t.new.shown ≡ t.old.shown }
+    ensures played { OnOk result (IsPlayed (where_some (option_and_then strict_number (after_word (codes "rel") info.now)) (λ n. late_offer t.old.shown n id)) t.old t.new) }
+{
+    match number_after(info.as_bytes(), b"rel") {
+        Some(number) => late_offer(t, number, id),
+        None => Ok(()),
+    }
+}
+
+#[tactic(auto, unfolding(sc_hosts::specs::HelperParts::cancel_first_timer))]
+fn cancel_first(t: &mut Turn) -> Result<(), NoMemory>
+    requires calls { t.old.calls ≡ [] }
+    requires memory { t.old.starved ≡ false }
+    ensures same { t.new.shown ≡ t.old.shown }
+    ensures played { OnOk result (IsPlayed (cancel_first_timer t.old.shown) t.old t.new) }
+{
+    sc_apps::cancel_first_timer(t)
+}
+
+#[tactic(auto, unfolding(sc_hosts::specs::Words::prack))]
+fn is_prack(method: &[u8]) -> bool
+    ensures { result ≡ same_bytes method.now prack }
+{
+    method == b"PRACK".as_slice()
+}
+
+#[tactic(auto, using(sc_apps::proofs::Playing::begun_room))]
+fn take_later(t: &mut Turn, req: ReqId, sess: SessId, request: &Request) -> Result<(), NoMemory>
+    requires calls { t.old.calls ≡ [] }
+    requires memory { t.old.starved ≡ false }
+    ensures same { t.new.shown ≡ t.old.shown }
+    ensures played { OnOk result (IsPlayed (if same_bytes request.now.method prack then take_prack t.old.shown req sess request.now else reply_ok req request.now) t.old t.new) }
+{
+    if is_prack(request.method.as_bytes()) {
+        return take_prack(t, req, sess, request);
+    }
+    reply_ok(t, req, request)
+}
+
+#[tactic(auto, using(sc_apps::proofs::Playing::begun_room))]
+fn begin(t: &mut Turn, req: ReqId, request: &Request) -> Result<(), NoMemory>
+    requires calls { t.old.calls ≡ [] }
+    requires memory { t.old.starved ≡ false }
+    ensures same { t.new.shown ≡ t.old.shown }
+    ensures played { OnOk result (IsPlayed (if same_bytes request.now.method invite then (if lists_option rel_option request.now then first_offer req request.now else then_make (reply req 180 ringing) (only (reply req 200 ok))) else only (reply req 200 ok)) t.old t.new) }
+{
+    if is_invite(request.method.as_bytes()) {
+        return begin_invite(t, req, request);
+    }
+    reply_200(t, req)
+}
+
+#[tactic(auto, unfolding(sc_hosts::specs::Offers::rel_option))]
+fn begin_invite(t: &mut Turn, req: ReqId, request: &Request) -> Result<(), NoMemory>
+    requires { (play_of t.old).listed + 3 < MOST_CALLS }
+    ensures same { t.new.shown ≡ t.old.shown }
+    ensures played { OnOk result (IsPlayed (if lists_option rel_option request.now then first_offer req request.now else then_make (reply req 180 ringing) (only (reply req 200 ok))) t.old t.new) }
+{
+    if lists_option(request, b"100rel") {
+        return first_offer(t, req, request);
+    }
+    ring_and_answer(t, req)
+}
+
+#[tactic(auto, using(sc_apps::proofs::Playing::played_then))]
+fn ring_and_answer(t: &mut Turn, req: ReqId) -> Result<(), NoMemory>
+    requires { (play_of t.old).listed + 1 < MOST_CALLS }
+    ensures same { t.new.shown ≡ t.old.shown }
+    ensures played { OnOk result (IsPlayed (then_make (reply req 180 ringing) (only (reply req 200 ok))) t.old t.new) }
+{
+    reply_180(t, req)?;
+    reply_200(t, req)
+}

@@ -1,0 +1,3 @@
+pub mod Refreshers
+pub mod TimedLaws
+pub mod TimedLed

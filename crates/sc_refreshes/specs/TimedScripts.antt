@@ -1,0 +1,36 @@
+-- The scripts of session timers, by what an application read before its first call.
+use Rattle.std.specs.Prelude.{ℕ, Bool, Option, None, Some, is_some, option_and_then}
+use Rattle.sc_value.specs.declared.ids.SessId.{SessId}
+use Rattle.sc_value.specs.declared.ids.TimerId.{TimerId}
+use Rattle.sc_terms.specs.declared.views.View.{View}
+use Rattle.sc_terms.specs.declared.views.Period.TheVariants.{Once}
+use Rattle.sc_terms.specs.declared.calls.Call.TheVariants as calls
+use Rattle.sc_hosts.specs.Scripting.{Script, Done, Make, attribute, only, with_number}
+use Rattle.sc_hosts.specs.SessionTimers.{Granted, Off, Too_small, On, Timed, deadline, timed_name, timed_of, timed_text}
+use Rattle.sc_helpers.specs.Leading.{cancel_some, remove_if, timer_named}
+use Rattle.sc_refreshes.specs.declared.stopping.Stop.{Stop}
+
+unfoldable pub timer_of_timed : View → Option Timed → Option TimerId
+timer_of_timed view None = None
+timer_of_timed view (Some timed) = timer_named view timed.timer
+
+-- what there is to stop in a SipSession
+unfoldable pub stop_of : View → SessId → Stop
+stop_of view sess = record {
+  name = timed_name sess;
+  set = is_some (attribute (timed_name sess) view);
+  running = timer_of_timed view (option_and_then timed_of (attribute (timed_name sess) view));
+}
+
+unfoldable pub stopped : Stop → Script → Script
+stopped stop = λ script. cancel_some stop.running (remove_if stop.set stop.name script)
+
+-- a timer of this interval begins
+unfoldable pub started : SessId → ℕ → Bool → Script
+started sess n me =
+    Make (calls.StartTimer (deadline n me) Once (timed_name sess)) (with_number (λ t. only (calls.SetAttribute (timed_name sess) (timed_text n me t))))
+
+unfoldable pub begun_by : Stop → SessId → Granted → Script
+begun_by stop sess Off = stopped stop Done
+begun_by stop sess Too_small = stopped stop Done
+begun_by stop sess (On n me) = stopped stop (started sess n me)

@@ -1,0 +1,94 @@
+//! The session timer of a SipSession, read before the first call of a turn, and its end.
+
+ghost use Rattle.std.specs.Prelude.{◌≡◌, ◌≤◌, ◌+◌, ◌<◌, IfOk, IfSome, OnOk, option_and_then};
+ghost use Rattle.sc_hosts.specs.RefusalParts.{MOST_CALLS};
+ghost use Rattle.sc_hosts.specs.Scripting.{Done, attribute};
+ghost use Rattle.sc_hosts.specs.SessionTimers.{timed_name, timed_of};
+ghost use Rattle.sc_turn.specs.Working.{play_of};
+ghost use Rattle.sc_apps.specs.Scripted.{IsPlayed};
+ghost use Rattle.sc_helpers.specs.Leading.{IsLed};
+ghost use Rattle.sc_refreshes.specs.TimedScripts.{stop_of, stopped, timer_of_timed};
+
+use crate::timed_texts::{Refresh, timed_name, timed_of};
+use sc_apps::attribute;
+use sc_helpers::{cancel_some, has_attribute, remove_if, timer_named};
+use sc_terms::View;
+use sc_turn::Turn;
+use sc_value::{NoMemory, SessId, Text, TimerId};
+use std::alloc::Global;
+
+/// What there is to stop in a SipSession.
+#[derive(Drop)]
+pub struct Stop {
+    /// The name of its attribute.
+    pub name: Text,
+    /// Whether that is set.
+    pub set: bool,
+    /// Its timer, where that runs.
+    pub running: Option<TimerId>,
+}
+
+fn timed_at(view: &View, name: &[u8]) -> Option<Refresh>
+    ensures exact { result ≡ option_and_then timed_of (attribute name.now view.entry.now) }
+    ensures within { IfSome result (λ timed. timed.seconds ≤ 4000000) }
+{
+    match attribute(view, name) {
+        Some(text) => timed_of(text.as_bytes()),
+        None => None,
+    }
+}
+
+/// The session timer of a SipSession.
+pub fn timed_in(alloc: Global, view: &View, sess: SessId) -> Result<Option<Refresh>, NoMemory>
+    ensures exact { IfOk result (λ timed. timed ≡ option_and_then timed_of (attribute (timed_name sess) view.entry.now)) }
+    ensures within { IfOk result (λ timed. IfSome timed (λ timed. timed.seconds ≤ 4000000)) }
+{
+    let name = timed_name(alloc, sess)?;
+    Ok(timed_at(view, name.as_bytes()))
+}
+
+#[tactic(auto, unfolding(crate::specs::TimedScripts::timer_of_timed))]
+fn timer_of(view: &View, timed: Option<Refresh>) -> Option<TimerId>
+    ensures { result ≡ timer_of_timed view.entry.now timed }
+{
+    match timed {
+        Some(timed) => timer_named(view, timed.timer),
+        None => None,
+    }
+}
+
+/// What there is to stop in a SipSession.
+#[tactic(auto, unfolding(crate::specs::TimedScripts::stop_of))]
+pub fn stop_of(alloc: Global, view: &View, sess: SessId) -> Result<Stop, NoMemory>
+    ensures { IfOk result (λ stop. stop ≡ stop_of view.entry.now sess) }
+{
+    let name = timed_name(alloc, sess)?;
+    let set = has_attribute(view, name.as_bytes());
+    let running = timer_of(view, timed_at(view, name.as_bytes()));
+    Ok(Stop { name, set, running })
+}
+
+/// Ends the timer and takes the attribute away. Tells whether the script goes on.
+#[tactic(auto, using(crate::proofs::TimedLed::stopped_both, crate::proofs::TimedLed::stopped_none))]
+pub fn stop_timer(t: &mut Turn, what: &Stop) -> Result<bool, NoMemory>
+    requires { (play_of t.old).listed + 1 < MOST_CALLS }
+    ensures same { t.new.shown ≡ t.old.shown }
+    ensures led { IfOk result (λ on. IsLed (stopped what.now) on t.old t.new) }
+    ensures listed { OnOk result ((play_of t.new).listed ≤ (play_of t.old).listed + 2) }
+{
+    if !cancel_some(t, what.running)? {
+        return Ok(false);
+    }
+    remove_if(t, what.set, what.name.as_bytes())
+}
+
+/// Ends the timer and takes the attribute away, and makes no other call.
+#[tactic(auto, using(crate::proofs::TimedLed::stopped_last))]
+pub fn stop_only(t: &mut Turn, what: &Stop) -> Result<(), NoMemory>
+    requires { (play_of t.old).listed + 1 < MOST_CALLS }
+    ensures same { t.new.shown ≡ t.old.shown }
+    ensures played { OnOk result (IsPlayed (stopped what.now Done) t.old t.new) }
+{
+    stop_timer(t, what)?;
+    Ok(())
+}

@@ -1,0 +1,11 @@
+pub mod Tokens
+pub mod Names
+pub mod HeaderNames
+pub mod Bytes
+pub mod Cuts
+pub mod Blanks
+pub mod Numbers
+pub mod Hosts
+pub mod Quoted
+pub mod UriTokens
+pub mod HeaderTokens
