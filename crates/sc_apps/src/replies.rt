@@ -5,9 +5,10 @@ ghost use Rattle.sc_value.specs.declared.ids.ReqId.{ReqId};
 ghost use Rattle.sc_hosts.specs.Scripting.{reply, only};
 ghost use Rattle.sc_hosts.specs.Charters.{reply_ok};
 ghost use Rattle.sc_hosts.specs.RefusalParts.{MOST_CALLS};
-ghost use Rattle.sc_hosts.specs.Words.{ok, ringing, forbidden, too_many_hops, server_error};
+ghost use Rattle.sc_hosts.specs.Words.{ok, ringing, forbidden, too_many_hops};
 ghost use Rattle.sc_turn.specs.Working.{play_of};
 ghost use Rattle.sc_apps.specs.Scripted.{IsMade, IsPlayed};
+ghost use Rattle.sc_model.specs.BestResponses.{server_error};
 
 use crate::calling::respond;
 use crate::reading::memory_of;
@@ -107,7 +108,7 @@ pub fn reply_483(t: &mut Turn, req: ReqId) -> Result<(), NoMemory>
 }
 
 /// Answers a request 500 `Server Internal Error`, and makes no other call.
-#[tactic(auto, unfolding(sc_hosts::specs::Words::server_error))]
+#[tactic(auto, unfolding(sc_model::specs::BestResponses::server_error))]
 pub fn reply_500(t: &mut Turn, req: ReqId) -> Result<(), NoMemory>
     requires { (play_of t.old).listed < MOST_CALLS }
     ensures same { t.new.shown ≡ t.old.shown }

@@ -3,14 +3,15 @@
 ghost use Rattle.std.specs.Prelude.{◌≡◌, Some, OnOk};
 ghost use Rattle.sc_tokens.specs.Names.{same_bytes};
 ghost use Rattle.sc_hosts.specs.Arrivals.{bad_by, edge_answer};
-ghost use Rattle.sc_hosts.specs.Words.{ack, does_not_exist, not_found};
+ghost use Rattle.sc_hosts.specs.Words.{does_not_exist, not_found};
+ghost use Rattle.sc_model.specs.SessionStates.{ack};
 
 use crate::messages::{bad_message, edge_message};
-use sc_net::put;
 use sc_state::{Net, Peer, Session};
 use sc_terms::{Answerable, Config};
 use sc_transact::is_ack;
 use sc_value::{NoMemory, Place, Request};
+use sc_wire::put;
 use std::alloc::Global;
 
 #[tactic(auto, unfolding(sc_hosts::specs::Arrivals::edge_answer))]
@@ -68,7 +69,7 @@ pub fn answer_not_found(
     edge_answer(alloc, config, from, 404, b"Not Found", request, net)
 }
 
-#[tactic(auto, unfolding(sc_hosts::specs::Words::ack))]
+#[tactic(auto, unfolding(sc_model::specs::SessionStates::ack))]
 fn is_bad_ack(heads: &Answerable) -> bool
     ensures { result ≡ same_bytes heads.now.cseq.method ack }
 {

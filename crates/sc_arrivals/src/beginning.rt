@@ -9,13 +9,13 @@ ghost use Rattle.sc_hosts.specs.Arrivals.{begins_by, initial_arrives};
 
 use crate::answers::{answer_not_found, answer_unknown};
 use crate::messages::take_request;
-use sc_net::{Position, popped_route, position_of, unrouted_initial};
 use sc_parts::{Choice, Setup};
 use sc_router::next;
 use sc_state::{Net, Note, Session};
 use sc_take::is_never_initial;
 use sc_transact::is_ack;
 use sc_value::{Address, CloneIn, NoMemory, Place, Request, Shared};
+use sc_wire::{Position, popped_route, position_of, unrouted_initial};
 use std::alloc::Global;
 
 fn copied_route(alloc: Global, route: Option<&Address>) -> Result<Option<Address>, NoMemory>

@@ -9,11 +9,11 @@ ghost use Rattle.sc_hosts.specs.Arrivals.{later_at, later_arrives};
 
 use crate::answers::answer_unknown;
 use crate::messages::take_request;
-use sc_net::named_host;
+use sc_inboxes::own_uri;
 use sc_parts::Setup;
 use sc_state::{Net, Session};
-use sc_take::own_uri;
 use sc_value::{NoMemory, Place, Request, Uri};
+use sc_wire::named_host;
 use std::alloc::Global;
 
 fn host_named(uri: Option<&Uri>, net: &Net<Session>) -> Result<Option<u32>, NoMemory>

@@ -7,11 +7,11 @@ ghost use Rattle.sc_hosts.specs.Histories.{as_session};
 ghost use Rattle.sc_hosts.specs.Messages.{bad_response, own_response};
 ghost use Rattle.sc_hosts.specs.Arrivals.{taken_at};
 
+use sc_inboxes::edge_response;
 use sc_messages::bad_response;
 use sc_net::taken_at;
 use sc_parts::Setup;
 use sc_state::{Net, Note, Session};
-use sc_take::edge_response;
 use sc_terms::{Answerable, Config};
 use sc_value::{Boxed, CloneIn, Message, NoMemory, Place, Request, Text};
 use std::alloc::Global;

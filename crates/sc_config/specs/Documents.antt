@@ -22,11 +22,6 @@ items_in (item d ds) = d ∷ items_in ds
 abbrev pub elements : Data → List Data
 elements value = option_map_or items_in (as_array value) []
 
--- the keys with their values, in byte order
-abbrev pub entries_in : Members → List (Bytes × Data)
-entries_in no_members = []
-entries_in (member key value rest) = (key, value) ∷ entries_in rest
-
 -- the first key, in byte order, whose entry passes the test
 unfoldable pub first_key : (Bytes → Data → Bool) → Members → Option Bytes
 first_key test no_members = None

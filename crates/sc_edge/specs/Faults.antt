@@ -16,11 +16,6 @@ Rose_after a b c later (inr most) = inr most
 most_or_more : (a c : ℕ) → a ≤ 18446744073709551615 → 18446744073709551615 ≤ c → Rose a c
 most_or_more a c low high = grind arith
 
--- a rise before a time in which the count didn't fall
-pub Rose_before : (a b c : ℕ) → a ≤ b → Rose a b → b ≤ c → Rose a c
-Rose_before a b c up (inl rose) later = inl (omega arith)
-Rose_before a b c up (inr most) later = most_or_more a c (omega arith) (omega arith)
-
 -- the count after one more
 abbrev pub one_more : ℕ → ℕ
 one_more count = min (count + 1) (2 ^ 64 - 1)

@@ -7,9 +7,9 @@ ghost use Rattle.std.specs.Option.{option_copied};
 ghost use Rattle.sc_tokens.specs.Names.{same_bytes, same_name};
 ghost use Rattle.sc_tokens.specs.Tokens.{is_token_byte};
 ghost use Rattle.sc_model.specs.Dialogs.{subscribe, notify};
-ghost use Rattle.sc_model.specs.SessionStates.{bye, is_final};
+ghost use Rattle.sc_model.specs.SessionStates.{bye, is_final, ended_state};
 ghost use Rattle.sc_model.specs.Transactions.{is_success, is_failure};
-ghost use Rattle.sc_hosts.specs.States.{failed_state, is_ringing, invited_state, subscribed_state, after_initial, ended_state, unsubscribed_state, after_later, after_response, subscription_state, terminated_word, begins_token, ends_subscription};
+ghost use Rattle.sc_hosts.specs.States.{failed_state, is_ringing, invited_state, subscribed_state, after_initial, unsubscribed_state, after_later, after_response, subscription_state, terminated_word, begins_token, ends_subscription};
 
 use sc_refusals::is_invite;
 use sc_terms::{RequestView, Role, State};
@@ -142,7 +142,7 @@ pub fn after_initial(role: Role, method: &[u8], tagged: bool, state: State, code
     state
 }
 
-#[tactic(auto, unfolding(sc_hosts::specs::States::ended_state))]
+#[tactic(auto, unfolding(sc_model::specs::SessionStates::ended_state))]
 fn ended_state(state: State) -> State
     ensures { result ≡ ended_state state }
 {

@@ -2,4 +2,3 @@ pub mod Folds
 pub mod Outcomes
 pub mod Partings
 pub mod Passings
-pub mod Starts

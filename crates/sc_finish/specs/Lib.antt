@@ -1,4 +1,3 @@
-pub mod Acts
 pub mod Ends
 pub mod Partings
 pub mod Passing

@@ -9,7 +9,7 @@ use Rattle.sc_state.specs.declared.session.Kept.{Kept}
 use Rattle.sc_state.specs.declared.session.Known.{Known}
 use Rattle.sc_hosts.specs.Finishing.{is_session_ready, is_needed}
 use Rattle.sc_hosts.specs.Looking.{removed}
-use Rattle.sc_hosts.specs.Words.{ack}
+use Rattle.sc_model.specs.SessionStates.{ack}
 
 -- the SipSession is ready and goes away by itself
 unfoldable pub goes : Known → View → SessionView → Bool

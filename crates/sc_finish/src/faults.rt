@@ -4,15 +4,16 @@ ghost use Rattle.std.specs.Prelude.{◌≡◌, IfOk, OnOk, option_and_then};
 ghost use Rattle.std.specs.List.{fold};
 ghost use Rattle.sc_hosts.specs.Looking.{request_in};
 ghost use Rattle.sc_hosts.specs.Messages.{bare_answer};
-ghost use Rattle.sc_hosts.specs.Words.{server_error};
 ghost use Rattle.sc_hosts.specs.Acting.{without_left, drafts_ended, fault_at, faulted};
 ghost use Rattle.sc_finish.specs.Passing.{answers_alone};
+ghost use Rattle.sc_model.specs.BestResponses.{server_error};
 
 use sc_effects::{answered, removed, request_copy, tidy};
+use sc_sending::answering;
 use sc_state::{Draft, Working};
 use sc_terms::{Answer, Config, End, RequestView, View};
 use sc_value::{List, NoMemory, ReqId, Text};
-use sc_work::{answering, is_owed};
+use sc_work::is_owed;
 use std::alloc::Global;
 
 #[tactic(auto, unfolding(sc_hosts::specs::Acting::without_left))]
@@ -56,7 +57,7 @@ pub fn bare_answer(alloc: Global, code: u16, reason: &[u8]) -> Result<Answer, No
     })
 }
 
-#[tactic(auto, unfolding(sc_hosts::specs::Words::server_error))]
+#[tactic(auto, unfolding(sc_model::specs::BestResponses::server_error))]
 fn error_answer(alloc: Global) -> Result<Answer, NoMemory>
     ensures { IfOk result (λ answer. answer ≡ bare_answer 500 server_error) }
 {

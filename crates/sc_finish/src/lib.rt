@@ -2,11 +2,7 @@
 //! section 16), and what invalidation sends.
 #![tactic(auto)]
 
-mod acting;
-mod changing;
-mod closing;
 mod faults;
-mod forwarding;
 mod later;
 mod parting;
 mod readiness;

@@ -4,11 +4,11 @@ ghost use Rattle.std.specs.Prelude.{◌≡◌, IfOk, OnOk};
 ghost use Rattle.sc_hosts.specs.Finishing.{is_expiry, is_ready_event, session_in_play, finished, outcome_of, outcome};
 ghost use Rattle.sc_finish.specs.Ends.{ends, left_by};
 
-use crate::acting::all_act;
 use crate::faults::{drafts_ended, faulted};
 use crate::later::passes_later;
 use crate::readiness::is_ready;
 use crate::sweeping::{lightened, swept, without_acks};
+use sc_acting::all_act;
 use sc_prepare::{has_expired, prepared};
 use sc_state::{Outcome, Queued, Session, Waiting, Working};
 use sc_terms::{CallRecord, Config, End};

@@ -42,10 +42,6 @@ HeardOne place before after old new false = IsDone (λ made. Hears place before 
 unfoldable pub BadUpto : Place → Bad → List Step → Type 0
 BadUpto place bad made = (made ≡ []) ⊎ ((made ≡ steps.Bad place bad ∷ []) ⊎ (made ≡ steps.Bad place bad ∷ steps.Lost place ∷ []))
 
--- the step of a lost place, or none yet
-unfoldable pub LostUpto : Place → List Step → Type 0
-LostUpto place made = (made ≡ []) ⊎ (made ≡ steps.Lost place ∷ [])
-
 -- the step of a tick, or none yet
 unfoldable pub TicksUpto : ℕ → ℕ → List Step → Type 0
 TicksUpto moment now made = (made ≡ []) ⊎ (made ≡ tick_to moment now)

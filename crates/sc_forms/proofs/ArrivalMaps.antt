@@ -13,7 +13,7 @@ use Rattle.sc_hosts.specs.Routes.{unrouted_initial, popped_route}
 use Rattle.sc_hosts.specs.Sessions.{Form}
 use Rattle.sc_hosts.specs.Taking.{claim_of, is_claimed, own_uri, is_never_initial}
 use Rattle.sc_hosts.specs.Transacting.{method_of, client_for}
-use Rattle.sc_hosts.specs.Words.{ack, cancel, does_not_exist, not_found}
+use Rattle.sc_hosts.specs.Words.{does_not_exist, not_found}
 use Rattle.sc_model.specs.Dialogs.{tag_of}
 use Rattle.sc_parts.specs.declared.choice.Choice.TheVariants as choices
 use Rattle.sc_parts.specs.declared.choice.Choice.{Choice}
@@ -33,6 +33,8 @@ use Rattle.sc_value.specs.declared.message.Request.{Request}
 use Rattle.sc_value.specs.declared.message.Response.{Response}
 use Rattle.sc_value.specs.declared.parts.Address.{Address}
 use Rattle.sc_value.specs.declared.parts.Uri.{Uri}
+use Rattle.sc_model.specs.SessionStates.{ack}
+use Rattle.sc_model.specs.DialogRequests.{cancel}
 
 -- ## What reads the hosts alone
 

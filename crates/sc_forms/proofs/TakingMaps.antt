@@ -11,10 +11,10 @@ use Rattle.sc_hosts.specs.Sessions.{Form}
 use Rattle.sc_hosts.specs.Inboxes.{MOST_LIVE, quiet, is_full, replying}
 use Rattle.sc_hosts.specs.Taking.{cancelled, last_again, again_if, repeated, Claim, claim_of, refuse, own_uri, is_named_live, named_live, with_server, with_trying, queue_later, later_by, take_later, begun_live, begun, take_initial, is_never_initial, take_begun, take_new, take_unclaimed, take_claimed, take_request, takes, Cancels, Acks, Repeats, Unclaimed}
 use Rattle.sc_hosts.specs.Transacting.{method_of, has_final}
-use Rattle.sc_hosts.specs.Words.{ack, cancel, ok, does_not_exist, unavailable}
+use Rattle.sc_hosts.specs.Words.{ok, does_not_exist, unavailable}
 use Rattle.sc_model.specs.Dialogs.{tag_of}
 use Rattle.sc_model.specs.Names.{tag_text}
-use Rattle.sc_model.specs.SessionStates.{invite}
+use Rattle.sc_model.specs.SessionStates.{invite, ack}
 use Rattle.sc_state.specs.declared.host.Host.{Host}
 use Rattle.sc_state.specs.declared.host.Live.{Live}
 use Rattle.sc_state.specs.declared.host.Peer.{Peer}
@@ -30,6 +30,7 @@ use Rattle.sc_value.specs.declared.message.Message.{Message}
 use Rattle.sc_value.specs.declared.message.Request.{Request}
 use Rattle.sc_value.specs.declared.message.Response.{Response}
 use Rattle.sc_value.specs.declared.parts.Uri.{Uri}
+use Rattle.sc_model.specs.DialogRequests.{cancel}
 
 -- ## CANCEL, ACK and repeated requests
 

@@ -25,7 +25,7 @@ use Rattle.sc_model.specs.Responses.{response_to, response_head}
 use Rattle.sc_parts.specs.declared.transactions.ClientItem.{ClientItem}
 use Rattle.sc_parts.specs.declared.transactions.ClientItem.TheVariants as client_items
 use Rattle.sc_parts.specs.declared.transactions.ClientOut.{ClientOut}
-use Rattle.sc_model.specs.SessionStates.{invite, is_final}
+use Rattle.sc_model.specs.SessionStates.{invite, is_final, ack}
 use Rattle.sc_model.specs.Transactions.{Found, client_out, out_from, lets_cancel_go, wants_ack, timer_m, is_provisional, is_failure, has_asking, cancel_moment}
 use Rattle.sc_hosts.specs.Messages.{own_response, trying_response, ack_of, cancel_of, kin}
 use Rattle.std.proofs.lemmas.List.Sums.{sum_by-cons, sum_by_push}
@@ -41,7 +41,7 @@ use Rattle.sc_hosts.specs.Inboxes.{quiet, queue, replying}
 use Rattle.sc_hosts.specs.TakingResponses.{told, told_by, with_reply, response_for, response_to as answer_to, take_response}
 use Rattle.sc_hosts.specs.Taking.{refuse, cancelled, repeated, again_if, last_again, with_trying, queue_later, later_by, take_later, begun, take_initial, take_begun, take_new, take_unclaimed, take_claimed, take_request, takes, Cancels, Acks, Repeats, Unclaimed, claim_by, claim_of}
 use Rattle.sc_hosts.specs.Transacting.{method_of, takes_from, is_over, state_of_client, is_answered_by, client_for, out_of_client, is_invite_client}
-use Rattle.sc_hosts.specs.Words.{ack, cancel}
+use Rattle.sc_model.specs.DialogRequests.{cancel}
 
 -- texts with the same bytes are equal
 pub same_bytes-equal : (a b : List ℕ) → same_bytes a b ≡ true → a ≡ b

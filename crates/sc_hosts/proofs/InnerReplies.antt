@@ -31,7 +31,8 @@ use Rattle.sc_hosts.specs.Inboxes.{quiet, queue, replying}
 use Rattle.sc_hosts.specs.TakingResponses.{told, told_by, with_reply, response_for, response_to as answer_to, take_response}
 use Rattle.sc_hosts.specs.Taking.{refuse, cancelled, repeated, again_if, last_again, with_trying, queue_later, later_by, take_later, begun, take_initial, take_begun, take_new, take_unclaimed, take_claimed, take_request, takes, Cancels, Acks, Repeats, Unclaimed, claim_by, claim_of}
 use Rattle.sc_hosts.specs.Transacting.{method_of, takes_from, is_over, state_of_client, state_of_server, same_top, is_kin, is_repeated_by, is_answered_by, client_for, out_of_client}
-use Rattle.sc_hosts.specs.Words.{ack, cancel}
+use Rattle.sc_model.specs.SessionStates.{ack}
+use Rattle.sc_model.specs.DialogRequests.{cancel}
 
 -- the end is a host, or none
 pub is_inner : Peer → Bool

@@ -27,10 +27,10 @@ use Rattle.sc_state.specs.declared.session.Known.{Known}
 use Rattle.sc_state.specs.declared.working.Draft.{Draft}
 use Rattle.sc_state.specs.declared.working.Working.{Working}
 use Rattle.sc_grammar.specs.Written.{Bytes}
-use Rattle.sc_model.specs.BestResponses.{best_response}
+use Rattle.sc_model.specs.BestResponses.{best_response, server_error}
 use Rattle.sc_model.specs.Dialogs.{tag_of, subscribe}
 use Rattle.sc_model.specs.Transactions.{is_success}
-use Rattle.sc_model.specs.SessionStates.{is_final}
+use Rattle.sc_model.specs.SessionStates.{is_final, ack}
 use Rattle.sc_hosts.specs.Branches.{starting, new_branch, new_proxy, records_route, can_pass, can_choose, cancelled_now, is_exhausted}
 use Rattle.sc_hosts.specs.ViewChanges.{answered, answered_in, tidy}
 use Rattle.sc_hosts.specs.DerivedSessions.{is_of}
@@ -41,7 +41,7 @@ use Rattle.sc_hosts.specs.PreparingResponses.{change_proxy, is_invalid}
 use Rattle.sc_hosts.specs.States.{after_initial}
 use Rattle.sc_hosts.specs.Giving.{answering, giving}
 use Rattle.sc_hosts.specs.Working.{is_owed, next_branch, event_of}
-use Rattle.sc_hosts.specs.Words.{ack, server_error, too_many_hops}
+use Rattle.sc_hosts.specs.Words.{too_many_hops}
 
 abbrev pub in_view : View → Working → Working
 in_view view working = record working { play = record working.play { view = view } }

@@ -26,7 +26,9 @@ use Rattle.sc_hosts.specs.Routes.{position_of, unrouted_initial, popped_route}
 use Rattle.sc_hosts.specs.Sessions.{Form}
 use Rattle.sc_hosts.specs.Taking.{claim_of, is_claimed, is_never_initial, own_uri, takes}
 use Rattle.sc_hosts.specs.Transacting.{method_of, client_for}
-use Rattle.sc_hosts.specs.Words.{ack, cancel, does_not_exist, not_found}
+use Rattle.sc_hosts.specs.Words.{does_not_exist, not_found}
+use Rattle.sc_model.specs.SessionStates.{ack}
+use Rattle.sc_model.specs.DialogRequests.{cancel}
 
 -- ## A message comes from outside
 

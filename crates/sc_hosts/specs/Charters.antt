@@ -23,10 +23,11 @@ use Rattle.sc_terms.specs.declared.calls.CallAnswer.{CallAnswer}
 use Rattle.sc_terms.specs.declared.calls.CallAnswer.TheVariants as answers
 use Rattle.sc_terms.specs.declared.calls.ProxyOptions.{ProxyOptions}
 use Rattle.sc_grammar.specs.Written.{Bytes}
-use Rattle.sc_model.specs.SessionStates.{invite, is_final}
+use Rattle.sc_model.specs.SessionStates.{invite, is_final, ack}
 use Rattle.sc_hosts.specs.Looking.{request_in, partner}
-use Rattle.sc_hosts.specs.Words.{ack, options, ok, ringing, forbidden, too_many_hops, server_error}
+use Rattle.sc_hosts.specs.Words.{options, ok, ringing, forbidden, too_many_hops}
 use Rattle.sc_hosts.specs.Scripting.{Script, only, then_make, with_number, where_some, reply, same_answer, small_number, readable, param_at, uri_param, attribute, is_no_hops, is_bad_text, is_refused, Done, Make}
+use Rattle.sc_model.specs.BestResponses.{server_error}
 
 -- ## answer
 

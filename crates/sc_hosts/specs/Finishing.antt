@@ -27,7 +27,7 @@ use Rattle.sc_state.specs.declared.session.Way.TheVariants.{Received, Sent}
 use Rattle.sc_state.specs.declared.working.Prepared.{Prepared}
 use Rattle.sc_state.specs.declared.working.Working.{Working}
 use Rattle.sc_grammar.specs.Written.{Bytes}
-use Rattle.sc_model.specs.SessionStates.{invite}
+use Rattle.sc_model.specs.SessionStates.{invite, ack}
 use Rattle.sc_hosts.specs.Branches.{records_route}
 use Rattle.sc_hosts.specs.ViewChanges.{tidy}
 use Rattle.sc_hosts.specs.Legs.{leg_of, FIRST_SESSION}
@@ -35,7 +35,7 @@ use Rattle.sc_hosts.specs.Looking.{same_session, request_in, session_in, is_gone
 use Rattle.sc_hosts.specs.Messages.{own_response}
 use Rattle.sc_hosts.specs.Preparing.{own_tag_of, proxy_of, has_expired, prepared}
 use Rattle.sc_hosts.specs.Working.{goodbyes, worked_all}
-use Rattle.sc_hosts.specs.Words.{ack, does_not_exist}
+use Rattle.sc_hosts.specs.Words.{does_not_exist}
 use Rattle.sc_hosts.specs.Acting.{drafts_ended, faulted, all_act, passes_later}
 
 -- ## Readiness (JSR 289 sections 6.1.2.2 and 6.2.4)

@@ -24,12 +24,11 @@ use Rattle.sc_state.specs.declared.session.Session.{Session}
 use Rattle.sc_grammar.specs.Written.{Bytes}
 use Rattle.sc_model.specs.Dialogs.{Called, Calling, Passed, By_peer, By_self, DialogState, dialog_of, tag_of, request_target, response_target, subscribe}
 use Rattle.sc_model.specs.Names.{tag_text}
-use Rattle.sc_model.specs.SessionStates.{invite}
+use Rattle.sc_model.specs.SessionStates.{invite, ack}
 use Rattle.sc_model.specs.Settings.{app_of, params_in, expiry_in}
 use Rattle.sc_model.specs.Transactions.{is_success}
 use Rattle.sc_hosts.specs.Looking.{is_open_state, is_proxy}
 use Rattle.sc_hosts.specs.Messages.{makes_dialog}
-use Rattle.sc_hosts.specs.Words.{ack}
 
 -- ## Legs
 

@@ -23,8 +23,9 @@ use Rattle.sc_model.specs.Dialogs.{sets_target, subscribe}
 use Rattle.sc_model.specs.Names.{branch_text, session_uri, edge_tag}
 use Rattle.sc_model.specs.Records.{ip_text}
 use Rattle.sc_model.specs.Responses.{kept_field, response_to, tag_param, with_tag}
-use Rattle.sc_model.specs.SessionStates.{invite}
-use Rattle.sc_hosts.specs.Words.{ack, cancel, bad_request}
+use Rattle.sc_model.specs.SessionStates.{invite, ack}
+use Rattle.sc_hosts.specs.Words.{bad_request}
+use Rattle.sc_model.specs.DialogRequests.{cancel}
 
 -- ## The container's own marks
 

@@ -37,7 +37,7 @@ use Rattle.sc_model.specs.Choices.{choice_of}
 use Rattle.sc_model.specs.Names.{edge_tag}
 use Rattle.sc_model.specs.OwnHosts.{is_own}
 use Rattle.sc_model.specs.ServerTransactions.{is_sent}
-use Rattle.sc_model.specs.SessionStates.{is_final}
+use Rattle.sc_model.specs.SessionStates.{is_final, ack}
 use Rattle.sc_hosts.specs.Destinations.{destination, next_uri}
 use Rattle.sc_hosts.specs.Messages.{cancel_of, own_response, without_via}
 use Rattle.sc_hosts.specs.Sessions.{Form}
@@ -45,7 +45,8 @@ use Rattle.sc_hosts.specs.Inboxes.{queue}
 use Rattle.sc_hosts.specs.TakingResponses.{cancelling}
 use Rattle.sc_hosts.specs.Taking.{named_live, takes}
 use Rattle.sc_hosts.specs.Transacting.{tidied, method_of, is_client, is_invite_client, is_server, is_invite_server, is_proceeding, out_of_client, pass_client, with_client, state_of_client}
-use Rattle.sc_hosts.specs.Words.{ack, cancel, does_not_exist, not_found, unavailable}
+use Rattle.sc_hosts.specs.Words.{does_not_exist, not_found, unavailable}
+use Rattle.sc_model.specs.DialogRequests.{cancel}
 
 -- ## Hosts of a net
 

@@ -22,8 +22,9 @@ use Rattle.sc_model.specs.SessionStates.{invite}
 use Rattle.sc_hosts.specs.Scripting.{Script, Done, Make, only, then_make, with_number, where_some, reply, attribute}
 use Rattle.sc_hosts.specs.Charters.{reply_ok}
 use Rattle.sc_hosts.specs.Looking.{same_session, request_in}
-use Rattle.sc_hosts.specs.Words.{prack, ok, ringing, does_not_exist, server_error}
+use Rattle.sc_hosts.specs.Words.{prack, ok, ringing, does_not_exist}
 use Rattle.sc_hosts.specs.HelperParts.{strict_number, field_of, words_of, require_word, lists_option, answer_with, field, accepted_then, cancel_then, cancel_first_timer}
+use Rattle.sc_model.specs.BestResponses.{server_error}
 
 -- the last offer of an INVITE: its RSeq, the INVITE's CSeq number, its timer, 0 for none
 pub record Offer : Type 0 where

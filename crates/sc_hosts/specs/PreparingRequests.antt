@@ -16,13 +16,14 @@ use Rattle.sc_state.specs.declared.session.Session.{Session}
 use Rattle.sc_state.specs.declared.session.Way.TheVariants.{Received}
 use Rattle.sc_state.specs.declared.working.Prepared.{Prepared}
 use Rattle.sc_grammar.specs.Written.{Bytes}
-use Rattle.sc_model.specs.SessionStates.{invite}
+use Rattle.sc_model.specs.SessionStates.{invite, ack}
 use Rattle.sc_hosts.specs.ViewChanges.{answered}
 use Rattle.sc_hosts.specs.Legs.{change_leg, leg_of, is_low, with_request}
 use Rattle.sc_hosts.specs.Looking.{request_in, session_in, is_gone_in, is_proxy}
 use Rattle.sc_hosts.specs.Messages.{own_response}
 use Rattle.sc_hosts.specs.States.{ends_subscription}
-use Rattle.sc_hosts.specs.Words.{ack, does_not_exist, server_error}
+use Rattle.sc_hosts.specs.Words.{does_not_exist}
+use Rattle.sc_model.specs.BestResponses.{server_error}
 
 -- ## What nobody is called for
 

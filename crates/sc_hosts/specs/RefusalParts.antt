@@ -20,7 +20,9 @@ use Rattle.sc_state.specs.declared.working.Draft.{Draft}
 use Rattle.sc_state.specs.declared.working.Play.{Play}
 use Rattle.sc_grammar.specs.Written.{Bytes}
 use Rattle.sc_hosts.specs.Looking.{request_in, session_in, is_gone_in}
-use Rattle.sc_hosts.specs.Words.{ack, cancel, register, options}
+use Rattle.sc_hosts.specs.Words.{register, options}
+use Rattle.sc_model.specs.SessionStates.{ack}
+use Rattle.sc_model.specs.DialogRequests.{cancel, is_bad_field}
 
 -- ## Limits
 
@@ -97,10 +99,6 @@ name_refusal view names =
     else None)
 
 -- ## Texts (RFC 3261 sections 7.3 and 25.1)
-
--- the field's name is no token, or its value no header value
-unfoldable pub is_bad_field : Field → Bool
-is_bad_field field = not (is_token field.name) || not (is_value field.value)
 
 -- the number of the first field out of form: 2 and more by its place
 unfoldable pub bad_field : List Field → Option Refusal

@@ -26,9 +26,8 @@ use Rattle.sc_terms.specs.declared.inside.Inside.{Inside}
 use Rattle.sc_state.specs.declared.working.Draft.{Draft}
 use Rattle.sc_state.specs.declared.working.Play.{Play}
 use Rattle.sc_grammar.specs.Written.{Bytes}
-use Rattle.sc_model.specs.SessionStates.{invite}
+use Rattle.sc_model.specs.SessionStates.{invite, ack}
 use Rattle.sc_hosts.specs.Looking.{same_session, request_in, session_in, timer_in, is_initial_state, is_open_state, is_terminated, is_proxy, session_count, partner}
-use Rattle.sc_hosts.specs.Words.{ack}
 use Rattle.sc_hosts.specs.RefusalParts.{MOST_CALLS, MOST_SESSIONS, MOST_BRANCHES, MOST_TIMERS, MOST_ATTRIBUTE_BYTES, first_of, draft_in, named, name_refusal, has_system_name, answer_text, asked_text, has_system_answer, has_system_ask}
 
 -- what `respond` refuses of a request

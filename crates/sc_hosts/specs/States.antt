@@ -14,7 +14,7 @@ use Rattle.sc_terms.specs.declared.views.Role.TheVariants.{Uac, Uas, Proxy}
 use Rattle.sc_terms.specs.declared.views.RequestView.{RequestView}
 use Rattle.sc_grammar.specs.Written.{Bytes}
 use Rattle.sc_model.specs.Dialogs.{subscribe, notify}
-use Rattle.sc_model.specs.SessionStates.{invite, bye, is_final}
+use Rattle.sc_model.specs.SessionStates.{invite, bye, is_final, ended_state}
 use Rattle.sc_model.specs.Transactions.{is_success, is_failure}
 
 -- where a failure of the initial INVITE or SUBSCRIBE leads: a UAC can try again
@@ -48,13 +48,6 @@ after_initial role method tagged state code =
     if same_bytes method invite then invited_state (failed_state role) tagged state code
     else (if same_bytes method subscribe then subscribed_state state code
     else (if is_final code then Terminated else state))
-
--- a final response to a BYE ends the dialog, whichever it is
-unfoldable pub ended_state : State → State
-ended_state Initial = Initial
-ended_state Early = Terminated
-ended_state Confirmed = Terminated
-ended_state Terminated = Terminated
 
 -- a final response to a NOTIFY that ends the subscription (RFC 6665 section 4.4.1)
 unfoldable pub unsubscribed_state : State → State

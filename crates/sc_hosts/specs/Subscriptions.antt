@@ -23,9 +23,10 @@ use Rattle.sc_model.specs.Dialogs.{subscribe, notify}
 use Rattle.sc_model.specs.Transactions.{is_failure}
 use Rattle.sc_hosts.specs.Scripting.{Script, Done, Make, only, then_make, with_number, where_some, reply, attribute, small_number}
 use Rattle.sc_hosts.specs.Charters.{reply_ok}
-use Rattle.sc_hosts.specs.Words.{ok, server_error}
+use Rattle.sc_hosts.specs.Words.{ok}
 use Rattle.sc_hosts.specs.HelperParts.{strict_number, field_of, answer_with, field, accepted_then, send_in, remove_then, cancel_then, session_number}
 use Rattle.sc_hosts.specs.Offers.{after_word}
+use Rattle.sc_model.specs.BestResponses.{server_error}
 
 -- a package, with the least and the longest time of a subscription in seconds, and the state's body
 pub record Rule : Type 0 where

@@ -27,13 +27,14 @@ use Rattle.sc_model.specs.Dialogs.{tag_of, update}
 use Rattle.sc_model.specs.Names.{ap_name, ap_value, edge_tag, tag_text}
 use Rattle.sc_model.specs.OwnHosts.{is_own}
 use Rattle.sc_model.specs.ServerTransactions.{is_sent_again}
-use Rattle.sc_model.specs.SessionStates.{invite, bye}
+use Rattle.sc_model.specs.SessionStates.{invite, bye, ack}
 use Rattle.sc_hosts.specs.Messages.{own_response, trying_response}
 use Rattle.sc_hosts.specs.Sessions.{Form}
 use Rattle.sc_hosts.specs.Transacting.{method_of, is_cancelled_by, is_acked_by, is_repeated_by, has_final, is_server, pass_server}
-use Rattle.sc_hosts.specs.Words.{ack, cancel, prack, ok, trying, does_not_exist, unavailable}
+use Rattle.sc_hosts.specs.Words.{prack, ok, trying, does_not_exist, unavailable}
 use Rattle.sc_hosts.specs.Inboxes.{MOST_LIVE, quiet, queue, is_full, replying}
 use Rattle.sc_hosts.specs.TakingResponses.{take_response}
+use Rattle.sc_model.specs.DialogRequests.{cancel}
 
 -- ## CANCEL, ACK and repeated requests
 

@@ -27,7 +27,7 @@ use Rattle.sc_model.specs.Names.{branch_text}
 use Rattle.sc_model.specs.ServerTransactions.{server_state, server_due, final_answer}
 use Rattle.sc_model.specs.SessionStates.{invite}
 use Rattle.sc_model.specs.Transactions.{client_state, client_due, client_out, has_provisional}
-use Rattle.sc_hosts.specs.Words.{cancel}
+use Rattle.sc_model.specs.DialogRequests.{cancel}
 
 -- ## Ends of a transaction
 

@@ -2,12 +2,6 @@
 use Rattle.std.specs.Prelude.{codes}
 use Rattle.sc_grammar.specs.Written.{Bytes}
 
-unfoldable pub ack : Bytes
-ack = codes "ACK"
-
-unfoldable pub cancel : Bytes
-cancel = codes "CANCEL"
-
 unfoldable pub register : Bytes
 register = codes "REGISTER"
 
@@ -46,9 +40,6 @@ too_many_hops = codes "Too Many Hops"
 
 unfoldable pub request_terminated : Bytes
 request_terminated = codes "Request Terminated"
-
-unfoldable pub server_error : Bytes
-server_error = codes "Server Internal Error"
 
 unfoldable pub unavailable : Bytes
 unavailable = codes "Service Unavailable"

@@ -34,7 +34,7 @@ use Rattle.sc_state.specs.declared.working.Written.{Written}
 use Rattle.sc_grammar.specs.Written.{Bytes}
 use Rattle.sc_model.specs.DialogRequests.{next_request, ack_request}
 use Rattle.sc_model.specs.Dialogs.{DialogState, By_self}
-use Rattle.sc_model.specs.SessionStates.{invite}
+use Rattle.sc_model.specs.SessionStates.{invite, ack}
 use Rattle.sc_hosts.specs.Branches.{new_proxy, with_targets, stopped, is_invite}
 use Rattle.sc_hosts.specs.Effects.{begun, after_listed}
 use Rattle.sc_hosts.specs.Legs.{leg_of, change_leg, in_dialog}
@@ -44,8 +44,8 @@ use Rattle.sc_hosts.specs.Preparing.{kept_of, proxy_of}
 use Rattle.sc_hosts.specs.PreparingResponses.{change_proxy}
 use Rattle.sc_hosts.specs.Refusals.{awaits_ack, begun_by, refusal}
 use Rattle.sc_hosts.specs.RefusalParts.{draft_in}
-use Rattle.sc_hosts.specs.Words.{ack, server_error}
 use Rattle.sc_hosts.specs.Giving.{giving, answers, answering, drafts_own, drafts_later, drafts_leg, is_written, directs, forgets}
+use Rattle.sc_model.specs.BestResponses.{server_error}
 
 -- as the calls begin
 unfoldable pub starts : Prepared → Working

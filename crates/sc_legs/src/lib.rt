@@ -4,19 +4,15 @@
 #![tactic(auto)]
 
 mod beginning;
-mod derived;
 mod dialogs;
-mod ending;
 mod finding;
 mod kept;
 mod legs;
 mod tags;
 
 pub use beginning::fresh;
-pub use derived::{handled, is_of};
 pub use dialogs::{take_answer, take_request, take_sent};
-pub use ending::{overtaken, without_derived};
 pub use finding::session_for;
 pub use kept::stop_proxy;
-pub use legs::{caller_of, is_invalid, leg_of, leg_place, new_leg};
-pub use tags::{from_tag, is_low, same_tag, to_tag, with_got};
+pub use legs::{caller_of, is_invalid, is_overtaken_leg, leg_of, leg_place, new_leg};
+pub use tags::{from_tag, is_from, is_low, same_tag, to_tag, with_got};

@@ -5,8 +5,9 @@ ghost use Rattle.std.specs.List.{list_all};
 ghost use Rattle.sc_tokens.specs.Tokens.{is_one_line, is_token, is_token_byte};
 ghost use Rattle.sc_tokens.specs.HeaderTokens.{is_param_text};
 ghost use Rattle.sc_value.specs.ParamRules.{AreHeaderParams};
-ghost use Rattle.sc_model.specs.Generated.{caller, tag_word, branch_word, valued, answer_tag, branch_of, via_of, from_side, to_side, answered_side, caller_contact, route_of, head_of, later_of, invite_of, ack_of, bye_of};
+ghost use Rattle.sc_model.specs.Generated.{caller, valued, answer_tag, branch_of, via_of, from_side, to_side, answered_side, caller_contact, route_of, head_of, later_of, invite_of, ack_of, bye_of};
 ghost use Rattle.sc_model.specs.SessionStates.{ack, bye, invite};
+ghost use Rattle.sc_value.specs.Params.{tag_name, branch_name};
 
 use crate::names::{answer_tag, branch_of, call_of, session_uri, user_uri, valued};
 use sc_value::{
@@ -143,10 +144,10 @@ fn via_of(alloc: Global, i: u64, letter: &[u8]) -> Result<Via, NoMemory>
     })
 }
 
-#[tactic(auto, using(sc_model::proofs::TokenFacts::branch_token, sc_model::proofs::TokenFacts::branch_line), unfolding(sc_model::specs::Generated::branch_word, sc_tokens::specs::Tokens::is_token, sc_tokens::specs::Tokens::is_token_byte))]
+#[tactic(auto, using(sc_model::proofs::TokenFacts::branch_token, sc_model::proofs::TokenFacts::branch_line), unfolding(sc_value::specs::Params::branch_name, sc_tokens::specs::Tokens::is_token, sc_tokens::specs::Tokens::is_token_byte))]
 fn branch_params(alloc: Global, i: u64, letter: &[u8]) -> Result<List<Param>, NoMemory>
     requires { list_all is_token_byte letter.now ≡ true }
-    ensures exact { IfOk result (λ l. l ≡ valued branch_word (branch_of i letter.now) ∷ []) }
+    ensures exact { IfOk result (λ l. l ≡ valued branch_name (branch_of i letter.now) ∷ []) }
     ensures kept { IfOk result (λ l. AreHeaderParams l) }
 {
     let branch = branch_of(alloc, i, letter)?;
@@ -167,18 +168,18 @@ fn one_param(alloc: Global, name: &[u8], value: Text) -> Result<List<Param>, NoM
     Ok(params)
 }
 
-#[tactic(auto, using(sc_model::proofs::ParamFacts::token_is_value, sc_model::proofs::ParamFacts::token_is_line), unfolding(sc_model::specs::Generated::tag_word, sc_model::specs::Generated::caller, sc_tokens::specs::Tokens::is_token, sc_tokens::specs::Tokens::is_token_byte))]
+#[tactic(auto, using(sc_model::proofs::ParamFacts::token_is_value, sc_model::proofs::ParamFacts::token_is_line), unfolding(sc_value::specs::Params::tag_name, sc_model::specs::Generated::caller, sc_tokens::specs::Tokens::is_token, sc_tokens::specs::Tokens::is_token_byte))]
 fn caller_params(alloc: Global) -> Result<List<Param>, NoMemory>
-    ensures exact { IfOk result (λ l. l ≡ valued tag_word caller ∷ []) }
+    ensures exact { IfOk result (λ l. l ≡ valued tag_name caller ∷ []) }
     ensures kept { IfOk result (λ l. AreHeaderParams l) }
 {
     let tag = Text::from_slice(alloc, b"m")?;
     one_param(alloc, b"tag", tag)
 }
 
-#[tactic(auto, using(sc_model::proofs::TokenFacts::answer_token, sc_model::proofs::TokenFacts::answer_line), unfolding(sc_model::specs::Generated::tag_word, sc_tokens::specs::Tokens::is_token, sc_tokens::specs::Tokens::is_token_byte))]
+#[tactic(auto, using(sc_model::proofs::TokenFacts::answer_token, sc_model::proofs::TokenFacts::answer_line), unfolding(sc_value::specs::Params::tag_name, sc_tokens::specs::Tokens::is_token, sc_tokens::specs::Tokens::is_token_byte))]
 fn answer_params(alloc: Global, i: u64) -> Result<List<Param>, NoMemory>
-    ensures exact { IfOk result (λ l. l ≡ valued tag_word (answer_tag i) ∷ []) }
+    ensures exact { IfOk result (λ l. l ≡ valued tag_name (answer_tag i) ∷ []) }
     ensures kept { IfOk result (λ l. AreHeaderParams l) }
 {
     let tag = answer_tag(alloc, i)?;

@@ -7,7 +7,8 @@ ghost use Rattle.sc_tokens.specs.Hosts.{is_host};
 ghost use Rattle.sc_tokens.specs.Tokens.{is_value};
 ghost use Rattle.sc_value.specs.ParamRules.{AreUriParams};
 ghost use Rattle.sc_value.specs.declared.parts.Uri.{Uri};
-ghost use Rattle.sc_model.specs.Generated.{local, caller, valued, session_text, user_uri, transport_param, lr_param, session_param, session_uri, mark, answer_tag, cookie, branch_of, call_of};
+ghost use Rattle.sc_model.specs.Generated.{local, caller, valued, session_text, user_uri, session_param, session_uri, mark, answer_tag, cookie, branch_of, call_of};
+ghost use Rattle.sc_model.specs.Names.{loose_param, tcp_param};
 
 use sc_value::{HeaderValue, List, NoMemory, Param, SipUri, Text, Uri, write_u64};
 use std::alloc::Global;
@@ -61,11 +62,11 @@ pub fn session_uri(alloc: Global, host: u64, i: u64) -> Result<Uri, NoMemory>
 
 #[tactic(auto, using(sc_model::proofs::UriFacts::session_kept))]
 fn session_params(alloc: Global, host: u64, i: u64) -> Result<List<Param>, NoMemory>
-    ensures exact { IfOk result (λ l. l ≡ transport_param ∷ lr_param ∷ session_param host i ∷ []) }
+    ensures exact { IfOk result (λ l. l ≡ tcp_param ∷ loose_param ∷ session_param host i ∷ []) }
     ensures kept { IfOk result (λ l. AreUriParams l) }
 {
-    let transport = transport_param(alloc)?;
-    let lr = lr_param(alloc)?;
+    let transport = tcp_param(alloc)?;
+    let lr = loose_param(alloc)?;
     let session = session_param(alloc, host, i)?;
     let mut params = List::new(alloc);
     params.push(transport)?;
@@ -74,17 +75,17 @@ fn session_params(alloc: Global, host: u64, i: u64) -> Result<List<Param>, NoMem
     Ok(params)
 }
 
-#[tactic(auto, unfolding(sc_model::specs::Generated::transport_param))]
-fn transport_param(alloc: Global) -> Result<Param, NoMemory>
-    ensures { IfOk result (λ p. p ≡ transport_param) }
+#[tactic(auto, unfolding(sc_model::specs::Names::tcp_param, sc_model::specs::Generated::valued))]
+fn tcp_param(alloc: Global) -> Result<Param, NoMemory>
+    ensures { IfOk result (λ p. p ≡ tcp_param) }
 {
     let value = Text::from_slice(alloc, b"tcp")?;
     valued(alloc, b"transport", value)
 }
 
-#[tactic(auto, unfolding(sc_model::specs::Generated::lr_param))]
-fn lr_param(alloc: Global) -> Result<Param, NoMemory>
-    ensures { IfOk result (λ p. p ≡ lr_param) }
+#[tactic(auto, unfolding(sc_model::specs::Names::loose_param))]
+fn loose_param(alloc: Global) -> Result<Param, NoMemory>
+    ensures { IfOk result (λ p. p ≡ loose_param) }
 {
     let name = Text::from_slice(alloc, b"lr")?;
     Ok(Param { name, value: None })

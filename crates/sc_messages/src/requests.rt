@@ -272,7 +272,7 @@ pub fn passed_request(alloc: Global, request: &Request) -> Result<Request, NoMem
 }
 
 /// The CANCEL of an INVITE as it was sent (RFC 3261 section 9.1).
-#[tactic(auto, unfolding(sc_hosts::specs::Messages::cancel_of, sc_hosts::specs::Words::cancel, sc_tokens::specs::Tokens::is_token, sc_tokens::specs::Tokens::is_token_byte))]
+#[tactic(auto, unfolding(sc_hosts::specs::Messages::cancel_of, sc_model::specs::DialogRequests::cancel, sc_tokens::specs::Tokens::is_token, sc_tokens::specs::Tokens::is_token_byte))]
 pub fn cancel_of(alloc: Global, request: &Request) -> Result<Request, NoMemory>
     ensures { IfOk result (λ r. r ≡ cancel_of request.now) }
 {
@@ -282,7 +282,7 @@ pub fn cancel_of(alloc: Global, request: &Request) -> Result<Request, NoMemory>
 
 /// The ACK to a final response other than 2xx to an INVITE as it was sent (RFC 3261 section
 /// 17.1.1.3).
-#[tactic(auto, unfolding(sc_hosts::specs::Messages::ack_of, sc_hosts::specs::Words::ack, sc_tokens::specs::Tokens::is_token, sc_tokens::specs::Tokens::is_token_byte))]
+#[tactic(auto, unfolding(sc_hosts::specs::Messages::ack_of, sc_model::specs::SessionStates::ack, sc_tokens::specs::Tokens::is_token, sc_tokens::specs::Tokens::is_token_byte))]
 pub fn ack_of(alloc: Global, request: &Request, response: &Response) -> Result<Request, NoMemory>
     ensures { IfOk result (λ r. r ≡ ack_of request.now response.now) }
 {

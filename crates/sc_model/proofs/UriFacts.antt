@@ -7,7 +7,8 @@ use Rattle.std.proofs.lemmas.Bool.Decides.{nat_tests}
 use Rattle.sc_tokens.specs.Bytes.{is_mark, is_param_sign, is_param_byte}
 use Rattle.sc_tokens.specs.UriTokens.{is_param_name, is_param_value}
 use Rattle.sc_value.specs.ParamRules.{AreUriParams}
-use Rattle.sc_model.specs.Generated.{valued, session_text, transport_param, lr_param, session_param}
+use Rattle.sc_model.specs.Generated.{valued, session_text, session_param}
+use Rattle.sc_model.specs.Names.{loose_param, tcp_param}
 
 -- ## Numbers
 
@@ -34,6 +35,6 @@ unfolding session_text is_param_byte is_mark is_param_sign
 session_bytes host i h g =
     list_all-append is_param_byte (decimal host ++ 45 ∷ []) (decimal i) ∙ ap (λ t. t && list_all is_param_byte (decimal i)) (list_all-append is_param_byte (decimal host) (45 ∷ []) ∙ ap (λ t. t && list_all is_param_byte (45 ∷ [])) (decimal_bytes host h)) ∙ decimal_bytes i g
 
-pub session_kept : (host i : ℕ) → host < 2 ^ 64 → i < 2 ^ 64 → AreUriParams (transport_param ∷ lr_param ∷ session_param host i ∷ [])
-unfolding transport_param lr_param session_param valued is_param_name is_param_value is_param_byte is_mark is_param_sign AreUriParams
+pub session_kept : (host i : ℕ) → host < 2 ^ 64 → i < 2 ^ 64 → AreUriParams (tcp_param ∷ loose_param ∷ session_param host i ∷ [])
+unfolding tcp_param loose_param session_param valued is_param_name is_param_value is_param_byte is_mark is_param_sign AreUriParams
 session_kept host i h g = ((refl, refl), ((refl, refl), ((refl, session_bytes host i h g), tt)))

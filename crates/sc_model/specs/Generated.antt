@@ -15,6 +15,8 @@ use Rattle.sc_value.specs.declared.message.Request.{Request}
 use Rattle.sc_value.specs.declared.message.Message.TheVariants as messages
 use Rattle.sc_grammar.specs.Written.{Bytes, written}
 use Rattle.sc_model.specs.SessionStates.{ack, bye, invite}
+use Rattle.sc_value.specs.Params.{tag_name, branch_name}
+use Rattle.sc_model.specs.Names.{loose_param, tcp_param}
 
 -- ## The names in it
 
@@ -30,12 +32,6 @@ caller = codes "m"
 unfoldable pub called : Bytes
 called = codes "u"
 
-unfoldable pub tag_word : Bytes
-tag_word = codes "tag"
-
-unfoldable pub branch_word : Bytes
-branch_word = codes "branch"
-
 -- `name=value`
 unfoldable pub valued : Bytes → Bytes → Param
 valued name value = record { name = name; value = Some value }
@@ -48,12 +44,6 @@ session_text host i = decimal host ++ 45 ∷ [] ++ decimal i
 unfoldable pub user_uri : Bytes → Bytes → Option ℕ → Uri
 user_uri user host port = Sip (record { user = Some user; host = host; port = port; params = []; headers = None })
 
-unfoldable pub transport_param : Param
-transport_param = valued (codes "transport") (codes "tcp")
-
-unfoldable pub lr_param : Param
-lr_param = record { name = codes "lr"; value = None }
-
 unfoldable pub session_param : ℕ → ℕ → Param
 session_param host i = valued (codes "ap") (session_text host i)
 
@@ -63,7 +53,7 @@ session_uri host i = Sip (record {
   user = None;
   host = local;
   port = Some 5060;
-  params = transport_param ∷ lr_param ∷ session_param host i ∷ [];
+  params = tcp_param ∷ loose_param ∷ session_param host i ∷ [];
   headers = None;
 })
 
@@ -88,11 +78,11 @@ call_of i = caller ++ decimal i
 -- ## The messages of call i
 
 unfoldable pub via_of : ℕ → Bytes → Via
-via_of i letter = record { transport = codes "TCP"; host = local; port = Some 5090; params = valued branch_word (branch_of i letter) ∷ [] }
+via_of i letter = record { transport = codes "TCP"; host = local; port = Some 5090; params = valued branch_name (branch_of i letter) ∷ [] }
 
 -- `<sip:m@home.test>;tag=m`
 unfoldable pub from_side : Address
-from_side = record { display = None; uri = user_uri caller home None; params = valued tag_word caller ∷ [] }
+from_side = record { display = None; uri = user_uri caller home None; params = valued tag_name caller ∷ [] }
 
 -- `<sip:u@home.test>`
 unfoldable pub to_side : Address
@@ -100,7 +90,7 @@ to_side = record { display = None; uri = user_uri called home None; params = [] 
 
 -- the same with the tag of the answer
 unfoldable pub answered_side : ℕ → Address
-answered_side i = record { display = None; uri = user_uri called home None; params = valued tag_word (answer_tag i) ∷ [] }
+answered_side i = record { display = None; uri = user_uri called home None; params = valued tag_name (answer_tag i) ∷ [] }
 
 -- `<sip:m@127.0.0.1:5090>`
 unfoldable pub caller_contact : Contact

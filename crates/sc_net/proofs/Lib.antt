@@ -1,4 +1,1 @@
 pub mod AllDelivered
-pub mod HostTaking
-pub mod Literals
-pub mod NamedHosts

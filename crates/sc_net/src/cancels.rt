@@ -10,7 +10,6 @@ ghost use Rattle.sc_hosts.specs.Nets.{change_host, host_at, send_cancel, cancel_
 ghost use Rattle.sc_hosts.specs.TakingResponses.{cancelling};
 ghost use Rattle.sc_hosts.specs.Transacting.{is_client, pass_client};
 
-use crate::wire::{host_at, put, with_client_at};
 use sc_messages::cancel_of;
 use sc_parts::ClientItem;
 use sc_state::{Client, Host, Net, Session};
@@ -19,6 +18,7 @@ use sc_transact::{
     client_of, is_invite_client, is_proceeding, out_of_client, pass_client, state_of_client,
 };
 use sc_value::{AppId, Boxed, CloneIn, Message, NoMemory, Shared};
+use sc_wire::{host_at, put, with_client_at};
 use std::alloc::Global;
 
 fn cancel_message(alloc: Global, client: &Client) -> Result<Boxed<Message>, NoMemory>

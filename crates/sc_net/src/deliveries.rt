@@ -11,7 +11,7 @@ use sc_state::{Entry, Net, Peer, Session};
 use sc_value::NoMemory;
 use std::alloc::Global;
 
-#[tactic(auto, using(crate::proofs::HostTaking::net_delivered))]
+#[tactic(auto, using(sc_wire::proofs::HostTaking::net_delivered))]
 fn deliver_at(
     alloc: Global,
     setup: &Setup,

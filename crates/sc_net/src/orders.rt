@@ -4,14 +4,12 @@ ghost use Rattle.std.specs.Prelude.{◌≡◌, OnOk};
 ghost use Rattle.sc_model.specs.Choices.{choice_of};
 ghost use Rattle.sc_hosts.specs.Nets.{begin_by, obey, obeyed};
 
-use crate::answers::respond;
 use crate::cancels::cancel;
-use crate::naming::{acknowledge, send_later};
-use crate::sending::begin_by;
 use sc_parts::Setup;
 use sc_router::next;
 use sc_state::{Net, Order, Session};
 use sc_value::{AppId, Directive, NoMemory, Region, Request, Shared};
+use sc_wire::{acknowledge, begin_by, respond, send_later};
 use std::alloc::Global;
 
 fn begin(

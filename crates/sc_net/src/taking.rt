@@ -5,17 +5,18 @@ ghost use Rattle.sc_value.specs.Lists.{change_nth};
 ghost use Rattle.sc_hosts.specs.Histories.{as_session};
 ghost use Rattle.sc_hosts.specs.Arrivals.{taken_at};
 ghost use Rattle.sc_hosts.specs.Taking.{takes};
-ghost use Rattle.sc_net.specs.HostChanges.{host_after, told_after, net_after};
+ghost use Rattle.sc_wire.specs.HostChanges.{host_after, told_after, net_after};
 
-use crate::wire::put_reply;
+use sc_inboxes::Told;
 use sc_parts::Setup;
 use sc_state::{Host, Net, Note, Peer, Session};
-use sc_take::{Told, takes};
+use sc_take::takes;
 use sc_terms::Config;
 use sc_value::{Message, NoMemory, Place};
+use sc_wire::put_reply;
 use std::alloc::Global;
 
-#[tactic(auto, unfolding(crate::specs::HostChanges::host_after, crate::specs::HostChanges::told_after))]
+#[tactic(auto, unfolding(sc_wire::specs::HostChanges::host_after, sc_wire::specs::HostChanges::told_after))]
 fn host_takes(
     alloc: Global,
     config: &Config,
@@ -36,7 +37,7 @@ fn host_takes(
     )
 }
 
-#[tactic(auto, unfolding(crate::specs::HostChanges::told_after), using(sc_value::proofs::ListFacts::change_nth_at, sc_value::proofs::ListFacts::change_nth_none, sc_value::proofs::ListFacts::slice_get_at, sc_value::proofs::ListFacts::slice_get_none))]
+#[tactic(auto, unfolding(sc_wire::specs::HostChanges::told_after), using(sc_value::proofs::ListFacts::change_nth_at, sc_value::proofs::ListFacts::change_nth_none, sc_value::proofs::ListFacts::slice_get_at, sc_value::proofs::ListFacts::slice_get_none))]
 fn takes_in(
     alloc: Global,
     config: &Config,
@@ -71,7 +72,7 @@ fn takes_in(
 }
 
 /// The host of this number takes a message, where there is one.
-#[tactic(auto, unfolding(crate::specs::HostChanges::net_after))]
+#[tactic(auto, unfolding(sc_wire::specs::HostChanges::net_after))]
 pub fn net_takes(
     alloc: Global,
     config: &Config,
@@ -100,7 +101,7 @@ pub fn net_takes(
 }
 
 /// The host of this number takes a message from outside, where there is one.
-#[tactic(auto, using(crate::proofs::HostTaking::net_taken))]
+#[tactic(auto, using(sc_wire::proofs::HostTaking::net_taken))]
 pub fn taken_at(
     alloc: Global,
     setup: &Setup,

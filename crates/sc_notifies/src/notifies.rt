@@ -8,8 +8,9 @@ ghost use Rattle.sc_model.specs.Transactions.{is_failure};
 ghost use Rattle.sc_hosts.specs.Charters.{reply_ok};
 ghost use Rattle.sc_hosts.specs.Scripting.{Done, only, reply, where_some};
 ghost use Rattle.sc_hosts.specs.Subscriptions.{accepts, accepts_by, ended_sub, failed_sub, info_word, named_sub, notify_request, notify_script, rule_in, subscription_of};
-ghost use Rattle.sc_hosts.specs.Words.{ok, server_error};
+ghost use Rattle.sc_hosts.specs.Words.{ok};
 ghost use Rattle.sc_apps.specs.Scripted.{IsPlayed};
+ghost use Rattle.sc_model.specs.BestResponses.{server_error};
 
 use crate::accepting::accept;
 use crate::changing::change;

@@ -15,12 +15,12 @@ use Rattle.sc_hosts.specs.HelperParts.{accepted_then, cancel_then}
 use Rattle.sc_hosts.specs.Looking.{is_request, request_in}
 use Rattle.sc_hosts.specs.Offers.{Offer, ended_offer_text, is_invite_of, rel_name, take_prack}
 use Rattle.sc_hosts.specs.Scripting.{Script, Done, only, reply, where_some}
-use Rattle.sc_hosts.specs.Words.{server_error}
 use Rattle.sc_turn.specs.Working.{Working}
 use Rattle.sc_apps.specs.Scripted.{IsPlayed}
 use Rattle.sc_helpers.specs.Leading.{cancel_some, timer_named}
 use Rattle.sc_offers.specs.OfferScripts.{late_by, open_in, prack_of}
 use Rattle.sc_helpers.proofs.FoundLaws.{as_is, cancel_is, found, request_is}
+use Rattle.sc_model.specs.BestResponses.{server_error}
 
 prack_by_found : (view : View) (req : ReqId) (sess : SessId) (request : Request) (o : Option RequestView) → find (is_invite_of sess) view.requests ≡ o → take_prack view req sess request ≡ prack_of view req request (option_map (λ r. r.id) o)
 unfolding take_prack prack_of

@@ -8,7 +8,8 @@ use Rattle.sc_terms.specs.declared.calls.Call.TheVariants as calls
 use Rattle.sc_hosts.specs.HelperParts.{accepted_then}
 use Rattle.sc_hosts.specs.Offers.{Offer, ended_offer_text, pending_offer, prack_by, rel_name}
 use Rattle.sc_hosts.specs.Scripting.{Script, Done, only, reply}
-use Rattle.sc_hosts.specs.Words.{does_not_exist, server_error}
+use Rattle.sc_hosts.specs.Words.{does_not_exist}
+use Rattle.sc_model.specs.BestResponses.{server_error}
 
 -- the answer to a PRACK, where the INVITE that it may be for is found or not
 unfoldable pub prack_of : View → ReqId → Request → Option ReqId → Script

@@ -8,10 +8,10 @@ ghost use Rattle.sc_hosts.specs.Looking.{is_request, request_in};
 ghost use Rattle.sc_hosts.specs.Offers.{ended_offer_text, late_offer, rel_name};
 ghost use Rattle.sc_hosts.specs.RefusalParts.{MOST_CALLS};
 ghost use Rattle.sc_hosts.specs.Scripting.{Done, only, reply, where_some};
-ghost use Rattle.sc_hosts.specs.Words.{server_error};
 ghost use Rattle.sc_turn.specs.Working.{play_of};
 ghost use Rattle.sc_apps.specs.Scripted.{IsPlayed};
 ghost use Rattle.sc_offers.specs.OfferScripts.{late_by, open_in};
+ghost use Rattle.sc_model.specs.BestResponses.{server_error};
 
 use crate::offer_texts::Waiting;
 use crate::pending::{note_failed, pending_offer};
@@ -118,7 +118,7 @@ fn late_by(t: &mut Turn, number: u64, offer: &Waiting, req: Option<ReqId>) -> Re
     }
 }
 
-#[tactic(auto, unfolding(sc_hosts::specs::Words::server_error), using(sc_helpers::proofs::LedLaws::accepted_on, sc_helpers::proofs::LedLaws::accepted_off))]
+#[tactic(auto, unfolding(sc_model::specs::BestResponses::server_error), using(sc_helpers::proofs::LedLaws::accepted_on, sc_helpers::proofs::LedLaws::accepted_off))]
 fn give_up(t: &mut Turn, number: u64, offer: &Waiting, req: ReqId) -> Result<(), NoMemory>
     requires { (play_of t.old).listed + 1 < MOST_CALLS }
     ensures same { t.new.shown ≡ t.old.shown }

@@ -17,8 +17,8 @@ use Rattle.sc_hosts.specs.Histories.{as_session}
 use Rattle.sc_hosts.specs.Runs.{start, after_step, shown}
 use Rattle.sc_hosts.specs.Scripting.{played}
 use Rattle.sc_hosts.specs.Steps.{live_at}
-use Rattle.sc_hosts.proofs.Playing.{Act, Take, Run, Turn_of, Drop_of, Next, script_at, nexts, lowest}
-use Rattle.sc_hosts.proofs.Trying.{acts_in}
+use Rattle.sc_worked.proofs.Playing.{Act, Take, Run, Turn_of, Drop_of, Next, script_at, nexts, lowest}
+use Rattle.sc_worked.proofs.Trying.{acts_in}
 use Rattle.sc_script.specs.ScriptTexts.{script_of}
 use Rattle.sc_paths.specs.Moments.{Moment, moments}
 

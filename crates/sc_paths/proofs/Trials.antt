@@ -4,7 +4,7 @@ use Rattle.sc_value.specs.declared.parts.Uri.TheVariants as uris
 use Rattle.sc_terms.specs.declared.settings.Modifier.TheVariants as modifiers
 use Rattle.sc_parts.specs.declared.setup.Setup.{Setup}
 use Rattle.sc_grammar.specs.Written.{Bytes}
-use Rattle.sc_hosts.proofs.Trying.{app, tuple, set_up}
+use Rattle.sc_worked.proofs.Trying.{app, tuple, set_up}
 
 unfoldable pub chain_bye_of_caller_setup : Setup
 chain_bye_of_caller_setup = set_up (app (codes "a0") 4 ([]) ∷ app (codes "a1") 2 ([]) ∷ app (codes "a2") 4 ([]) ∷ []) (record { method = (codes "INVITE"); tuples = (tuple 0 ∷ tuple 1 ∷ tuple 2 ∷ []) } ∷ record { method = (codes "OPTIONS"); tuples = (tuple 0 ∷ tuple 1 ∷ tuple 2 ∷ []) } ∷ record { method = (codes "MESSAGE"); tuples = (tuple 0 ∷ tuple 1 ∷ tuple 2 ∷ []) } ∷ [])

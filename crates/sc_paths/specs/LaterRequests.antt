@@ -25,9 +25,9 @@ use Rattle.sc_hosts.specs.Destinations.{next_uri}
 use Rattle.sc_hosts.specs.Legs.{from_tag, to_tag, same_tag}
 use Rattle.sc_hosts.specs.Taking.{claim_of, is_claimed, names, own_uri, unrouted}
 use Rattle.sc_hosts.specs.Transacting.{is_same_app, method_of}
-use Rattle.sc_hosts.specs.Words.{cancel}
 use Rattle.sc_paths.specs.Moments.{Moment, Got, got_in, given_in, same_vias}
 use Rattle.sc_paths.specs.Pieces.{Dialog, Direction, From_caller, From_callee, Piece, ahead, along, end_of, recorders}
+use Rattle.sc_model.specs.DialogRequests.{cancel}
 
 -- ## One occurrence of a request
 

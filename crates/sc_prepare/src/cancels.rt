@@ -8,14 +8,13 @@ ghost use Rattle.sc_hosts.specs.Looking.{is_gone_in, request_in};
 ghost use Rattle.sc_hosts.specs.Messages.{own_response};
 ghost use Rattle.sc_hosts.specs.Words.{request_terminated};
 ghost use Rattle.sc_hosts.specs.Preparing.{cancelled_proxy, cancelled_request, is_invited, kept_of, own_tag_of, prepared_cancel, proxy_of, terminated};
-ghost use Rattle.sc_prepare.specs.Shown.{prepared_as};
+ghost use Rattle.sc_shown.specs.Shown.{prepared_as};
 
-use crate::copies::{invited_by, kept_copy, proxy_copy};
-use crate::shown::{Shown, one_response, showing_in, silent};
 use sc_branches::is_supervised;
 use sc_effects::{answered, own_tag_of, request_copy};
 use sc_legs::stop_proxy;
 use sc_messages::own_response;
+use sc_shown::{Shown, invited_by, kept_copy, one_response, proxy_copy, showing_in, silent};
 use sc_state::{Invited, Kept, Order, Proxy, Session};
 use sc_terms::{Event, RequestView, View};
 use sc_value::{List, NoMemory, ReqId, Request, Response};

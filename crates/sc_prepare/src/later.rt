@@ -3,14 +3,14 @@
 ghost use Rattle.std.specs.Prelude.{◌≡◌, IfOk};
 ghost use Rattle.sc_hosts.specs.Looking.{session_in};
 ghost use Rattle.sc_hosts.specs.PreparingRequests.{prepared_request, refused, taken_in, too_low};
-ghost use Rattle.sc_prepare.specs.Shown.{prepared_as, taken_by};
+ghost use Rattle.sc_shown.specs.Shown.{prepared_as, taken_by};
 
 use crate::receiving::{next_id, numbered, received};
-use crate::shown::{Shown, one_response, showing, silent};
 use sc_effects::answered_by;
 use sc_legs::{is_low, leg_of, take_request};
 use sc_messages::own_response;
 use sc_refusals::{is_ack, is_proxy, session_in};
+use sc_shown::{Shown, one_response, showing, silent};
 use sc_state::{Order, Session};
 use sc_terms::{Event, Role};
 use sc_value::{Boxed, CloneIn, List, NoMemory, Request, SessId, Shared};
@@ -35,7 +35,7 @@ fn refused(
 }
 
 // A number that is too low: the answer counts in the SipSession like any other.
-#[tactic(auto, unfolding(sc_hosts::specs::PreparingRequests::too_low, sc_hosts::specs::PreparingRequests::silent, sc_hosts::specs::Words::server_error))]
+#[tactic(auto, unfolding(sc_hosts::specs::PreparingRequests::too_low, sc_hosts::specs::PreparingRequests::silent, sc_model::specs::BestResponses::server_error))]
 fn too_low(
     alloc: Global,
     session: &mut Session,
@@ -53,7 +53,7 @@ fn too_low(
 }
 
 // The request is taken in a SipSession of this role.
-#[tactic(auto, unfolding(crate::specs::Shown::taken_by, sc_hosts::specs::PreparingRequests::showing))]
+#[tactic(auto, unfolding(sc_shown::specs::Shown::taken_by, sc_hosts::specs::PreparingRequests::showing))]
 fn taken_by(
     alloc: Global,
     session: &mut Session,
@@ -72,7 +72,7 @@ fn taken_by(
     Ok(showing(event, Some(req), List::new(alloc)))
 }
 
-#[tactic(auto, unfolding(sc_hosts::specs::PreparingRequests::taken_in, sc_hosts::specs::PreparingRequests::taken, crate::specs::Shown::taken_by, sc_hosts::specs::PreparingRequests::silent))]
+#[tactic(auto, unfolding(sc_hosts::specs::PreparingRequests::taken_in, sc_hosts::specs::PreparingRequests::taken, sc_shown::specs::Shown::taken_by, sc_hosts::specs::PreparingRequests::silent))]
 fn taken_in(
     alloc: Global,
     session: &mut Session,

@@ -6,17 +6,14 @@ ghost use Rattle.sc_state.specs.declared.queue.Queued.{Queued};
 ghost use Rattle.sc_hosts.specs.Branches.{has_branch};
 ghost use Rattle.sc_hosts.specs.PreparingResponses.{is_sent_on, prepared_response};
 ghost use Rattle.sc_hosts.specs.Preparing.{prepared, prepared_for};
-ghost use Rattle.sc_prepare.specs.Shown.{prepared_as};
+ghost use Rattle.sc_shown.specs.Shown.{prepared_as};
 
-use crate::branches::prepared_branch;
 use crate::cancels::prepared_cancel;
-use crate::copies::{branch_copy, sent_copy};
 use crate::later::prepared_request;
 use crate::receiving::{next_id, received};
-use crate::responses::prepared_own;
-use crate::shown::{Shown, showing, silent};
 use crate::timers::{prepared_branch_timer, prepared_expiry, prepared_timer};
 use sc_legs::session_for;
+use sc_shown::{Shown, branch_copy, prepared_branch, prepared_own, sent_copy, showing, silent};
 use sc_state::{Kept, Prepared, Proxy, Queued, Session, Waiting};
 use sc_terms::{Config, Event};
 use sc_value::{

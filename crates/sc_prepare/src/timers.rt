@@ -10,15 +10,14 @@ ghost use Rattle.sc_hosts.specs.Messages.{own_response};
 ghost use Rattle.sc_hosts.specs.Words.{request_timeout};
 ghost use Rattle.sc_hosts.specs.PreparingResponses.{change_proxy};
 ghost use Rattle.sc_hosts.specs.Preparing.{fired, has_expired, prepared_branch_timer, prepared_expiry, prepared_timer, renewed, timed_out};
-ghost use Rattle.sc_prepare.specs.Shown.{due_at, prepared_as};
+ghost use Rattle.sc_shown.specs.Shown.{due_at, prepared_as};
 
-use crate::copies::{branch_copy, timer_copy};
-use crate::shown::{Shown, showing, silent};
 use sc_branches::{ended_by, is_invite, is_timed_out, to_cancel};
 use sc_effects::proxy_place;
 use sc_legs::is_invalid;
 use sc_messages::own_response;
 use sc_refusals::timer_place;
+use sc_shown::{Shown, branch_copy, showing, silent, timer_copy};
 use sc_state::{Known, Proxy, Session};
 use sc_terms::{Config, Event, Period, TimerView, View};
 use sc_value::{List, NoMemory, ReqId, Request, Response, SessId, Shared, Text, TimerId, sum};
@@ -46,7 +45,7 @@ fn end_timer(timers: &mut List<TimerView>, id: TimerId)
     }
 }
 
-#[tactic(auto, unfolding(crate::specs::Shown::due_at))]
+#[tactic(auto, unfolding(sc_shown::specs::Shown::due_at))]
 fn due_at(timer: &mut TimerView, due: u64)
     ensures { timer.new ≡ due_at due timer.old }
 {
@@ -63,7 +62,7 @@ fn due_in(timers: &mut [TimerView], id: TimerId, due: u64)
     }
 }
 
-#[tactic(auto, unfolding(sc_hosts::specs::Preparing::fired, crate::specs::Shown::due_at))]
+#[tactic(auto, unfolding(sc_hosts::specs::Preparing::fired, sc_shown::specs::Shown::due_at))]
 fn fired(view: &mut View, timer: &TimerView, due: Option<u64>)
     ensures { view.new ≡ fired view.old timer.now due }
 {

@@ -5,22 +5,23 @@ ghost use Rattle.std.specs.List.{list_any};
 ghost use Rattle.std.specs.Option.{option_or};
 ghost use Rattle.sc_tokens.specs.HeaderNames.{is_system_name};
 ghost use Rattle.sc_tokens.specs.Names.{same_bytes};
-ghost use Rattle.sc_model.specs.SessionStates.{invite};
-ghost use Rattle.sc_hosts.specs.Words.{ack, cancel, options, register};
-ghost use Rattle.sc_hosts.specs.RefusalParts.{is_bad_field, bad_field, has_system_name, answer_text, is_bad_method, asked_text, may_have_contact, has_system_answer, has_system_ask};
+ghost use Rattle.sc_model.specs.SessionStates.{invite, ack};
+ghost use Rattle.sc_hosts.specs.Words.{options, register};
+ghost use Rattle.sc_hosts.specs.RefusalParts.{bad_field, has_system_name, answer_text, is_bad_method, asked_text, may_have_contact, has_system_answer, has_system_ask};
+ghost use Rattle.sc_model.specs.DialogRequests.{cancel, is_bad_field};
 
 use sc_terms::{Answer, Ask, Refusal};
 use sc_value::{Field, is_one_line, is_system_name, is_token, is_value};
 
 /// Whether a method is ACK.
-#[tactic(auto, unfolding(sc_hosts::specs::Words::ack))]
+#[tactic(auto, unfolding(sc_model::specs::SessionStates::ack))]
 pub fn is_ack(method: &[u8]) -> bool
     ensures { result ≡ same_bytes method.now ack }
 {
     method == b"ACK".as_slice()
 }
 
-#[tactic(auto, unfolding(sc_hosts::specs::Words::cancel))]
+#[tactic(auto, unfolding(sc_model::specs::DialogRequests::cancel))]
 fn is_cancel(method: &[u8]) -> bool
     ensures { result ≡ same_bytes method.now cancel }
 {
@@ -87,7 +88,7 @@ pub fn has_system_ask(ask: &Ask) -> bool
         || (!ask.contact.is_empty() && !is_register(ask.method.as_bytes()))
 }
 
-#[tactic(auto, unfolding(sc_hosts::specs::RefusalParts::is_bad_field))]
+#[tactic(auto, unfolding(sc_model::specs::DialogRequests::is_bad_field))]
 fn is_bad_field(field: &Field) -> bool
     ensures { result ≡ is_bad_field field.now }
 {

@@ -9,6 +9,7 @@ use Rattle.sc_edge.specs.Taking.{Takes}
 use Rattle.sc_hosts.specs.Histories.{as_session}
 use Rattle.sc_hosts.specs.Runs.{IsLawful, IsLawfulFrom}
 use Rattle.sc_runs.specs.Following.{Follows}
+use Rattle.sc_moments.proofs.FollowTicks.{follows-ticks}
 use Rattle.sc_runs.specs.Outputs.{output}
 use Rattle.sc_journal.specs.Kept.{Kept}
 use Rattle.sc_switch.specs.declared.ran.Ran.{Ran}
@@ -21,7 +22,7 @@ use Rattle.sc_follow.specs.Leading.{IsNew}
 
 pub left_done : (setup : Setup) (told : Option Bytes) (write : Type 0) (a b : Option Bytes) (said : List Line) (journal : List Step) → TellsScript told said → Follows as_session setup said journal → Takes a b (output as_session setup journal) → Leaves setup told write a b statuses.Done journal
 unfolding Leaves Replays
-left_done setup told write a b said journal tells follows takes = ((said, tells, follows), takes)
+left_done setup told write a b said journal tells follows takes = ((said, tells, follows, follows-ticks as_session setup tells.text said journal tells.script_is follows), takes)
 
 pub left_full : (setup : Setup) (told : Option Bytes) (write : Type 0) (a b : Option Bytes) (said : List Line) (journal : List Step) → TellsScript told said → IsCutShort setup said write a b journal runs.JournalFull → Leaves setup told write a b statuses.JournalFull journal
 unfolding Leaves ReplaysFull IsCutShort
@@ -33,7 +34,7 @@ left_part setup told write a b said journal tells (upto, put) = inl ((said, tell
 
 pub left_cut : (setup : Setup) (told : Option Bytes) (write : Type 0) (a b : Option Bytes) (said : List Line) (journal : List Step) → TellsScript told said → IsCutShort setup said write a b journal runs.Write → Leaves setup told write a b statuses.Write journal
 unfolding Leaves Replays IsCutShort
-left_cut setup told write a b said journal tells (rose, follows, put) = ((said, tells, follows), put)
+left_cut setup told write a b said journal tells (rose, follows, put) = ((said, tells, follows, follows-ticks as_session setup tells.text said journal tells.script_is follows), put)
 
 pub comes_write : (setup : Setup) (told : Option Bytes) (read write : Type 0) (a b : Option Bytes) (said : List Line) (journal : List Step) → IsCutShort setup said write a b journal runs.Write → ComesIn setup told read write statuses.Write
 unfolding IsCutShort ComesIn

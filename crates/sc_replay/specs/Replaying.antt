@@ -13,6 +13,7 @@ use Rattle.sc_edge.specs.Shelving.{GivesAll}
 use Rattle.sc_edge.specs.Taking.{Takes, TakesPart}
 use Rattle.sc_hosts.specs.Histories.{as_session}
 use Rattle.sc_hosts.specs.Runs.{IsLawful}
+use Rattle.sc_moments.specs.Moments.{ticks_of, ticks_in}
 use Rattle.sc_runs.specs.Following.{Follows, Upto}
 use Rattle.sc_runs.specs.Outputs.{journal_records, output}
 use Rattle.sc_script.specs.ScriptTexts.{script_of}
@@ -121,9 +122,9 @@ IsUnset names config dar read statuses.Write = ⊥
 
 -- ## What a run leaves
 
--- the journal follows the lines of the script
+-- the journal follows the lines of the script, and has all their ticks
 unfoldable pub Replays : Setup → Option Bytes → List Step → Type 0
-Replays setup told journal = (lines : List Line) × TellsScript told lines × Follows as_session setup lines journal
+Replays setup told journal = (lines : List Line) × TellsScript told lines × Follows as_session setup lines journal × (ticks_of journal ≡ ticks_in lines)
 
 -- it follows them so far
 unfoldable pub ReplaysPart : Setup → Option Bytes → List Step → Type 0

@@ -10,10 +10,10 @@ ghost use Rattle.sc_steps.specs.TurnParts.{host_without};
 
 use crate::lives::live_copy;
 use sc_finish::goodbye;
+use sc_inboxes::live_place;
 use sc_net::obeyed;
 use sc_parts::Setup;
 use sc_state::{Host, Live, Net, Order, Session, Waiting};
-use sc_take::live_place;
 use sc_transact::tidied;
 use sc_value::{AppId, List, NoMemory, Shared};
 use std::alloc::Global;

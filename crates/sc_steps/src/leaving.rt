@@ -6,8 +6,8 @@ ghost use Rattle.sc_hosts.specs.Steps.{still_fired};
 ghost use Rattle.sc_hosts.specs.Inboxes.{is_live};
 ghost use Rattle.sc_steps.specs.TurnParts.{is_running, live_after, host_after, net_after};
 
+use sc_inboxes::live_place;
 use sc_state::{Fired, Host, Live, Net, Session, Waiting};
-use sc_take::live_place;
 use sc_ticks::runs;
 use sc_value::{AppId, CloneIn, List, NoMemory, Shared};
 use std::alloc::Global;

@@ -5,11 +5,11 @@ ghost use Rattle.std.specs.Option.{option_copied};
 ghost use Rattle.sc_hosts.specs.Nets.{host_at};
 ghost use Rattle.sc_hosts.specs.Steps.{live_of, live_at, ringing_at};
 
-use sc_net::host_at;
+use sc_inboxes::live_in;
 use sc_state::{Host, Live, Net, Session};
-use sc_take::live_in;
 use sc_transact::ringing_branches;
 use sc_value::{AppId, CloneIn, List, NoMemory, Shared};
+use sc_wire::host_at;
 use std::alloc::Global;
 
 fn live_of(app: AppId, host: Option<&Host<Session>>) -> Option<&Shared<Live<Session>>>

@@ -8,10 +8,10 @@ ghost use Rattle.sc_steps.specs.TurnParts.{wakes, ready_by, closed_by};
 use crate::endings::ended;
 use crate::lives::live_at;
 use sc_finish::is_ready;
-use sc_net::queue_for;
 use sc_parts::Setup;
 use sc_state::{Live, Net, Queued, Session};
 use sc_value::{AppId, NoMemory};
+use sc_wire::queue_for;
 use std::alloc::Global;
 
 #[tactic(auto, unfolding(crate::specs::TurnParts::wakes))]

@@ -10,11 +10,9 @@ ghost use Rattle.sc_hosts.specs.Histories.{as_session};
 ghost use Rattle.sc_hosts.specs.Taking.{begun_live, begun, take_initial, is_never_initial, take_begun};
 ghost use Rattle.sc_hosts.specs.Transacting.{method_of};
 ghost use Rattle.sc_hosts.specs.Words.{prack};
-ghost use Rattle.sc_take.specs.TakenParts.{taken_by};
+ghost use Rattle.sc_inboxes.specs.TakenParts.{taken_by};
 
-use crate::refusals::{refuse_full, refuse_unknown};
-use crate::server_parts::{with_server, with_trying};
-use crate::told::{Told, quiet};
+use sc_inboxes::{Told, quiet, refuse_full, refuse_unknown, with_server, with_trying};
 use sc_legs::fresh;
 use sc_names::tag;
 use sc_state::{Host, Live, Note, Peer, Queued, Session, Waiting};

@@ -12,10 +12,9 @@ ghost use Rattle.sc_hosts.specs.Inboxes.{quiet, queue};
 ghost use Rattle.sc_hosts.specs.Taking.{cancelled, again_if, repeated, claim_of, is_claimed};
 ghost use Rattle.sc_hosts.specs.Transacting.{has_final, is_cancelled_by, is_acked_by, is_repeated_by};
 ghost use Rattle.sc_hosts.specs.Words.{ok};
-ghost use Rattle.sc_take.specs.TakenParts.{taken_by};
+ghost use Rattle.sc_inboxes.specs.TakenParts.{taken_by};
 
-use crate::inboxes::queue;
-use crate::told::{Told, quiet, replying};
+use sc_inboxes::{Told, queue, quiet, replying};
 use sc_messages::own_response;
 use sc_parts::ServerItem;
 use sc_state::{Host, Peer, Queued, Server, Session};

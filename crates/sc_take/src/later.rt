@@ -3,13 +3,12 @@
 ghost use Rattle.std.specs.Prelude.{◌≡◌, option_and_then, IfOk};
 ghost use Rattle.std.specs.Option.{option_copied};
 ghost use Rattle.sc_hosts.specs.Taking.{named_live, queue_later, later_by, take_later};
-ghost use Rattle.sc_take.specs.TakenParts.{taken_by};
+ghost use Rattle.sc_inboxes.specs.TakenParts.{taken_by};
 
-use crate::inboxes::{is_full, queue};
-use crate::refusals::{refuse_full, refuse_unknown};
-use crate::server_parts::{with_server, with_trying};
-use crate::told::Told;
-use crate::uris::{named_live, own_uri, unrouted};
+use sc_inboxes::{
+    Told, is_full, named_live, own_uri, queue, refuse_full, refuse_unknown, unrouted, with_server,
+    with_trying,
+};
 use sc_state::{Host, Live, Peer, Queued, Session};
 use sc_terms::Config;
 use sc_value::{AppId, CloneIn, NoMemory, Request, Shared, Text, Uri, sum};

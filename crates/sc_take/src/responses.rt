@@ -6,10 +6,9 @@ ghost use Rattle.sc_hosts.specs.Messages.{cancel_of};
 ghost use Rattle.sc_hosts.specs.Inboxes.{replying};
 ghost use Rattle.sc_hosts.specs.TakingResponses.{told, told_by, cancelling, with_reply, response_for, response_to, take_response};
 ghost use Rattle.sc_hosts.specs.Transacting.{client_for, with_client};
-ghost use Rattle.sc_take.specs.TakenParts.{taken_by};
+ghost use Rattle.sc_inboxes.specs.TakenParts.{taken_by};
 
-use crate::inboxes::{is_full_at, queue};
-use crate::told::{Told, quiet, replying};
+use sc_inboxes::{Told, is_full_at, queue, quiet, replying};
 use sc_messages::{ack_of, cancel_of, without_via};
 use sc_parts::{ClientItem, ClientOut};
 use sc_state::{Client, Host, Peer, Queued, Session};

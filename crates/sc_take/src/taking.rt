@@ -5,14 +5,13 @@ ghost use Rattle.std.specs.List.{find};
 ghost use Rattle.sc_hosts.specs.Histories.{as_session};
 ghost use Rattle.sc_hosts.specs.Taking.{claim_by, Cancels, Acks, Repeats, Unclaimed, take_new, take_unclaimed, take_claimed, take_request, takes};
 ghost use Rattle.sc_hosts.specs.Transacting.{is_cancelled_by, is_acked_by, is_repeated_by};
-ghost use Rattle.sc_take.specs.TakenParts.{taken_by};
+ghost use Rattle.sc_inboxes.specs.TakenParts.{taken_by};
 
 use crate::beginning::take_begun;
 use crate::claims::{acked_by, cancelled, cancelled_by, repeated, repeated_by};
 use crate::later::take_later;
-use crate::refusals::refuse_unknown;
 use crate::responses::take_response;
-use crate::told::{Told, quiet};
+use sc_inboxes::{Told, quiet, refuse_unknown};
 use sc_parts::ServerItem;
 use sc_state::{Host, Note, Peer, Session};
 use sc_terms::Config;

@@ -14,11 +14,11 @@ use crate::firsts::due_items;
 use crate::marking::mark_at;
 use crate::passing::{pass_server_at, passes};
 use sc_due::DueKey;
-use sc_net::queue_for;
 use sc_parts::{ClientItem, ServerItem};
 use sc_state::{Client, Net, Queued, Session};
 use sc_terms::Config;
 use sc_value::{AppId, CloneIn, NoMemory};
+use sc_wire::queue_for;
 use std::alloc::Global;
 use std::collections::BTreeMap;
 

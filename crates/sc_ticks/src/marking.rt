@@ -8,8 +8,8 @@ ghost use Rattle.sc_hosts.specs.Inboxes.{is_live};
 ghost use Rattle.sc_ticks.specs.Items.{with_fired};
 
 use sc_due::DueKey;
+use sc_inboxes::live_place;
 use sc_state::{Fired, Host, Live, Net, Session};
-use sc_take::live_place;
 use sc_value::{CloneIn, NoMemory, Shared};
 use std::alloc::Global;
 

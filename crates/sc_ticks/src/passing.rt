@@ -9,14 +9,15 @@ ghost use Rattle.sc_hosts.specs.Nets.{change_host, queue_for};
 ghost use Rattle.sc_hosts.specs.Ticks.{own_telling, told_at, passes};
 ghost use Rattle.sc_hosts.specs.Transacting.{pass_server};
 
+use sc_inboxes::edge_response;
 use sc_messages::without_via;
-use sc_net::{pass_client_at, queue_for};
+use sc_net::pass_client_at;
 use sc_parts::{ClientItem, ServerItem};
 use sc_state::{Client, Host, Net, Queued, Session};
-use sc_take::edge_response;
 use sc_terms::Config;
 use sc_transact::{is_cancel_client, out_of_client, pass_server};
 use sc_value::{NoMemory, Request, Response, Shared};
+use sc_wire::queue_for;
 use std::alloc::Global;
 
 fn telling(

@@ -2,9 +2,9 @@
 
 ghost use Rattle.std.specs.Prelude.{◌≡◌};
 ghost use Rattle.sc_tokens.specs.Names.{same_bytes};
-ghost use Rattle.sc_model.specs.SessionStates.{invite};
-ghost use Rattle.sc_hosts.specs.Words.{ack, cancel};
+ghost use Rattle.sc_model.specs.SessionStates.{invite, ack};
 ghost use Rattle.sc_hosts.specs.Transacting.{method_of, is_invite_client, is_invite_server, is_cancel_client};
+ghost use Rattle.sc_model.specs.DialogRequests.{cancel};
 
 use sc_state::{Client, Server};
 use sc_value::Request;
@@ -16,14 +16,14 @@ fn is_invite_method(method: &[u8]) -> bool
     method == b"INVITE".as_slice()
 }
 
-#[tactic(auto, unfolding(sc_hosts::specs::Words::cancel))]
+#[tactic(auto, unfolding(sc_model::specs::DialogRequests::cancel))]
 fn is_cancel_method(method: &[u8]) -> bool
     ensures { result ≡ same_bytes method.now cancel }
 {
     method == b"CANCEL".as_slice()
 }
 
-#[tactic(auto, unfolding(sc_hosts::specs::Words::ack))]
+#[tactic(auto, unfolding(sc_model::specs::SessionStates::ack))]
 fn is_ack_method(method: &[u8]) -> bool
     ensures { result ≡ same_bytes method.now ack }
 {

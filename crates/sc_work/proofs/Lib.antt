@@ -1,4 +1,3 @@
 pub mod Endings
-pub mod Forgetting
 pub mod Pieced
 pub mod Plays

@@ -1,2 +1,1 @@
 pub mod Goodbyes
-pub mod Pieces

@@ -5,16 +5,16 @@ ghost use Rattle.std.specs.List.{flat_map};
 ghost use Rattle.sc_value.specs.Lists.{change_nth};
 ghost use Rattle.sc_hosts.specs.Looking.{same_session};
 ghost use Rattle.sc_hosts.specs.Legs.{change_leg};
-ghost use Rattle.sc_hosts.specs.Words.{server_error};
 ghost use Rattle.sc_hosts.specs.Working.{is_owed, owed_answer, insert_number, in_order, branch_of, invite_branches, goodbyes, invalidates};
-ghost use Rattle.sc_work.specs.Pieces.{as_invalidated};
+ghost use Rattle.sc_sending.specs.Pieces.{as_invalidated};
 ghost use Rattle.sc_work.specs.Goodbyes.{is_whose, owed_by, kept_branches, proxy_branches, cancel_now};
+ghost use Rattle.sc_model.specs.BestResponses.{server_error};
 
-use crate::replying::answers;
 use sc_branches::is_invite;
 use sc_effects::kept_of;
 use sc_legs::leg_place;
 use sc_refusals::is_ack;
+use sc_sending::answers;
 use sc_state::{Branch, Kept, Known, Leg, Order, Proxy, Way, Working};
 use sc_terms::{Answer, Config, RequestView, View};
 use sc_value::{List, NoMemory, SessId, Text};
@@ -28,7 +28,7 @@ pub fn is_owed(request: &RequestView) -> bool
     request.received && request.answered.is_none() && !is_ack(request.method.as_bytes())
 }
 
-#[tactic(auto, unfolding(sc_hosts::specs::Words::server_error))]
+#[tactic(auto, unfolding(sc_model::specs::BestResponses::server_error))]
 fn error_answer(alloc: Global) -> Result<Answer, NoMemory>
     ensures { IfOk result (λ answer. answer ≡ record { code = 500; reason = server_error; fields = []; contact = []; body = [] }) }
 {
@@ -290,7 +290,7 @@ pub fn goodbyes_of(
     goodbyes(alloc, config, view, known, Some(sess), orders)
 }
 
-#[tactic(auto, unfolding(crate::specs::Pieces::as_invalidated))]
+#[tactic(auto, unfolding(sc_sending::specs::Pieces::as_invalidated))]
 fn as_invalidated(leg: &mut Leg)
     ensures { leg.new ≡ as_invalidated leg.old }
 {
@@ -314,7 +314,7 @@ fn invalidated_in(known: &mut Known, sess: SessId)
 }
 
 /// Ends a SipSession by a call.
-#[tactic(auto, unfolding(sc_hosts::specs::Working::invalidates, crate::specs::Pieces::as_invalidated))]
+#[tactic(auto, unfolding(sc_hosts::specs::Working::invalidates, sc_sending::specs::Pieces::as_invalidated))]
 pub fn invalidates(
     alloc: Global,
     config: &Config,

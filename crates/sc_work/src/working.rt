@@ -3,16 +3,16 @@
 ghost use Rattle.std.specs.Prelude.{◌≡◌, OnOk, IfOk};
 ghost use Rattle.sc_hosts.specs.Refusals.{refusal};
 ghost use Rattle.sc_hosts.specs.Working.{starts, does, does_by, worked, worked_all};
-ghost use Rattle.sc_work.specs.Pieces.{worked_on};
+ghost use Rattle.sc_sending.specs.Pieces.{worked_on};
 
-use crate::drafting::{directs, drafts_later, drafts_leg, drafts_own, forgets};
 use crate::ending::invalidates;
-use crate::proxying::{cancels, proxies};
-use crate::replying::{answering_begun, answering_by};
-use crate::sending::{acknowledges, sends};
 use sc_effects::{after_listed, begun};
 use sc_legs::stop_proxy;
 use sc_refusals::refusal;
+use sc_sending::{
+    acknowledges, answering_begun, answering_by, cancels, directs, drafts_later, drafts_leg,
+    drafts_own, forgets, proxies, sends,
+};
 use sc_state::{Prepared, Working};
 use sc_terms::{Call, CallRecord, Config};
 use sc_value::{List, NoMemory};
@@ -122,7 +122,7 @@ pub fn worked(
     Ok(())
 }
 
-#[tactic(auto, unfolding(crate::specs::Pieces::worked_on))]
+#[tactic(auto, unfolding(sc_sending::specs::Pieces::worked_on))]
 fn work_all(
     alloc: Global,
     config: &Config,
@@ -138,7 +138,7 @@ fn work_all(
 }
 
 /// Makes all calls of a turn, in their order.
-#[tactic(auto, unfolding(sc_hosts::specs::Working::worked_all, crate::specs::Pieces::worked_on))]
+#[tactic(auto, unfolding(sc_hosts::specs::Working::worked_all, sc_sending::specs::Pieces::worked_on))]
 pub fn worked_all(
     alloc: Global,
     config: &Config,

@@ -1,0 +1,8 @@
+use Rattle.std.proofs.Common.{arith}
+use Rattle.sc_hosts.specs.Acting.{closed_session}
+use Rattle.sc_effects.proofs.Steps.{map_step}
+use Rattle.sc_acting.proofs.closing.all_closed.Goals as goal
+
+pub loop-i-preserved : goal.loop-i-preserved
+loop-i-preserved c =
+    map_step (closed_session c.args.known.now c.args.req c.args.original) c.args.sessions.now c.loop-i.sessions c.loop-i.i c.index-sessions-i.result _ (omega arith) c.loop-i.invariant c.closed_session.ensures

@@ -1,0 +1,138 @@
+//! Changes of one proxied request of an application session.
+
+ghost use Rattle.std.specs.Prelude.{◌≡◌, ◌+◌, ◌++◌, ◌∷◌, [], IfOk, OnOk, map};
+ghost use Rattle.sc_value.specs.Lists.{change_first};
+ghost use Rattle.sc_hosts.specs.Looking.{same_request};
+ghost use Rattle.sc_hosts.specs.PreparingResponses.{change_proxy};
+ghost use Rattle.sc_hosts.specs.Preparing.{proxy_of};
+ghost use Rattle.sc_hosts.specs.Giving.{giving};
+ghost use Rattle.sc_hosts.specs.Acting.{drawn, with_forwarded, rested_branch, rested, proxy_now};
+ghost use Rattle.sc_acting.specs.Acts.{branched};
+
+use sc_effects::{is_final, proxy_of, proxy_place};
+use sc_state::{Branch, Known, Order, Proxy, Working};
+use sc_terms::View;
+use sc_value::{CloneIn, NoMemory, ReqId, sum};
+use std::alloc::Global;
+
+/// Gives the host something to send.
+pub fn give(working: &mut Working, order: Order) -> Result<(), NoMemory>
+    ensures { OnOk result (working.new ≡ giving (order ∷ []) working.old) }
+{
+    working.orders.push(order)?;
+    Ok(())
+}
+
+/// A branch is drawn.
+pub fn draw(view: &mut View) -> Result<(), NoMemory>
+    ensures { OnOk result (view.new ≡ drawn view.old) }
+{
+    view.counter = sum(view.counter, 1)?;
+    Ok(())
+}
+
+#[tactic(auto, unfolding(crate::specs::Acts::branched))]
+fn branched(proxy: &mut Proxy, branch: Branch) -> Result<(), NoMemory>
+    ensures { OnOk result (proxy.new ≡ branched branch proxy.old) }
+{
+    proxy.branches.push(branch)?;
+    if !proxy.targets.is_empty() {
+        proxy.targets.items.remove(0);
+    }
+    Ok(())
+}
+
+#[tactic(auto, using(sc_value::proofs::ListFacts::change_first_position, sc_value::proofs::ListFacts::change_first_none))]
+fn branched_in(proxies: &mut [Proxy], req: ReqId, branch: Branch) -> Result<(), NoMemory>
+    ensures { OnOk result (proxies.new ≡ change_first (λ proxy. same_request proxy.req req) (branched branch) proxies.old) }
+{
+    match proxy_place(proxies, req) {
+        Some(at) => branched(&mut proxies[at], branch),
+        None => Ok(()),
+    }
+}
+
+/// The next target of a proxied request has become this branch.
+pub fn with_branch(known: &mut Known, req: ReqId, branch: Branch) -> Result<(), NoMemory>
+    ensures { OnOk result (known.new ≡ change_proxy req (branched branch) known.old) }
+{
+    branched_in(&mut known.proxies.items, req, branch)
+}
+
+#[tactic(auto, unfolding(sc_hosts::specs::Acting::with_forwarded))]
+fn with_forwarded(proxy: &mut Proxy, code: u16)
+    ensures { proxy.new ≡ with_forwarded code proxy.old }
+{
+    if is_final(code) && proxy.forwarded.is_none() {
+        proxy.forwarded = Some(code);
+    }
+}
+
+#[tactic(auto, using(sc_value::proofs::ListFacts::change_first_position, sc_value::proofs::ListFacts::change_first_none))]
+fn forwarded_in(proxies: &mut [Proxy], req: ReqId, code: u16)
+    ensures { proxies.new ≡ change_first (λ proxy. same_request proxy.req req) (with_forwarded code) proxies.old }
+{
+    match proxy_place(proxies, req) {
+        Some(at) => with_forwarded(&mut proxies[at], code),
+        None => {}
+    }
+}
+
+/// A response of this code was forwarded: the first final code is kept.
+pub fn note_forwarded(known: &mut Known, req: ReqId, code: u16)
+    ensures { known.new ≡ change_proxy req (with_forwarded code) known.old }
+{
+    forwarded_in(&mut known.proxies.items, req, code);
+}
+
+#[tactic(auto, unfolding(sc_hosts::specs::Acting::rested_branch))]
+fn rested_branch(branch: &mut Branch)
+    ensures { branch.new ≡ rested_branch branch.old }
+{
+    branch.cancelled = false;
+}
+
+fn all_rested(branches: &mut [Branch])
+    ensures { branches.new ≡ map rested_branch branches.old }
+{
+    for branch in branches {
+        rested_branch(branch);
+    }
+}
+
+#[tactic(auto, unfolding(sc_hosts::specs::Acting::rested))]
+fn rested(proxy: &mut Proxy)
+    ensures { proxy.new ≡ rested proxy.old }
+{
+    all_rested(&mut proxy.branches.items);
+    proxy.passing = None;
+    proxy.heard_final = false;
+}
+
+#[tactic(auto, using(sc_value::proofs::ListFacts::change_first_position, sc_value::proofs::ListFacts::change_first_none))]
+fn rested_in(proxies: &mut [Proxy], req: ReqId)
+    ensures { proxies.new ≡ change_first (λ proxy. same_request proxy.req req) rested proxies.old }
+{
+    match proxy_place(proxies, req) {
+        Some(at) => rested(&mut proxies[at]),
+        None => {}
+    }
+}
+
+/// A proxied request has done what this turn made it do.
+pub fn rest(known: &mut Known, req: ReqId)
+    ensures { known.new ≡ change_proxy req rested known.old }
+{
+    rested_in(&mut known.proxies.items, req);
+}
+
+/// The proxied request as it is now.
+#[tactic(auto, unfolding(sc_hosts::specs::Acting::proxy_now))]
+pub fn proxy_now(alloc: Global, proxy: &Proxy, working: &Working) -> Result<Proxy, NoMemory>
+    ensures { IfOk result (λ p. p ≡ proxy_now proxy.now working.now) }
+{
+    match proxy_of(&working.known, proxy.req) {
+        Some(current) => current.clone_in(alloc),
+        None => proxy.clone_in(alloc),
+    }
+}

@@ -1,0 +1,8 @@
+use Rattle.std.proofs.Common.{arith}
+use Rattle.sc_hosts.specs.DerivedSessions.{overtaken_session}
+use Rattle.sc_effects.proofs.Steps.{map_step}
+use Rattle.sc_derived.proofs.ending.overtaken_sessions.Goals as goal
+
+pub loop-i-preserved : goal.loop-i-preserved
+loop-i-preserved c =
+    map_step (overtaken_session c.args.known.now c.args.req c.args.sess) c.args.sessions.now c.loop-i.sessions c.loop-i.i c.index-sessions-i.result _ (omega arith) c.loop-i.invariant c.overtaken_session.ensures

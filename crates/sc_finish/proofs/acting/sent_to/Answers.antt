@@ -1,6 +1,0 @@
-use Rattle.sc_finish.specs.Acts.{sent_to}
-use Rattle.sc_finish.proofs.acting.sent_to.Goals as goal
-
-pub returns : goal.returns
-unfolding sent_to
-returns c = rw (← c.in_ok-request.ensures) c.on_branch.ensures

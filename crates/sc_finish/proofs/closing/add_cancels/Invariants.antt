@@ -1,6 +1,0 @@
-use Rattle.std.proofs.Common.{◌≡◌, ◌++◌, map, take}
-use Rattle.sc_finish.specs.Acts.{cancel_order}
-use Rattle.sc_finish.proofs.closing.add_cancels.Given as goal
-
-abbrev pub invariant-loop-branch : goal.invariant-loop-branch
-invariant-loop-branch l = l.orders ≡ l.fn.orders ++ map cancel_order (take l.branch-index l.branches)

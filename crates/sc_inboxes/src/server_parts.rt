@@ -1,0 +1,128 @@
+//! Server transactions that begin, and the 100 by which an INVITE is answered at once (RFC 3261
+//! section 17.2.1).
+
+ghost use Rattle.std.specs.Prelude.{◌≡◌, [], None, IfOk, OnOk};
+ghost use Rattle.sc_value.specs.Lists.{change_first};
+ghost use Rattle.sc_hosts.specs.Messages.{trying_response};
+ghost use Rattle.sc_hosts.specs.Taking.{with_server, tried, with_trying};
+ghost use Rattle.sc_hosts.specs.Transacting.{is_server};
+ghost use Rattle.sc_hosts.specs.Words.{trying};
+ghost use Rattle.sc_inboxes.specs.TakenParts.{taken_by};
+
+use crate::told::{Told, replying};
+use sc_messages::trying_response;
+use sc_parts::ServerItem;
+use sc_state::{Host, Peer, Server, Session};
+use sc_transact::{is_ack, is_invite, server_place};
+use sc_value::{AppId, CloneIn, List, Message, NoMemory, Request, Response, Shared, Text};
+use std::alloc::Global;
+
+fn new_server(
+    alloc: Global,
+    app: AppId,
+    event: u64,
+    peer: Peer,
+    tag: Text,
+    request: &Shared<Request>,
+) -> Result<Shared<Server>, NoMemory>
+    ensures { IfOk result (λ s. s ≡ record { app = app; event = event; peer = peer; tag = tag; request = request.now; passed = []; last = None }) }
+{
+    let request = request.clone_in(alloc)?;
+    let server = Server {
+        app,
+        event,
+        peer,
+        tag,
+        request,
+        passed: List::new(alloc),
+        last: None,
+    };
+    Shared::new(alloc, server)
+}
+
+/// The server transaction of a request that was queued; an ACK has none.
+#[tactic(auto, unfolding(sc_hosts::specs::Taking::with_server))]
+pub fn with_server(
+    alloc: Global,
+    app: AppId,
+    event: u64,
+    peer: Peer,
+    tag: Text,
+    request: &Shared<Request>,
+    host: &mut Host<Session>,
+) -> Result<(), NoMemory>
+    ensures { OnOk result (host.new ≡ with_server app event peer tag request.now host.old) }
+{
+    if is_ack(request.get()) {
+        return Ok(());
+    }
+    let server = new_server(alloc, app, event, peer, tag, request)?;
+    host.servers.push(server)?;
+    Ok(())
+}
+
+#[tactic(auto, unfolding(sc_hosts::specs::Words::trying))]
+fn trying(alloc: Global, request: &Request) -> Result<Response, NoMemory>
+    ensures { IfOk result (λ r. r ≡ trying_response trying request.now) }
+{
+    trying_response(alloc, b"Trying", request)
+}
+
+#[tactic(auto, unfolding(sc_hosts::specs::Taking::tried))]
+fn tried(
+    alloc: Global,
+    request: &Request,
+    now: u64,
+    server: &mut Shared<Server>,
+) -> Result<(), NoMemory>
+    ensures { OnOk result (server.new ≡ tried request.now now server.old) }
+{
+    let last = Shared::new(alloc, trying(alloc, request)?)?;
+    let mut own = server.get().clone_in(alloc)?;
+    own.last = Some(last);
+    own.passed.items.insert(
+        0,
+        ServerItem::AnswerGiven {
+            code: 100,
+            moment: now,
+        },
+    )?;
+    *server = Shared::new(alloc, own)?;
+    Ok(())
+}
+
+#[tactic(auto, using(sc_value::proofs::ListFacts::change_first_position, sc_value::proofs::ListFacts::change_first_none))]
+fn try_in(
+    alloc: Global,
+    event: u64,
+    request: &Request,
+    now: u64,
+    servers: &mut [Shared<Server>],
+) -> Result<(), NoMemory>
+    ensures { OnOk result (servers.new ≡ change_first (is_server event) (tried request.now now) servers.old) }
+{
+    match server_place(event, servers) {
+        Some(at) => tried(alloc, request, now, &mut servers[at]),
+        None => Ok(()),
+    }
+}
+
+/// An INVITE is answered 100 at once.
+#[tactic(auto, unfolding(sc_hosts::specs::Taking::with_trying))]
+pub fn with_trying(
+    alloc: Global,
+    from: Peer,
+    now: u64,
+    request: &Request,
+    told: Told,
+    host: &mut Host<Session>,
+) -> Result<Told, NoMemory>
+    ensures { IfOk result (λ t. with_trying from now request.now (taken_by host.old told) ≡ taken_by host.new t) }
+{
+    if !is_invite(request) {
+        return Ok(told);
+    }
+    try_in(alloc, told.count, request, now, &mut host.servers.items)?;
+    let response = trying(alloc, request)?;
+    replying(alloc, from, Message::Response(response), told)
+}

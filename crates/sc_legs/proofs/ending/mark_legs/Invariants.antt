@@ -1,6 +1,0 @@
-use Rattle.std.proofs.Common.{◌≡◌, take}
-use Rattle.sc_legs.specs.Marks.{marked}
-use Rattle.sc_legs.proofs.ending.mark_legs.Given as goal
-
-abbrev pub invariant-loop-i : goal.invariant-loop-i
-invariant-loop-i l = l.legs ≡ marked (take l.i l.marks) l.fn.legs

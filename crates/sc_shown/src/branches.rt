@@ -1,0 +1,225 @@
+//! A response on a branch of a proxied request (RFC 3261 section 16.7).
+
+ghost use Rattle.std.specs.Prelude.{◌≡◌, ◌+◌, IfOk, OnOk};
+ghost use Rattle.sc_value.specs.Lists.{change_first};
+ghost use Rattle.sc_terms.specs.declared.events.Event.{Event};
+ghost use Rattle.sc_hosts.specs.Branches.{heard};
+ghost use Rattle.sc_hosts.specs.Looking.{is_request, same_request, session_in};
+ghost use Rattle.sc_hosts.specs.PreparingResponses.{branch_placed, change_proxy, heard_in, prepared_branch, told, with_branches};
+ghost use Rattle.sc_shown.specs.Shown.{more_branches, prepared_as};
+
+use crate::copies::session_copy;
+use crate::responses::response_event;
+use crate::shown::{Shown, showing_in, silent};
+use sc_branches::{added_targets, heard, is_supervised, is_told_whole};
+use sc_derived::handled;
+use sc_effects::proxy_place;
+use sc_legs::{is_invalid, take_answer};
+use sc_refusals::request_place;
+use sc_state::{Known, Proxy, Session};
+use sc_terms::{Event, RequestView, SessionView, View};
+use sc_value::{Boxed, CloneIn, List, NoMemory, ReqId, Response, SessId, Shared};
+use std::alloc::Global;
+
+fn branch_event(
+    alloc: Global,
+    req: ReqId,
+    sess: SessId,
+    response: &Response,
+) -> Result<Event, NoMemory>
+    ensures { IfOk result (λ e. e ≡ Event.Branch req sess response.now) }
+{
+    let response = Boxed::new(alloc, response.clone_in(alloc)?)?;
+    Ok(Event::Branch {
+        req,
+        sess,
+        response,
+    })
+}
+
+// What a supervising application is told.
+#[tactic(auto, unfolding(sc_hosts::specs::PreparingResponses::told))]
+fn told(
+    alloc: Global,
+    proxy: &Proxy,
+    branch: u64,
+    response: &Response,
+    sess: SessId,
+) -> Result<Event, NoMemory>
+    ensures { IfOk result (λ e. e ≡ told proxy.now branch response.now sess) }
+{
+    if is_told_whole(alloc, branch, response, proxy)? {
+        return response_event(alloc, proxy.req, sess, response);
+    }
+    branch_event(alloc, proxy.req, sess, response)
+}
+
+fn sum_u8(a: u8, count: usize) -> Result<u8, NoMemory>
+    ensures { IfOk result (λ n. n ≡ a + count) }
+{
+    let Ok(more) = u8::try_from(count) else {
+        return Err(NoMemory);
+    };
+    match a.checked_add(more) {
+        Some(n) => Ok(n),
+        None => Err(NoMemory),
+    }
+}
+
+#[tactic(auto, unfolding(crate::specs::Shown::more_branches))]
+fn more_branches(request: &mut RequestView, count: usize) -> Result<(), NoMemory>
+    ensures { OnOk result (request.new ≡ more_branches count request.old) }
+{
+    request.branches = sum_u8(request.branches, count)?;
+    Ok(())
+}
+
+#[tactic(auto, using(sc_value::proofs::ListFacts::change_first_position, sc_value::proofs::ListFacts::change_first_none))]
+fn more_in(requests: &mut [RequestView], req: ReqId, count: usize) -> Result<(), NoMemory>
+    ensures { OnOk result (requests.new ≡ change_first (is_request req) (more_branches count) requests.old) }
+{
+    match request_place(requests, req) {
+        Some(at) => more_branches(&mut requests[at], count),
+        None => Ok(()),
+    }
+}
+
+// The view shows the targets that a 3xx added.
+#[tactic(auto, unfolding(sc_hosts::specs::PreparingResponses::with_branches, crate::specs::Shown::more_branches))]
+fn with_branches(
+    alloc: Global,
+    view: &mut View,
+    proxy: &Proxy,
+    response: &Response,
+) -> Result<(), NoMemory>
+    ensures { OnOk result (view.new ≡ with_branches proxy.now response.now view.old) }
+{
+    let added = added_targets(alloc, proxy, response)?;
+    more_in(&mut view.requests.items, proxy.req, added.len())
+}
+
+#[tactic(auto, using(sc_value::proofs::ListFacts::change_first_position, sc_value::proofs::ListFacts::change_first_none))]
+fn hear_in(
+    alloc: Global,
+    proxies: &mut [Proxy],
+    req: ReqId,
+    branch: u64,
+    sess: SessId,
+    response: &Shared<Response>,
+    now: u64,
+) -> Result<(), NoMemory>
+    ensures { OnOk result (proxies.new ≡ change_first (λ proxy. same_request proxy.req req) (heard branch sess response.now now) proxies.old) }
+{
+    match proxy_place(proxies, req) {
+        Some(at) => heard(alloc, &mut proxies[at], branch, sess, response, now),
+        None => Ok(()),
+    }
+}
+
+fn hear(
+    alloc: Global,
+    known: &mut Known,
+    req: ReqId,
+    branch: u64,
+    sess: SessId,
+    response: &Shared<Response>,
+    now: u64,
+) -> Result<(), NoMemory>
+    ensures { OnOk result (known.new ≡ change_proxy req (heard branch sess response.now now) known.old) }
+{
+    hear_in(
+        alloc,
+        &mut known.proxies.items,
+        req,
+        branch,
+        sess,
+        response,
+        now,
+    )
+}
+
+// The response is handled in this SipSession.
+#[tactic(auto, unfolding(sc_hosts::specs::PreparingResponses::heard_in, sc_hosts::specs::PreparingRequests::silent, sc_hosts::specs::PreparingRequests::showing_in, sc_hosts::specs::PreparingResponses::with_branches))]
+fn heard_in(
+    alloc: Global,
+    session: &mut Session,
+    proxy: &Proxy,
+    branch: u64,
+    response: &Shared<Response>,
+    sess: SessId,
+) -> Result<Shown, NoMemory>
+    ensures { IfOk result (λ s. heard_in proxy.now branch response.now (sess, session.old) ≡ prepared_as session.new s) }
+{
+    let now = session.view.now;
+    let sent = proxy.request.get();
+    with_branches(alloc, &mut session.view, proxy, response.get())?;
+    take_answer(alloc, &mut session.known, sess, sent, response.get())?;
+    hear(
+        alloc,
+        &mut session.known,
+        proxy.req,
+        branch,
+        sess,
+        response,
+        now,
+    )?;
+    if !is_supervised(proxy) {
+        return Ok(silent(List::new(alloc)));
+    }
+    let event = told(alloc, proxy, branch, response.get(), sess)?;
+    Ok(showing_in(&session.view, sess, event, None, List::new(alloc)))
+}
+
+#[tactic(auto, unfolding(sc_hosts::specs::PreparingResponses::branch_placed))]
+fn placed_by(
+    alloc: Global,
+    session: &mut Session,
+    proxy: &Proxy,
+    response: &Response,
+    original: &Option<SessionView>,
+) -> Result<SessId, NoMemory>
+    ensures { IfOk result (λ sess. branch_placed session.old proxy.now response.now original.now ≡ (sess, session.new)) }
+{
+    match original {
+        Some(original) => {
+            if proxy.options.is_some() {
+                let sent = proxy.request.get();
+                return handled(alloc, session, proxy.req, original, sent, response);
+            }
+            Ok(proxy.sess)
+        }
+        None => Ok(proxy.sess),
+    }
+}
+
+// The SipSession of a response, which may be a derived one.
+fn branch_placed(
+    alloc: Global,
+    session: &mut Session,
+    proxy: &Proxy,
+    response: &Response,
+) -> Result<SessId, NoMemory>
+    ensures { IfOk result (λ sess. branch_placed session.old proxy.now response.now (session_in session.old.view proxy.now.sess) ≡ (sess, session.new)) }
+{
+    let original = session_copy(alloc, &session.view, proxy.sess)?;
+    placed_by(alloc, session, proxy, response, &original)
+}
+
+/// A response on a branch of a proxied request. A proxy whose SipSession the application ended does
+/// nothing any more.
+#[tactic(auto, unfolding(sc_hosts::specs::PreparingResponses::prepared_branch, sc_hosts::specs::PreparingRequests::silent))]
+pub fn prepared_branch(
+    alloc: Global,
+    session: &mut Session,
+    proxy: &Proxy,
+    branch: u64,
+    response: &Shared<Response>,
+) -> Result<Shown, NoMemory>
+    ensures { IfOk result (λ s. prepared_branch session.old proxy.now branch response.now ≡ prepared_as session.new s) }
+{
+    if is_invalid(&session.known, proxy.sess) {
+        return Ok(silent(List::new(alloc)));
+    }
+    let sess = branch_placed(alloc, session, proxy, response.get())?;
+    heard_in(alloc, session, proxy, branch, response, sess)
+}

@@ -1,0 +1,3 @@
+pub mod HostTaking
+pub mod Literals
+pub mod NamedHosts

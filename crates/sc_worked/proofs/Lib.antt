@@ -1,0 +1,9 @@
+pub mod Playing
+pub mod Trying
+mod CallCases
+mod ProxyCases
+mod ChainCases
+mod OfferCases
+mod TimerCases
+mod SubscriptionCases
+mod WorkedCases
