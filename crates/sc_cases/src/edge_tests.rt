@@ -50,34 +50,61 @@ fn close_at(edge: &mut MemEdge, at: Place) {
 }
 
 #[test]
-fn edge_in_memory(rt: HostRuntime) -> Result<(), Fail> {
+fn edge_gives_what_comes(rt: HostRuntime) -> Result<(), Fail> {
     let alloc = rt.alloc();
     let one = Place::Back(1);
-    let two = Place::Back(2);
-    let there = Place::To([127, 0, 0, 1], 5070);
     let mut edge = edge_of(alloc)?;
     let mut room = [0u8; 2];
     assert_eq!(rt; polled(&mut edge, &mut room), Got::Bytes(one, 2));
     assert_eq!(rt; room, *b"ab");
     assert_eq!(rt; polled(&mut edge, &mut room), Got::Bytes(one, 1));
-    close_at(&mut edge, two);
+    close_at(&mut edge, Place::Back(2));
     assert_eq!(rt;
         polled(&mut edge, &mut room),
         Got::End(one),
         "two was closed"
     );
+    Ok(())
+}
+
+#[test]
+fn edge_takes_its_shares(rt: HostRuntime) -> Result<(), Fail> {
+    let alloc = rt.alloc();
+    let one = Place::Back(1);
+    let there = Place::To([127, 0, 0, 1], 5070);
+    let mut edge = edge_of(alloc)?;
     assert_eq!(rt; put_to(&mut edge, there, b"xy"), Put::Wrote(1));
     assert_eq!(rt; put_to(&mut edge, there, b"y"), Put::NotYet);
     assert_eq!(rt; put_to(&mut edge, one, b"y"), Put::Failed, "it is to fail");
-    assert_eq!(rt; put_to(&mut edge, two, b"y"), Put::Failed, "two was closed");
-    assert_eq!(rt; polled(&mut edge, &mut room), Got::Closed, "one has failed");
-    assert_eq!(rt; polled(&mut edge, &mut room), Got::Closed);
     assert!(rt; has_taken(&edge, alloc, there, b"x"));
     assert_eq!(rt; edge.faults_at(one), 1);
-    assert_eq!(rt; edge.polls(), 5);
+    Ok(())
+}
+
+#[test]
+fn edge_is_closed(rt: HostRuntime) -> Result<(), Fail> {
+    let alloc = rt.alloc();
+    let two = Place::Back(2);
+    let mut edge = edge_of(alloc)?;
+    let mut room = [0u8; 2];
+    assert_eq!(rt; polled(&mut edge, &mut room), Got::Bytes(Place::Back(1), 2));
+    close_at(&mut edge, Place::Back(1));
+    close_at(&mut edge, two);
+    assert_eq!(rt; put_to(&mut edge, two, b"y"), Put::Failed, "two was closed");
+    assert_eq!(rt; polled(&mut edge, &mut room), Got::Closed);
+    assert_eq!(rt; edge.polls(), 2);
+    Ok(())
+}
+
+#[test]
+fn edge_tells_what_it_closed(rt: HostRuntime) -> Result<(), Fail> {
+    let alloc = rt.alloc();
+    let two = Place::Back(2);
+    let mut edge = edge_of(alloc)?;
+    close_at(&mut edge, two);
     let closing = Closing {
         place: two,
-        polls: 2,
+        polls: 0,
     };
     assert!(rt; edge.closes() == Some([closing].as_slice()));
     Ok(())

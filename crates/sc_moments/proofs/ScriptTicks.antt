@@ -15,12 +15,12 @@ use Rattle.sc_hosts.proofs.Deliveries.{both}
 use Rattle.sc_runs.specs.Following.{MOST_MOMENT}
 use Rattle.sc_script.specs.ScriptTexts.{Fault, is_plain, decimal_upto, MOST_COUNT, one_word, tick_line, lost_line, two_words, turn_line, drop_line, three_words, incoming, alone, line_of, is_end, row_with, row_by, row_at, moment_after, with_first, followed, lines_in, script_of, place_of, size_of, is_feed, SHORT, NO_END, LONG, MOST_BYTES}
 
--- a tick is at the moment before it or later
+-- a tick is not below the moment before it, and not later than a moment may be
 unfoldable pub MayTick : ℕ → Line → Type 0
 MayTick since (lines.Tick now) = (since ≤ now) × (now ≤ MOST_MOMENT)
 MayTick since line = Unit {0}
 
--- each tick of the lines is
+-- so is each tick of the lines
 unfoldable pub Rises : ℕ → List Line → Type 0
 Rises since [] = Unit {0}
 Rises since (line ∷ later) = MayTick since line × Rises (moment_after since line) later

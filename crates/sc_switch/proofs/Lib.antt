@@ -1,4 +1,6 @@
+pub mod Firsts
 pub mod Fitting
+pub mod Names
 pub mod Nexts
 pub mod Sames
 pub mod Sendings

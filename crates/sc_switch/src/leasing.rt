@@ -1,6 +1,6 @@
 //! Lending out turns, and whether a lease still shows what there is.
 
-ghost use Rattle.std.specs.Prelude.{◌≡◌, ◌≤◌, ◌<◌, ◌^◌, ◌↔◌, IfOk, IsTrue, Option, Some, option_map, slice_get, true};
+ghost use Rattle.std.specs.Prelude.{◌≡◌, ◌≤◌, ◌<◌, ◌^◌, ◌↔◌, IfOk, IfSome, IsTrue, Option, Some, is_some, length, option_map, slice_get, true};
 ghost use Rattle.std.specs.Option.{option_copied};
 ghost use Rattle.sc_hosts.specs.Histories.{as_session};
 ghost use Rattle.sc_hosts.specs.Runs.{shown};
@@ -111,7 +111,7 @@ fn lease_of(
 
 /// The lease of the first event of a session, at the last moment; None exactly where the session
 /// doesn't live or no event waits for it.
-#[tactic(auto, unfolding(crate::specs::Offering::Offers, sc_runs::specs::Following::first_number))]
+#[tactic(auto, unfolding(crate::specs::Offering::Offers, sc_runs::specs::Following::first_number), using(crate::proofs::Firsts::past_there, crate::proofs::Firsts::kind_there))]
 pub fn offer(
     alloc: Global,
     setup: &Setup,
@@ -119,6 +119,8 @@ pub fn offer(
     app: AppId,
     number: u64,
 ) -> Result<Option<Lease>, NoMemory>
+    requires past { IfSome (live_at app net.now) (λ live. live.since ≤ net.now.moment) }
+    requires hosts { length net.now.hosts ≡ length setup.now.config.app }
     ensures { IfOk result (λ lease. Offers setup.now net.now app number lease) }
 {
     match live_at(app, net) {
@@ -136,7 +138,9 @@ fn offer_of(
     live: &Live<Session>,
     number: u64,
 ) -> Result<Option<Lease>, NoMemory>
-    requires { live_at app net.now ≡ Some live.now }
+    requires live { live_at app net.now ≡ Some live.now }
+    requires past { live.now.since ≤ net.now.moment }
+    requires kind { is_some (app_of setup.now.config app.host) ≡ true }
     ensures { IfOk result (λ lease. Offers setup.now net.now app number lease) }
 {
     match live.inbox.as_slice().first() {
@@ -156,14 +160,13 @@ fn offer_first(
 ) -> Result<Lease, NoMemory>
     requires live { live_at app net.now ≡ Some live.now }
     requires first { slice_get live.now.inbox 0 ≡ Some waiting.now }
+    requires past { live.now.since ≤ net.now.moment }
+    requires kind { is_some (app_of setup.now.config app.host) ≡ true }
     ensures { IfOk result (λ lease. IsOffer setup.now net.now app number lease) }
 {
-    if net.moment < live.since {
-        return Err(NoMemory);
-    }
     let kind = match app_of(setup, app.host) {
         Some(entry) => entry.kind,
-        None => return Err(NoMemory),
+        None => unreachable!(),
     };
     let shown = shown(alloc, setup, net, app, live, waiting, net.moment)?;
     lease_of(number, app, kind, waiting.number, net.moment, shown)

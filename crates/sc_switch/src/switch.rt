@@ -1,6 +1,6 @@
 //! The switch itself.
 
-ghost use Rattle.std.specs.Prelude.{◌≡◌, ◌+◌, ◌<◌, ◌≤◌, ◌^◌, ◌∷◌, [], ◌++◌, Ok, List, map, min, length, Option, option_map, IfOk, IfErr, OnOk, OnErr, IfSome, IfNone, IsErr, is_some, true};
+ghost use Rattle.std.specs.Prelude.{◌≡◌, ◌+◌, ◌<◌, ◌≤◌, ◌^◌, ◌∷◌, [], ◌++◌, Ok, List, map, min, length, Option, Some, option_map, IfOk, IfErr, OnOk, OnErr, IfSome, IfNone, IsErr, is_some, true};
 ghost use Rattle.sc_servlets.specs.Stated.{both_charters};
 ghost use Rattle.sc_value.specs.declared.message.Sent.{Sent};
 ghost use Rattle.sc_grammar.specs.Written.{written};
@@ -265,22 +265,17 @@ impl Switch {
         next_free(&self.net, self.kept.as_slice())
     }
 
-    /// Lends out the turn of this event.
+    /// Lends out the turn of the event that is next.
     fn lend_next(&mut self, alloc: Global, next: Next) -> Result<Lease, NoMemory>
         requires few { self.old.leases < LAST_LEASE }
+        requires free { next_free (net_of self.old) self.old.kept ≡ Some next }
         ensures given { IfOk result (λ lease. IsGiven self.old self.new lease) }
         ensures next { IfOk result (λ lease. next ≡ record { app = lease.app; number = lease.event_number }) }
         ensures err { OnErr result (self.new ≡ self.old) }
     {
         match self.offered(alloc, next.app)? {
-            Some(lease) => {
-                if lease.event_number != next.number {
-                    lease.discard();
-                    return Err(NoMemory);
-                }
-                self.lend(alloc, lease)
-            }
-            None => Err(NoMemory),
+            Some(lease) => self.lend(alloc, lease),
+            None => unreachable!(),
         }
     }
 
