@@ -8,9 +8,9 @@ ghost use Rattle.sc_model.specs.SessionStates.{ack};
 
 use crate::messages::{bad_message, edge_message};
 use sc_state::{Net, Peer, Session};
-use sc_terms::{Answerable, Config};
+use sc_terms::Config;
 use sc_transact::is_ack;
-use sc_value::{NoMemory, Place, Request};
+use sc_value::{Answerable, NoMemory, Place, Request};
 use sc_wire::put;
 use std::alloc::Global;
 

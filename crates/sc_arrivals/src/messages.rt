@@ -12,8 +12,8 @@ use sc_messages::bad_response;
 use sc_net::taken_at;
 use sc_parts::Setup;
 use sc_state::{Net, Note, Session};
-use sc_terms::{Answerable, Config};
-use sc_value::{Boxed, CloneIn, Message, NoMemory, Place, Request, Text};
+use sc_terms::Config;
+use sc_value::{Answerable, Boxed, CloneIn, Message, NoMemory, Place, Request, Text};
 use std::alloc::Global;
 
 fn boxed_request(alloc: Global, request: &Request) -> Result<Boxed<Message>, NoMemory>

@@ -139,7 +139,8 @@ pub fn ended_by(
     ending(alloc, proxy, sess, response)
 }
 
-// A response on a branch that has its final response: a further 2xx is forwarded, nothing else.
+// A response on a branch that has its final response, or that its timer ended: a 2xx is forwarded and
+// ends the search, nothing else counts.
 #[tactic(auto, unfolding(sc_hosts::specs::Branches::after_end))]
 fn after_end(
     alloc: Global,
@@ -150,6 +151,7 @@ fn after_end(
     ensures { OnOk result (proxy.new ≡ after_end sess response.now proxy.old) }
 {
     if is_success(response.get().code) {
+        stopped(proxy);
         return passing_on(alloc, proxy, sess, response);
     }
     Ok(())

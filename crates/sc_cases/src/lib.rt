@@ -22,6 +22,8 @@ mod head_text_tests;
 #[cfg(test)]
 mod journal_tests;
 #[cfg(test)]
+mod limit_tests;
+#[cfg(test)]
 mod make_tests;
 #[cfg(test)]
 mod message_text_tests;

@@ -1,3 +1,5 @@
+ghost use Rattle.std.specs.Prelude.{◌≡◌, IfOk, length};
+
 use sc_message_text::read_message;
 use sc_router::{Choice, Directive, next};
 use sc_terms::{AppEntry, Apps, Config, Dar, Expires, MethodList, Modifier, Port, Tuple, Within};
@@ -42,7 +44,9 @@ fn settings(alloc: Global) -> Result<Config, NoMemory> {
     })
 }
 
-fn tuples(alloc: Global) -> Result<List<Tuple>, NoMemory> {
+fn tuples(alloc: Global) -> Result<List<Tuple>, NoMemory>
+    ensures { IfOk result (λ tuples. length tuples ≡ 1) }
+{
     let subscriber = Text::from_slice(alloc, b"DAR:From")?;
     let mut tuples = List::new(alloc);
     tuples.push(Tuple {
@@ -55,6 +59,7 @@ fn tuples(alloc: Global) -> Result<List<Tuple>, NoMemory> {
     Ok(tuples)
 }
 
+#[tactic(auto, unfolding(sc_terms::specs::RoutingTables::AreMethodLists, sc_terms::specs::RoutingTables::is_listed, sc_tokens::specs::Tokens::is_token, sc_tokens::specs::Tokens::is_token_byte, sc_tokens::specs::Hosts::begins))]
 fn table(alloc: Global) -> Result<Dar, NoMemory> {
     let method = Text::from_slice(alloc, b"OPTIONS")?;
     let tuples = tuples(alloc)?;

@@ -1,10 +1,12 @@
 use sc_value::Text;
+use thiserror::Error;
 
 /// Why a text gives no settings.
-#[derive(Drop)]
+#[derive(Debug, Drop, Error)]
 pub enum ConfigRefused {
     /// The text is refused. Of several faults the first is told, by kinds in the order 6, 1, 7, 2, 3,
     /// 4, 5.
+    #[error("the text is no configuration: fault {kind} of the key `{key}`")]
     Refused {
         /// 1 the text is no TOML, or not UTF-8; 2 a key is missing; 3 a value has a wrong type or
         /// range; 4 a second application has this name; 5 no kind has this name; 6 the text has more
@@ -15,6 +17,7 @@ pub enum ConfigRefused {
         key: Text,
     },
     /// Memory ran out.
+    #[error("no memory")]
     NoMemory,
 }
 

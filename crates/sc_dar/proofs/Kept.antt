@@ -1,5 +1,5 @@
 -- What each table that is read keeps: its tuples name applications, and no method has more than 64.
-use Rattle.std.proofs.Common.{◌≡◌, ℕ, Bool, true, false, cond, Option, Some, None, Result, Ok, Err, List, [], ◌∷◌, ◌++◌, ◌+◌, ◌-◌, ◌<◌, ◌≤◌, ◌^◌, length, drop, subst, refl, ap, arith}
+use Rattle.std.proofs.Common.{◌≡◌, ℕ, Bool, true, false, cond, Option, Some, None, Result, Ok, Err, List, [], ◌∷◌, ◌++◌, ◌+◌, ◌-◌, ◌<◌, ◌≤◌, ◌^◌, length, drop, subst, refl, ap, ◌∙◌, arith}
 use Rattle.std.specs.Prelude.{nat_lt, is_some, option_and_then, unwrap_or, IfOk}
 use Rattle.std.specs.Result.{is_ok, result_unwrap_or}
 use Rattle.std.specs.List.{All, position}
@@ -16,18 +16,18 @@ use Rattle.sc_tokens.specs.Bytes.{Bytes}
 use Rattle.sc_dar.specs.Answers.{IsJudged}
 use Rattle.sc_dar.specs.declared.refused.DarRefused.{DarRefused}
 use Rattle.sc_dar.specs.Lines.{Line, lines, is_comment}
-use Rattle.sc_dar.specs.Tuples.{BAD_TUPLE, BAD_REGION, BAD_MODIFIER, BAD_ORDER, UNKNOWN_APPLICATION, BAD_ROUTE, TOO_MANY, TupleTexts, then_read, given, parts, unquoted, region_of, modifier_of, order_of, of_32, app_of, route_of, tuple_of, counted, tuple_at, tuples_in}
+use Rattle.sc_dar.specs.Tuples.{BAD_TUPLE, BAD_REGION, BAD_MODIFIER, BAD_ORDER, UNKNOWN_APPLICATION, BAD_ROUTE, TOO_MANY, TupleTexts, then_read, given, parts, unquoted, region_of, modifier_of, order_of, of_32, app_of, route_of, tuple_of, counted, is_parted, parted, tuple_at, tuples_in}
 use Rattle.sc_dar.specs.Tables.{NO_SEPARATOR, LONG, DOUBLE_METHOD, Fault, method_in, behind_method, list_in, list_of, then_line, judged, table_with, table_of}
 
 -- ## What an Ok says
 
-ok_same : {A E : Type 0} (a b : A) → ◌≡◌ {A = Result A E} (Ok a) (Ok b) → a ≡ b
+pub ok_same : {A E : Type 0} (a b : A) → ◌≡◌ {A = Result A E} (Ok a) (Ok b) → a ≡ b
 ok_same a b e = ap (λ r. result_unwrap_or r a) e
 
-err_ok : {A E : Type 0} (fault : E) (a : A) → ¬ (◌≡◌ {A = Result A E} (Err fault) (Ok a))
+pub err_ok : {A E : Type 0} (fault : E) (a : A) → ¬ (◌≡◌ {A = Result A E} (Err fault) (Ok a))
 err_ok fault a e = false≢true (ap is_ok e)
 
-then_ok : {A B : Type 0} (r : Result A ℕ) (next : A → Result B ℕ) (b : B) → then_read r next ≡ Ok b → (a : A) × (r ≡ Ok a) × (next a ≡ Ok b)
+pub then_ok : {A B : Type 0} (r : Result A ℕ) (next : A → Result B ℕ) (b : B) → then_read r next ≡ Ok b → (a : A) × (r ≡ Ok a) × (next a ≡ Ok b)
 unfolding then_read
 then_ok (Ok a) next b h = (a, refl, h)
 then_ok (Err kind) next b h = absurd (err_ok kind b h)
@@ -76,12 +76,21 @@ counted_ok : (order : ℕ) (made tuple : Tuple) → counted order made ≡ Ok tu
 unfolding counted
 counted_ok order made tuple h = counted_in (nat_lt order 64) order made tuple refl h
 
+parted_in : (t : Bool) (made tuple : Tuple) → cond t (Ok made) (Err BAD_TUPLE) ≡ Ok tuple → made ≡ tuple
+parted_in true made tuple h = ok_same made tuple h
+parted_in false made tuple h = absurd (err_ok BAD_TUPLE tuple h)
+
+parted_ok : (order : Bytes) (made tuple : Tuple) → parted order made ≡ Ok tuple → made ≡ tuple
+unfolding parted
+parted_ok order made tuple h = parted_in (is_parted order) made tuple h
+
 at_kept : (apps : List Bytes) (order : ℕ) (t : TupleTexts) (tuple : Tuple) → tuple_at apps order t ≡ Ok tuple → (tuple.app < length apps) × (order < 64)
 unfolding tuple_at
 at_kept apps order t tuple h =
     let (texts, _, h1) = then_ok (given BAD_TUPLE (unquoted t)) _ tuple h in
-    let (made, is, h2) = then_ok (tuple_of apps order texts) (counted order) tuple h1 in
-    let (same, few) = counted_ok order made tuple h2 in
+    let (made, is, h2) = then_ok (tuple_of apps order texts) _ tuple h1 in
+    let (one, is_one, h3) = then_ok (counted order made) (parted t.order) tuple h2 in
+    let (same, few) = counted_ok order made tuple (is_one ∙ ap Ok (parted_ok t.order one tuple h3)) in
     (subst (λ (u : Tuple). u.app < length apps) same (tuple_below apps order texts made is), few)
 
 abbrev AreNamed : List Bytes → List Tuple → Type 0
@@ -96,7 +105,7 @@ with_first apps order more tuple = then_read (tuples_in apps (1 + order) more) (
 one_more : (order : ℕ) (tuple : Tuple) (tuples : List Tuple) → order < 64 → length tuples ≤ 64 - (1 + order) → length (tuple ∷ tuples) ≤ 64 - order
 one_more order tuple tuples h g = omega (arith, h, g)
 
-tuples_kept : (apps : List Bytes) (order : ℕ) (ps : List Bytes) (tuples : List Tuple) → tuples_in apps order ps ≡ Ok tuples → AreNamed apps tuples × (length tuples ≤ 64 - order)
+pub tuples_kept : (apps : List Bytes) (order : ℕ) (ps : List Bytes) (tuples : List Tuple) → tuples_in apps order ps ≡ Ok tuples → AreNamed apps tuples × (length tuples ≤ 64 - order)
 unfolding tuples_in
 tuples_kept apps order [] tuples h =
     let none = ok_same [] tuples h in
@@ -150,7 +159,7 @@ found_kept : (apps : List Bytes) (earlier : List MethodList) (line : Bytes) (fou
 unfolding list_of
 found_kept apps earlier line found h = option_kept apps (is_comment line) (list_in apps earlier line) found (list_kept apps earlier line) h
 
-then_line_ok : {A B : Type 0} (number : ℕ) (r : Result A ℕ) (next : A → Result B Fault) (b : B) → then_line number r next ≡ Ok b → (a : A) × (r ≡ Ok a) × (next a ≡ Ok b)
+pub then_line_ok : {A B : Type 0} (number : ℕ) (r : Result A ℕ) (next : A → Result B Fault) (b : B) → then_line number r next ≡ Ok b → (a : A) × (r ≡ Ok a) × (next a ≡ Ok b)
 unfolding then_line
 then_line_ok number (Ok a) next b h = (a, refl, h)
 then_line_ok number (Err kind) next b h = absurd (err_ok (record { line = number; kind = kind }) b h)

@@ -9,4 +9,5 @@ pub mod WrittenTuples
 pub mod WrittenLines
 pub mod WrittenTables
 pub mod Kept
+mod KeptRules
 mod Cases

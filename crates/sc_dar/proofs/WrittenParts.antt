@@ -9,7 +9,7 @@ use Rattle.sc_tokens.specs.Cuts.{has, before, after, onto_first}
 use Rattle.sc_tokens.specs.Hosts.{begins}
 use Rattle.sc_syntax.proofs.CutLaws.{before_here, before_on, after_here, after_on}
 use Rattle.sc_dar.specs.Lines.{drop_blanks, is_blank_text}
-use Rattle.sc_dar.specs.Tuples.{TupleTexts, parts, behind, closed, quoted, is_closing, opening, unquoted}
+use Rattle.sc_dar.specs.Tuples.{TupleTexts, parts, behind, closed, quoted, is_closing, behind_tuple, is_parted, opening, unquoted}
 use Rattle.sc_dar.specs.Rules.{IsPlain}
 use Rattle.sc_dar.proofs.Parting.{behind_front}
 
@@ -196,8 +196,19 @@ opening_is text h =
     ∙ closed_is is_blank_text text [] h blank
 
 closing : is_closing (41 ∷ []) ≡ true
-unfolding is_closing behind drop_blanks begins is_blank is_blank_text
+unfolding is_closing behind drop_blanks begins is_blank
 closing = refl
+
+none_behind : option_map_or is_blank_text (behind 41 (41 ∷ [])) false ≡ true
+unfolding behind drop_blanks begins is_blank is_blank_text
+none_behind = refl
+
+pub parted_is : (text : Bytes) → IsPlain text → is_parted (in_part text (41 ∷ [])) ≡ true
+unfolding is_parted behind_tuple
+parted_is text h =
+    ap (λ o. option_map_or is_blank_text (option_and_then (behind 41) (option_and_then (after 34) o)) false) (behind_quote (text ++ 34 ∷ 41 ∷ []))
+    ∙ ap (λ o. option_map_or is_blank_text (option_and_then (behind 41) o) false) (after_at 34 text (41 ∷ []) h.quote)
+    ∙ none_behind
 
 by_texts : Option Bytes → Option Bytes → Option Bytes → Option Bytes → Option Bytes → Option Bytes → Option TupleTexts
 by_texts a s g r m o =

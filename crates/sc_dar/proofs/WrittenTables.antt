@@ -16,16 +16,17 @@ use Rattle.sc_tokens.specs.Hosts.{begins}
 use Rattle.sc_tokens.specs.Quoted.{token_end}
 use Rattle.sc_dar.specs.Lines.{Line, drop_blanks, ends, lines, is_comment}
 use Rattle.sc_dar.specs.Tuples.{then_read, parts, tuples_in}
-use Rattle.sc_dar.specs.Tables.{NO_SEPARATOR, LONG, DOUBLE_METHOD, has_separator, is_listed, list_in, list_of, then_line, judged, table_with, table_of}
+use Rattle.sc_terms.specs.RoutingTables.{IsMethodList, AreMethodLists, IsDar, is_listed}
+use Rattle.sc_dar.specs.Tables.{NO_SEPARATOR, LONG, DOUBLE_METHOD, has_separator, list_in, list_of, then_line, judged, table_with, table_of}
 use Rattle.sc_dar.specs.WrittenTables.{lead, tuple_text, tuples_text, list_text, dar_text}
-use Rattle.sc_dar.specs.Rules.{AreNames, AreTuples, IsList, AreLists, IsTable}
+use Rattle.sc_dar.specs.Rules.{AreNames, AreTuples, AreLists, IsTable}
 use Rattle.sc_dar.proofs.Rows.{no_more}
 use Rattle.sc_dar.proofs.WrittenTuples.{tuples_again}
 use Rattle.sc_dar.proofs.WrittenLines.{both_lack, from_tuple, tuples_lack, ends_behind, ends_on, tuples_end, line_is}
 
 -- ## The bytes of a token
 
-both : (a b : Bool) → (a && b) ≡ true → (a ≡ true) × (b ≡ true)
+pub both : (a b : Bool) → (a && b) ≡ true → (a ≡ true) × (b ≡ true)
 both true b h = (refl, h)
 both false b h = absurd (false≢true h)
 
@@ -104,11 +105,11 @@ token_len : (method tuples : Bytes) → AreTokenBytes method → token_end 0 (li
 unfolding token_end
 token_len method tuples h = let zero_more : ◌≡◌ {A = ℕ} (0 + length method) (length method) = omega arith in ap (λ n. 0 + n) (past_token method tuples h) ∙ zero_more
 
-other_first : (b : ℕ) (bs : Bytes) → is_blank b ≡ false → drop_blanks (b ∷ bs) ≡ b ∷ bs
+pub other_first : (b : ℕ) (bs : Bytes) → is_blank b ≡ false → drop_blanks (b ∷ bs) ≡ b ∷ bs
 unfolding drop_blanks
 other_first b bs h = rw h refl
 
-not_blank : (b : ℕ) → is_token_byte b ≡ true → is_blank b ≡ false
+pub not_blank : (b : ℕ) → is_token_byte b ≡ true → is_blank b ≡ false
 unfolding is_blank
 not_blank b h = ap (λ t. t || b == 9) (differs is_token_byte b 32 no_space h) ∙ differs is_token_byte b 9 no_tab h
 
@@ -230,36 +231,41 @@ one_line apps number earlier first others tuple more rest m names h few fresh =
     ∙ ap (judged apps number earlier) (line_is line rest (line_lacks apps first others tuple more m names h few) (line_ends 13 apps first others tuple more) (line_ends 92 apps first others tuple more))
     ∙ judged_line apps number earlier (record { text = line; height = 1 }) (lines rest) (record { method = first ∷ others; tuples = tuple ∷ more }) (said_again apps earlier line (record { method = first ∷ others; tuples = tuple ∷ more }) (no_comment first others (from_tuple apps 0 tuple more) m) list)
 
-by_parts : (apps : List Bytes) (number : ℕ) (earlier : List MethodList) (method : Bytes) (tuples : List Tuple) (rest : Bytes) → AreNames apps → IsList apps (record { method = method; tuples = tuples }) → is_listed earlier method ≡ false
+by_parts : (apps : List Bytes) (number : ℕ) (earlier : List MethodList) (method : Bytes) (tuples : List Tuple) (rest : Bytes) → AreNames apps → IsMethodList (record { method = method; tuples = tuples }) → AreTuples apps tuples → is_listed earlier method ≡ false
     → judged apps number earlier (lines (list_text apps (record { method = method; tuples = tuples }) ++ rest)) ≡ judged apps (number + 1) (earlier ++ record { method = method; tuples = tuples } ∷ []) (lines rest)
-by_parts apps number earlier [] tuples rest names h fresh = absurd (false≢true (sym no_token ∙ h.method))
-by_parts apps number earlier (first ∷ others) [] rest names h fresh = absurd (omega (arith, h.some))
-by_parts apps number earlier (first ∷ others) (tuple ∷ more) rest names h fresh =
-    one_line apps number earlier first others tuple more rest (record { bytes = token_bytes first others h.method; said = sym (begins_said first others) ∙ h.said }) names h.tuples (omega (arith, h.few)) fresh
+by_parts apps number earlier [] tuples rest names h named fresh = absurd (false≢true (sym no_token ∙ h.method))
+by_parts apps number earlier (first ∷ others) [] rest names h named fresh = absurd (omega (arith, h.some))
+by_parts apps number earlier (first ∷ others) (tuple ∷ more) rest names h named fresh =
+    one_line apps number earlier first others tuple more rest (record { bytes = token_bytes first others h.method; said = sym (begins_said first others) ∙ h.said }) names named (omega (arith, h.few)) fresh
 
-first_list : (apps : List Bytes) (earlier : List MethodList) (list : MethodList) (more : List MethodList) → AreLists apps earlier (list ∷ more)
-    → IsList apps list × (is_listed earlier list.method ≡ false) × AreLists apps (earlier ++ list ∷ []) more
+first_list : (earlier : List MethodList) (list : MethodList) (more : List MethodList) → AreMethodLists earlier (list ∷ more)
+    → IsMethodList list × (is_listed earlier list.method ≡ false) × AreMethodLists (earlier ++ list ∷ []) more
+unfolding AreMethodLists
+first_list earlier list more h = h
+
+first_tuples : (apps : List Bytes) (list : MethodList) (more : List MethodList) → AreLists apps (list ∷ more) → AreTuples apps list.tuples × AreLists apps more
 unfolding AreLists
-first_list apps earlier list more h = h
+first_tuples apps list more h = h
 
 none_judged : (apps : List Bytes) (number : ℕ) (lists : List MethodList) → judged apps number lists [] ≡ Ok lists
 unfolding judged
 none_judged apps number lists = refl
 
-judged_again : (apps : List Bytes) (number : ℕ) (earlier lists : List MethodList) → AreNames apps → AreLists apps earlier lists → judged apps number earlier (lines (flat_map (list_text apps) lists)) ≡ Ok (earlier ++ lists)
-judged_again apps number earlier [] names h = ap (judged apps number earlier) no_more ∙ none_judged apps number earlier ∙ ap Ok (sym (append-nil earlier))
-judged_again apps number earlier (list ∷ more) names h =
-    let (is, fresh, others) = first_list apps earlier list more h in
-    by_parts apps number earlier list.method list.tuples (flat_map (list_text apps) more) names is fresh
-    ∙ judged_again apps (number + 1) (earlier ++ list ∷ []) more names others
+judged_again : (apps : List Bytes) (number : ℕ) (earlier lists : List MethodList) → AreNames apps → AreMethodLists earlier lists → AreLists apps lists → judged apps number earlier (lines (flat_map (list_text apps) lists)) ≡ Ok (earlier ++ lists)
+judged_again apps number earlier [] names kept h = ap (judged apps number earlier) no_more ∙ none_judged apps number earlier ∙ ap Ok (sym (append-nil earlier))
+judged_again apps number earlier (list ∷ more) names kept h =
+    let (is, fresh, others) = first_list earlier list more kept in
+    let (named, later) = first_tuples apps list more h in
+    by_parts apps number earlier list.method list.tuples (flat_map (list_text apps) more) names is named fresh
+    ∙ judged_again apps (number + 1) (earlier ++ list ∷ []) more names others later
     ∙ ap Ok (append_assoc earlier (list ∷ []) more)
 
 not_long : (n : ℕ) → n ≤ 65536 → nat_lt 65536 n ≡ false
 not_long n h = grind (arith, nat_tests, h)
 
-pub table_again : (apps : List Bytes) (dar : Dar) → IsTable apps dar → length (dar_text dar apps) ≤ 65536 → table_of (dar_text dar apps) apps ≡ Ok dar
+pub table_again : (apps : List Bytes) (dar : Dar) → IsDar dar → IsTable apps dar → length (dar_text dar apps) ≤ 65536 → table_of (dar_text dar apps) apps ≡ Ok dar
 unfolding table_of table_with dar_text
-table_again apps dar h short =
+table_again apps dar kept h short =
     let text = flat_map (list_text apps) dar.lists in
     ap (λ t. cond t (Err (record { line = 0; kind = LONG })) (table_with (judged apps 1 [] (lines text)))) (not_long (length text) short)
-    ∙ ap table_with (judged_again apps 1 [] dar.lists h.0 h.1)
+    ∙ ap table_with (judged_again apps 1 [] dar.lists h.0 kept h.1)

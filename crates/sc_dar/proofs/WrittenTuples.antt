@@ -1,5 +1,5 @@
 -- A written tuple is read as the tuple.
-use Rattle.std.proofs.Common.{◌≡◌, ℕ, zero, suc, Bool, true, false, cond, not, Option, Some, None, Result, Ok, List, [], ◌∷◌, ◌++◌, ◌||◌, ◌&&◌, ◌==◌, ◌+◌, ◌<◌, ◌≤◌, ◌^◌, ◌%◌, length, get_or, subst, sym, decimal, refl, ap, ◌∙◌, append_assoc, arith}
+use Rattle.std.proofs.Common.{◌≡◌, ℕ, zero, suc, Bool, true, false, cond, not, Option, Some, None, Result, Ok, Err, List, [], ◌∷◌, ◌++◌, ◌||◌, ◌&&◌, ◌==◌, ◌+◌, ◌<◌, ◌≤◌, ◌^◌, ◌%◌, length, get_or, subst, sym, decimal, refl, ap, ◌∙◌, append_assoc, arith}
 use Rattle.std.specs.Prelude.{codes, nat_eq, nat_lt, unwrap_or, option_and_then}
 use Rattle.std.specs.List.{position, position_or_len}
 use Rattle.std.specs.Cmp.Lexicographic.{same_text}
@@ -17,10 +17,10 @@ use Rattle.sc_terms.specs.declared.settings.Modifier.TheVariants.{Route, RouteBa
 use Rattle.sc_terms.specs.declared.settings.Tuple.{Tuple}
 use Rattle.sc_tokens.specs.Bytes.{Bytes}
 use Rattle.sc_tokens.specs.Cuts.{has}
-use Rattle.sc_dar.specs.Tuples.{BAD_TUPLE, BAD_REGION, BAD_MODIFIER, BAD_ORDER, UNKNOWN_APPLICATION, BAD_ROUTE, TupleTexts, then_read, given, parts, region_of, modifier_of, order_of, of_32, app_of, route_of, tuple_of, counted, tuple_at, tuples_in}
+use Rattle.sc_dar.specs.Tuples.{BAD_TUPLE, BAD_REGION, BAD_MODIFIER, BAD_ORDER, UNKNOWN_APPLICATION, BAD_ROUTE, TupleTexts, then_read, given, parts, region_of, modifier_of, order_of, of_32, app_of, route_of, tuple_of, counted, parted, tuple_at, tuples_in}
 use Rattle.sc_dar.specs.WrittenTables.{region_text, modifier_text, route_text, between, app_text, tuple_front, tuple_back, tuple_text, lead, tuples_text}
 use Rattle.sc_dar.specs.Rules.{IsPlain, AreNames, IsTuple, AreTuples}
-use Rattle.sc_dar.proofs.WrittenParts.{ArePlain, six_text, six_parts, listed, parts_are, unquoted_is, bracket_comma, bracket_last}
+use Rattle.sc_dar.proofs.WrittenParts.{ArePlain, six_text, six_parts, listed, in_part, parted_is, parts_are, unquoted_is, bracket_comma, bracket_last}
 
 -- ## Names of applications
 
@@ -184,15 +184,23 @@ counted_is : (order : ℕ) (tuple : Tuple) → order < 64 → counted order tupl
 unfolding counted
 counted_is order tuple h = rw (is_few order h) refl
 
+none_follows : (text : Bytes) (tuple : Tuple) → IsPlain text → parted (in_part text (41 ∷ [])) tuple ≡ Ok tuple
+unfolding parted
+none_follows text tuple h = ap (λ t. cond t (Ok tuple) (Err BAD_TUPLE)) (parted_is text h)
+
 pub fits_64 : (order : ℕ) → order < 64 → order < 2 ^ 64
 fits_64 order h = omega (arith, h)
 
 pub at_again : (apps : List Bytes) (order : ℕ) (tuple : Tuple) → AreNames apps → IsTuple apps tuple → order < 64 → tuple_at apps order (six_parts (texts_of apps order tuple)) ≡ Ok tuple
 unfolding tuple_at then_read
 at_again apps order tuple names h few =
-    ap (λ u. then_read (given BAD_TUPLE u) (λ texts. then_read (tuple_of apps order texts) (counted order))) (unquoted_is (texts_of apps order tuple) (texts_plain apps order tuple names h (fits_64 order few)))
-    ∙ ap (λ r. then_read r (counted order)) (tuple_again apps order tuple names h)
-    ∙ counted_is order tuple few
+    let texts = texts_of apps order tuple in
+    let plain = texts_plain apps order tuple names h (fits_64 order few) in
+    let end = λ (made : Tuple). then_read (counted order made) (parted (six_parts texts).order) in
+    ap (λ u. then_read (given BAD_TUPLE u) (λ t. then_read (tuple_of apps order t) end)) (unquoted_is texts plain)
+    ∙ ap (λ r. then_read r end) (tuple_again apps order tuple names h)
+    ∙ ap (λ r. then_read r (parted (six_parts texts).order)) (counted_is order tuple few)
+    ∙ none_follows texts.order tuple plain.order
 
 -- ## The tuples of a line
 

@@ -1,15 +1,12 @@
 -- What a routing table keeps, for applications of these names.
-use Rattle.std.specs.Prelude.{ℕ, ◌^◌, ◌≡◌, ◌<◌, ◌≤◌, true, false, List, [], ◌∷◌, ◌++◌, Some, ⊤, length, get_or}
+use Rattle.std.specs.Prelude.{ℕ, ◌^◌, ◌≡◌, ◌<◌, ◌≤◌, false, List, [], ◌∷◌, Some, ⊤, length, get_or}
 use Rattle.std.specs.List.{All}
-use Rattle.sc_tokens.specs.Tokens.{is_token}
 use Rattle.sc_terms.specs.declared.settings.Dar.{Dar}
 use Rattle.sc_terms.specs.declared.settings.MethodList.{MethodList}
 use Rattle.sc_terms.specs.declared.settings.Tuple.{Tuple}
 use Rattle.sc_tokens.specs.Bytes.{Bytes}
 use Rattle.sc_tokens.specs.Cuts.{has}
-use Rattle.sc_tokens.specs.Hosts.{begins}
 use Rattle.sc_dar.specs.Tuples.{route_of}
-use Rattle.sc_dar.specs.Tables.{is_listed}
 use Rattle.sc_dar.specs.WrittenTables.{route_text}
 
 -- the text can stand between quotes: no quote, CR or LF stands in it
@@ -35,18 +32,11 @@ unfoldable pub AreTuples : List Bytes → List Tuple → Type 0
 AreTuples apps [] = ⊤
 AreTuples apps (tuple ∷ more) = IsTuple apps tuple × AreTuples apps more
 
--- a method is a token that begins no comment, and has 1 to 64 tuples
-pub record IsList (apps : List Bytes) (list : MethodList) : Type 0 where
-  pub method : is_token list.method ≡ true
-  pub said : begins 33 list.method ≡ false
-  pub some : 0 < length list.tuples
-  pub few : length list.tuples ≤ 64
-  pub tuples : AreTuples apps list.tuples
+-- the tuples of each list
+unfoldable pub AreLists : List Bytes → List MethodList → Type 0
+AreLists apps [] = ⊤
+AreLists apps (list ∷ more) = AreTuples apps list.tuples × AreLists apps more
 
--- no method has a list before its own
-unfoldable pub AreLists : List Bytes → List MethodList → List MethodList → Type 0
-AreLists apps earlier [] = ⊤
-AreLists apps earlier (list ∷ more) = IsList apps list × (is_listed earlier list.method ≡ false) × AreLists apps (earlier ++ list ∷ []) more
-
+-- what a table keeps beside the rules of its type
 abbrev pub IsTable : List Bytes → Dar → Type 0
-IsTable apps dar = AreNames apps × AreLists apps [] dar.lists
+IsTable apps dar = AreNames apps × AreLists apps dar.lists

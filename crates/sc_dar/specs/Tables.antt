@@ -1,11 +1,10 @@
 -- The table of the Default Application Router that a text gives, or its first refusal (JSR 289
 -- appendix C).
 use Rattle.std.specs.Prelude.{ℕ, Bool, false, List, [], ◌∷◌, ◌++◌, not, ◌||◌, ◌&&◌, ◌==◌, ◌+◌, Option, Some, None, Result, Ok, Err, length, take, drop, nat_lt, if◌then◌else◌}
-use Rattle.std.specs.List.{list_any}
 use Rattle.std.specs.Option.{option_to_list}
-use Rattle.sc_tokens.specs.Names.{same_bytes}
 use Rattle.sc_terms.specs.declared.settings.Dar.{Dar}
 use Rattle.sc_terms.specs.declared.settings.MethodList.{MethodList}
+use Rattle.sc_terms.specs.RoutingTables.{is_listed}
 use Rattle.sc_tokens.specs.Bytes.{Bytes}
 use Rattle.sc_tokens.specs.Hosts.{begins}
 use Rattle.sc_tokens.specs.Quoted.{token_end}
@@ -37,10 +36,6 @@ behind_method line = drop_blanks (drop (token_end 0 line) line)
 -- a method, and : or =
 unfoldable pub has_separator : Bytes → Bool
 has_separator line = not (token_end 0 line == 0) && (begins 58 (behind_method line) || begins 61 (behind_method line))
-
--- one of the lists is of this method
-unfoldable pub is_listed : List MethodList → Bytes → Bool
-is_listed lists method = list_any (λ list. same_bytes list.method method) lists
 
 -- the list of a line that is no comment
 unfoldable pub list_in : List Bytes → List MethodList → Bytes → Result MethodList ℕ

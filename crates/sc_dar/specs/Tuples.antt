@@ -1,5 +1,5 @@
 -- A tuple of a routing table (JSR 289 appendix C): six texts in quotes, between round brackets.
-use Rattle.std.specs.Prelude.{ℕ, Bool, false, List, [], ◌∷◌, not, ◌&&◌, ◌==◌, ◌+◌, ◌^◌, Option, Some, None, Result, Ok, Err, option_map, option_and_then, codes, decimal, length, drop, nat_lt, if◌then◌else◌}
+use Rattle.std.specs.Prelude.{ℕ, Bool, false, List, [], ◌∷◌, not, ◌&&◌, ◌==◌, ◌+◌, ◌^◌, Option, Some, None, Result, Ok, Err, option_map, option_and_then, codes, decimal, is_some, length, drop, nat_lt, if◌then◌else◌}
 use Rattle.std.specs.List.{position}
 use Rattle.std.specs.Option.{option_map_or}
 use Rattle.sc_tokens.specs.Names.{same_bytes}
@@ -91,9 +91,17 @@ closed is_end text = if option_map_or is_end (after 34 text) false && not (has 1
 unfoldable pub quoted : (Bytes → Bool) → Bytes → Option Bytes
 quoted is_end text = option_and_then (closed is_end) (behind 34 text)
 
--- the bracket closes and no more follows
+-- the bracket closes
 unfoldable pub is_closing : Bytes → Bool
-is_closing text = option_map_or is_blank_text (behind 41 text) false
+is_closing text = is_some (behind 41 text)
+
+-- what stands behind the tuple's bracket, up to the next comma or the end; the order is its last text
+unfoldable pub behind_tuple : Bytes → Option Bytes
+behind_tuple order = option_and_then (behind 41) (option_and_then (after 34) (behind 34 order))
+
+-- blanks alone stand there
+unfoldable pub is_parted : Bytes → Bool
+is_parted order = option_map_or is_blank_text (behind_tuple order) false
 
 -- the first of the six, behind the opening bracket
 unfoldable pub opening : Bytes → Option Bytes
@@ -168,8 +176,17 @@ tuple_of apps order t =
 unfoldable pub counted : ℕ → Tuple → Result Tuple ℕ
 counted order tuple = if nat_lt order 64 then Ok tuple else Err TOO_MANY
 
+-- a comma or the end comes next
+unfoldable pub parted : Bytes → Tuple → Result Tuple ℕ
+parted order tuple = if is_parted order then Ok tuple else Err BAD_TUPLE
+
+-- the tuple of six parts: its brackets and quotes are judged, then what it says, then whether there are too many, and
+-- what stands behind it last
 unfoldable pub tuple_at : List Bytes → ℕ → TupleTexts → Result Tuple ℕ
-tuple_at apps order t = then_read (given BAD_TUPLE (unquoted t)) (λ texts. then_read (tuple_of apps order texts) (counted order))
+tuple_at apps order t =
+    then_read (given BAD_TUPLE (unquoted t)) (λ texts.
+    then_read (tuple_of apps order texts) (λ tuple.
+    then_read (counted order tuple) (parted t.order)))
 
 -- the tuples of the parts, six parts each, from this order on
 unfoldable pub tuples_in : List Bytes → ℕ → List Bytes → Result (List Tuple) ℕ

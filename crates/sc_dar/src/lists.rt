@@ -3,7 +3,8 @@
 ghost use Rattle.std.specs.Prelude.{◌≡◌, ◌<◌, ◌++◌, ◌||◌, IsTrue, not, length};
 ghost use Rattle.sc_tokens.specs.Hosts.{begins};
 ghost use Rattle.sc_tokens.specs.Quoted.{token_end};
-ghost use Rattle.sc_dar.specs.Tables.{behind_method, has_separator, is_listed, list_in, list_of};
+ghost use Rattle.sc_terms.specs.RoutingTables.{is_listed};
+ghost use Rattle.sc_dar.specs.Tables.{behind_method, has_separator, list_in, list_of};
 ghost use Rattle.sc_dar.specs.Answers.{IsRead};
 
 use crate::cuts::{begins, drop_blanks};
@@ -16,7 +17,7 @@ use sc_value::Text;
 use std::alloc::Global;
 
 // Whether one of the lists is of this method.
-#[tactic(auto, unfolding(crate::specs::Tables::is_listed))]
+#[tactic(auto, unfolding(sc_terms::specs::RoutingTables::is_listed))]
 fn is_listed(lists: &[MethodList], method: &[u8]) -> bool
     ensures { result ≡ is_listed lists.now method.now }
 {

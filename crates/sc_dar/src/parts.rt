@@ -3,7 +3,7 @@
 ghost use Rattle.std.specs.Prelude.{◌≡◌, ◌<◌, ◌≤◌, ◌==◌, ◌&&◌, ◌∷◌, [], IfSome, if◌then◌else◌, not, false, length, option_map};
 ghost use Rattle.std.specs.Option.{option_copied};
 ghost use Rattle.sc_dar.specs.Lines.{is_blank_text};
-ghost use Rattle.sc_dar.specs.Tuples.{parts, parts_after, first_six, closed, quoted, is_closing, opening, unquoted};
+ghost use Rattle.sc_dar.specs.Tuples.{parts, parts_after, first_six, closed, quoted, is_closing, behind_tuple, is_parted, opening, unquoted};
 
 use crate::cuts::{behind, cut, has, is_blank_text};
 use std::marker::Model;
@@ -78,12 +78,29 @@ pub fn first_six(text: &[u8]) -> Option<(Texts<'_>, Option<&[u8]>)>
     Some((texts, rest))
 }
 
-// The bracket closes and no more follows.
+// The bracket closes.
 #[tactic(auto, unfolding(crate::specs::Tuples::is_closing))]
 fn is_closing(text: &[u8]) -> bool
     ensures { result ≡ is_closing text.now }
 {
-    match behind(text, b')') {
+    behind(text, b')').is_some()
+}
+
+// What stands behind the tuple's bracket; the order is its last text.
+#[tactic(auto, unfolding(crate::specs::Tuples::behind_tuple))]
+fn behind_tuple(order: &[u8]) -> Option<&[u8]>
+    ensures { option_copied result ≡ behind_tuple order.now }
+{
+    let (_, end) = cut(behind(order, b'"')?, b'"');
+    behind(end?, b')')
+}
+
+// Blanks alone stand behind the tuple's bracket.
+#[tactic(auto, unfolding(crate::specs::Tuples::is_parted))]
+pub fn is_parted(order: &[u8]) -> bool
+    ensures { result ≡ is_parted order.now }
+{
+    match behind_tuple(order) {
         Some(rest) => is_blank_text(rest),
         None => false,
     }

@@ -37,7 +37,7 @@ pub fn read(alloc: Global, b: &[u8], apps: &List<Text>) -> Result<Dar, DarRefuse
     table_of(alloc, b, apps.as_slice())
 }
 
-#[tactic(auto, unfolding(crate::specs::Tables::table_of, crate::specs::Tables::table_with))]
+#[tactic(auto, unfolding(crate::specs::Tables::table_of, crate::specs::Tables::table_with), using(crate::proofs::KeptRules::lists_kept))]
 fn table_of(alloc: Global, text: &[u8], apps: &[Text]) -> Result<Dar, DarRefused>
     ensures { IsJudged result (table_of text.now apps.now) }
 {

@@ -1,12 +1,15 @@
 ghost use Rattle.std.specs.Prelude.{◌≡◌};
 
 use sc_value::NoMemory;
+use thiserror::Error;
 
 /// Why a text is no routing table.
-#[derive(Debug, Clone, Copy, PartialEq, Eq)]
+#[derive(Debug, Clone, Copy, PartialEq, Eq, Error)]
 pub enum DarRefused {
     /// The text is refused. Lines are judged in order, the tuples of a line in order, and of one
-    /// tuple the lowest kind counts.
+    /// tuple the lowest kind counts. What stands between the bracket of a tuple and the next comma
+    /// or the end is judged after the tuple.
+    #[error("the text is no routing table: fault {kind} in line {line}")]
     Refused {
         /// The number of the line at fault, from 1; of a line that is joined from several rows the
         /// number of the first. It is 0 for kind 8.
@@ -21,6 +24,7 @@ pub enum DarRefused {
         kind: u8,
     },
     /// There was no memory to read the text. It says nothing of the text.
+    #[error("no memory")]
     NoMemory,
 }
 

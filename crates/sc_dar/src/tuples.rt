@@ -5,7 +5,7 @@ ghost use Rattle.std.specs.Option.{option_copied};
 ghost use Rattle.sc_dar.specs.Tuples.{parts, tuple_of, tuple_at, tuples_in};
 ghost use Rattle.sc_dar.specs.Answers.{IsRead};
 
-use crate::parts::{Texts, first_six, unquoted};
+use crate::parts::{Texts, first_six, is_parted, unquoted};
 use crate::routes::route_of;
 use crate::unread::{
     BAD_MODIFIER, BAD_ORDER, BAD_REGION, BAD_TUPLE, TOO_MANY, UNKNOWN_APPLICATION, Unread,
@@ -50,8 +50,8 @@ fn tuple_of(alloc: Global, apps: &[Text], order: usize, texts: &Texts) -> Result
     })
 }
 
-// The tuple of six parts; a method has at most 64.
-#[tactic(auto, unfolding(crate::specs::Tuples::tuple_at, crate::specs::Tuples::counted, crate::specs::Tuples::then_read))]
+// The tuple of six parts; a method has at most 64. What stands behind its bracket is judged last.
+#[tactic(auto, unfolding(crate::specs::Tuples::tuple_at, crate::specs::Tuples::counted, crate::specs::Tuples::parted, crate::specs::Tuples::then_read))]
 fn tuple_at(alloc: Global, apps: &[Text], order: usize, parts: &Texts) -> Result<Tuple, Unread>
     ensures { IsRead result (tuple_at apps.now order parts.now) }
 {
@@ -60,10 +60,13 @@ fn tuple_at(alloc: Global, apps: &[Text], order: usize, parts: &Texts) -> Result
         None => return Err(Unread::Fault { kind: BAD_TUPLE }),
     };
     let tuple = tuple_of(alloc, apps, order, &texts)?;
-    if order < 64 {
+    if order >= 64 {
+        return Err(Unread::Fault { kind: TOO_MANY });
+    }
+    if is_parted(parts.order) {
         Ok(tuple)
     } else {
-        Err(Unread::Fault { kind: TOO_MANY })
+        Err(Unread::Fault { kind: BAD_TUPLE })
     }
 }
 

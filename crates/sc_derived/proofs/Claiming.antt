@@ -5,6 +5,7 @@ use Rattle.std.specs.Prelude.{filter}
 use Rattle.std.specs.Option.{option_map}
 use Rattle.sc_value.specs.declared.ids.ReqId.{ReqId}
 use Rattle.sc_value.specs.declared.ids.SessId.{SessId}
+use Rattle.sc_value.specs.declared.message.Request.{Request}
 use Rattle.sc_terms.specs.declared.views.SessionView.{SessionView}
 use Rattle.sc_state.specs.declared.session.Known.{Known}
 use Rattle.sc_state.specs.declared.session.Session.{Session}
@@ -26,11 +27,11 @@ pub claimer_found : (known : Known) (req : ReqId) (tag : Bytes) (sessions : List
 unfolding claims_of
 claimer_found known req tag sessions = found_among (claims known tag) (is_of known req) sessions
 
-pub handled_claimed : (session : Session) (req : ReqId) (original : SessionView) (tag : Bytes) (claimer : Option SessionView) (sess : SessId)
-    → option_map (λ (s : SessionView). s.id) claimer ≡ Some sess → handled_in session req original (handling_of session original tag claimer) ≡ (sess, session)
+pub handled_claimed : (session : Session) (req : ReqId) (original : SessionView) (came : Option Request) (tag : Bytes) (claimer : Option SessionView) (sess : SessId)
+    → option_map (λ (s : SessionView). s.id) claimer ≡ Some sess → handled_in session req original came (handling_of session original tag claimer) ≡ (sess, session)
 unfolding handling_of handled_in
-handled_claimed session req original tag None sess e = grind arith
-handled_claimed session req original tag (Some claimer) sess e = grind arith
+handled_claimed session req original came tag None sess e = grind arith
+handled_claimed session req original came tag (Some claimer) sess e = grind arith
 
 pub handling_unclaimed : (session : Session) (original : SessionView) (tag : Bytes) (claimer : Option SessionView)
     → option_map (λ (s : SessionView). s.id) claimer ≡ None → handling_of session original tag claimer ≡ handling_of session original tag None

@@ -1,2 +1,3 @@
 mod Claiming
 mod Marking
+mod Deriving

@@ -1,19 +1,18 @@
 //! The SipSession of a response to an initial INVITE or SUBSCRIBE: derived SipSessions (JSR 289
 //! section 6.2.3).
 
-ghost use Rattle.std.specs.Prelude.{◌≡◌, ◌&&◌, None, false, filter, nat_lt, not, option_map, position, IfOk};
+ghost use Rattle.std.specs.Prelude.{◌≡◌, ◌&&◌, None, false, nat_lt, not, option_and_then, option_map, position, IfOk};
 ghost use Rattle.std.specs.List.{find};
 ghost use Rattle.std.specs.Option.{option_copied, option_map_or};
 ghost use Rattle.sc_value.specs.Lists.{change_first};
 ghost use Rattle.sc_hosts.specs.Looking.{is_session, same_request, session_count};
-ghost use Rattle.sc_hosts.specs.DerivedSessions.{claims, derived_leg, derived_session, handled_in, handling, handling_by, handling_of, is_of, is_subscribed, sessions_of, takes_tag};
+ghost use Rattle.sc_hosts.specs.DerivedSessions.{claims, derived_got, derived_leg, derived_session, handled_in, handling, handling_by, handling_of, is_of, is_subscribed, sessions_of, takes_tag};
 ghost use Rattle.sc_hosts.specs.DerivedSessions.{Handling};
 ghost use Rattle.sc_hosts.specs.PreparingResponses.{is_invalid};
-ghost use Rattle.sc_legs.specs.Numbers.{is_from};
 ghost use Rattle.sc_derived.specs.Claims.{claims_of, with_peer_tag};
 
 use sc_effects::{is_subscribe, is_success, is_uac};
-use sc_legs::{is_from, is_invalid, is_overtaken_leg, leg_of, new_leg, same_tag};
+use sc_legs::{first_got, is_invalid, is_overtaken_leg, leg_of, same_tag};
 use sc_messages::makes_dialog;
 use sc_refusals::{is_invite, session_place};
 use sc_state::{Got, Known, Leg, Session};
@@ -111,9 +110,10 @@ fn take_tag(
     session: &mut Session,
     req: ReqId,
     original: &SessionView,
+    came: Option<&Request>,
     tag: &Text,
 ) -> Result<SessId, NoMemory>
-    ensures { IfOk result (λ sess. handled_in session.old req original.now (Handling.Takes tag.now) ≡ (sess, session.new)) }
+    ensures { IfOk result (λ sess. handled_in session.old req original.now (option_copied came.entry) (Handling.Takes tag.now) ≡ (sess, session.new)) }
 {
     let tag = tag.clone_in(alloc)?;
     tag_in(&mut session.view.sessions.items, original.id, tag);
@@ -146,38 +146,46 @@ fn derived_session(
     })
 }
 
-fn got_from(alloc: Global, got: &[Got], tag: Option<&Text>) -> Result<List<Got>, NoMemory>
-    ensures { IfOk result (λ l. l ≡ filter (is_from (option_copied tag.entry)) got.now) }
+// The number of the request, where it came.
+#[tactic(auto, unfolding(sc_hosts::specs::DerivedSessions::derived_got))]
+fn derived_got(alloc: Global, came: Option<&Request>) -> Result<List<Got>, NoMemory>
+    ensures { IfOk result (λ l. l ≡ derived_got (option_copied came.entry)) }
 {
-    let mut kept = List::new(alloc);
-    for number in got {
-        if is_from(number, tag) {
-            kept.push(number.clone_in(alloc)?)?;
-        }
+    match came {
+        Some(request) => first_got(alloc, request),
+        None => Ok(List::new(alloc)),
     }
-    Ok(kept)
 }
 
-// A derived SipSession has the messages of the request that its original has.
-#[tactic(auto, unfolding(sc_hosts::specs::DerivedSessions::derived_leg, sc_hosts::specs::Legs::new_leg, sc_legs::specs::Numbers::is_from))]
-fn derived_leg(alloc: Global, leg: Option<&Leg>, req: ReqId) -> Result<Leg, NoMemory>
-    ensures { IfOk result (λ l. l ≡ derived_leg (option_copied leg.entry) req) }
+fn caller_of_leg(alloc: Global, leg: Option<&Leg>) -> Result<Option<Text>, NoMemory>
+    ensures { IfOk result (λ t. t ≡ option_and_then (λ leg. leg.caller) (option_copied leg.entry)) }
 {
     match leg {
-        Some(leg) => {
-            let caller = leg.caller.clone_in(alloc)?;
-            let got = got_from(alloc, leg.got.as_slice(), leg.caller.as_ref())?;
-            Ok(Leg {
-                first: Some(req),
-                caller,
-                dialog: None,
-                got,
-                invalidated: false,
-                overtaken: false,
-            })
-        }
-        None => Ok(new_leg(alloc, Some(req))),
+        Some(leg) => leg.caller.clone_in(alloc),
+        None => Ok(None),
     }
+}
+
+// A derived SipSession has had the request that it is of, and no other of its original's.
+#[tactic(auto, unfolding(sc_hosts::specs::DerivedSessions::derived_leg, sc_hosts::specs::Legs::new_leg), using(crate::proofs::Deriving::derived_from))]
+fn derived_leg(
+    alloc: Global,
+    leg: Option<&Leg>,
+    req: ReqId,
+    came: Option<&Request>,
+) -> Result<Leg, NoMemory>
+    ensures { IfOk result (λ l. l ≡ derived_leg (option_copied leg.entry) req (option_copied came.entry)) }
+{
+    let caller = caller_of_leg(alloc, leg)?;
+    let got = derived_got(alloc, came)?;
+    Ok(Leg {
+        first: Some(req),
+        caller,
+        dialog: None,
+        got,
+        invalidated: false,
+        overtaken: false,
+    })
 }
 
 // The response gets a SipSession of its own.
@@ -187,13 +195,14 @@ fn derive(
     session: &mut Session,
     req: ReqId,
     original: &SessionView,
+    came: Option<&Request>,
     tag: &Text,
 ) -> Result<SessId, NoMemory>
-    ensures { IfOk result (λ sess. handled_in session.old req original.now (Handling.Derives tag.now) ≡ (sess, session.new)) }
+    ensures { IfOk result (λ sess. handled_in session.old req original.now (option_copied came.entry) (Handling.Derives tag.now) ≡ (sess, session.new)) }
 {
     let id = SessId(number_after(session.view.sessions.len())?);
     let derived = derived_session(alloc, &session.view, original, tag)?;
-    let leg = derived_leg(alloc, leg_of(&session.known, original.id), req)?;
+    let leg = derived_leg(alloc, leg_of(&session.known, original.id), req, came)?;
     session.view.sessions.push(derived)?;
     session.known.legs.push(leg)?;
     Ok(id)
@@ -225,15 +234,16 @@ fn handled_unclaimed(
     session: &mut Session,
     req: ReqId,
     original: &SessionView,
+    came: Option<&Request>,
     tag: &Text,
 ) -> Result<SessId, NoMemory>
-    ensures { IfOk result (λ sess. handled_in session.old req original.now (handling_of session.old original.now tag.now None) ≡ (sess, session.new)) }
+    ensures { IfOk result (λ sess. handled_in session.old req original.now (option_copied came.entry) (handling_of session.old original.now tag.now None) ≡ (sess, session.new)) }
 {
     if original.peer_tag.is_none() {
-        return take_tag(alloc, session, req, original, tag);
+        return take_tag(alloc, session, req, original, came, tag);
     }
     if can_derive(session, original.id) {
-        return derive(alloc, session, req, original, tag);
+        return derive(alloc, session, req, original, came, tag);
     }
     Ok(original.id)
 }
@@ -245,13 +255,14 @@ fn handled_of(
     session: &mut Session,
     req: ReqId,
     original: &SessionView,
+    came: Option<&Request>,
     tag: &Text,
 ) -> Result<SessId, NoMemory>
-    ensures { IfOk result (λ sess. handled_in session.old req original.now (handling_of session.old original.now tag.now (find (claims session.old.known tag.now) (sessions_of session.old req))) ≡ (sess, session.new)) }
+    ensures { IfOk result (λ sess. handled_in session.old req original.now (option_copied came.entry) (handling_of session.old original.now tag.now (find (claims session.old.known tag.now) (sessions_of session.old req))) ≡ (sess, session.new)) }
 {
     match claimer(session, req, tag) {
         Some(sess) => Ok(sess),
-        None => handled_unclaimed(alloc, session, req, original, tag),
+        None => handled_unclaimed(alloc, session, req, original, came, tag),
     }
 }
 
@@ -262,12 +273,13 @@ fn handled_by(
     session: &mut Session,
     req: ReqId,
     original: &SessionView,
+    came: Option<&Request>,
     tag: Option<&Text>,
 ) -> Result<SessId, NoMemory>
-    ensures { IfOk result (λ sess. handled_in session.old req original.now (handling_by session.old req original.now (option_copied tag.entry)) ≡ (sess, session.new)) }
+    ensures { IfOk result (λ sess. handled_in session.old req original.now (option_copied came.entry) (handling_by session.old req original.now (option_copied tag.entry)) ≡ (sess, session.new)) }
 {
     match tag {
-        Some(tag) => handled_of(alloc, session, req, original, tag),
+        Some(tag) => handled_of(alloc, session, req, original, came, tag),
         None => Ok(original.id),
     }
 }
@@ -279,12 +291,15 @@ fn handled_subscribed(
     session: &mut Session,
     req: ReqId,
     original: &SessionView,
+    came: Option<&Request>,
     tag: Option<&Text>,
 ) -> Result<SessId, NoMemory>
-    ensures { IfOk result (λ sess. handled_in session.old req original.now (takes_tag original.now (option_copied tag.entry)) ≡ (sess, session.new)) }
+    ensures { IfOk result (λ sess. handled_in session.old req original.now (option_copied came.entry) (takes_tag original.now (option_copied tag.entry)) ≡ (sess, session.new)) }
 {
     match tag {
-        Some(tag) if original.peer_tag.is_none() => take_tag(alloc, session, req, original, tag),
+        Some(tag) if original.peer_tag.is_none() => {
+            take_tag(alloc, session, req, original, came, tag)
+        }
         Some(_) | None => Ok(original.id),
     }
 }
@@ -297,25 +312,27 @@ fn is_subscribed(original: &SessionView, request: &Request, response: &Response)
     is_subscribe(request.method.as_bytes()) && is_success(response.code) && is_uac(original.role)
 }
 
-/// The SipSession in which a response to an initial request is handled, given the one that sent the
-/// request, which may take the tag; where it is a new one, it is there afterwards.
+/// The SipSession in which a response to an initial request is handled, given the one of the request,
+/// which may take the tag, and the request itself where it came and wasn't sent; where it is a new
+/// SipSession, it is there afterwards.
 #[tactic(auto, unfolding(sc_hosts::specs::DerivedSessions::handling, sc_hosts::specs::DerivedSessions::handled_in))]
 pub fn handled(
     alloc: Global,
     session: &mut Session,
     req: ReqId,
     original: &SessionView,
+    came: Option<&Request>,
     request: &Request,
     response: &Response,
 ) -> Result<SessId, NoMemory>
-    ensures { IfOk result (λ sess. handled_in session.old req original.now (handling session.old req original.now request.now response.now) ≡ (sess, session.new)) }
+    ensures { IfOk result (λ sess. handled_in session.old req original.now (option_copied came.entry) (handling session.old req original.now request.now response.now) ≡ (sess, session.new)) }
 {
     let tag = tag(&response.head.to);
     if is_invite(request.method.as_bytes()) && makes_dialog(response.code) {
-        return handled_by(alloc, session, req, original, tag);
+        return handled_by(alloc, session, req, original, came, tag);
     }
     if is_subscribed(original, request, response) {
-        return handled_subscribed(alloc, session, req, original, tag);
+        return handled_subscribed(alloc, session, req, original, came, tag);
     }
     Ok(original.id)
 }

@@ -59,7 +59,7 @@ is_end-got_of polled.Fault = refl
 
 pub after_is : (places : PlacesState) (coming : ComingState) (room : ℕ) (left told : List Polled) (closed : Bool) → coming.is_closed ≡ false
     → left ≡ rest_of room (live_from places coming.left) → told ≡ coming.polled ++ answer_of room (live_from places coming.left) ∷ [] → closed ≡ is_last (answer_of room (live_from places coming.left))
-    → (let after : ComingState = record { left = left; polled = told; is_closed = closed } in after) ≡ after_answer places coming room
+    → (let after : ComingState = record { left = left; polled = told; is_closed = closed; spare = coming.spare } in after) ≡ after_answer places coming room
 after_is places coming room left told closed going l t c = rw (going, l, t, c) refl
 
 -- ## The room for the next answer
@@ -83,12 +83,12 @@ room_after places xs ys now from next from2 next2 room used cap used2 cap2 answe
     let count : count_of answer ≡ count_of (got_of (answer_of room (live_from places (left_of from (drop next ys))))) = rw (got, is, same) refl in
     rw left (omega (arith, spent, lower, le, more, caps, count))
 
-pub room_after_answer : (places : PlacesState) (xs ys now : List Polled) (from next from2 next2 room used cap used2 cap2 : ℕ) (answer : Got) (closed : Bool) → xs ≡ ys
+pub room_after_answer : (places : PlacesState) (xs ys now : List Polled) (from next from2 next2 room used cap used2 cap2 spare : ℕ) (answer : Got) (closed : Bool) → xs ≡ ys
     → now ≡ live_from places (left_of from (drop next xs)) → answer ≡ got_of (answer_of room now) → left_of from2 (drop next2 xs) ≡ rest_of room now
     → closed ≡ is_end answer → 0 < room
-    → used + weights (left_of from (drop next ys)) + 1 ≤ cap → used2 ≡ used + 1 → cap ≤ cap2 → closed ≡ false
-    → used2 + weights (left_of from2 (drop next2 ys)) + 1 ≤ cap2
-room_after_answer places xs ys now from next from2 next2 room used cap used2 cap2 answer closed same is got rest ends some le more caps going =
+    → used + weights (left_of from (drop next ys)) + 1 + spare ≤ cap → used2 ≡ used + 1 → cap ≤ cap2 → closed ≡ false
+    → used2 + weights (left_of from2 (drop next2 ys)) + 1 + spare ≤ cap2
+room_after_answer places xs ys now from next from2 next2 room used cap used2 cap2 spare answer closed same is got rest ends some le more caps going =
     let left : left_of from2 (drop next2 ys) ≡ rest_of room (live_from places (left_of from (drop next ys))) = rw (← same) (rest ∙ ap (rest_of room) is) in
     let which : answer ≡ got_of (answer_of room (live_from places (left_of from (drop next ys)))) = rw (got, is, same) refl in
     let last : is_last (answer_of room (live_from places (left_of from (drop next ys)))) ≡ false
@@ -169,3 +169,7 @@ within_closed answer false room is = is
 pub next_within : (places : PlacesState) (coming : ComingState) (room : ℕ) → 0 < room → IsWithin (got_of (next_answer places coming room)) room
 next_within places coming room some =
     within_closed (answer_of room (live_from places coming.left)) coming.is_closed room (within_live places room (live_from places coming.left) some (live places coming.left))
+
+-- there is room for failures too
+pub room_to_fail : (used left cap used2 cap2 spare : ℕ) → used + left + 1 + spare ≤ cap → used2 ≡ used + 1 → cap ≤ cap2 → used2 + spare ≤ cap2
+room_to_fail used left cap used2 cap2 spare le more caps = omega arith

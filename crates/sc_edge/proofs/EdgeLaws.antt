@@ -4,9 +4,9 @@ use Rattle.std.proofs.lemmas.Bool.Decides.{nat_tests}
 use Rattle.sc_value.specs.declared.ids.Place.{Place}
 use Rattle.sc_edge.proofs.ComingTold.{NotSilent, is_end-got_of, next_names, next_within}
 use Rattle.sc_edge.proofs.PlaceGrowth.{Grows, grows_all, grows_same, now_barred, now_faults, now_silent, place_known}
-use Rattle.sc_edge.specs.EdgeCalls.{Answers, Ends, Names, PollBlames, is_end}
+use Rattle.sc_edge.specs.EdgeCalls.{Answers, Appends, Ends, Names, PollBlames, is_end}
 use Rattle.sc_edge.specs.EdgeComing.{ComingState, after_answer, answer_of, got_of, live_from, next_answer}
-use Rattle.sc_edge.specs.EdgeMemory.{MemoryState, after_poll, edge_state, faults_after, next_got, places_after}
+use Rattle.sc_edge.specs.EdgeMemory.{MemoryState, after_poll, edge_state, faults_after, next_got, places_after, told_coming}
 use Rattle.sc_edge.specs.EdgePlaces.{PlacesState, ended, failed, known_at, shut, with_known}
 use Rattle.sc_edge.specs.Edges.{CountsOn, IsWithin, Stands, Stays, is_back, polled_of}
 use Rattle.sc_edge.specs.Faults.{Rose, risen}
@@ -92,7 +92,7 @@ pub poll_stays : (edge : MemoryState) (room : ℕ) (place : Place) → Stays (ed
 poll_stays edge room place = λ s. ((next_grow edge room place).0 s, (next_grow edge room place).1 s)
 
 pub poll_stands : (edge : MemoryState) (room : ℕ) (place : Place) → Stands (edge_state edge) (edge_state (after_poll edge room)) place
-poll_stands edge room place = (refl, (next_grow edge room place).2)
+poll_stands edge room place = (refl, λ peer. (next_grow edge room place).2)
 
 blames : (old new : MemoryState) (answer : Got) → new.faults ≡ faults_after old.faults answer → new.places ≡ places_after old.places answer → PollBlames (edge_state old) (edge_state new) answer
 blames old new (got.Bytes place count) f p = tt
@@ -142,11 +142,16 @@ told_next places coming room e = rw e refl
 told_no_more : (places : PlacesState) (coming : ComingState) (room : ℕ) → coming.is_closed ≡ true → (after_answer places coming room).polled ≡ coming.polled
 told_no_more places coming room e = rw e refl
 
+appends : (tells : Bool) (old new : List Polled) (answer : Polled) → new ≡ old ++ answer ∷ [] → Appends (told_coming tells old) (told_coming tells new) answer
+unfolding told_coming
+appends true old new answer e = ap (λ (xs : List Polled). Some xs) e
+appends false old new answer e = refl
+
 pub poll_told : (edge : MemoryState) (room : ℕ) (bytes : List ℕ) → polled_of (next_got edge room) bytes ≡ next_answer edge.places edge.coming room
     → Answers (edge_state edge) (edge_state (after_poll edge room)) (next_got edge room) bytes
 poll_told edge room bytes same = (
-  (λ going. ap (λ (xs : List Polled). Some xs) (told_next edge.places edge.coming room going ∙ ap (λ (x : Polled). edge.coming.polled ++ x ∷ []) (sym same))),
-  (λ closed. ap (λ (xs : List Polled). Some xs) (told_no_more edge.places edge.coming room closed)),
+  (λ going. appends edge.tells edge.coming.polled (after_answer edge.places edge.coming room).polled (polled_of (next_got edge room) bytes) (told_next edge.places edge.coming room going ∙ ap (λ (x : Polled). edge.coming.polled ++ x ∷ []) (sym same))),
+  (λ closed. ap (told_coming edge.tells) (told_no_more edge.places edge.coming room closed)),
 )
 
 closes_by : (places : PlacesState) (coming : ComingState) (room : ℕ) (b : Bool) → coming.is_closed ≡ b → (after_answer places coming room).is_closed ≡ is_end (got_of (next_answer places coming room))

@@ -1,15 +1,19 @@
 -- The puts and closes of an edge in memory keep what every edge promises.
-use Rattle.std.proofs.Common.{◌≡◌, ℕ, ◌-◌, ◌≤◌, inl, inr, Bool, true, false, cond, ◌||◌, nat_lt, Option, Some, None, List, [], ◌∷◌, ◌++◌, length, take, refl, ap, ◌∙◌, arith, append-nil}
+use Rattle.std.proofs.Common.{◌≡◌, ℕ, ◌-◌, ◌≤◌, inl, inr, Bool, true, false, cond, ◌||◌, ◌&&◌, nat_lt, Option, Some, None, List, [], ◌∷◌, ◌++◌, length, take, refl, ap, ◌∙◌, arith, append-nil}
 use Rattle.std.proofs.lemmas.Grind.{flat_map-append}
 use Rattle.sc_value.specs.declared.ids.Place.{Place}
+use Rattle.sc_value.specs.Places.{same_place}
+use Rattle.sc_value.proofs.PlaceLaws.{same_place-self}
 use Rattle.sc_edge.proofs.EdgeLaws.{grew, grows_shut, or_true, rises, three_second, three_third}
-use Rattle.sc_edge.proofs.PlaceFacts.{same_place-self}
 use Rattle.sc_edge.proofs.PlaceGrowth.{Grows, counts_all, grows_all, grows_other, grows_same, now_barred, now_cut, now_faults, now_new_cut, now_silent, place_known}
-use Rattle.sc_edge.specs.EdgeCalls.{IsPart, Leaves, Shuts, Took, cut_after}
-use Rattle.sc_edge.specs.EdgeMemory.{IsPut, MemoryState, after_close, after_put, closes_after, edge_state, next_put, places_put, put_share, share_at, taken_put}
+use Rattle.sc_edge.specs.EdgeCalls.{IsNoPoll, IsPart, Leaves, PutTells, Shuts, Took, cut_after}
+use Rattle.sc_edge.specs.EdgeMemory.{IsPut, MemoryState, after_close, after_put, closes_after, coming_put, edge_state, next_put, places_put, put_share, share_at, taken_put, tells_put, told_coming}
+use Rattle.sc_edge.specs.EdgeComing.{ComingState, failed_put}
+use Rattle.sc_edge.specs.declared.edge.Polled.{Polled}
+use Rattle.sc_edge.specs.declared.edge.Polled.TheVariants as polled
 use Rattle.sc_edge.specs.EdgePlaces.{PlacesState, failed, known_at, served, shut, with_known}
 use Rattle.sc_edge.specs.EdgeTaken.{byte_for, kept_of, tagged}
-use Rattle.sc_edge.specs.Edges.{CountsOn, Stands, Stays, is_back, same_place}
+use Rattle.sc_edge.specs.Edges.{CountsOn, Stands, Stays, is_back}
 use Rattle.sc_edge.specs.Faults.{is_listed, one_more}
 use Rattle.sc_edge.specs.Telling.{Notes}
 use Rattle.sc_edge.specs.declared.edge.Closing.{Closing}
@@ -118,7 +122,7 @@ kept_by edge new to other bytes put.Failed e apart = rw e refl
 pub put_stands : (edge : MemoryState) (to : Place) (bytes : List ℕ) (other : Place) → same_place to other ≡ false → Stands (edge_state edge) (edge_state (after_put edge to bytes)) other
 put_stands edge to bytes other apart = (
   ap (λ (bs : List ℕ). Some bs) (kept_by edge (after_put edge to bytes) to other bytes (next_put edge to (length bytes)) refl apart),
-  (others_put edge.places to other (next_put edge to (length bytes)) (length bytes) apart).2,
+  λ peer. (others_put edge.places to other (next_put edge to (length bytes)) (length bytes) apart).2,
 )
 
 -- ## Closes
@@ -133,7 +137,7 @@ pub close_stays : (edge : MemoryState) (at other : Place) → Stays (edge_state 
 close_stays edge at other = λ s. ((close_grows edge at other).0 s, (close_grows edge at other).1 s)
 
 pub close_stands : (edge : MemoryState) (at other : Place) → Stands (edge_state edge) (edge_state (after_close edge at)) other
-close_stands edge at other = (refl, (close_grows edge at other).2)
+close_stands edge at other = (refl, λ peer. (close_grows edge at other).2)
 
 pub close_shuts : (edge : MemoryState) (at : Place) → Shuts (edge_state edge) (edge_state (after_close edge at)) at
 close_shuts edge at =
@@ -161,3 +165,35 @@ close_notes edge at = notes edge.closes edge.room (record { place = at; polls = 
 pub closed_is : (edge : MemoryState) (at : Place) (places : PlacesState) (closes : Option (List Closing)) → places ≡ with_known edge.places (shut (known_at edge.places at))
     → closes ≡ closes_after edge.closes edge.room (record { place = at; polls = edge.polls }) → (let new : MemoryState = record edge { places = places; closes = closes } in new) ≡ after_close edge at
 closed_is edge at places closes p c = rw (p, c) refl
+
+-- ## What is told of a put
+
+failed_told : (tells b : Bool) (came : List Polled) (to : Place) → Notes (told_coming tells came) (told_coming (tells && b) (cond b (came ++ polled.Failed to ∷ []) came)) (polled.Failed to)
+unfolding told_coming
+failed_told true true came to = inl refl
+failed_told true false came to = inr refl
+failed_told false b came to = refl
+
+spare_put : (coming : ComingState) (to : Place) (b : Bool) → (cond b (failed_put coming to) coming).polled ≡ cond b (coming.polled ++ polled.Failed to ∷ []) coming.polled
+spare_put coming to true = refl
+spare_put coming to false = refl
+
+tells_by : (old new : MemoryState) (to : Place) (answer : Put) → new.coming ≡ coming_put old.coming to answer → new.tells ≡ tells_put old.tells old.coming answer → PutTells (edge_state old) (edge_state new) to answer
+tells_by old new to (put.Wrote count) c t = rw (c, t) refl
+tells_by old new to put.NotYet c t = rw (c, t) refl
+tells_by old new to put.Failed c t = rw (c, t, spare_put old.coming to (nat_lt 0 old.coming.spare)) (failed_told old.tells (nat_lt 0 old.coming.spare) old.coming.polled to)
+
+pub put_tells : (edge : MemoryState) (to : Place) (bytes : List ℕ) → PutTells (edge_state edge) (edge_state (after_put edge to bytes)) to (next_put edge to (length bytes))
+put_tells edge to bytes = tells_by edge (after_put edge to bytes) to (next_put edge to (length bytes)) refl refl
+
+closed_by : (coming : ComingState) (to : Place) (answer : Put) → (coming_put coming to answer).is_closed ≡ coming.is_closed
+closed_by coming to (put.Wrote count) = refl
+closed_by coming to put.NotYet = refl
+closed_by coming to put.Failed = closed_spare coming to (nat_lt 0 coming.spare)
+  where
+    closed_spare : (coming : ComingState) (to : Place) (b : Bool) → (cond b (failed_put coming to) coming).is_closed ≡ coming.is_closed
+    closed_spare coming to true = refl
+    closed_spare coming to false = refl
+
+pub put_no_poll : (edge : MemoryState) (to : Place) (bytes : List ℕ) → IsNoPoll (edge_state edge) (edge_state (after_put edge to bytes))
+put_no_poll edge to bytes = (refl, closed_by edge.coming to (next_put edge to (length bytes)))

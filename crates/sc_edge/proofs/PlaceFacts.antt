@@ -1,46 +1,17 @@
 -- What is known of a place, after something was noted of it or of another.
-use Rattle.std.proofs.Common.{◌≡◌, ℕ, suc, ◌≤◌, ◌⊎◌, inl, inr, Bool, true, false, cond, ◌&&◌, nat_eq, nat_le, nat_lt, Option, Some, None, List, [], ◌∷◌, ◌++◌, length, refl, ap, sym, ◌∙◌, subst, position, arith, length-append}
-use Rattle.std.specs.Cmp.Lexicographic.{pointwise, same_text}
+use Rattle.std.proofs.Common.{◌≡◌, ℕ, suc, ◌≤◌, ◌⊎◌, inl, inr, Bool, true, false, cond, nat_le, nat_lt, Option, Some, None, List, [], ◌∷◌, ◌++◌, length, refl, ap, sym, ◌∙◌, subst, position, arith, length-append}
 use Rattle.std.specs.List.{find}
 use Rattle.std.specs.Option.{option_or}
 use Rattle.std.proofs.Math.ListN.{set}
 use Rattle.std.proofs.lemmas.Bool.Decides.{nat_tests}
 use Rattle.std.proofs.lemmas.List.Folds.{find-append}
 use Rattle.sc_value.specs.declared.ids.Place.{Place}
-use Rattle.sc_value.specs.declared.ids.Place.TheVariants.{Back, To}
 use Rattle.sc_value.specs.Lists.{change_first}
+use Rattle.sc_value.specs.Places.{same_place}
 use Rattle.sc_value.proofs.ListFacts.{change_first_position, find_position, find_none}
-use Rattle.sc_edge.specs.Edges.{same_place}
+use Rattle.sc_value.proofs.PlaceLaws.{same_place-is, same_place-self}
 use Rattle.sc_edge.specs.EdgePlaces.{PlacesState, changed, grown, is_of, known_or, known_at, missed, stored, with_known}
 use Rattle.sc_edge.specs.declared.mem_places.Known.{Known}
-
-both : (a b : Bool) → (a && b) ≡ true → (a ≡ true) × (b ≡ true)
-both true true e = (refl, refl)
-both true false e = cc
-both false b e = cc
-
-same_number : (a b : ℕ) → nat_eq a b ≡ true → a ≡ b
-same_number a b e = grind (arith, nat_tests)
-
-self_number : (a : ℕ) → nat_eq a a ≡ true
-self_number a = grind (arith, nat_tests)
-
-self_text : (xs : List ℕ) → pointwise nat_eq xs xs ≡ true
-self_text [] = refl
-self_text (x ∷ xs) = rw (self_number x) (self_text xs)
-
--- places that test as one are one
-pub same_place-is : (a b : Place) → same_place a b ≡ true → a ≡ b
-same_place-is (Back a) (Back b) e = ap (λ n. Back n) (same_number a b e)
-same_place-is (Back a) (To ip port) e = cc
-same_place-is (To ip port) (Back b) e = cc
-same_place-is (To ip port) (To ip2 port2) e =
-    let (first, second) = both (pointwise nat_eq ip ip2) (nat_eq port port2) e in
-    rw (same_text ip ip2 (sym first), same_number port port2 second) refl
-
-pub same_place-self : (a : Place) → same_place a a ≡ true
-same_place-self (Back a) = self_number a
-same_place-self (To ip port) = rw (self_text ip, self_number port) refl
 
 -- the code's way: by the number of the item
 pub with_known_some : (places : PlacesState) (new : Known) (i : ℕ) → position (is_of new.place) places.known ≡ Some i

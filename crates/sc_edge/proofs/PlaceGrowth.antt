@@ -2,9 +2,10 @@
 use Rattle.std.proofs.Common.{◌≡◌, ℕ, ◌≤◌, ◌⊎◌, inl, inr, Bool, true, false, cond, Option, Some, None, List, [], ◌∷◌, refl, ap, sym, ◌∙◌, subst, arith}
 use Rattle.std.specs.List.{find}
 use Rattle.sc_value.specs.declared.ids.Place.{Place}
-use Rattle.sc_edge.proofs.PlaceFacts.{Lost, known-with_known, other-with_known, same_place-is}
+use Rattle.sc_value.specs.Places.{same_place}
+use Rattle.sc_value.proofs.PlaceLaws.{same_place-is}
+use Rattle.sc_edge.proofs.PlaceFacts.{Lost, known-with_known, other-with_known}
 use Rattle.sc_edge.specs.EdgePlaces.{PlacesState, is_of, known_or, known_at, with_known}
-use Rattle.sc_edge.specs.Edges.{same_place}
 use Rattle.sc_edge.specs.declared.mem_places.Known.{Known}
 
 -- ## The place that is looked up

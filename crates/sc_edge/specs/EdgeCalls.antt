@@ -4,9 +4,11 @@ use Rattle.sc_value.specs.declared.ids.Place.{Place}
 use Rattle.sc_edge.specs.Edges.{EdgeState, is_back, polled_of}
 use Rattle.sc_edge.specs.Faults.{Rose}
 use Rattle.sc_edge.specs.Taking.{Takes}
+use Rattle.sc_edge.specs.Telling.{Notes}
 use Rattle.sc_edge.specs.declared.edge.Got.{Got}
 use Rattle.sc_edge.specs.declared.edge.Got.TheVariants as got
 use Rattle.sc_edge.specs.declared.edge.Polled.{Polled}
+use Rattle.sc_edge.specs.declared.edge.Polled.TheVariants as polled
 use Rattle.sc_edge.specs.declared.edge.Put.{Put}
 use Rattle.sc_edge.specs.declared.edge.Put.TheVariants as put
 
@@ -41,7 +43,7 @@ PollBlames old new got.Closed = Unit {0}
 PollBlames old new got.NotYet = Unit {0}
 PollBlames old new got.Fault = Rose old.faults new.faults
 
--- a place whose connection was closed or ended: after a part of a piece its next put fails
+-- a place whose connection was closed or ended: at an address that is cut the next put fails
 abbrev pub Halts : EdgeState → EdgeState → Place → Type 0
 Halts old new place = (new.is_silent place ≡ true) × (is_back place ≡ false → old.is_cut place ≡ true → new.is_barred place ≡ true)
 
@@ -86,6 +88,17 @@ Leaves old new place put.Failed = Fails old new place × Rose (old.faults_at pla
 abbrev pub Shuts : EdgeState → EdgeState → Place → Type 0
 Shuts old new place = Halts old new place × (is_back place ≡ true → new.is_barred place ≡ true)
 
--- it told and counted no poll and no close
+-- it told nothing that came, counted no poll and answered no `Closed`
 abbrev pub StaysPolled : EdgeState → EdgeState → Type 0
 StaysPolled old new = (new.polls ≡ old.polls) × (new.polled ≡ old.polled) × (new.is_closed ≡ old.is_closed)
+
+-- a put that failed is told behind what came before it, also behind a `Closed`, or nothing that comes is told
+-- from now on; any other put tells nothing
+abbrev pub PutTells : EdgeState → EdgeState → Place → Put → Type 0
+PutTells old new place (put.Wrote count) = new.polled ≡ old.polled
+PutTells old new place put.NotYet = new.polled ≡ old.polled
+PutTells old new place put.Failed = Notes old.polled new.polled (polled.Failed place)
+
+-- it counted no poll and answered no `Closed`
+abbrev pub IsNoPoll : EdgeState → EdgeState → Type 0
+IsNoPoll old new = (new.polls ≡ old.polls) × (new.is_closed ≡ old.is_closed)

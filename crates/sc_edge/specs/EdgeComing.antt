@@ -1,7 +1,8 @@
 -- What comes to an edge in memory, and what its polls answer.
-use Rattle.std.specs.Prelude.{ℕ, Bool, true, false, ◌||◌, ◌==◌, List, [], ◌∷◌, ◌++◌, length, take, if◌then◌else◌}
+use Rattle.std.specs.Prelude.{ℕ, ◌-◌, Bool, true, false, ◌||◌, ◌==◌, List, [], ◌∷◌, ◌++◌, length, take, if◌then◌else◌}
 use Rattle.std.specs.List.{sum_by}
 use Rattle.std.proofs.Math.ListN.{drop}
+use Rattle.sc_value.specs.declared.ids.Place.{Place}
 use Rattle.sc_edge.specs.Edges.{polled_of}
 use Rattle.sc_edge.specs.EdgePlaces.{PlacesState, known_at}
 use Rattle.sc_edge.specs.declared.edge.Got.{Got}
@@ -12,9 +13,11 @@ use Rattle.sc_edge.specs.declared.edge.Polled.TheVariants as polled
 pub record ComingState : Type 0 where
   -- what is still to come, in order
   pub left : List Polled
-  -- what was answered, up to the first `Closed`
+  -- what came: what was answered, up to the first `Closed`, and the failed puts
   pub polled : List Polled
   pub is_closed : Bool
+  -- how many failed puts there is room for
+  pub spare : ℕ
 
 -- what is left of an item after so many of its bytes
 abbrev pub less : ℕ → Polled → Polled
@@ -102,6 +105,7 @@ after_answer places coming room =
       left = rest_of room (live_from places coming.left);
       polled = coming.polled ++ answer_of room (live_from places coming.left) ∷ [];
       is_closed = is_last (answer_of room (live_from places coming.left));
+      spare = coming.spare;
     }
 
 -- how many bytes an answer has
@@ -133,3 +137,7 @@ weights items = sum_by weight items
 -- how many bytes the answers have
 abbrev pub counts : List Got → ℕ
 counts answers = sum_by count_of answers
+
+-- a put to this place failed, and there was room for that
+abbrev pub failed_put : ComingState → Place → ComingState
+failed_put coming place = record coming { polled = coming.polled ++ polled.Failed place ∷ []; spare = coming.spare - 1 }

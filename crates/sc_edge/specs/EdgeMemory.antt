@@ -1,8 +1,8 @@
 -- What an edge in memory is.
-use Rattle.std.specs.Prelude.{ℕ, ◌-◌, ◌<◌, ◌≤◌, min, max, Bool, false, ◌||◌, ◌&&◌, nat_lt, nat_eq, Option, Some, None, List, [], ◌∷◌, ◌++◌, length, take, unwrap_or, if◌then◌else◌}
+use Rattle.std.specs.Prelude.{ℕ, ◌-◌, ◌<◌, ◌≤◌, min, max, Bool, true, false, ◌||◌, ◌&&◌, nat_lt, nat_eq, Option, Some, None, List, [], ◌∷◌, ◌++◌, length, take, unwrap_or, if◌then◌else◌}
 use Rattle.std.specs.List.{slice_get}
 use Rattle.sc_value.specs.declared.ids.Place.{Place}
-use Rattle.sc_edge.specs.EdgeComing.{ComingState, after_answer, got_of, next_answer}
+use Rattle.sc_edge.specs.EdgeComing.{ComingState, after_answer, failed_put, got_of, next_answer}
 use Rattle.sc_edge.specs.EdgePlaces.{PlacesState, ended, failed, known_at, places_of, served, shut, with_known}
 use Rattle.sc_edge.specs.Edges.{EdgeState}
 use Rattle.sc_edge.specs.EdgeTaken.{TakenState, kept_of, tagged}
@@ -18,8 +18,10 @@ use Rattle.sc_edge.specs.declared.mem_puts.Share.{Share}
 use Rattle.sc_edge.specs.declared.mem_puts.Share.TheVariants as share
 
 pub record MemoryState : Type 0 where
-  -- what is to come, and what was answered
+  -- what is to come, and what came
   pub coming : ComingState
+  -- what came is still told: no failed put found no room
+  pub tells : Bool
   -- what it knows of places
   pub places : PlacesState
   -- what places took
@@ -36,13 +38,17 @@ pub record MemoryState : Type 0 where
   pub puts : ℕ
   pub faults : ℕ
 
+-- what came, where it is still told
+unfoldable pub told_coming : Bool → List Polled → Option (List Polled)
+told_coming tells came = if tells then Some came else None
+
 -- what it tells and counts
 abbrev pub edge_state : MemoryState → EdgeState
 edge_state edge = record {
   polls = edge.polls;
   faults = edge.faults;
   faults_at = λ place. (known_at edge.places place).faults;
-  polled = Some edge.coming.polled;
+  polled = told_coming edge.tells edge.coming.polled;
   is_closed = edge.coming.is_closed;
   took = λ place. Some (kept_of place edge.taken.kept);
   closes = edge.closes;
@@ -112,8 +118,21 @@ taken_put taken to bytes (put.Wrote count) = record taken { kept = taken.kept ++
 taken_put taken to bytes put.NotYet = taken
 taken_put taken to bytes put.Failed = taken
 
+-- what came after a put, and whether it is still told
+abbrev pub coming_put : ComingState → Place → Put → ComingState
+coming_put coming to (put.Wrote count) = coming
+coming_put coming to put.NotYet = coming
+coming_put coming to put.Failed = if nat_lt 0 coming.spare then failed_put coming to else coming
+
+abbrev pub tells_put : Bool → ComingState → Put → Bool
+tells_put tells coming (put.Wrote count) = tells
+tells_put tells coming put.NotYet = tells
+tells_put tells coming put.Failed = tells && nat_lt 0 coming.spare
+
 abbrev pub after_put : MemoryState → Place → List ℕ → MemoryState
 after_put edge to bytes = record edge {
+  coming = coming_put edge.coming to (next_put edge to (length bytes));
+  tells = tells_put edge.tells edge.coming (next_put edge to (length bytes));
   places = places_put edge.places (known_at edge.places to) (next_put edge to (length bytes)) (length bytes);
   taken = taken_put edge.taken to bytes (next_put edge to (length bytes));
   puts = one_more edge.puts;
@@ -137,7 +156,8 @@ after_close edge at = record edge {
 -- the edge as it was made
 abbrev pub made : List Polled → List Share → List ℕ → ℕ → MemoryState
 made coming shares failing room = record {
-  coming = record { left = coming; polled = []; is_closed = false };
+  coming = record { left = coming; polled = []; is_closed = false; spare = room };
+  tells = true;
   places = places_of coming room;
   taken = record { kept = []; room = room };
   closes = Some [];

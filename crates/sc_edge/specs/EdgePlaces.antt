@@ -3,7 +3,8 @@ use Rattle.std.specs.Prelude.{ℕ, ◌+◌, Bool, true, false, not, ◌&&◌, �
 use Rattle.std.specs.List.{find, flat_map}
 use Rattle.sc_value.specs.declared.ids.Place.{Place}
 use Rattle.sc_value.specs.Lists.{change_first}
-use Rattle.sc_edge.specs.Edges.{same_place, is_back}
+use Rattle.sc_value.specs.Places.{same_place}
+use Rattle.sc_edge.specs.Edges.{is_back}
 use Rattle.sc_edge.specs.Faults.{risen}
 use Rattle.sc_edge.specs.declared.edge.Polled.{Polled}
 use Rattle.sc_edge.specs.declared.edge.Polled.TheVariants as polled

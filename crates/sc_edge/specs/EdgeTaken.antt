@@ -2,7 +2,7 @@
 use Rattle.std.specs.Prelude.{ℕ, List, [], ◌∷◌, map, if◌then◌else◌}
 use Rattle.std.specs.List.{flat_map}
 use Rattle.sc_value.specs.declared.ids.Place.{Place}
-use Rattle.sc_edge.specs.Edges.{same_place}
+use Rattle.sc_value.specs.Places.{same_place}
 use Rattle.sc_edge.specs.declared.mem_taken.Kept.{Kept}
 
 pub record TakenState : Type 0 where

@@ -1,6 +1,5 @@
 -- What an edge tells and counts, and what each of its calls does to that.
-use Rattle.std.specs.Prelude.{◌≡◌, ℕ, ◌<◌, ◌≤◌, Bool, true, false, ◌&&◌, nat_eq, Option, List, take}
-use Rattle.std.specs.Cmp.Lexicographic.{pointwise}
+use Rattle.std.specs.Prelude.{◌≡◌, ℕ, ◌<◌, ◌≤◌, Bool, true, false, Option, List, take}
 use Rattle.sc_value.specs.declared.ids.Place.{Place}
 use Rattle.sc_value.specs.declared.ids.Place.TheVariants.{Back, To}
 use Rattle.sc_edge.specs.declared.edge.Closing.{Closing}
@@ -15,7 +14,8 @@ pub record EdgeState : Type 0 where
   -- the faults of its listener, and those of each place
   pub faults : ℕ
   pub faults_at : Place → ℕ
-  -- what its polls answered, up to the first `Closed`; `None` where it isn't told
+  -- what came, in order: what its polls answered, up to the first `Closed`, and a `Failed` of the place for
+  -- each put that failed; `None` where it isn't told
   pub polled : Option (List Polled)
   -- it has answered `Closed`
   pub is_closed : Bool
@@ -27,15 +27,9 @@ pub record EdgeState : Type 0 where
   pub is_silent : Place → Bool
   -- the next put to the place fails
   pub is_barred : Place → Bool
-  -- the last put there that took bytes took only a part of its piece
+  -- the last put there that took bytes took only a part of its piece; said of addresses alone, no call says
+  -- it of a peer's connection
   pub is_cut : Place → Bool
-
--- the two places are one
-abbrev pub same_place : Place → Place → Bool
-same_place (Back a) (Back b) = nat_eq a b
-same_place (Back a) (To ip port) = false
-same_place (To ip port) (Back b) = false
-same_place (To ip port) (To ip2 port2) = pointwise nat_eq ip ip2 && nat_eq port port2
 
 -- a peer opened the connection
 abbrev pub is_back : Place → Bool
@@ -50,9 +44,9 @@ CountsOn old new = (old.faults ≤ new.faults) × ((place : Place) → old.fault
 abbrev pub Stays : EdgeState → EdgeState → Place → Type 0
 Stays old new place = old.is_silent place ≡ true → (new.is_silent place ≡ true) × (old.is_barred place ≡ true → new.is_barred place ≡ true)
 
--- the place took nothing
+-- the place took nothing, so an address is cut where it was
 abbrev pub Stands : EdgeState → EdgeState → Place → Type 0
-Stands old new place = (new.took place ≡ old.took place) × (new.is_cut place ≡ old.is_cut place)
+Stands old new place = (new.took place ≡ old.took place) × (is_back place ≡ false → new.is_cut place ≡ old.is_cut place)
 
 -- bytes that came are at least one, and fit the room
 abbrev pub IsWithin : Got → ℕ → Type 0

@@ -1,8 +1,9 @@
 ghost use Rattle.std.specs.Prelude.{◌≡◌, ◌<◌, ℕ, length, true, false};
-ghost use Rattle.sc_edge.specs.EdgeCalls.{Answers, Ends, IsPart, Leaves, Names, PollBlames, Shuts, StaysPolled, Took, cut_after};
-ghost use Rattle.sc_edge.specs.Edges.{CountsOn, IsWithin, Stands, Stays, same_place};
+ghost use Rattle.sc_edge.specs.EdgeCalls.{Answers, Ends, IsNoPoll, IsPart, Leaves, Names, PollBlames, PutTells, Shuts, StaysPolled, Took, cut_after};
+ghost use Rattle.sc_edge.specs.Edges.{CountsOn, IsWithin, Stands, Stays, is_back};
 ghost use Rattle.sc_edge.specs.Faults.{one_more};
 ghost use Rattle.sc_edge.specs.Telling.{Notes};
+ghost use Rattle.sc_value.specs.Places.{same_place};
 
 use sc_value::{Place, Text};
 
@@ -23,14 +24,14 @@ pub enum Got {
     Fault,
 }
 
-/// What a poll of an edge answered, with the bytes that came.
+/// What came to an edge: what a poll answered, with the bytes, or the failure of a put.
 #[derive(Drop)]
 pub enum Polled {
     /// These bytes came from the place.
     Bytes(Place, Text),
     /// The place gives nothing more.
     End(Place),
-    /// The connection with the place failed.
+    /// The connection with the place failed, at a poll or at a put.
     Failed(Place),
     /// Nothing comes any more from anywhere.
     Closed,
@@ -85,17 +86,19 @@ pub trait Edge {
     /// Puts bytes to a place, from the front of the piece. The first put to an address connects to
     /// it, and so does the first after its connection ended, failed or was closed; after an end or
     /// a close that put fails where the last put there that took bytes took only a part of its
-    /// piece. A put to a peer's connection that failed or was closed fails.
+    /// piece. A put to a peer's connection that failed or was closed fails. A put that fails is told
+    /// in order with what the polls answered, as a failure of its place.
     fn put(&mut self, to: Place, bytes: &[u8]) -> Put
         ensures later { CountsOn (state self.old) (state self.new) }
         ensures bound { IsPart result (length bytes.now) }
         ensures barred { (state self.old).is_barred to ≡ true → result ≡ Put.Failed }
         ensures took { Took (state self.old) (state self.new) to bytes.now result }
-        ensures cut { (state self.new).is_cut to ≡ cut_after ((state self.old).is_cut to) result (length bytes.now) }
+        ensures cut { is_back to ≡ false → (state self.new).is_cut to ≡ cut_after ((state self.old).is_cut to) result (length bytes.now) }
         ensures leaves { Leaves (state self.old) (state self.new) to result }
         ensures stays { (place : Place) → same_place to place ≡ false → Stays (state self.old) (state self.new) place }
         ensures stands { (place : Place) → same_place to place ≡ false → Stands (state self.old) (state self.new) place }
-        ensures polled { StaysPolled (state self.old) (state self.new) }
+        ensures polled { IsNoPoll (state self.old) (state self.new) }
+        ensures tells { PutTells (state self.old) (state self.new) to result }
         ensures closes { (state self.new).closes ≡ (state self.old).closes };
 
     /// Closes the connection with a place.

@@ -1,17 +1,18 @@
 ghost use Rattle.std.specs.Prelude.{◌≡◌, ◌<◌, ◌≤◌, ◌+◌, ◌++◌, ◌∷◌, [], false, length, take, vec_len, vec_capacity, IfOk};
 ghost use Rattle.std.proofs.Math.ListN.{drop};
-ghost use Rattle.sc_edge.specs.EdgeComing.{after_answer, after_item, answer_of, count_of, counts, front, got_of, is_passed, joined, left_of, less, live_from, next_answer, rest_of, weight, weights};
+ghost use Rattle.sc_edge.specs.EdgeComing.{after_answer, after_item, answer_of, count_of, counts, failed_put, front, got_of, is_passed, joined, left_of, less, live_from, next_answer, rest_of, weight, weights};
 ghost use Rattle.sc_edge.specs.EdgeCalls.{is_end};
 ghost use Rattle.sc_edge.specs.Edges.{polled_of};
 
 use crate::mem_places::Places;
 use crate::{Got, Polled};
-use sc_value::{List, NoMemory};
+use sc_value::{List, NoMemory, Place};
 use std::alloc::Global;
 use std::marker::Model;
 
 // What comes to an edge in memory, from the item `next` on without its first `from` bytes, and what
-// its polls answered so far. There is the memory for all answers that are still to come.
+// came so far: what its polls answered, and its failed puts. There is the memory for all answers that
+// are still to come, and for `spare` failed puts.
 #[derive(Drop)]
 pub struct Coming {
     items: List<Polled>,
@@ -20,6 +21,7 @@ pub struct Coming {
     answers: Vec<Got>,
     bytes: Vec<u8>,
     is_closed: bool,
+    spare: usize,
 }
 
 impl Model for Coming {
@@ -29,9 +31,9 @@ impl Model for Coming {
 
     ghost Value = { ComingState };
 
-    ghost view = { λ s. record { left = left_of s.from (drop s.next s.items); polled = joined s.answers.items s.bytes.items; is_closed = s.is_closed } };
+    ghost view = { λ s. record { left = left_of s.from (drop s.next s.items); polled = joined s.answers.items s.bytes.items; is_closed = s.is_closed; spare = s.spare } };
 
-    ghost invariant = { λ s. (counts s.answers.items ≡ length s.bytes.items) × (s.is_closed ≡ false → vec_len s.answers + weights (left_of s.from (drop s.next s.items)) + 1 ≤ vec_capacity s.answers) × (s.is_closed ≡ false → vec_len s.bytes + weights (left_of s.from (drop s.next s.items)) ≤ vec_capacity s.bytes) };
+    ghost invariant = { λ s. (counts s.answers.items ≡ length s.bytes.items) × (s.is_closed ≡ false → vec_len s.answers + weights (left_of s.from (drop s.next s.items)) + 1 + s.spare ≤ vec_capacity s.answers) × (s.is_closed ≡ false → vec_len s.bytes + weights (left_of s.from (drop s.next s.items)) ≤ vec_capacity s.bytes) × (vec_len s.answers + s.spare ≤ vec_capacity s.answers) };
 }
 
 // How many answers the item gives at most.
@@ -189,12 +191,13 @@ fn ends(got: Got) -> bool
 }
 
 impl Coming {
-    // These items are to come.
-    pub(crate) fn new(alloc: Global, items: List<Polled>) -> Result<Coming, NoMemory>
-        ensures { IfOk result (λ s. s ≡ record { left = items; polled = []; is_closed = false }) }
+    // These items are to come, with room for `spare` failed puts.
+    pub(crate) fn new(alloc: Global, items: List<Polled>, spare: usize) -> Result<Coming, NoMemory>
+        ensures { IfOk result (λ s. s ≡ record { left = items; polled = []; is_closed = false; spare = spare }) }
     {
         let count = weights_of(items.as_slice())?;
-        let room = count.checked_add(1).ok_or(NoMemory)?;
+        let more = spare.checked_add(1).ok_or(NoMemory)?;
+        let room = count.checked_add(more).ok_or(NoMemory)?;
         let answers = Vec::with_capacity(alloc, room)?;
         let bytes = Vec::with_capacity(alloc, count)?;
         Ok(Coming {
@@ -204,6 +207,7 @@ impl Coming {
             answers,
             bytes,
             is_closed: false,
+            spare,
         })
     }
 
@@ -225,5 +229,21 @@ impl Coming {
         self.from = from;
         self.is_closed = ends(got);
         got
+    }
+
+    // Notes that a put to this place failed, for which there is room.
+    pub(crate) fn fail(&mut self, place: Place)
+        requires { 0 < self.old.spare }
+        ensures { self.new ≡ failed_put self.old place }
+    {
+        note(&mut self.answers, &mut self.bytes, Got::Failed(place), &[]);
+        self.spare -= 1;
+    }
+
+    // For how many failed puts there is room.
+    pub(crate) fn spare(&self) -> usize
+        ensures { result ≡ self.now.spare }
+    {
+        self.spare
     }
 }

@@ -1,17 +1,18 @@
 ghost use Rattle.std.specs.Prelude.{◌≡◌, ◌<◌, ◌≤◌, ◌+◌, ◌-◌, ◌++◌, ◌∷◌, [], Some, true, false, length, vec_capacity, take, min, max, IfOk, option_map};
-ghost use Rattle.sc_edge.specs.EdgeCalls.{Answers, Ends, IsPart, Leaves, Names, PollBlames, Shuts, StaysPolled, Took, cut_after};
+ghost use Rattle.sc_edge.specs.EdgeCalls.{Answers, Ends, IsNoPoll, IsPart, Leaves, Names, PollBlames, PutTells, Shuts, StaysPolled, Took, cut_after};
 ghost use Rattle.sc_edge.specs.EdgeComing.{next_answer};
 ghost use Rattle.sc_edge.specs.EdgeMemory.{after_close, after_poll, after_put, IsPut, closes_after, edge_state, made, faults_after, next_got, next_put, places_after, places_put, put_share, share_at, taken_put, told_closes};
 ghost use Rattle.sc_edge.specs.EdgePlaces.{ended, failed, known_at, served, shut, with_known};
 ghost use Rattle.sc_edge.specs.EdgeTaken.{kept_of};
-ghost use Rattle.sc_edge.specs.Edges.{CountsOn, IsWithin, Stands, Stays, polled_of, same_place};
+ghost use Rattle.sc_edge.specs.Edges.{CountsOn, IsWithin, Stands, Stays, is_back, polled_of};
 ghost use Rattle.sc_edge.specs.Faults.{one_more};
 ghost use Rattle.sc_edge.specs.Telling.{Notes};
+ghost use Rattle.sc_value.specs.Places.{same_place};
 
 use crate::mem_coming::Coming;
 use crate::mem_places::Places;
 use crate::mem_puts::{
-    Share, faults_of, note_close, note_got, note_put, offered, share_of, take_put,
+    Share, faults_of, note_close, note_failure, note_got, note_put, offered, share_of, take_put,
 };
 use crate::mem_taken::Taken;
 use crate::plan::{counted, is_planned};
@@ -24,12 +25,14 @@ use std::marker::Model;
 /// that gives nothing any more, and give a piece in parts where the room is too short for it. Its
 /// puts take what a second list says, and then all that there is room for; they fail where they are
 /// told to, at a peer's place that failed or was closed, and where no room is left for a piece that
-/// isn't empty or for one place more.
+/// isn't empty or for one place more. It tells what came, its failed puts among that, until there is
+/// no room for one of these.
 #[derive(Drop)]
 pub struct MemEdge {
     coming: Coming,
     places: Places,
     taken: Taken,
+    tells_coming: bool,
     closes: Vec<Closing>,
     tells_closes: bool,
     room: usize,
@@ -46,7 +49,7 @@ impl Model for MemEdge {
 
     ghost Value = { MemoryState };
 
-    ghost view = { λ s. record { coming = s.coming; places = s.places; taken = s.taken; closes = told_closes s.tells_closes s.closes.items; room = s.room; shares = s.shares; failing = s.failing; polls = s.polls; puts = s.puts; faults = s.faults } };
+    ghost view = { λ s. record { coming = s.coming; tells = s.tells_coming; places = s.places; taken = s.taken; closes = told_closes s.tells_closes s.closes.items; room = s.room; shares = s.shares; failing = s.failing; polls = s.polls; puts = s.puts; faults = s.faults } };
 
     ghost invariant = { λ s. s.room ≤ vec_capacity s.closes };
 }
@@ -54,7 +57,8 @@ impl Model for MemEdge {
 impl MemEdge {
     /// An edge to which this comes, whose puts take these shares; the puts whose numbers stand in
     /// `failing` fail, where the first put has number 1. It takes the memory now for `room` bytes,
-    /// for `room` closes, for `room` places beside those that come, and for what comes.
+    /// for `room` closes, for `room` failed puts, for `room` places beside those that come, and for
+    /// what comes.
     #[tactic(auto, unfolding(crate::specs::EdgeMemory::told_closes))]
     pub fn new(
         alloc: Global,
@@ -66,13 +70,14 @@ impl MemEdge {
         ensures { IfOk result (λ s. s ≡ made coming shares failing room) }
     {
         let places = Places::of(alloc, coming.as_slice(), room)?;
-        let coming = Coming::new(alloc, coming)?;
+        let coming = Coming::new(alloc, coming, room)?;
         let taken = Taken::new(alloc, room)?;
         let closes = Vec::with_capacity(alloc, room)?;
         Ok(MemEdge {
             coming,
             places,
             taken,
+            tells_coming: true,
             closes,
             tells_closes: true,
             room,
@@ -161,6 +166,7 @@ impl MemEdge {
         let known = self.places.at(to);
         take_put(&mut self.taken, to, bytes, put);
         note_put(&mut self.places, known, put, bytes.len());
+        note_failure(&mut self.coming, &mut self.tells_coming, to, put);
         self.puts = counted(self.puts);
         put
     }
@@ -209,11 +215,12 @@ impl Edge for MemEdge {
         ensures bound { IsPart result (length bytes.now) }
         ensures barred { (edge_state self.old).is_barred to ≡ true → result ≡ Put.Failed }
         ensures took { Took (edge_state self.old) (edge_state self.new) to bytes.now result }
-        ensures cut { (edge_state self.new).is_cut to ≡ cut_after ((edge_state self.old).is_cut to) result (length bytes.now) }
+        ensures cut { is_back to ≡ false → (edge_state self.new).is_cut to ≡ cut_after ((edge_state self.old).is_cut to) result (length bytes.now) }
         ensures leaves { Leaves (edge_state self.old) (edge_state self.new) to result }
         ensures stays { (place : Place) → same_place to place ≡ false → Stays (edge_state self.old) (edge_state self.new) place }
         ensures stands { (place : Place) → same_place to place ≡ false → Stands (edge_state self.old) (edge_state self.new) place }
-        ensures polled { StaysPolled (edge_state self.old) (edge_state self.new) }
+        ensures polled { IsNoPoll (edge_state self.old) (edge_state self.new) }
+        ensures tells { PutTells (edge_state self.old) (edge_state self.new) to result }
         ensures closes { (edge_state self.new).closes ≡ (edge_state self.old).closes }
 
         // It takes what the list of shares says.

@@ -1,11 +1,11 @@
 ghost use Rattle.std.specs.Prelude.{◌≡◌, ◌<◌, ◌≤◌, ◌+◌, ◌++◌, ◌∷◌, [], IfOk, OnOk, None, option_copied};
 ghost use Rattle.std.specs.List.{find, flat_map, position};
 ghost use Rattle.sc_edge.specs.EdgePlaces.{ended, failed, fresh, is_of, known_at, named, places_of, served, shut, stored, with_known};
-ghost use Rattle.sc_edge.specs.Edges.{is_back, same_place};
+ghost use Rattle.sc_edge.specs.Edges.{is_back};
 
 use crate::Polled;
 use crate::plan::counted;
-use sc_value::{NoMemory, Place};
+use sc_value::{NoMemory, Place, same_place};
 use std::alloc::Global;
 use std::marker::Model;
 
@@ -41,18 +41,6 @@ impl Model for Places {
     ghost view = { λ s. record { known = s.known.items; room = s.room; others = s.others } };
 
     ghost invariant = { λ s. s.room ≤ vec_capacity s.known };
-}
-
-pub(crate) fn is_same(a: &Place, b: &Place) -> bool
-    ensures { result ≡ same_place a.now b.now }
-{
-    match (a, b) {
-        (Place::Back(number), Place::Back(other)) => *number == *other,
-        (Place::To(ip, port), Place::To(other_ip, other_port)) => {
-            *ip == *other_ip && *port == *other_port
-        }
-        _ => false,
-    }
 }
 
 // Whether a peer opened the connection.
@@ -168,7 +156,7 @@ impl Places {
     {
         self.known
             .iter()
-            .find(|known| is_same(&known.place, &place))
+            .find(|known| same_place(known.place, place))
     }
 
     // What it knows of a place.
@@ -206,7 +194,7 @@ impl Places {
     {
         self.known
             .iter()
-            .position(|known| is_same(&known.place, &place))
+            .position(|known| same_place(known.place, place))
     }
 
     // Notes this of its place, where it knows the place or has room for it.

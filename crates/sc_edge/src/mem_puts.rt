@@ -1,6 +1,7 @@
 ghost use Rattle.std.specs.Prelude.{◌≡◌, ◌≤◌, ◌-◌, length, max, min, vec_capacity};
-ghost use Rattle.sc_edge.specs.EdgeMemory.{IsPut, closes_after, faults_after, places_after, places_put, put_share, share_at, taken_put, told_closes};
+ghost use Rattle.sc_edge.specs.EdgeMemory.{IsPut, closes_after, coming_put, faults_after, places_after, places_put, put_share, share_at, taken_put, tells_put, told_closes};
 
+use crate::mem_coming::Coming;
 use crate::mem_places::{Known, Places};
 use crate::mem_taken::Taken;
 use crate::plan::counted;
@@ -99,5 +100,29 @@ pub(crate) fn note_close(closes: &mut Vec<Closing>, tells: &mut bool, room: usiz
         } else {
             *tells = false;
         }
+    }
+}
+
+// Notes a put that failed among what came.
+pub(crate) fn note_failure(coming: &mut Coming, tells: &mut bool, to: Place, put: Put)
+    ensures coming { coming.new ≡ coming_put coming.old to put }
+    ensures tells { tells.new ≡ tells_put tells.old coming.old put }
+{
+    match put {
+        Put::Wrote(_) => {}
+        Put::NotYet => {}
+        Put::Failed => fail_put(coming, tells, to),
+    }
+}
+
+// Once there is no room for one, nothing that comes is told.
+fn fail_put(coming: &mut Coming, tells: &mut bool, to: Place)
+    ensures coming { coming.new ≡ coming_put coming.old to Put.Failed }
+    ensures tells { tells.new ≡ tells_put tells.old coming.old Put.Failed }
+{
+    if coming.spare() > 0 {
+        coming.fail(to);
+    } else {
+        *tells = false;
     }
 }

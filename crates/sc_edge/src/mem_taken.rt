@@ -1,8 +1,7 @@
 ghost use Rattle.std.specs.Prelude.{◌≡◌, ◌≤◌, ◌+◌, ◌-◌, ◌++◌, [], length, IfOk, OnOk, vec_len, vec_capacity};
 ghost use Rattle.sc_edge.specs.EdgeTaken.{byte_for, kept_of, tagged};
 
-use crate::mem_places::is_same;
-use sc_value::{NoMemory, Place, Text};
+use sc_value::{NoMemory, Place, Text, same_place};
 use std::alloc::Global;
 use std::marker::Model;
 
@@ -49,7 +48,7 @@ fn keep(kept: &mut Vec<Kept>, place: Place, bytes: &[u8])
 fn add_byte(bytes: &mut Text, kept: &Kept, place: Place) -> Result<(), NoMemory>
     ensures { OnOk result (bytes.new ≡ bytes.old ++ byte_for place kept.now) }
 {
-    if is_same(&kept.place, &place) {
+    if same_place(kept.place, place) {
         bytes.append(&[kept.byte])?;
     }
     Ok(())

@@ -24,7 +24,7 @@ fn with_answer(request: &mut RequestView, code: u16)
 }
 
 #[tactic(auto, using(sc_value::proofs::ListFacts::change_first_position, sc_value::proofs::ListFacts::change_first_none))]
-fn answer_in(requests: &mut [RequestView], req: ReqId, code: u16)
+pub(crate) fn answer_in(requests: &mut [RequestView], req: ReqId, code: u16)
     ensures { requests.new ≡ change_first (is_request req) (with_answer code) requests.old }
 {
     match request_place(requests, req) {

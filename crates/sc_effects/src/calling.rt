@@ -5,32 +5,24 @@ ghost use Rattle.std.specs.List.{fold};
 ghost use Rattle.sc_value.specs.Lists.{remove_first};
 ghost use Rattle.sc_tokens.specs.Names.{same_bytes};
 ghost use Rattle.sc_model.specs.Settings.{moment_after};
-ghost use Rattle.sc_hosts.specs.Looking.{is_timer, removed, request_in};
+ghost use Rattle.sc_hosts.specs.Looking.{is_timer, request_in};
 ghost use Rattle.sc_hosts.specs.Refusals.{begun_by, refusal};
 ghost use Rattle.sc_hosts.specs.RefusalParts.{draft_in};
-ghost use Rattle.sc_hosts.specs.ViewChanges.{tidy};
 ghost use Rattle.sc_hosts.specs.Effects.{after_call, accepted, answer_by, answer_of, played_by, after_listed, begun, after_calls};
 
 use crate::answering::{answered_begun, answered_by};
+use crate::ending::invalidated;
 use crate::keeping::{
     flagged, moment_after, proxied, remove_attribute, remove_timer, with_attribute, with_timer,
 };
-use crate::looking::{linked, removed, unlinked};
+use crate::looking::{linked, unlinked};
 use crate::making::{created, created_later, created_leg};
 use crate::sending::{acked, discarded, sent};
-use crate::tidying::tidy;
 use sc_refusals::refusal;
 use sc_state::Play;
 use sc_terms::{Call, CallAnswer, CallRecord, View};
-use sc_value::{List, NoMemory, SessId, sum_u32};
+use sc_value::{List, NoMemory, sum_u32};
 use std::alloc::Global;
-
-fn invalidated(view: &mut View, sess: SessId)
-    ensures { view.new ≡ tidy (removed sess view.old) }
-{
-    removed(view, sess);
-    tidy(view);
-}
 
 fn expires_after(view: &mut View, minutes: i32) -> Result<(), NoMemory>
     ensures { OnOk result (view.new ≡ record view.old { expires = moment_after view.old.now minutes }) }

@@ -4,6 +4,7 @@
 
 mod answering;
 mod calling;
+mod ending;
 mod keeping;
 mod known;
 mod looking;
@@ -14,6 +15,7 @@ mod tidying;
 
 pub use answering::{answered, answered_begun, answered_by, answered_in, request_copy};
 pub use calling::{accepted, after_call, after_calls, after_listed, answer_of, begun};
+pub use ending::{final_noted, is_owed};
 pub use keeping::moment_after;
 pub use known::{kept_of, own_tag_of, proxy_of, proxy_place};
 pub use looking::{in_state, is_confirmed, is_early, is_uac, linked, removed, unlinked};

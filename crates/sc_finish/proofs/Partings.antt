@@ -19,7 +19,8 @@ use Rattle.sc_state.specs.declared.session.Way.TheVariants.{Received, Sent}
 use Rattle.sc_hosts.specs.Legs.{FIRST_SESSION}
 use Rattle.sc_hosts.specs.Preparing.{own_tag_of}
 use Rattle.sc_hosts.specs.Giving.{answers, answer_order}
-use Rattle.sc_hosts.specs.Working.{owed_answer, goodbyes, in_order, invite_branches, is_owed}
+use Rattle.sc_hosts.specs.ViewChanges.{is_owed}
+use Rattle.sc_hosts.specs.Working.{owed_answer, goodbyes, in_order, invite_branches}
 use Rattle.sc_hosts.specs.Finishing.{waiting_answer, goodbye}
 use Rattle.sc_work.specs.Goodbyes.{is_whose, owed_by, cancel_now}
 use Rattle.sc_work.proofs.Pieced.{goodbyes_are}

@@ -1,5 +1,5 @@
 -- What goes away at the end of a turn, one thing at a time.
-use Rattle.std.specs.Prelude.{Bool, not, ◌&&◌}
+use Rattle.std.specs.Prelude.{◌-◌, List, Bool, not, ◌&&◌, slice_get}
 use Rattle.sc_value.specs.declared.ids.SessId.{SessId}
 use Rattle.sc_tokens.specs.Names.{same_bytes}
 use Rattle.sc_terms.specs.declared.views.View.{View}
@@ -7,6 +7,7 @@ use Rattle.sc_terms.specs.declared.views.RequestView.{RequestView}
 use Rattle.sc_terms.specs.declared.views.SessionView.{SessionView}
 use Rattle.sc_state.specs.declared.session.Kept.{Kept}
 use Rattle.sc_state.specs.declared.session.Known.{Known}
+use Rattle.sc_state.specs.declared.session.Leg.{Leg}
 use Rattle.sc_hosts.specs.Finishing.{is_session_ready, is_needed}
 use Rattle.sc_hosts.specs.Looking.{removed}
 use Rattle.sc_model.specs.SessionStates.{ack}
@@ -26,5 +27,5 @@ unfoldable pub stays : RequestView → Bool
 stays request = not (request.received && same_bytes request.method ack)
 
 -- the request can still be needed
-unfoldable pub needed : View → Kept → Bool
-needed view kept = is_needed view kept kept.way
+unfoldable pub needed : View → List Leg → Kept → Bool
+needed view legs kept = is_needed view (slice_get legs (kept.sess.0 - 1)) kept kept.way

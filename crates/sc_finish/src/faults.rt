@@ -8,12 +8,11 @@ ghost use Rattle.sc_hosts.specs.Acting.{without_left, drafts_ended, fault_at, fa
 ghost use Rattle.sc_finish.specs.Passing.{answers_alone};
 ghost use Rattle.sc_model.specs.BestResponses.{server_error};
 
-use sc_effects::{answered, removed, request_copy, tidy};
+use sc_effects::{answered, is_owed, removed, request_copy, tidy};
 use sc_sending::answering;
 use sc_state::{Draft, Working};
 use sc_terms::{Answer, Config, End, RequestView, View};
 use sc_value::{List, NoMemory, ReqId, Text};
-use sc_work::is_owed;
 use std::alloc::Global;
 
 #[tactic(auto, unfolding(sc_hosts::specs::Acting::without_left))]

@@ -14,7 +14,7 @@ ghost use Rattle.sc_finish.specs.Passing.{answers_alone, passed, sends_on};
 use crate::faults::{answers_alone, bare_answer, request_at};
 use sc_acting::{draw, give};
 use sc_branches::new_proxy;
-use sc_effects::{answered, kept_of};
+use sc_effects::{answered, is_owed, kept_of};
 use sc_legs::is_invalid;
 use sc_messages::{on_branch, passed_request};
 use sc_refusals::is_ack;
@@ -22,7 +22,6 @@ use sc_sending::{answering, event_of, next_branch};
 use sc_state::{Branch, Kept, Known, Order, Proxy, Queued, Working};
 use sc_terms::{Answer, Config, RequestView, View};
 use sc_value::{CloneIn, NoMemory, ReqId, Request, Shared, sum};
-use sc_work::is_owed;
 use std::alloc::Global;
 
 #[tactic(auto, unfolding(sc_hosts::specs::Words::too_many_hops))]

@@ -2,15 +2,16 @@
 
 ghost use Rattle.std.specs.Prelude.{◌≡◌, ◌++◌, false, OnOk, IfOk, map, filter};
 ghost use Rattle.std.specs.List.{fold};
-ghost use Rattle.std.specs.Option.{option_map_or};
-ghost use Rattle.sc_hosts.specs.Finishing.{lacks_final, swept, without_acks, is_needed, lightened};
-ghost use Rattle.sc_hosts.specs.Looking.{request_in};
+ghost use Rattle.std.specs.Option.{option_copied, option_map_or};
+ghost use Rattle.sc_hosts.specs.Finishing.{can_derive, can_succeed, lacks_final, swept, without_acks, is_needed, lightened};
+ghost use Rattle.sc_hosts.specs.Looking.{request_in, same_request};
 ghost use Rattle.sc_finish.specs.Sweeps.{goes, id_of, without, stays, needed};
 
 use crate::readiness::{is_session_ready, lacks_final};
 use sc_effects::{removed, tidy};
+use sc_legs::leg_place;
 use sc_refusals::{is_ack, is_gone_in, is_invite, request_in};
-use sc_state::{Kept, Known, Session, Way};
+use sc_state::{Kept, Known, Leg, Session, Way};
 use sc_terms::{RequestView, SessionView, View};
 use sc_value::{List, NoMemory, ReqId, SessId};
 use std::alloc::Global;
@@ -95,29 +96,59 @@ fn lacks_final_of(view: &View, req: ReqId) -> bool
     }
 }
 
+fn is_first(first: Option<ReqId>, req: ReqId) -> bool
+    ensures { result ≡ option_map_or (same_request req) first false }
+{
+    match first {
+        Some(first) => req.0 == first.0,
+        None => false,
+    }
+}
+
+// Whether the request began the SipSession of this leg, which the application didn't end.
+#[tactic(auto, unfolding(sc_hosts::specs::Finishing::can_derive))]
+fn can_derive(kept: &Kept, leg: Option<&Leg>) -> bool
+    ensures { result ≡ can_derive kept.now (option_copied leg.entry) }
+{
+    match leg {
+        Some(leg) => is_first(leg.first, kept.id) && !leg.invalidated,
+        None => false,
+    }
+}
+
+// Whether a 2xx can still come to the INVITE.
+#[tactic(auto, unfolding(sc_hosts::specs::Finishing::can_succeed))]
+fn can_succeed(view: &View, leg: Option<&Leg>, kept: &Kept) -> bool
+    ensures { result ≡ can_succeed view.entry.now (option_copied leg.entry) kept.now }
+{
+    is_invite(kept.request.get().method.as_bytes())
+        && (!is_gone_in(view, kept.sess) || can_derive(kept, leg))
+}
+
 #[tactic(auto, unfolding(sc_hosts::specs::Finishing::is_needed, crate::specs::Sweeps::needed))]
-fn needed(view: &View, kept: &Kept) -> bool
-    ensures { result ≡ needed view.entry.now kept.now }
+fn needed(view: &View, legs: &[Leg], kept: &Kept) -> bool
+    ensures { result ≡ needed view.entry.now legs.now kept.now }
 {
     match kept.way {
         Way::Received { .. } => lacks_final_of(view, kept.id),
         Way::Sent { .. } => {
             request_in(view, kept.id).is_some()
-                || (is_invite(kept.request.get().method.as_bytes()) && !is_gone_in(view, kept.sess))
+                || can_succeed(view, legs.get(leg_place(kept.sess)), kept)
         }
     }
 }
 
-fn keep_needed(view: &View, kept: &mut List<Kept>)
-    ensures { kept.new ≡ filter (needed view.entry.now) kept.old }
+fn keep_needed(view: &View, legs: &[Leg], kept: &mut List<Kept>)
+    ensures { kept.new ≡ filter (needed view.entry.now legs.now) kept.old }
 {
-    kept.items.retain(|kept| needed(view, kept));
+    kept.items.retain(|kept| needed(view, legs, kept));
 }
 
 /// Of the requests only those are kept that can still be needed.
-#[tactic(auto, unfolding(sc_hosts::specs::Finishing::lightened, crate::specs::Sweeps::needed))]
+#[tactic(auto, unfolding(sc_hosts::specs::Finishing::lightened, sc_hosts::specs::Legs::leg_of, crate::specs::Sweeps::needed))]
 pub fn lightened(session: &mut Session)
     ensures { session.new ≡ lightened session.old }
 {
-    keep_needed(&session.view, &mut session.known.kept);
+    let known = &mut session.known;
+    keep_needed(&session.view, known.legs.as_slice(), &mut known.kept);
 }

@@ -97,7 +97,7 @@ not-yet place before after old h e hears untaken free = ([], record { came = cam
 
 bad-of : (bad : Bad) (before after : Bytes) (h : Heard) → h ≡ heard.Bad bad → HearsNext h before after → IsBad before bad
 unfolding IsBad
-bad-of bad before after h e hears = let (heads, front, heads_is, same) = rw e at hears in (heads, front, heads_is)
+bad-of bad before after h e hears = let (front, same) = rw e at hears in front
 
 bad-hears : (place : Place) (bad : Bad) (before rest : Bytes) → IsBad before bad → rest ≡ [] → Hears place before (steps.Bad place bad ∷ steps.Lost place ∷ []) rest
 unfolding Hears

@@ -10,7 +10,7 @@ use Rattle.sc_terms.specs.declared.steps.Step.TheVariants as steps
 use Rattle.sc_tokens.specs.Bytes.{Bytes}
 use Rattle.sc_hosts.specs.Histories.{as_session}
 use Rattle.sc_hosts.specs.Steps.{live_at}
-use Rattle.sc_hosts.specs.Transacting.{same_place}
+use Rattle.sc_value.specs.Places.{same_place}
 use Rattle.sc_runs.specs.Following.{Does, DoesPart, IsKept, IsPartRun, IsTurnOf, IsWholeRun, Streams, first_number, tick_to, withdrawal}
 use Rattle.sc_runs.specs.Hearing.{Hears, HearsPart}
 use Rattle.sc_switch.specs.declared.refused.StepRefused.{StepRefused}

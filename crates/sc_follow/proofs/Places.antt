@@ -3,52 +3,15 @@ use Rattle.std.proofs.Common.{◌≡◌, ℕ, Bool, true, false, ◌&&◌, Optio
 use Rattle.std.specs.Prelude.{position, is_some, ◌==◌}
 use Rattle.std.specs.List.{find}
 use Rattle.std.proofs.lemmas.Bool.{false≢true}
-use Rattle.std.proofs.lemmas.Bool.Decides.{nat_tests}
 use Rattle.sc_value.specs.declared.ids.Place.{Place}
-use Rattle.sc_value.specs.declared.ids.Place.TheVariants.{Back, To}
 use Rattle.sc_value.specs.Lists.{change_first}
-use Rattle.sc_tokens.specs.Names.{same_bytes}
 use Rattle.sc_value.proofs.ListFacts.{change_first_position, find_none, find_position}
 use Rattle.sc_tokens.specs.Bytes.{Bytes}
-use Rattle.sc_hosts.specs.Transacting.{same_place}
+use Rattle.sc_value.specs.Places.{same_place}
+use Rattle.sc_value.proofs.PlaceLaws.{same_place-is, same_place-self}
 use Rattle.sc_runs.specs.Following.{IsKept}
 use Rattle.sc_follow.specs.declared.streams.Pending.{Pending}
 use Rattle.sc_follow.specs.Streaming.{bytes_in, bytes_of, is_at, with_stream}
-
--- ## The same place
-
-both : (a b : Bool) → (a && b) ≡ true → (a ≡ true) × (b ≡ true)
-both true true e = (refl, refl)
-both true false e = cc
-both false b e = cc
-
-same-number : (a b : ℕ) → (a == b) ≡ true → a ≡ b
-same-number a b e = grind (arith, nat_tests)
-
-bytes-are : (xs ys : Bytes) → same_bytes xs ys ≡ true → xs ≡ ys
-bytes-are [] [] e = refl
-bytes-are [] (y ∷ ys) e = cc
-bytes-are (x ∷ xs) [] e = cc
-bytes-are (x ∷ xs) (y ∷ ys) e = let (first, later) = both (x == y) (same_bytes xs ys) e in rw (same-number x y first, bytes-are xs ys later) refl
-
-self-number : (a : ℕ) → (a == a) ≡ true
-self-number a = grind (arith, nat_tests)
-
-self-bytes : (xs : Bytes) → same_bytes xs xs ≡ true
-self-bytes [] = refl
-self-bytes (x ∷ xs) = rw (self-number x) (self-bytes xs)
-
-place-is : (a b : Place) → same_place a b ≡ true → a ≡ b
-unfolding same_place
-place-is (Back a) (Back b) e = ap Back (same-number a b e)
-place-is (Back a) (To ip port) e = cc
-place-is (To ip port) (Back b) e = cc
-place-is (To ip port) (To other other_port) e = let (first, later) = both (same_bytes ip other) (port == other_port) e in rw (bytes-are ip other first, same-number port other_port later) refl
-
-place-self : (a : Place) → same_place a a ≡ true
-unfolding same_place
-place-self (Back a) = self-number a
-place-self (To ip port) = rw (self-bytes ip) (self-number port)
 
 -- ## Added
 
@@ -71,7 +34,7 @@ there-by p true later is = refl
 there-by p false later is = is
 
 pub added_there : (streams : List Pending) (place : Place) → is_some (find (is_at place) (streams ++ record { place = place; stream = [] } ∷ [])) ≡ true
-added_there [] place = rw (place-self place) refl
+added_there [] place = rw (same_place-self place) refl
 added_there (p ∷ ps) place = there-by p (is_at place p) _ (added_there ps place)
 
 there-with : (streams : List Pending) (place : Place) (i : ℕ) (d : Pending) → position (is_at place) streams ≡ Some i → is_some (find (is_at place) streams) ≡ true
@@ -101,7 +64,7 @@ here other p bytes found false e = refl
 elsewhere : (place other : Place) (p : Pending) (bytes : Bytes) (found changed : Option Pending) (b c : Bool) → same_place other p.place ≡ b → same_place other place ≡ c → same_place place p.place ≡ false
     → bytes_in changed ≡ (if c then bytes else bytes_in found) → bytes_in (cond b (Some p) changed) ≡ (if c then bytes else bytes_in (cond b (Some p) found))
 elsewhere place other p bytes found changed true true b c apart same =
-    absurd (false≢true (sym apart ∙ (ap (λ (q : Place). same_place q p.place) (sym (place-is other place c)) ∙ b)))
+    absurd (false≢true (sym apart ∙ (ap (λ (q : Place). same_place q p.place) (sym (same_place-is other place c)) ∙ b)))
 elsewhere place other p bytes found changed true false b c apart same = refl
 elsewhere place other p bytes found changed false true b c apart same = same
 elsewhere place other p bytes found changed false false b c apart same = same
@@ -111,7 +74,7 @@ changed-by : (place other : Place) (bytes : Bytes) (p : Pending) (ps : List Pend
     → is_some (cond b (Some p) (find (is_at place) ps)) ≡ true
     → bytes_in (find (is_at other) (cond b (with_stream bytes p ∷ ps) (p ∷ change_first (is_at place) (with_stream bytes) ps))) ≡ (if same_place other place then bytes else bytes_in (cond (is_at other p) (Some p) (find (is_at other) ps)))
 unfolding bytes_of with_stream
-changed-by place other bytes p ps true e later is = rw (place-is place p.place e) (here other p bytes (find (is_at other) ps) (same_place other p.place) refl)
+changed-by place other bytes p ps true e later is = rw (same_place-is place p.place e) (here other p bytes (find (is_at other) ps) (same_place other p.place) refl)
 changed-by place other bytes p ps false e later is = elsewhere place other p bytes (find (is_at other) ps) (find (is_at other) (change_first (is_at place) (with_stream bytes) ps)) (same_place other p.place) (same_place other place) refl refl e (later is)
 
 changed : (streams : List Pending) (place other : Place) (bytes : Bytes) → is_some (find (is_at place) streams) ≡ true
@@ -129,7 +92,7 @@ changed_kept streams place bytes i d at other =
 -- nothing is kept of the place
 none-kept : (streams : List Pending) (place other : Place) (b : Bool) → same_place other place ≡ b → position (is_at place) streams ≡ None → bytes_of streams other ≡ (if b then [] else bytes_of streams other)
 unfolding bytes_of bytes_in
-none-kept streams place other true e none = rw (place-is other place e, find_none (is_at place) streams none) refl
+none-kept streams place other true e none = rw (same_place-is other place e, find_none (is_at place) streams none) refl
 none-kept streams place other false e none = refl
 
 pub kept_none : (streams : List Pending) (place : Place) → position (is_at place) streams ≡ None → IsKept (bytes_of streams) place [] (bytes_of streams)

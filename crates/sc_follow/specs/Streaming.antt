@@ -11,7 +11,7 @@ use Rattle.sc_syntax.specs.declared.front.Front.TheVariants.{Whole}
 use Rattle.sc_tokens.specs.Bytes.{Bytes}
 use Rattle.sc_syntax.specs.Fronts.{behind_breaks}
 use Rattle.sc_stream.specs.Frames.{front_behind}
-use Rattle.sc_hosts.specs.Transacting.{same_place}
+use Rattle.sc_value.specs.Places.{same_place}
 use Rattle.sc_runs.specs.Following.{tick_to, withdrawal}
 use Rattle.sc_runs.specs.Hearing.{Hears}
 use Rattle.sc_switch.specs.Standing.{Known}

@@ -7,8 +7,7 @@ ghost use Rattle.sc_runs.specs.Following.{IsKept};
 ghost use Rattle.sc_follow.specs.Streaming.{is_at, bytes_of};
 
 use sc_stream::Stream;
-use sc_transact::same_place;
-use sc_value::{List, NoMemory, Place};
+use sc_value::{List, NoMemory, Place, same_place};
 use std::alloc::Global;
 
 /// The stream of a place, from which the messages were taken.

@@ -24,7 +24,7 @@ use Rattle.sc_state.specs.declared.net.Entry.{Entry}
 use Rattle.sc_state.specs.declared.net.Net.{Net}
 use Rattle.sc_state.specs.declared.net.Note.{Note}
 use Rattle.sc_terms.specs.declared.settings.Config.{Config}
-use Rattle.sc_terms.specs.declared.steps.Answerable.{Answerable}
+use Rattle.sc_value.specs.declared.answerable.Answerable.{Answerable}
 use Rattle.sc_tokens.specs.Names.{same_bytes}
 use Rattle.sc_value.specs.declared.ids.Place.{Place}
 use Rattle.sc_value.specs.declared.message.Message.TheVariants as messages

@@ -79,7 +79,7 @@ module _ {S T : Type 0} (change : S → T) where
   closed_turn-maps setup app done true net = rw (live_at-maps app net, inbox_of-maps (live_at app net)) (invalidated-maps setup app done.session _ net)
   closed_turn-maps setup app done false net = rw (live_at-maps app net) (with_ready-maps app done (live_at app net) net)
 
-  turn_of-maps : (net : Net S) (app : AppId) (waiting : Waiting) (now : ℕ) (made : List CallRecord) (end : End)
+  pub turn_of-maps : (net : Net S) (app : AppId) (waiting : Waiting) (now : ℕ) (made : List CallRecord) (end : End)
       → turn_of (map_net change net) app waiting now made end ≡ turn_of net app waiting now made end
   unfolding turn_of
   turn_of-maps net app waiting now made end = rw (ringing_at-maps app net) refl
@@ -92,7 +92,7 @@ module _ {S T : Type 0} (change : S → T) (setup : Setup) (form : Form S) (othe
   unfolding turned_live map_live
   turned_live-maps now turn done live = rw (like.turns turn live.session) refl
 
-  outcome_by-maps : (session : S) (turn : Turn) → outcome_by other setup.config (change session) turn ≡ outcome_by form setup.config session turn
+  pub outcome_by-maps : (session : S) (turn : Turn) → outcome_by other setup.config (change session) turn ≡ outcome_by form setup.config session turn
   unfolding outcome_by
   outcome_by-maps session turn = rw (like.reads session) refl
 
@@ -108,7 +108,7 @@ module _ {S T : Type 0} (change : S → T) (setup : Setup) (form : Form S) (othe
   unfolding map_host
   turned_host-maps app now turn done host = rw (turned_lives-maps app.serial now turn done host.sessions) refl
 
-  turned_at-maps : (app : AppId) (now : ℕ) (turn : Turn) (done : Outcome) (net : Net S)
+  pub turned_at-maps : (app : AppId) (now : ℕ) (turn : Turn) (done : Outcome) (net : Net S)
       → change_host app.host (λ host. record host { sessions = change_first (is_live app.serial) (turned_live other setup.config now turn done) host.sessions }) (map_net change net)
       ≡ map_net change (change_host app.host (λ host. record host { sessions = change_first (is_live app.serial) (turned_live form setup.config now turn done) host.sessions }) net)
   turned_at-maps app now turn done net = change_host-maps change app.host _ _ (turned_host-maps app now turn done) net

@@ -87,23 +87,23 @@ module _ {S T : Type 0} (change : S → T) where
   unfolding with_trying map_taken map_host
   with_trying-maps from now request taken = if-maps (map_taken change) (same_bytes (method_of request) invite) refl refl
 
-  queue_later-maps : (config : Config) (number : ℕ) (from : Peer) (now : ℕ) (request : Request) (count : ℕ) (live : Live S) (host : Host S)
-      → queue_later config number from now request count (map_live change live) (map_host change host) ≡ map_taken change (queue_later config number from now request count live host)
+  queue_later-maps : (config : Config) (epoch number : ℕ) (from : Peer) (now : ℕ) (request : Request) (count : ℕ) (live : Live S) (host : Host S)
+      → queue_later config epoch number from now request count (map_live change live) (map_host change host) ≡ map_taken change (queue_later config epoch number from now request count live host)
   unfolding queue_later is_full map_live
-  queue_later-maps config number from now request count live host =
+  queue_later-maps config epoch number from now request count live host =
       if-maps (map_taken change) (is_full live) (refuse-maps config from 503 unavailable request count host) (rw (with_server-maps, queue-maps, with_trying-maps) refl)
 
-  later_by-maps : (config : Config) (number : ℕ) (from : Peer) (now : ℕ) (request : Request) (count : ℕ) (live : Option (Live S)) (host : Host S)
-      → later_by config number from now request count (option_map (map_live change) live) (map_host change host) ≡ map_taken change (later_by config number from now request count live host)
+  later_by-maps : (config : Config) (epoch number : ℕ) (from : Peer) (now : ℕ) (request : Request) (count : ℕ) (live : Option (Live S)) (host : Host S)
+      → later_by config epoch number from now request count (option_map (map_live change) live) (map_host change host) ≡ map_taken change (later_by config epoch number from now request count live host)
   unfolding later_by
-  later_by-maps config number from now request count None host = refuse-maps config from 481 does_not_exist request count host
-  later_by-maps config number from now request count (Some live) host = queue_later-maps config number from now request count live host
+  later_by-maps config epoch number from now request count None host = refuse-maps config from 481 does_not_exist request count host
+  later_by-maps config epoch number from now request count (Some live) host = queue_later-maps config epoch number from now request count live host
 
   take_later-maps : (config : Config) (epoch number : ℕ) (from : Peer) (now : ℕ) (request : Request) (count : ℕ) (host : Host S)
       → take_later config epoch number from now request count (map_host change host) ≡ map_taken change (take_later config epoch number from now request count host)
   unfolding take_later
   take_later-maps config epoch number from now request count host =
-      rw (named_by-maps epoch number (own_uri config request) host) (later_by-maps config number from now request count _ host)
+      rw (named_by-maps epoch number (own_uri config request) host) (later_by-maps config epoch number from now request count _ host)
 
 -- ## Requests that begin a session, and every request
 

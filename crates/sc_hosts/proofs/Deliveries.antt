@@ -116,11 +116,11 @@ trying-taken-below : {S : Type 0} (n : ℕ) (from : Peer) (now : ℕ) (request :
 unfolding with_trying
 trying-taken-below n from now request taken more p = below-if n _ _ _ (below-replying n from _ taken (trying-below n _ request more)) p
 
-later-below : {S : Type 0} (n : ℕ) (config : Config) (number : ℕ) (from : Peer) (now : ℕ) (request : Request) (count : ℕ) (live : Option (Live S)) (host : Host S)
-    → 4 < n → Below n (later_by config number from now request count live host).reply
+later-below : {S : Type 0} (n : ℕ) (config : Config) (epoch number : ℕ) (from : Peer) (now : ℕ) (request : Request) (count : ℕ) (live : Option (Live S)) (host : Host S)
+    → 4 < n → Below n (later_by config epoch number from now request count live host).reply
 unfolding later_by queue_later
-later-below n config number from now request count None host more = refuse-below n config from _ _ request count host more
-later-below n config number from now request count (Some live) host more =
+later-below n config epoch number from now request count None host more = refuse-below n config from _ _ request count host more
+later-below n config epoch number from now request count (Some live) host more =
     below-if n _ _ _ (refuse-below n config from _ _ request count host more)
     (trying-taken-below n from now request _ more (below-queue n live.serial now _ count _))
 
@@ -157,7 +157,7 @@ again-below n false server taken more p = p
 named-below : {S : Type 0} (n : ℕ) (config : Config) (epoch number : ℕ) (from : Peer) (now : ℕ) (request : Request) (count : ℕ) (host : Host S)
     → 4 < n → Below n (take_later config epoch number from now request count host).reply
 unfolding take_later
-named-below n config epoch number from now request count host more = later-below n config number from now request count _ host more
+named-below n config epoch number from now request count host more = later-below n config epoch number from now request count _ host more
 
 new-below : {S : Type 0} (n : ℕ) (form : Form S) (config : Config) (epoch number : ℕ) (from : Peer) (now : ℕ) (noted : Option Note) (request : Request) (count : ℕ) (host : Host S)
     → 4 < n → Below n (take_new form config epoch number from now noted request count host).reply
@@ -200,11 +200,11 @@ trying-ack : {S : Type 0} (n : ℕ) (from : Peer) (now : ℕ) (request : Request
 unfolding with_trying
 trying-ack n from now request taken e p = rw (not-invite request e) p
 
-later-ack : {S : Type 0} (n : ℕ) (config : Config) (number : ℕ) (from : Peer) (now : ℕ) (request : Request) (count : ℕ) (live : Option (Live S)) (host : Host S)
-    → same_bytes (method_of request) ack ≡ true → Below n (later_by config number from now request count live host).reply
+later-ack : {S : Type 0} (n : ℕ) (config : Config) (epoch number : ℕ) (from : Peer) (now : ℕ) (request : Request) (count : ℕ) (live : Option (Live S)) (host : Host S)
+    → same_bytes (method_of request) ack ≡ true → Below n (later_by config epoch number from now request count live host).reply
 unfolding later_by queue_later
-later-ack n config number from now request count None host e = refuse-ack n config from _ _ request count host e
-later-ack n config number from now request count (Some live) host e =
+later-ack n config epoch number from now request count None host e = refuse-ack n config from _ _ request count host e
+later-ack n config epoch number from now request count (Some live) host e =
     below-if n _ _ _ (refuse-ack n config from _ _ request count host e) (trying-ack n from now request _ e (below-queue n live.serial now _ count _))
 
 first-ack : {S : Type 0} (n : ℕ) (form : Form S) (config : Config) (epoch number : ℕ) (from : Peer) (now : ℕ) (noted : Note) (request : Request) (count : ℕ) (host : Host S)
@@ -228,7 +228,7 @@ begun-ack n form config epoch number from now (Some noted) request count host e 
 named-ack : {S : Type 0} (n : ℕ) (config : Config) (epoch number : ℕ) (from : Peer) (now : ℕ) (request : Request) (count : ℕ) (host : Host S)
     → same_bytes (method_of request) ack ≡ true → Below n (take_later config epoch number from now request count host).reply
 unfolding take_later
-named-ack n config epoch number from now request count host e = later-ack n config number from now request count _ host e
+named-ack n config epoch number from now request count host e = later-ack n config epoch number from now request count _ host e
 
 new-ack : {S : Type 0} (n : ℕ) (form : Form S) (config : Config) (epoch number : ℕ) (from : Peer) (now : ℕ) (noted : Option Note) (request : Request) (count : ℕ) (host : Host S)
     → same_bytes (method_of request) ack ≡ true → Below n (take_new form config epoch number from now noted request count host).reply

@@ -77,17 +77,17 @@ inner-trying : {S : Type 0} (from : Peer) (now : ℕ) (request : Request) (taken
 unfolding with_trying
 inner-trying from now request taken p q = inner-if _ _ _ (inner-replying from _ taken p) q
 
-inner-later : {S : Type 0} (config : Config) (number : ℕ) (from : Peer) (now : ℕ) (request : Request) (count : ℕ) (live : Option (Live S)) (host : Host S)
-    → is_inner from ≡ true → Inner (later_by config number from now request count live host).reply
+inner-later : {S : Type 0} (config : Config) (epoch number : ℕ) (from : Peer) (now : ℕ) (request : Request) (count : ℕ) (live : Option (Live S)) (host : Host S)
+    → is_inner from ≡ true → Inner (later_by config epoch number from now request count live host).reply
 unfolding later_by queue_later
-inner-later config number from now request count None host p = inner-refuse config from _ _ request count host p
-inner-later config number from now request count (Some live) host p =
+inner-later config epoch number from now request count None host p = inner-refuse config from _ _ request count host p
+inner-later config epoch number from now request count (Some live) host p =
     inner-if _ _ _ (inner-refuse config from _ _ request count host p) (inner-trying from now request _ p (inner-queue live.serial now _ count _))
 
 inner-named : {S : Type 0} (config : Config) (epoch number : ℕ) (from : Peer) (now : ℕ) (request : Request) (count : ℕ) (host : Host S)
     → is_inner from ≡ true → Inner (take_later config epoch number from now request count host).reply
 unfolding take_later
-inner-named config epoch number from now request count host p = inner-later config number from now request count _ host p
+inner-named config epoch number from now request count host p = inner-later config epoch number from now request count _ host p
 
 inner-first : {S : Type 0} (form : Form S) (config : Config) (epoch number : ℕ) (from : Peer) (now : ℕ) (noted : Note) (request : Request) (count : ℕ) (host : Host S)
     → is_inner from ≡ true → Inner (begun form config epoch number from now noted request count host).reply

@@ -32,7 +32,7 @@ use Rattle.sc_model.specs.Dialogs.{tag_of, subscribe}
 use Rattle.sc_model.specs.Transactions.{is_success}
 use Rattle.sc_model.specs.SessionStates.{is_final, ack}
 use Rattle.sc_hosts.specs.Branches.{starting, new_branch, new_proxy, records_route, can_pass, can_choose, cancelled_now, is_exhausted}
-use Rattle.sc_hosts.specs.ViewChanges.{answered, answered_in, tidy}
+use Rattle.sc_hosts.specs.ViewChanges.{answered, answered_in, is_owed, tidy}
 use Rattle.sc_hosts.specs.DerivedSessions.{is_of}
 use Rattle.sc_hosts.specs.Looking.{change_session, same_session, request_in, is_early, is_initial_state, in_state, removed}
 use Rattle.sc_hosts.specs.Messages.{bare_answer, on_branch, proxied_request, passed_request}
@@ -40,7 +40,7 @@ use Rattle.sc_hosts.specs.Preparing.{kept_of, proxy_of}
 use Rattle.sc_hosts.specs.PreparingResponses.{change_proxy, is_invalid}
 use Rattle.sc_hosts.specs.States.{after_initial}
 use Rattle.sc_hosts.specs.Giving.{answering, giving}
-use Rattle.sc_hosts.specs.Working.{is_owed, next_branch, event_of}
+use Rattle.sc_hosts.specs.Working.{next_branch, event_of}
 use Rattle.sc_hosts.specs.Words.{too_many_hops}
 
 abbrev pub in_view : View → Working → Working

@@ -138,9 +138,10 @@ ended_by number sess response proxy =
     if is_success response.code then passing_on sess response (stopped ended)
     else (if is_global response.code then stopped ended else ended)
 
--- a response on a branch that has its final response: a further 2xx is forwarded, nothing else
+-- a response on a branch that has its final response, or that its timer ended: a 2xx is forwarded and ends
+-- the search, nothing else counts
 unfoldable pub after_end : SessId → Response → Proxy → Proxy
-after_end sess response proxy = if is_success response.code then passing_on sess response proxy else proxy
+after_end sess response proxy = if is_success response.code then passing_on sess response (stopped proxy) else proxy
 
 -- what a response on this branch makes of the proxy, handled in this SipSession at this moment
 unfoldable pub heard : ℕ → SessId → Response → ℕ → Proxy → Proxy

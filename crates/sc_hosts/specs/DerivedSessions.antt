@@ -10,6 +10,7 @@ use Rattle.sc_tokens.specs.Names.{same_bytes}
 use Rattle.sc_terms.specs.declared.views.View.{View}
 use Rattle.sc_terms.specs.declared.views.SessionView.{SessionView}
 use Rattle.sc_terms.specs.declared.views.State.TheVariants.{Initial, Terminated}
+use Rattle.sc_state.specs.declared.session.Got.{Got}
 use Rattle.sc_state.specs.declared.session.Known.{Known}
 use Rattle.sc_state.specs.declared.session.Leg.{Leg}
 use Rattle.sc_state.specs.declared.session.Session.{Session}
@@ -20,7 +21,7 @@ use Rattle.sc_model.specs.Transactions.{is_success}
 use Rattle.sc_hosts.specs.Looking.{same_request, same_session, is_early, is_uac, change_session, in_state, session_count}
 use Rattle.sc_hosts.specs.Messages.{makes_dialog}
 use Rattle.sc_hosts.specs.RefusalParts.{MOST_SESSIONS}
-use Rattle.sc_hosts.specs.Legs.{leg_of, new_leg, same_tag}
+use Rattle.sc_hosts.specs.Legs.{first_got, leg_of, new_leg, same_tag}
 
 -- ## The SipSession of a response to an initial INVITE: derived SipSessions (JSR 289 section 6.2.3)
 
@@ -79,21 +80,26 @@ derived_session view original tag = record original {
   gone = false;
 }
 
--- a derived SipSession has the messages of the request that its original has
-unfoldable pub derived_leg : Option Leg → ReqId → Leg
-derived_leg None req = new_leg (Some req)
-derived_leg (Some leg) req = record (new_leg (Some req)) { caller = leg.caller; got = filter (λ g. same_tag g.tag leg.caller) leg.got }
+-- a derived SipSession has had the request that it is of, where that came, and no other of its original's
+unfoldable pub derived_got : Option Request → List Got
+derived_got None = []
+derived_got (Some came) = first_got came
 
--- the SipSession in which the response is handled, and the session with it
-unfoldable pub handled_in : Session → ReqId → SessionView → Handling → SessId × Session
-handled_in session req original (In sess) = (sess, session)
-handled_in session req original (Takes tag) =
+unfoldable pub derived_leg : Option Leg → ReqId → Option Request → Leg
+derived_leg None req came = record (new_leg (Some req)) { got = derived_got came }
+derived_leg (Some leg) req came = record (new_leg (Some req)) { caller = leg.caller; got = derived_got came }
+
+-- the SipSession in which a response to the request is handled, and the session with it; the request is given where it
+-- came, and none where it is one's own
+unfoldable pub handled_in : Session → ReqId → SessionView → Option Request → Handling → SessId × Session
+handled_in session req original came (In sess) = (sess, session)
+handled_in session req original came (Takes tag) =
     (original.id, record session { view = change_session original.id (λ s. record s { peer_tag = Some tag }) session.view })
-handled_in session req original (Derives tag) = (
+handled_in session req original came (Derives tag) = (
   record { 0 = length session.view.sessions + 1 },
   record session {
     view = record session.view { sessions = session.view.sessions ++ derived_session session.view original tag ∷ [] };
-    known = record session.known { legs = session.known.legs ++ derived_leg (leg_of session.known original.id) req ∷ [] };
+    known = record session.known { legs = session.known.legs ++ derived_leg (leg_of session.known original.id) req came ∷ [] };
   },
 )
 

@@ -28,7 +28,7 @@ use Rattle.sc_hosts.specs.Looking.{same_session, is_timer, request_in, is_proxy,
 use Rattle.sc_hosts.specs.RefusalParts.{draft_in}
 use Rattle.sc_hosts.specs.Refusals.{awaits_ack, begun_by, is_set, refusal}
 use Rattle.sc_hosts.specs.States.{ends_subscription}
-use Rattle.sc_hosts.specs.ViewChanges.{tidy, answered, new_session, with_own_session, linked}
+use Rattle.sc_hosts.specs.ViewChanges.{tidy, answered, invalidated, new_session, with_own_session, linked}
 
 -- ## Drafts
 
@@ -41,7 +41,6 @@ with_draft method hops initial ends sess play = record play {
 abbrev pub with_view : View → Play → Play
 with_view view play = record play { view = view }
 
--- the fields say that a NOTIFY ends its subscription
 unfoldable pub created : Ask → Play → Play
 created ask play = with_draft ask.method 70 true (ends_subscription ask.method ask.fields) (new_session play.view) (with_view (with_own_session play.view) play)
 
@@ -152,7 +151,7 @@ after_call play (calls.RemoveAttribute name) =
     with_view (record play.view { attributes = remove_first (λ field. same_bytes field.name name) play.view.attributes }) play
 after_call play (calls.SetExpires minutes) = with_view (record play.view { expires = moment_after play.view.now minutes }) play
 after_call play (calls.SetReadyFlag target flag) = with_view (flagged target flag play.view) play
-after_call play (calls.InvalidateSession sess) = with_view (tidy (removed sess play.view)) play
+after_call play (calls.InvalidateSession sess) = with_view (invalidated sess play.view) play
 after_call play calls.InvalidateApplication = record play { ended = true }
 
 -- ## What a call answers

@@ -1,36 +1,75 @@
 -- The events of an application session over a journal: which were queued, which were handled by a turn,
 -- which wait, and which were dropped or answered as the session ended. And what a reader from outside is
 -- shown of a net.
-use Rattle.std.specs.Prelude.{ℕ, ◌+◌, ◌==◌, List, [], ◌∷◌, ◌++◌, Bool, not, ◌&&◌, Option, None, Some, if◌then◌else◌, nat_lt, length, map, filter}
-use Rattle.std.specs.List.{list_any, filter_map}
+use Rattle.std.specs.Prelude.{ℕ, ◌+◌, List, [], ◌∷◌, ◌++◌, Option, None, Some, is_some, if◌then◌else◌, nat_lt, length, map, filter, slice_get}
+use Rattle.std.specs.List.{filter_map}
 use Rattle.std.specs.Option.{option_map_or}
 use Rattle.sc_value.specs.declared.ids.AppId.{AppId}
+use Rattle.sc_value.specs.Lists.{change_first}
+use Rattle.sc_terms.specs.declared.calls.CallRecord.{CallRecord}
+use Rattle.sc_terms.specs.declared.calls.End.{End}
 use Rattle.sc_terms.specs.declared.steps.Step.{Step}
 use Rattle.sc_terms.specs.declared.steps.Step.TheVariants as steps
 use Rattle.sc_parts.specs.declared.setup.Setup.{Setup}
 use Rattle.sc_state.specs.declared.host.Host.{Host}
+use Rattle.sc_state.specs.declared.host.Live.{Live}
 use Rattle.sc_state.specs.declared.net.Net.{Net}
+use Rattle.sc_state.specs.declared.orders.Outcome.{Outcome}
+use Rattle.sc_state.specs.declared.queue.Waiting.{Waiting}
+use Rattle.sc_hosts.specs.Inboxes.{is_live}
+use Rattle.sc_hosts.specs.Nets.{change_host, obeyed}
 use Rattle.sc_hosts.specs.Runs.{after_step, start, chained, waiting_count}
-use Rattle.sc_hosts.specs.Sessions.{Form}
-use Rattle.sc_hosts.specs.Steps.{live_at}
+use Rattle.sc_hosts.specs.Sessions.{Form, Turn}
+use Rattle.sc_hosts.specs.Steps.{live_at, outcome_by, turned_live, turn_of}
 use Rattle.sc_hosts.specs.Transacting.{is_same_app}
 
 -- the numbers of the events that wait in a session
 unfoldable pub waiting_in : {S : Type 0} → AppId → Net S → List ℕ
 waiting_in app net = option_map_or (λ live. map (λ waiting. waiting.number) live.inbox) (live_at app net) []
 
--- those that a step queued: their numbers are above all before
-unfoldable pub queued_by : {S : Type 0} → AppId → Net S → Net S → List ℕ
-queued_by app before after = filter (λ number. nat_lt before.count number) (waiting_in app after)
+-- ## What a turn queues before it ends its session
+
+-- what the turn sends is sent
+unfoldable pub opened : {S : Type 0} → Form S → Setup → AppId → Turn → Outcome → Net S → Net S
+opened form setup app turn done net =
+    obeyed setup app done.orders
+    (change_host app.host (λ host. record host { sessions = change_first (is_live app.serial) (turned_live form setup.config net.moment turn done) host.sessions }) net)
+
+unfoldable pub opened_first : {S : Type 0} → Form S → Setup → AppId → Live S → Option Waiting → ℕ → List CallRecord → End → Net S → Net S
+opened_first form setup app live None now made end net = net
+opened_first form setup app live (Some waiting) now made end net =
+    opened form setup app (turn_of net app waiting now made end) (outcome_by form setup.config live.session (turn_of net app waiting now made end)) net
+
+unfoldable pub opened_by : {S : Type 0} → Form S → Setup → AppId → Option (Live S) → ℕ → List CallRecord → End → Net S → Net S
+opened_by form setup app None now made end net = net
+opened_by form setup app (Some live) now made end net = opened_first form setup app live (slice_get live.inbox 0) now made end net
+
+-- the net as its own turn is about to end a session
+unfoldable pub before_end : {S : Type 0} → Form S → Setup → AppId → Net S → Step → Net S
+before_end form setup app net (steps.Turn other event now made end) =
+    if is_same_app app other then opened_by form setup other (live_at other net) now made end (record net { sent = [] }) else net
+before_end form setup app net step = net
+
+-- ## Queued
+
+unfoldable pub above : ℕ → List ℕ → List ℕ
+above count numbers = filter (λ number. nat_lt count number) numbers
+
+-- those that a step queued, with those that it queued and dropped as it ended the session
+unfoldable pub queued_by : {S : Type 0} → Form S → Setup → AppId → Net S → Step → List ℕ
+queued_by form setup app net step =
+    if is_some (live_at app (after_step form setup net step)) then above net.count (waiting_in app (after_step form setup net step))
+    else above net.count (waiting_in app (before_end form setup app net step))
 
 unfoldable pub queued_from : {S : Type 0} → Form S → Setup → AppId → Net S → List Step → List ℕ
 queued_from form setup app net [] = []
-queued_from form setup app net (step ∷ steps) =
-    queued_by app net (after_step form setup net step) ++ queued_from form setup app (after_step form setup net step) steps
+queued_from form setup app net (step ∷ steps) = queued_by form setup app net step ++ queued_from form setup app (after_step form setup net step) steps
 
--- all that waited after some step
+-- all events of a session, in the order in which they were queued
 unfoldable pub queued : {S : Type 0} → Form S → Setup → ℕ → ℕ → AppId → List Step → List ℕ
 queued form setup epoch began app journal = queued_from form setup app (start setup epoch began) journal
+
+-- ## Handled, and waiting
 
 unfoldable pub handled_by : AppId → Step → Option ℕ
 handled_by app (steps.Turn other event now calls end) = if is_same_app app other then Some event else None
@@ -43,13 +82,20 @@ handled app journal = filter_map (handled_by app) journal
 unfoldable pub waiting : {S : Type 0} → Form S → Setup → ℕ → ℕ → AppId → List Step → List ℕ
 waiting form setup epoch began app journal = waiting_in app (chained form setup epoch began journal)
 
-unfoldable pub is_in : List ℕ → ℕ → Bool
-is_in numbers number = list_any (λ n. n == number) numbers
+-- ## Purged
 
--- those that neither had a turn nor wait
+-- those that a step dropped, or answered, as it ended the session
+unfoldable pub purged_by : {S : Type 0} → Form S → Setup → AppId → Net S → Step → List ℕ
+purged_by form setup app net step =
+    if is_some (live_at app (after_step form setup net step)) then [] else waiting_in app (before_end form setup app net step)
+
+unfoldable pub purged_from : {S : Type 0} → Form S → Setup → AppId → Net S → List Step → List ℕ
+purged_from form setup app net [] = []
+purged_from form setup app net (step ∷ steps) = purged_by form setup app net step ++ purged_from form setup app (after_step form setup net step) steps
+
+-- those that were dropped, or answered, as the session ended
 unfoldable pub purged : {S : Type 0} → Form S → Setup → ℕ → ℕ → AppId → List Step → List ℕ
-purged form setup epoch began app journal =
-    filter (λ number. not (is_in (handled app journal) number) && not (is_in (waiting form setup epoch began app journal) number)) (queued form setup epoch began app journal)
+purged form setup epoch began app journal = purged_from form setup app (start setup epoch began) journal
 
 -- ## Listings
 

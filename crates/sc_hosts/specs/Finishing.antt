@@ -21,6 +21,7 @@ use Rattle.sc_state.specs.declared.queue.Queued.TheVariants as queued
 use Rattle.sc_state.specs.declared.queue.Waiting.{Waiting}
 use Rattle.sc_state.specs.declared.session.Kept.{Kept}
 use Rattle.sc_state.specs.declared.session.Known.{Known}
+use Rattle.sc_state.specs.declared.session.Leg.{Leg}
 use Rattle.sc_state.specs.declared.session.Session.{Session}
 use Rattle.sc_state.specs.declared.session.Way.{Way}
 use Rattle.sc_state.specs.declared.session.Way.TheVariants.{Received, Sent}
@@ -31,7 +32,7 @@ use Rattle.sc_model.specs.SessionStates.{invite, ack}
 use Rattle.sc_hosts.specs.Branches.{records_route}
 use Rattle.sc_hosts.specs.ViewChanges.{tidy}
 use Rattle.sc_hosts.specs.Legs.{leg_of, FIRST_SESSION}
-use Rattle.sc_hosts.specs.Looking.{same_session, request_in, session_in, is_gone, is_confirmed, is_initial_state, is_terminated, is_proxy, is_uac, removed}
+use Rattle.sc_hosts.specs.Looking.{same_request, same_session, request_in, session_in, is_gone, is_confirmed, is_initial_state, is_terminated, is_proxy, is_uac, removed}
 use Rattle.sc_hosts.specs.Messages.{own_response}
 use Rattle.sc_hosts.specs.Preparing.{own_tag_of, proxy_of, has_expired, prepared}
 use Rattle.sc_hosts.specs.Working.{goodbyes, worked_all}
@@ -83,15 +84,22 @@ swept session = record session { view = tidy (fold (swept_one session.known sess
 unfoldable pub without_acks : View → View
 without_acks view = record view { requests = filter (λ request. not (request.received && same_bytes request.method ack)) view.requests }
 
+-- the request began the SipSession of this leg, which the application didn't end
+unfoldable pub can_derive : Kept → Option Leg → Bool
+can_derive kept leg = option_map_or (λ l. option_map_or (same_request kept.id) l.first false && not l.invalidated) leg false
+
+-- a 2xx can still come to the INVITE: its SipSession takes it, or a further one is derived for it
+unfoldable pub can_succeed : View → Option Leg → Kept → Bool
+can_succeed view leg kept = same_bytes kept.request.method invite && (not (is_gone (session_in view kept.sess)) || can_derive kept leg)
+
 -- what can still be needed of a request
-unfoldable pub is_needed : View → Kept → Way → Bool
-is_needed view kept (Received event) = option_map_or lacks_final (request_in view kept.id) false
-is_needed view kept (Sent branch) =
-    is_some (request_in view kept.id) || (same_bytes kept.request.method invite && not (is_gone (session_in view kept.sess)))
+unfoldable pub is_needed : View → Option Leg → Kept → Way → Bool
+is_needed view leg kept (Received event) = option_map_or lacks_final (request_in view kept.id) false
+is_needed view leg kept (Sent branch) = is_some (request_in view kept.id) || can_succeed view leg kept
 
 unfoldable pub lightened : Session → Session
 lightened session = record session {
-  known = record session.known { kept = filter (λ kept. is_needed session.view kept kept.way) session.known.kept };
+  known = record session.known { kept = filter (λ kept. is_needed session.view (leg_of session.known kept.sess) kept kept.way) session.known.kept };
 }
 
 -- ## The whole turn

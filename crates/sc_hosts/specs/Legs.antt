@@ -84,12 +84,16 @@ first_view config app epoch began request = record {
   timers = [];
 }
 
+-- the number of the request that begins a SipSession, by its sender's tag
+unfoldable pub first_got : Request → List Got
+first_got request = record { tag = tag_of request.head.from; number = request.head.cseq.number } ∷ []
+
 unfoldable pub first_leg : Bytes → Request → Leg
 first_leg tag request = record {
   first = Some FIRST_REQUEST;
   caller = tag_of request.head.from;
   dialog = Some (dialog_of (Called tag request) []);
-  got = record { tag = tag_of request.head.from; number = request.head.cseq.number } ∷ [];
+  got = first_got request;
   invalidated = false;
   overtaken = false;
 }
@@ -185,8 +189,16 @@ makes_dialog_of request response =
     if same_bytes request.method invite then is_success response.code || (makes_dialog response.code && is_some (tag_of response.head.to))
     else same_bytes request.method subscribe && is_success response.code
 
+-- a response is one to the request on whose branch it came, whatever number its CSeq has (RFC 3261 section
+-- 17.1.3)
+unfoldable pub as_answer : Request → Response → Response
+as_answer request response = record response { head = record response.head { cseq = record response.head.cseq { number = request.head.cseq.number } } }
+
 -- the dialog is that of the response that made it
-unfoldable pub with_answer : Request → Response → Leg → Leg
-with_answer request response leg =
+unfoldable pub answered_leg : Request → Response → Leg → Leg
+answered_leg request response leg =
     if is_some leg.dialog then in_dialog (By_peer (messages.Response response)) leg
     else (if makes_dialog_of request response then record leg { dialog = Some (dialog_of (Calling request response) []) } else leg)
+
+unfoldable pub with_answer : Request → Response → Leg → Leg
+with_answer request response leg = answered_leg request (as_answer request response) leg

@@ -16,13 +16,13 @@ use Rattle.sc_value.specs.Params.{branch_name, tag_name, is_named}
 use Rattle.sc_terms.specs.declared.settings.Config.{Config}
 use Rattle.sc_terms.specs.declared.calls.Answer.{Answer}
 use Rattle.sc_terms.specs.declared.calls.Ask.{Ask}
-use Rattle.sc_terms.specs.declared.steps.Answerable.{Answerable}
+use Rattle.sc_value.specs.declared.answerable.Answerable.{Answerable}
 use Rattle.sc_terms.specs.declared.views.View.{View}
 use Rattle.sc_grammar.specs.Written.{Bytes}
 use Rattle.sc_model.specs.Dialogs.{sets_target, subscribe}
 use Rattle.sc_model.specs.Names.{branch_text, session_uri, edge_tag}
 use Rattle.sc_model.specs.Records.{ip_text}
-use Rattle.sc_model.specs.Responses.{kept_field, response_to, tag_param, with_tag}
+use Rattle.sc_model.specs.Responses.{kept_field, response_to, tagged, untagged, with_tag}
 use Rattle.sc_model.specs.SessionStates.{invite, ack}
 use Rattle.sc_hosts.specs.Words.{bad_request}
 use Rattle.sc_model.specs.DialogRequests.{cancel}
@@ -64,15 +64,6 @@ from_here config view request =
     if sets_target request.method then with_contact (At (own_address config view.epoch view.app) ∷ []) request else request
 
 -- ## Initial requests
-
-abbrev pub is_tag : Param → Bool
-is_tag param = is_named tag_name param
-
-unfoldable pub untagged : Address → Address
-untagged address = record address { params = filter (λ param. not (is_tag param)) address.params }
-
-unfoldable pub tagged : Bytes → Address → Address
-tagged tag address = record address { params = (untagged address).params ++ tag_param tag ∷ [] }
 
 -- a request of one's own, with these names (RFC 3261 section 8.1.1)
 unfoldable pub asked_request : Bytes → Bytes → Ask → Request

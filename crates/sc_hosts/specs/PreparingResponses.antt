@@ -1,11 +1,13 @@
 -- What a turn shows of a response that came.
-use Rattle.std.specs.Prelude.{ℕ, ◌+◌, ◌==◌, List, [], ◌∷◌, Bool, false, not, ◌&&◌, Option, None, Some, is_some, nat_lt, if◌then◌else◌, length}
-use Rattle.std.specs.Option.{option_map_or}
+use Rattle.std.specs.Prelude.{ℕ, ◌+◌, ◌==◌, List, [], ◌∷◌, Bool, true, false, not, ◌&&◌, Option, None, Some, is_some, option_and_then, nat_lt, if◌then◌else◌, length}
+use Rattle.std.specs.List.{find}
+use Rattle.std.specs.Option.{option_map_or, option_or}
 use Rattle.sc_value.specs.declared.ids.ReqId.{ReqId}
 use Rattle.sc_value.specs.declared.ids.SessId.{SessId}
 use Rattle.sc_value.specs.declared.message.Response.{Response}
 use Rattle.sc_value.specs.Lists.{change_first}
 use Rattle.sc_tokens.specs.Names.{same_bytes}
+use Rattle.sc_terms.specs.declared.calls.ProxyOptions.{ProxyOptions}
 use Rattle.sc_terms.specs.declared.events.Event.{Event}
 use Rattle.sc_terms.specs.declared.events.Event.TheVariants as events
 use Rattle.sc_terms.specs.declared.views.View.{View}
@@ -21,8 +23,8 @@ use Rattle.sc_state.specs.declared.working.Prepared.{Prepared}
 use Rattle.sc_model.specs.Dialogs.{tag_of}
 use Rattle.sc_model.specs.SessionStates.{invite}
 use Rattle.sc_model.specs.Transactions.{is_success, is_failure}
-use Rattle.sc_hosts.specs.Branches.{is_supervised, is_told_whole, heard, added_targets}
-use Rattle.sc_hosts.specs.ViewChanges.{answered_in, tidy}
+use Rattle.sc_hosts.specs.Branches.{is_told_whole, heard, added_targets}
+use Rattle.sc_hosts.specs.ViewChanges.{answered_in, tidy, with_answer as with_final}
 use Rattle.sc_hosts.specs.DerivedSessions.{handling, handled_in, overtaken, without_derived}
 use Rattle.sc_hosts.specs.Legs.{change_leg, leg_of, with_answer}
 use Rattle.sc_hosts.specs.Looking.{same_request, request_in, session_in, is_gone_in, change_request}
@@ -68,17 +70,65 @@ responded kept request response sess session =
 unfoldable pub placed : Session → Kept → RequestView → Response → Option SessionView → SessId × Session
 placed session kept request response None = (request.sess, session)
 placed session kept request response (Some original) =
-    if request.initial then handled_in session request.id original (handling session request.id original kept.request response) else (request.sess, session)
+    if request.initial then handled_in session request.id original None (handling session request.id original kept.request response) else (request.sess, session)
+
+-- the final response is noted with its request, in whatever SipSession it came
+unfoldable pub noted_final : ReqId → ℕ → Session → Session
+noted_final req code session = record session { view = tidy (change_request req (with_final code) session.view) }
 
 -- nothing is shown of a SipSession that is gone, and nothing changes in it
 unfoldable pub responded_in : Kept → RequestView → Response → SessId × Session → Prepared
 responded_in kept request response (sess, session) =
-    if is_gone_in session.view sess then silent session []
+    if is_gone_in session.view sess then silent (noted_final kept.id response.code session) []
     else showing (responded kept request response sess session) (events.Response kept.id sess response) None []
 
--- a request that the view shows no more has had its final response: a further 2xx of a later INVITE
+-- ## A 2xx to an INVITE that the view shows no more: it comes again, or from a further place (RFC 3261 section
+-- 13.2.2.4)
+
+-- the request began this SipSession
+unfoldable pub has_begun : Known → Kept → Bool
+has_begun known kept = option_map_or (λ leg. option_map_or (same_request kept.id) leg.first false) (leg_of known kept.sess) false
+
+-- the INVITE as the view shows it again, answered by this 2xx
+unfoldable pub shown_again : Known → Kept → ℕ → RequestView
+shown_again known kept code = record {
+  id = kept.id;
+  sess = kept.sess;
+  method = kept.request.method;
+  received = false;
+  initial = has_begun known kept;
+  hops = kept.request.hops;
+  answered = Some code;
+  proxied = false;
+  branches = 0;
+  unacked = [];
+  ends = false;
+}
+
+-- among the others in the order of their numbers
+unfoldable pub insert_request : RequestView → List RequestView → List RequestView
+insert_request request [] = request ∷ []
+insert_request request (other ∷ others) =
+    if nat_lt request.id.0 other.id.0 then request ∷ other ∷ others else (other ∷ insert_request request others)
+
+abbrev pub with_request_again : RequestView → Session → Session
+with_request_again request session = record session { view = record session.view { requests = insert_request request session.view.requests } }
+
+-- so that it can be acknowledged again
+unfoldable pub responded_again : Kept → RequestView → Response → SessId × Session → Prepared
+responded_again kept request response (sess, session) =
+    if is_gone_in session.view sess then silent session []
+    else showing (responded kept request response sess (with_request_again request session)) (events.Response kept.id sess response) None []
+
+abbrev pub accepts_invite : Kept → Response → Bool
+accepts_invite kept response = same_bytes kept.request.method invite && is_success response.code
+
+-- a request that the view shows no more has had its final response
 unfoldable pub prepared_own : Session → Kept → Response → Option RequestView → Prepared
-prepared_own session kept response None = showing_in session kept.sess (events.Response kept.id kept.sess response) None []
+prepared_own session kept response None =
+    if accepts_invite kept response
+    then responded_again kept (shown_again session.known kept response.code) response (placed session kept (shown_again session.known kept response.code) response (session_in session.view kept.sess))
+    else silent session []
 prepared_own session kept response (Some request) =
     responded_in kept request response (placed session kept request response (session_in session.view request.sess))
 
@@ -96,6 +146,16 @@ unfoldable pub with_branches : Proxy → Response → View → View
 with_branches proxy response view =
     change_request proxy.req (λ request. record request { branches = request.branches + length (added_targets proxy response) }) view
 
+-- the options of the proxy of the request that began the SipSession
+unfoldable pub dialog_options : Known → SessId → Option ProxyOptions
+dialog_options known sess =
+    option_and_then (λ leg. option_and_then (λ req. option_and_then (λ proxy. proxy.options) (find (λ proxy. same_request proxy.req req) known.proxies)) leg.first) (leg_of known sess)
+
+-- the application is told of the responses, those to a later request where it is told of those to the request that
+-- began its dialog (JSR 289 section 10.2.2)
+unfoldable pub is_watched : Known → Proxy → Bool
+is_watched known proxy = option_map_or (λ (o : ProxyOptions). o.supervised) (option_or proxy.options (dialog_options known proxy.sess)) true
+
 unfoldable pub is_invalid : Known → SessId → Bool
 is_invalid known sess = option_map_or (λ leg. leg.invalidated) (leg_of known sess) false
 
@@ -105,12 +165,13 @@ heard_in proxy branch response (sess, session) =
       view = with_branches proxy response session.view;
       known = change_proxy proxy.req (heard branch sess response session.view.now) (change_leg sess (with_answer proxy.request response) session.known);
     } in
-    if is_supervised proxy then showing_in after sess (told proxy branch response sess) None [] else silent after []
+    if is_watched session.known proxy then showing_in after sess (told proxy branch response sess) None [] else silent after []
 
 unfoldable pub branch_placed : Session → Proxy → Response → Option SessionView → SessId × Session
 branch_placed session proxy response None = (proxy.sess, session)
 branch_placed session proxy response (Some original) =
-    if is_some proxy.options then handled_in session proxy.req original (handling session proxy.req original proxy.request response) else (proxy.sess, session)
+    if is_some proxy.options
+    then handled_in session proxy.req original (Some proxy.request) (handling session proxy.req original proxy.request response) else (proxy.sess, session)
 
 -- a proxy whose SipSession the application ended does nothing any more
 unfoldable pub prepared_branch : Session → Proxy → ℕ → Response → Prepared

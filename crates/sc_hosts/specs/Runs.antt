@@ -24,7 +24,8 @@ use Rattle.sc_hosts.specs.Preparing.{prepared}
 use Rattle.sc_hosts.specs.Sessions.{Form}
 use Rattle.sc_hosts.specs.Settle.{settle}
 use Rattle.sc_hosts.specs.Steps.{live_at, ringing_at, stepped}
-use Rattle.sc_hosts.specs.Transacting.{same_place, state_of_client, state_of_server, is_over}
+use Rattle.sc_value.specs.Places.{same_place}
+use Rattle.sc_hosts.specs.Transacting.{state_of_client, state_of_server, is_over}
 
 -- ## The run
 

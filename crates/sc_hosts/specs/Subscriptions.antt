@@ -1,6 +1,6 @@
 -- The charter of a servlet for event notification (RFC 6665), as the calls that it makes. What it
 -- remembers stands in attributes.
-use Rattle.std.specs.Prelude.{ℕ, ◌+◌, ◌-◌, ◌*◌, ◌/◌, ◌==◌, List, [], ◌∷◌, ◌++◌, Bool, true, false, not, ◌&&◌, ◌||◌, Option, None, Some, option_map, option_and_then, unwrap_or, if◌then◌else◌, codes, decimal, min, nat_lt, nat_le, slice_get}
+use Rattle.std.specs.Prelude.{ℕ, ◌+◌, ◌-◌, ◌*◌, ◌/◌, ◌==◌, List, [], ◌∷◌, ◌++◌, Bool, true, false, not, ◌&&◌, ◌||◌, Option, None, Some, is_some, option_map, option_and_then, unwrap_or, if◌then◌else◌, codes, decimal, min, nat_lt, nat_le, slice_get}
 use Rattle.std.specs.List.{find, filter_map}
 use Rattle.std.specs.Option.{option_map_or}
 use Rattle.sc_value.specs.declared.ids.ReqId.{ReqId}
@@ -114,20 +114,26 @@ subscribed_for view rule sess event seconds old =
     (accepted_then (calls.SetAttribute (ev_name sess) event)
     (notifies sess event (state_word (not (is_pending old)) ++ codes ";expires=" ++ decimal seconds) (if is_pending old then [] else rule.body))))))
 
+unfoldable pub event_of : View → SessId → Bytes
+event_of view sess = unwrap_or (attribute (ev_name sess) view) []
+
+-- the Event of the NOTIFY that follows the answer: where the request ends a subscription, as it was made (RFC 6665
+-- section 4.1.3)
+unfoldable pub notified_event : View → SessId → Request → ℕ → Option Subscription → Bytes
+notified_event view sess request seconds old = if seconds == 0 && is_some old then event_of view sess else unwrap_or (event_value request) []
+
 unfoldable pub accepts : View → Rule → ReqId → SessId → Request → Script
 accepts view rule req sess request =
     if not (names_package rule request) then only (answer_with req 489 (codes "Bad Event") (field (codes "Allow-Events") rule.event_package ∷ []))
     else (if nat_lt 0 (asked_seconds rule request) && nat_lt (asked_seconds rule request) rule.least
     then only (answer_with req 423 (codes "Interval Too Brief") (field (codes "Min-Expires") (decimal rule.least) ∷ []))
     else accepted_then (answer_with req 200 ok (field (codes "Expires") (decimal (min (asked_seconds rule request) rule.longest)) ∷ []))
-    (subscribed_for view rule sess (unwrap_or (event_value request) []) (min (asked_seconds rule request) rule.longest) (subscription_of view sess)))
+    (subscribed_for view rule sess (notified_event view sess request (min (asked_seconds rule request) rule.longest) (subscription_of view sess))
+    (min (asked_seconds rule request) rule.longest) (subscription_of view sess)))
 
 -- how many seconds are left, rounded up
 unfoldable pub seconds_left : ℕ → ℕ → ℕ
 seconds_left due now = ((due - now) + 999) / 1000
-
-unfoldable pub event_of : View → SessId → Bytes
-event_of view sess = unwrap_or (attribute (ev_name sess) view) []
 
 unfoldable pub changes : View → SessId → Bytes → Subscription → Script
 changes view sess body sub =

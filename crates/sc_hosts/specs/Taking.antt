@@ -132,20 +132,25 @@ with_trying from now request taken =
       host = record taken.host { servers = change_first (is_server taken.count) (tried request now) taken.host.servers };
     }) else taken
 
-unfoldable pub queue_later : {S : Type 0} → Config → ℕ → Peer → ℕ → Request → ℕ → Live S → Host S → Taken S
-queue_later config number from now request count live host =
+-- the tag that an application session drew as it began
+abbrev pub own_tag : Config → ℕ → AppId → Bytes
+own_tag config epoch app = tag_text config.salt epoch app 1
+
+unfoldable pub queue_later : {S : Type 0} → Config → ℕ → ℕ → Peer → ℕ → Request → ℕ → Live S → Host S → Taken S
+queue_later config epoch number from now request count live host =
+    let app : AppId = record { host = number; serial = live.serial } in
     if is_full live then refuse config from 503 unavailable request count host
     else with_trying from now request
     (queue live.serial now (queued.Request (unrouted config request)) count
-    (with_server (record { host = number; serial = live.serial }) (count + 1) from [] (unrouted config request) host))
+    (with_server app (count + 1) from (own_tag config epoch app) (unrouted config request) host))
 
-unfoldable pub later_by : {S : Type 0} → Config → ℕ → Peer → ℕ → Request → ℕ → Option (Live S) → Host S → Taken S
-later_by config number from now request count None host = refuse config from 481 does_not_exist request count host
-later_by config number from now request count (Some live) host = queue_later config number from now request count live host
+unfoldable pub later_by : {S : Type 0} → Config → ℕ → ℕ → Peer → ℕ → Request → ℕ → Option (Live S) → Host S → Taken S
+later_by config epoch number from now request count None host = refuse config from 481 does_not_exist request count host
+later_by config epoch number from now request count (Some live) host = queue_later config epoch number from now request count live host
 
 unfoldable pub take_later : {S : Type 0} → Config → ℕ → ℕ → Peer → ℕ → Request → ℕ → Host S → Taken S
 take_later config epoch number from now request count host =
-    later_by config number from now request count (option_and_then (λ uri. named_live epoch number uri host) (own_uri config request)) host
+    later_by config epoch number from now request count (option_and_then (λ uri. named_live epoch number uri host) (own_uri config request)) host
 
 -- ## Requests that begin a session
 
@@ -161,7 +166,7 @@ begun_live form config epoch app now noted request number = record {
 unfoldable pub begun : {S : Type 0} → Form S → Config → ℕ → ℕ → Peer → ℕ → Note → Request → ℕ → Host S → Taken S
 begun form config epoch number from now noted request count host =
     let app : AppId = record { host = number; serial = host.last + 1 } in
-    with_trying from now request (quiet (with_server app (count + 1) from (tag_text config.salt epoch app 1) request (record host {
+    with_trying from now request (quiet (with_server app (count + 1) from (own_tag config epoch app) request (record host {
       sessions = host.sessions ++ begun_live form config epoch app now noted request (count + 1) ∷ [];
       last = host.last + 1;
     })) (count + 1))

@@ -5,11 +5,11 @@ use Rattle.std.specs.List.{find, list_any}
 use Rattle.std.specs.Option.{option_map_or}
 use Rattle.sc_value.specs.declared.ids.AppId.{AppId}
 use Rattle.sc_value.specs.declared.ids.Place.{Place}
-use Rattle.sc_value.specs.declared.ids.Place.TheVariants.{Back, To}
 use Rattle.sc_value.specs.declared.parts.Via.{Via}
 use Rattle.sc_value.specs.declared.message.Request.{Request}
 use Rattle.sc_value.specs.declared.message.Response.{Response}
 use Rattle.sc_value.specs.Lists.{change_first}
+use Rattle.sc_value.specs.Places.{same_place}
 use Rattle.sc_tokens.specs.Names.{same_bytes, same_name}
 use Rattle.sc_value.specs.Params.{param_value, branch_name}
 use Rattle.sc_parts.specs.declared.transactions.ClientItem.{ClientItem}
@@ -30,12 +30,6 @@ use Rattle.sc_model.specs.Transactions.{client_state, client_due, client_out, ha
 use Rattle.sc_model.specs.DialogRequests.{cancel}
 
 -- ## Ends of a transaction
-
-unfoldable pub same_place : Place → Place → Bool
-same_place (Back a) (Back b) = a == b
-same_place (Back a) (To ip port) = false
-same_place (To ip port) (Back b) = false
-same_place (To ip port) (To other other_port) = same_bytes ip other && port == other_port
 
 -- a transaction with an end outside takes messages from any outside place; one over an inner hop takes
 -- them from that hop alone

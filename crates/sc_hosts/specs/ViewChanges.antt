@@ -9,8 +9,9 @@ use Rattle.sc_terms.specs.declared.views.Role.TheVariants as roles
 use Rattle.sc_grammar.specs.Written.{Bytes}
 use Rattle.sc_model.specs.Names.{tag_text, call_id_text}
 use Rattle.sc_model.specs.Records.{ip_text}
-use Rattle.sc_model.specs.SessionStates.{is_final}
-use Rattle.sc_hosts.specs.Looking.{is_gone_in, change_request, change_session, linked_to}
+use Rattle.sc_tokens.specs.Names.{same_bytes}
+use Rattle.sc_model.specs.SessionStates.{ack, is_final}
+use Rattle.sc_hosts.specs.Looking.{is_gone_in, change_request, change_session, linked_to, removed, same_session}
 use Rattle.sc_hosts.specs.States.{after_response}
 
 -- ## Which requests the view shows
@@ -51,6 +52,24 @@ answered_in sess request tagged code view =
 unfoldable pub answered : Option RequestView → ℕ → View → View
 answered None code view = view
 answered (Some request) code view = tidy (answered_in request.sess request true code view)
+
+-- ## What an application ends
+
+-- the request was received and waits for its final response; an ACK has none
+unfoldable pub is_owed : RequestView → Bool
+is_owed request = request.received && is_none request.answered && not (same_bytes request.method ack)
+
+-- the requests of this SipSession that wait are answered
+unfoldable pub settled_request : SessId → ℕ → RequestView → RequestView
+settled_request sess code request =
+    if same_session request.sess sess && is_owed request then record request { answered = Some code } else request
+
+unfoldable pub settled_requests : SessId → ℕ → View → View
+settled_requests sess code view = record view { requests = map (settled_request sess code) view.requests }
+
+-- a SipSession that is invalidated: what waits in it is answered 500, and it is gone
+unfoldable pub invalidated : SessId → View → View
+invalidated sess view = tidy (removed sess (settled_requests sess 500 view))
 
 -- ## SipSessions that calls make
 

@@ -44,6 +44,7 @@ use Rattle.sc_hosts.specs.Preparing.{kept_of, proxy_of}
 use Rattle.sc_hosts.specs.PreparingResponses.{change_proxy}
 use Rattle.sc_hosts.specs.Refusals.{awaits_ack, begun_by, refusal}
 use Rattle.sc_hosts.specs.RefusalParts.{draft_in}
+use Rattle.sc_hosts.specs.ViewChanges.{is_owed}
 use Rattle.sc_hosts.specs.Giving.{giving, answers, answering, drafts_own, drafts_later, drafts_leg, is_written, directs, forgets}
 use Rattle.sc_model.specs.BestResponses.{server_error}
 
@@ -141,10 +142,6 @@ proxies req uris how known =
     if is_some (proxy_of known req) then change_proxy req (with_targets uris) known else proxies_first req uris how (kept_of known req) known
 
 -- ## Invalidation of a SipSession
-
--- the request was received and waits for its final response; an ACK has none
-unfoldable pub is_owed : RequestView → Bool
-is_owed request = request.received && is_none request.answered && not (same_bytes request.method ack)
 
 unfoldable pub owed_answer : Config → View → Known → RequestView → List Order
 owed_answer config view known request =

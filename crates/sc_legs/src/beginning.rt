@@ -5,7 +5,7 @@ ghost use Rattle.std.specs.Option.{option_copied};
 ghost use Rattle.sc_model.specs.Dialogs.{Beginning, dialog_of, tag_of};
 ghost use Rattle.sc_model.specs.Names.{tag_text};
 ghost use Rattle.sc_model.specs.Settings.{expiry_in, params_in};
-ghost use Rattle.sc_hosts.specs.Legs.{first_known, first_leg, first_session, first_view, fresh};
+ghost use Rattle.sc_hosts.specs.Legs.{first_got, first_known, first_leg, first_session, first_view, fresh};
 
 use sc_dialog::Dialog;
 use sc_effects::moment_after;
@@ -185,8 +185,10 @@ fn called(alloc: Global, own_tag: &Text, request: &Request) -> Result<Option<Dia
     Ok(Some(dialog))
 }
 
-fn first_got(alloc: Global, request: &Request) -> Result<List<Got>, NoMemory>
-    ensures { IfOk result (λ l. l ≡ record { tag = tag_of request.now.head.from; number = request.now.head.cseq.number } ∷ []) }
+/// The number of the request that begins a SipSession, by its sender's tag.
+#[tactic(auto, unfolding(sc_hosts::specs::Legs::first_got))]
+pub fn first_got(alloc: Global, request: &Request) -> Result<List<Got>, NoMemory>
+    ensures { IfOk result (λ l. l ≡ first_got request.now) }
 {
     let tag = tag_of(alloc, &request.head.from)?;
     let mut got = List::new(alloc);

@@ -1,10 +1,10 @@
 //! The dialog of a SipSession after a message.
 
-ghost use Rattle.std.specs.Prelude.{◌≡◌, Some, OnOk};
+ghost use Rattle.std.specs.Prelude.{◌≡◌, Some, IfOk, OnOk};
 ghost use Rattle.sc_value.specs.Lists.{change_nth};
 ghost use Rattle.sc_value.specs.declared.message.Message.{Message};
 ghost use Rattle.sc_model.specs.Dialogs.{Passed};
-ghost use Rattle.sc_hosts.specs.Legs.{change_leg, in_dialog, makes_dialog_of, retargeted, with_answer, with_request};
+ghost use Rattle.sc_hosts.specs.Legs.{answered_leg, as_answer, change_leg, in_dialog, makes_dialog_of, retargeted, with_answer, with_request};
 
 use crate::legs::leg_place;
 use crate::tags::{from_tag, with_got};
@@ -13,7 +13,7 @@ use sc_effects::{is_subscribe, is_success};
 use sc_messages::makes_dialog;
 use sc_refusals::is_invite;
 use sc_state::{Known, Leg};
-use sc_value::{NoMemory, Request, Response, SessId, tag};
+use sc_value::{CloneIn, Discard, NoMemory, Request, Response, SessId, tag};
 use std::alloc::Global;
 
 #[tactic(auto, unfolding(sc_hosts::specs::Legs::retargeted))]
@@ -99,14 +99,14 @@ fn set_dialog(leg: &mut Leg, dialog: Dialog)
 }
 
 // The dialog is that of the response that made it.
-#[tactic(auto, unfolding(sc_hosts::specs::Legs::with_answer))]
-fn with_answer(
+#[tactic(auto, unfolding(sc_hosts::specs::Legs::answered_leg))]
+fn answered_leg(
     alloc: Global,
     leg: &mut Leg,
     request: &Request,
     response: &Response,
 ) -> Result<(), NoMemory>
-    ensures { OnOk result (leg.new ≡ with_answer request.now response.now leg.old) }
+    ensures { OnOk result (leg.new ≡ answered_leg request.now response.now leg.old) }
 {
     if leg.dialog.is_some() {
         return in_dialog_response(alloc, leg, response);
@@ -116,6 +116,36 @@ fn with_answer(
         set_dialog(leg, dialog);
     }
     Ok(())
+}
+
+// The response with the number of the request on whose branch it came.
+#[tactic(auto, unfolding(sc_hosts::specs::Legs::as_answer))]
+fn as_answer(alloc: Global, request: &Request, response: &Response) -> Result<Response, NoMemory>
+    ensures { IfOk result (λ r. r ≡ as_answer request.now response.now) }
+{
+    request.head.cseq.known();
+    let mut answer = response.clone_in(alloc)?;
+    answer.head.cseq.number = request.head.cseq.number;
+    Ok(answer)
+}
+
+// A response is one to the request on whose branch it came, whatever number its CSeq has.
+#[tactic(auto, unfolding(sc_hosts::specs::Legs::with_answer), using(crate::proofs::Numbering::same_answer))]
+fn with_answer(
+    alloc: Global,
+    leg: &mut Leg,
+    request: &Request,
+    response: &Response,
+) -> Result<(), NoMemory>
+    ensures { OnOk result (leg.new ≡ with_answer request.now response.now leg.old) }
+{
+    if response.head.cseq.number == request.head.cseq.number {
+        return answered_leg(alloc, leg, request, response);
+    }
+    let answer = as_answer(alloc, request, response)?;
+    let told = answered_leg(alloc, leg, request, &answer);
+    answer.discard();
+    told
 }
 
 #[tactic(auto, using(sc_value::proofs::ListFacts::change_nth_at, sc_value::proofs::ListFacts::change_nth_none))]

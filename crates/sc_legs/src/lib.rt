@@ -10,7 +10,7 @@ mod kept;
 mod legs;
 mod tags;
 
-pub use beginning::fresh;
+pub use beginning::{first_got, fresh};
 pub use dialogs::{take_answer, take_request, take_sent};
 pub use finding::session_for;
 pub use kept::stop_proxy;

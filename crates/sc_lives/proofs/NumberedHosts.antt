@@ -123,23 +123,23 @@ module _ {S : Type 0} where
   unfolding with_trying
   with_trying-numbered from now request taken numbered = if-taken _ _ _ numbered numbered
 
-  queue_later-numbered : (config : Config) (number : ℕ) (from : Peer) (now : ℕ) (request : Request) (count : ℕ) (live : Live S) (host : Host S)
-      → IsNumbered host → IsNumbered (queue_later config number from now request count live host).host
+  queue_later-numbered : (config : Config) (epoch number : ℕ) (from : Peer) (now : ℕ) (request : Request) (count : ℕ) (live : Live S) (host : Host S)
+      → IsNumbered host → IsNumbered (queue_later config epoch number from now request count live host).host
   unfolding queue_later
-  queue_later-numbered config number from now request count live host numbered =
+  queue_later-numbered config epoch number from now request count live host numbered =
       if-taken _ _ _ (refuse-numbered config from 503 _ request count host numbered)
       (with_trying-numbered from now request _ (queue-numbered live.serial now _ count _ (with_server-numbered _ _ from _ _ host numbered)))
 
-  later_by-numbered : (config : Config) (number : ℕ) (from : Peer) (now : ℕ) (request : Request) (count : ℕ) (live : Option (Live S)) (host : Host S)
-      → IsNumbered host → IsNumbered (later_by config number from now request count live host).host
+  later_by-numbered : (config : Config) (epoch number : ℕ) (from : Peer) (now : ℕ) (request : Request) (count : ℕ) (live : Option (Live S)) (host : Host S)
+      → IsNumbered host → IsNumbered (later_by config epoch number from now request count live host).host
   unfolding later_by
-  later_by-numbered config number from now request count None host numbered = refuse-numbered config from 481 _ request count host numbered
-  later_by-numbered config number from now request count (Some live) host numbered = queue_later-numbered config number from now request count live host numbered
+  later_by-numbered config epoch number from now request count None host numbered = refuse-numbered config from 481 _ request count host numbered
+  later_by-numbered config epoch number from now request count (Some live) host numbered = queue_later-numbered config epoch number from now request count live host numbered
 
   take_later-numbered : (config : Config) (epoch number : ℕ) (from : Peer) (now : ℕ) (request : Request) (count : ℕ) (host : Host S)
       → IsNumbered host → IsNumbered (take_later config epoch number from now request count host).host
   unfolding take_later
-  take_later-numbered config epoch number from now request count host numbered = later_by-numbered config number from now request count _ host numbered
+  take_later-numbered config epoch number from now request count host numbered = later_by-numbered config epoch number from now request count _ host numbered
 
   -- ## Requests that begin a session: it has the serial after the last
 

@@ -12,7 +12,7 @@ use Rattle.sc_tokens.specs.Names.{same_bytes}
 use Rattle.sc_terms.specs.declared.calls.CallRecord.{CallRecord}
 use Rattle.sc_terms.specs.declared.calls.End.{End}
 use Rattle.sc_terms.specs.declared.settings.Config.{Config}
-use Rattle.sc_terms.specs.declared.steps.Answerable.{Answerable}
+use Rattle.sc_value.specs.declared.answerable.Answerable.{Answerable}
 use Rattle.sc_terms.specs.declared.steps.Step.{Step}
 use Rattle.sc_terms.specs.declared.steps.Step.TheVariants as steps
 use Rattle.sc_parts.specs.declared.choice.Choice.{Choice}

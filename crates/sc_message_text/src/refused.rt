@@ -2,14 +2,17 @@ ghost use Rattle.std.specs.Prelude.{◌≡◌};
 
 use sc_head_text::Unread;
 use sc_value::NoMemory;
+use thiserror::Error;
 
 /// Why a text is no message.
-#[derive(Debug, Clone, Copy, PartialEq, Eq)]
+#[derive(Debug, Clone, Copy, PartialEq, Eq, Error)]
 pub enum MessageRefused {
     /// The text spells no message (RFC 3261 section 7). `at` is the place where it goes wrong, in
     /// bytes from 0, and `kind` is what is wrong there: 1 to 12, as [`crate::read_message`] tells.
+    #[error("the text is no message: fault {kind} at byte {at}")]
     Refused { at: usize, kind: u8 },
     /// There was no memory to read the text. It says nothing of the text.
+    #[error("no memory")]
     NoMemory,
 }
 

@@ -3,7 +3,8 @@
 ghost use Rattle.std.specs.Prelude.{◌≡◌, ◌∷◌, [], option_map, unwrap_or, slice_get, map, if◌then◌else◌, IfOk};
 ghost use Rattle.sc_model.specs.Dialogs.{sets_target};
 ghost use Rattle.sc_model.specs.Responses.{kept_field};
-ghost use Rattle.sc_hosts.specs.Messages.{ack_of, asked_request, begins_dialog, cancel_of, from_here, kin, leg_request, on_branch, own_address, passed_request, proxied_request, tagged, untagged};
+ghost use Rattle.sc_hosts.specs.Messages.{ack_of, asked_request, begins_dialog, cancel_of, from_here, kin, leg_request, on_branch, own_address, passed_request, proxied_request};
+ghost use Rattle.sc_model.specs.Responses.{tagged, untagged};
 
 use crate::own::{own_address, own_via};
 use crate::parts::{

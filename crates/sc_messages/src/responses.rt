@@ -11,10 +11,10 @@ use crate::parts::{
 use crate::requests::{begins_dialog, own_contact, sets_target};
 use crate::sides::with_tag;
 use sc_dialog::kept_fields;
-use sc_terms::{Answer, Answerable, Config, View};
+use sc_terms::{Answer, Config, View};
 use sc_value::{
-    CloneIn, Discard, Head, List, NoMemory, Others, Reason, Request, Response, Text, Via,
-    is_one_line,
+    Answerable, CloneIn, Discard, Head, List, NoMemory, Others, Reason, Request, Response, Text,
+    Via, is_one_line,
 };
 use std::alloc::Global;
 

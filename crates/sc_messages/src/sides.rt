@@ -2,13 +2,13 @@
 
 ghost use Rattle.std.specs.Prelude.{◌≡◌, ◌++◌, ◌∷◌, [], not, filter, IfOk, true};
 ghost use Rattle.sc_value.specs.ParamRules.{AreHeaderParams};
-ghost use Rattle.sc_model.specs.Responses.{tag_param, with_tag};
-ghost use Rattle.sc_hosts.specs.Messages.{is_tag, tagged, untagged};
+ghost use Rattle.sc_model.specs.Responses.{is_tag, tag_param, tagged, untagged, with_tag};
 
 use sc_value::{Address, CloneIn, List, NoMemory, Param, Text, is_token, same_name, tag};
 use std::alloc::Global;
 
-/// The address with this tag, where it has none.
+/// The address with this tag, where it has none; a parameter `tag` without a value is none (RFC 3261
+/// section 25.1).
 #[tactic(auto, unfolding(sc_model::specs::Responses::with_tag))]
 pub fn with_tag(alloc: Global, own_tag: &[u8], address: &Address) -> Result<Address, NoMemory>
     ensures { IfOk result (λ a. a ≡ with_tag own_tag.now address.now) }
@@ -16,13 +16,11 @@ pub fn with_tag(alloc: Global, own_tag: &[u8], address: &Address) -> Result<Addr
     if tag(address).is_some() {
         return address.clone_in(alloc);
     }
-    address.known();
-    let params = address.params.clone_in(alloc)?;
-    tagged_by(alloc, own_tag, address, params)
+    tagged(alloc, own_tag, address)
 }
 
 /// The address with this tag in place of its own.
-#[tactic(auto, unfolding(sc_hosts::specs::Messages::tagged, sc_hosts::specs::Messages::untagged))]
+#[tactic(auto, unfolding(sc_model::specs::Responses::tagged, sc_model::specs::Responses::untagged))]
 pub fn tagged(alloc: Global, own_tag: &[u8], address: &Address) -> Result<Address, NoMemory>
     ensures { IfOk result (λ a. a ≡ tagged own_tag.now address.now) }
 {
@@ -32,7 +30,7 @@ pub fn tagged(alloc: Global, own_tag: &[u8], address: &Address) -> Result<Addres
 }
 
 /// The address without its tag.
-#[tactic(auto, unfolding(sc_hosts::specs::Messages::untagged))]
+#[tactic(auto, unfolding(sc_model::specs::Responses::untagged))]
 pub fn untagged(alloc: Global, address: &Address) -> Result<Address, NoMemory>
     ensures { IfOk result (λ a. a ≡ untagged address.now) }
 {

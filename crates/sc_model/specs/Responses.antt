@@ -1,5 +1,5 @@
 -- The response to a received request (RFC 3261 section 8.2.6).
-use Rattle.std.specs.Prelude.{[], ◌∷◌, ◌++◌, Some, is_some, if◌then◌else◌, map}
+use Rattle.std.specs.Prelude.{[], ◌∷◌, ◌++◌, Bool, not, Some, is_some, if◌then◌else◌, map, filter}
 use Rattle.sc_value.specs.declared.parts.Address.{Address}
 use Rattle.sc_value.specs.declared.parts.Param.{Param}
 use Rattle.sc_value.specs.declared.parts.Field.{Field}
@@ -7,7 +7,7 @@ use Rattle.sc_value.specs.declared.message.Head.{Head}
 use Rattle.sc_value.specs.declared.message.Request.{Request}
 use Rattle.sc_value.specs.declared.message.Response.{Response}
 use Rattle.sc_tokens.specs.HeaderNames.{long_name}
-use Rattle.sc_value.specs.Params.{param_value, tag_name}
+use Rattle.sc_value.specs.Params.{param_value, tag_name, is_named}
 use Rattle.sc_terms.specs.declared.calls.Answer.{Answer}
 use Rattle.sc_grammar.specs.Written.{Bytes}
 
@@ -15,10 +15,20 @@ use Rattle.sc_grammar.specs.Written.{Bytes}
 unfoldable pub tag_param : Bytes → Param
 tag_param tag = record { name = tag_name; value = Some tag }
 
--- the address with this tag, where it has none
+abbrev pub is_tag : Param → Bool
+is_tag param = is_named tag_name param
+
+unfoldable pub untagged : Address → Address
+untagged address = record address { params = filter (λ param. not (is_tag param)) address.params }
+
+-- with this tag in place of its own
+unfoldable pub tagged : Bytes → Address → Address
+tagged tag address = record address { params = (untagged address).params ++ tag_param tag ∷ [] }
+
+-- the address with this tag, where it has none; a parameter `tag` without a value is none (RFC 3261
+-- section 25.1)
 unfoldable pub with_tag : Bytes → Address → Address
-with_tag tag address =
-    if is_some (param_value tag_name address.params) then address else record address { params = address.params ++ tag_param tag ∷ [] }
+with_tag tag address = if is_some (param_value tag_name address.params) then address else tagged tag address
 
 -- a header that a servlet sets; its compact name is kept as its long one
 unfoldable pub kept_field : Field → Field

@@ -1,5 +1,5 @@
 -- What a host takes in time leaves its sessions with first events that are past.
-use Rattle.std.proofs.Common.{◌≤◌, ℕ, Bool, true, false, Option, None, Some, []}
+use Rattle.std.proofs.Common.{◌≤◌, ℕ, Bool, true, false, Option, None, Some}
 use Rattle.std.specs.Prelude.{cond}
 use Rattle.sc_value.specs.declared.ids.AppId.{AppId}
 use Rattle.sc_value.specs.declared.message.Message.{Message}
@@ -63,18 +63,18 @@ module _ {S : Type 0} (most : ℕ) where
   unfolding with_trying HostPast
   with_trying-past from now request taken past = taken-if most _ _ taken past past
 
-  later_by-past : (config : Config) (number : ℕ) (from : Peer) (now : ℕ) (request : Request) (count : ℕ) (live : Option (Live S)) (host : Host S) → now ≤ most → HostPast most host
-      → HostPast most (later_by config number from now request count live host).host
+  later_by-past : (config : Config) (epoch number : ℕ) (from : Peer) (now : ℕ) (request : Request) (count : ℕ) (live : Option (Live S)) (host : Host S) → now ≤ most → HostPast most host
+      → HostPast most (later_by config epoch number from now request count live host).host
   unfolding later_by queue_later
-  later_by-past config number from now request count None host in_time past = refuse-past config from 481 _ request count host past
-  later_by-past config number from now request count (Some live) host in_time past =
+  later_by-past config epoch number from now request count None host in_time past = refuse-past config from 481 _ request count host past
+  later_by-past config epoch number from now request count (Some live) host in_time past =
       taken-if most _ _ _ (refuse-past config from 503 _ request count host past)
-      (with_trying-past from now request _ (queue-past most live.serial now _ count _ in_time (with_server-past _ _ from [] _ host past)))
+      (with_trying-past from now request _ (queue-past most live.serial now _ count _ in_time (with_server-past _ _ from _ _ host past)))
 
   take_later-past : (config : Config) (epoch number : ℕ) (from : Peer) (now : ℕ) (request : Request) (count : ℕ) (host : Host S) → now ≤ most → HostPast most host
       → HostPast most (take_later config epoch number from now request count host).host
   unfolding take_later
-  take_later-past config epoch number from now request count host in_time past = later_by-past config number from now request count _ host in_time past
+  take_later-past config epoch number from now request count host in_time past = later_by-past config epoch number from now request count _ host in_time past
 
   -- ## Requests that begin a session
 

@@ -4,7 +4,7 @@ ghost use Rattle.std.specs.Prelude.{◌≡◌, ◌≤◌, ◌+◌, ◌<◌, ◌�
 ghost use Rattle.sc_hosts.specs.HelperParts.{accepted_then, answer_with, field};
 ghost use Rattle.sc_hosts.specs.RefusalParts.{MOST_CALLS};
 ghost use Rattle.sc_hosts.specs.Scripting.{only};
-ghost use Rattle.sc_hosts.specs.Subscriptions.{accepts, event_value, subscribed_for, subscription_of};
+ghost use Rattle.sc_hosts.specs.Subscriptions.{accepts, notified_event, subscribed_for, subscription_of};
 ghost use Rattle.sc_hosts.specs.Words.{ok};
 ghost use Rattle.sc_turn.specs.Working.{play_of};
 ghost use Rattle.sc_apps.specs.Scripted.{IsPlayed};
@@ -12,12 +12,15 @@ ghost use Rattle.sc_helpers.specs.Leading.{IsLed};
 ghost use Rattle.sc_notifies.specs.SubScripts.{subscribed_by};
 
 use crate::rules::{Rule, asked_seconds, event_of, names_package};
-use crate::standing::{Standing, standing_of, subscription_of};
+use crate::standing::{self, Standing, standing_of, subscription_of};
+use crate::sub_texts::Subscribed;
 use crate::subscribing::subscribed_by;
 use sc_apps::{memory_of, shown};
 use sc_helpers::{answer_first, answer_only, field, number_field, one};
+use sc_terms::View;
 use sc_turn::Turn;
-use sc_value::{NoMemory, ReqId, Request, SessId};
+use sc_value::{NoMemory, ReqId, Request, SessId, Text};
+use std::alloc::Global;
 
 /// Answers a SUBSCRIBE: 489 `Bad Event` where its Event is of another package, 423 `Interval Too Brief`
 /// where it asks for less than the least time, and else 200 `OK`.
@@ -76,6 +79,24 @@ fn refuse_brief(t: &mut Turn, req: ReqId, least: u32) -> Result<(), NoMemory>
     answer_only(t, req, 423, b"Interval Too Brief", fields)
 }
 
+// The Event of the NOTIFY that follows the answer.
+#[tactic(auto, unfolding(sc_hosts::specs::Subscriptions::notified_event))]
+fn notified_event(
+    alloc: Global,
+    view: &View,
+    sess: SessId,
+    request: &Request,
+    seconds: u32,
+    old: &Option<Subscribed>,
+) -> Result<Text, NoMemory>
+    ensures { IfOk result (λ text. text ≡ notified_event view.entry.now sess request.now seconds old.now) }
+{
+    if seconds == 0 && old.is_some() {
+        return standing::event_of(alloc, view, sess);
+    }
+    Text::from_slice(alloc, event_of(request))
+}
+
 #[tactic(auto, using(sc_apps::proofs::Playing::begun_room, crate::proofs::SubLaws::played_subscribed))]
 fn subscribe(
     t: &mut Turn,
@@ -89,11 +110,12 @@ fn subscribe(
     requires memory { t.old.starved ≡ false }
     requires within { seconds ≤ 4000000 }
     ensures same { t.new.shown ≡ t.old.shown }
-    ensures played { OnOk result (IsPlayed (accepted_then (answer_with req 200 ok (field (codes "Expires") (decimal seconds) ∷ [])) (subscribed_for t.old.shown rule.now sess (unwrap_or (event_value request.now) []) seconds (subscription_of t.old.shown sess))) t.old t.new) }
+    ensures played { OnOk result (IsPlayed (accepted_then (answer_with req 200 ok (field (codes "Expires") (decimal seconds) ∷ [])) (subscribed_for t.old.shown rule.now sess (notified_event t.old.shown sess request.now seconds (subscription_of t.old.shown sess)) seconds (subscription_of t.old.shown sess))) t.old t.new) }
 {
     let old = subscription_of(memory_of(t), shown(t), sess)?;
     let standing = standing_of(memory_of(t), shown(t), sess, &old)?;
-    answer_and_begin(t, rule, req, sess, event_of(request), seconds, &standing)
+    let event = notified_event(memory_of(t), shown(t), sess, request, seconds, &old)?;
+    answer_and_begin(t, rule, req, sess, event.as_bytes(), seconds, &standing)
 }
 
 #[tactic(auto, unfolding(sc_hosts::specs::Words::ok))]

@@ -44,6 +44,7 @@ comes_later setup told before read write statuses.Usage rose is = is
 comes_later setup told before read write (statuses.Config kind key) rose is = is
 comes_later setup told before read write (statuses.Dar line kind) rose is = is
 comes_later setup told before read write statuses.JournalFull rose is = is
+comes_later setup told before read write statuses.Edge rose is = is
 comes_later setup told before read write statuses.NoMemory rose is = is
 comes_later setup told before read write (statuses.Script at kind) rose is = is
 comes_later setup told before read write statuses.Read rose is = rose is

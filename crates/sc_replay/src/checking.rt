@@ -9,7 +9,7 @@ ghost use Rattle.sc_replay.specs.Putting.{IsPut};
 
 use crate::commanding::is_word;
 use crate::putting::{ended, put_whole};
-use crate::settings::read_settings;
+use crate::settings::{Settings, read_settings};
 use sc_edge::{Shelf, Sink};
 use sc_journal::Journal;
 use sc_servlets::Catalogue;
@@ -78,15 +78,7 @@ fn check_named<F: Shelf, K: Sink>(
     ensures began { result.began ≡ 0 }
 {
     match read_settings(alloc, config, dar, shelf, apps.names()) {
-        Ok(settings) => accepted(
-            alloc,
-            put_ok(
-                alloc,
-                settings.config.app.len(),
-                settings.dar.lists.as_slice(),
-                out,
-            ),
-        ),
+        Ok(settings) => accepted(alloc, put_settings(alloc, &settings, out)),
         Err(status) => ended(status),
     }
 }
@@ -105,6 +97,20 @@ fn accepted(alloc: Global, status: Status) -> Ran
         began: 0,
         journal: Some(Journal::new(alloc, 1_000_000, 67_108_864)),
     }
+}
+
+/// Puts the line of these settings.
+fn put_settings<K: Sink>(alloc: Global, settings: &Settings, out: &mut K) -> Status
+    requires lists { length settings.now.dar.lists ≤ 65537 }
+    requires tuples { All (λ list. length list.tuples ≤ 64) settings.now.dar.lists }
+    ensures { IsPut (Rose (K.faults out.old) (K.faults out.new)) (K.took out.old) (K.took out.new) (ok_line (length settings.now.config.app) (tuple_count settings.now.dar.lists)) result }
+{
+    put_ok(
+        alloc,
+        settings.config.app.len(),
+        settings.dar.lists.as_slice(),
+        out,
+    )
 }
 
 /// Puts the line of so many applications and of these lists.

@@ -1,2 +1,3 @@
 pub mod NextMaps
 pub mod FollowMaps
+pub mod HeardParts

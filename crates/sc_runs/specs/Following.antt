@@ -16,7 +16,7 @@ use Rattle.sc_tokens.specs.Bytes.{Bytes}
 use Rattle.sc_hosts.specs.Runs.{after_step, chained_from, start}
 use Rattle.sc_hosts.specs.Sessions.{Form}
 use Rattle.sc_hosts.specs.Steps.{live_at}
-use Rattle.sc_hosts.specs.Transacting.{same_place}
+use Rattle.sc_value.specs.Places.{same_place}
 use Rattle.sc_runs.specs.Hearing.{Hears, HearsPart}
 use Rattle.sc_runs.specs.Next.{next_event}
 

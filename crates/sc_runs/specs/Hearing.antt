@@ -2,21 +2,18 @@
 -- 18.3). Text that is no message is a step of its own, and the place is then lost; so it is where a message
 -- is too long. What of the bytes stands behind that is dropped.
 use Rattle.std.specs.Prelude.{◌≡◌, ℕ, List, [], ◌∷◌, Option, drop}
-use Rattle.std.specs.Option.{option_map}
 use Rattle.sc_value.specs.declared.ids.Place.{Place}
 use Rattle.sc_terms.specs.declared.steps.Bad.{Bad}
 use Rattle.sc_terms.specs.declared.steps.Step.{Step}
 use Rattle.sc_terms.specs.declared.steps.Step.TheVariants as steps
-use Rattle.sc_syntax.specs.declared.front.Answerable.{Answerable}
 use Rattle.sc_syntax.specs.declared.front.Front.TheVariants as fronts
 use Rattle.sc_tokens.specs.Bytes.{Bytes}
 use Rattle.sc_syntax.specs.Fronts.{behind_breaks}
 use Rattle.sc_stream.specs.Frames.{front_behind}
-use Rattle.sc_stream.specs.Hearing.{with_heads}
 
 -- the bytes begin with this text that is no message
 unfoldable pub IsBad : Bytes → Bad → Type 0
-IsBad bytes bad = (heads : Option Answerable) × (front_behind bytes ≡ fronts.Bad bad.at bad.kind heads) × (bad.heads ≡ option_map with_heads heads)
+IsBad bytes bad = front_behind bytes ≡ fronts.Bad bad.at bad.kind bad.heads
 
 -- these bytes of a place's stream make these steps, and so many of them are kept
 unfoldable pub Hears : Place → Bytes → List Step → Bytes → Type 0

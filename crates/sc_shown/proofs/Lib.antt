@@ -1,1 +1,2 @@
 mod Inserting
+mod Returning

@@ -1,5 +1,5 @@
 -- What a turn shows beside its session, and changes of one element of a list as one function each.
-use Rattle.std.specs.Prelude.{ℕ, ◌+◌, [], Bool, Some, false, nat_le}
+use Rattle.std.specs.Prelude.{ℕ, ◌+◌, [], Bool, Some, false, nat_le, nat_lt}
 use Rattle.sc_value.specs.declared.ids.SessId.{SessId}
 use Rattle.sc_value.specs.declared.message.Request.{Request}
 use Rattle.sc_terms.specs.declared.events.Event.TheVariants as events
@@ -30,6 +30,10 @@ more_branches count request = record request { branches = request.branches + cou
 -- due at this moment
 unfoldable pub due_at : ℕ → TimerView → TimerView
 due_at due timer = record timer { due = due }
+
+-- the other request has a greater number
+abbrev pub is_behind : RequestView → RequestView → Bool
+is_behind request other = nat_lt request.id.0 other.id.0
 
 -- the SipSession has no lower number
 unfoldable pub follows : SessId → SessId → Bool

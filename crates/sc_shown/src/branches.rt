@@ -1,23 +1,24 @@
 //! A response on a branch of a proxied request (RFC 3261 section 16.7).
 
-ghost use Rattle.std.specs.Prelude.{◌≡◌, ◌+◌, IfOk, OnOk};
+ghost use Rattle.std.specs.Prelude.{◌≡◌, ◌+◌, option_and_then, IfOk, OnOk};
+ghost use Rattle.std.specs.List.{find};
 ghost use Rattle.sc_value.specs.Lists.{change_first};
 ghost use Rattle.sc_terms.specs.declared.events.Event.{Event};
 ghost use Rattle.sc_hosts.specs.Branches.{heard};
 ghost use Rattle.sc_hosts.specs.Looking.{is_request, same_request, session_in};
-ghost use Rattle.sc_hosts.specs.PreparingResponses.{branch_placed, change_proxy, heard_in, prepared_branch, told, with_branches};
+ghost use Rattle.sc_hosts.specs.PreparingResponses.{branch_placed, change_proxy, dialog_options, heard_in, is_watched, prepared_branch, told, with_branches};
 ghost use Rattle.sc_shown.specs.Shown.{more_branches, prepared_as};
 
 use crate::copies::session_copy;
 use crate::responses::response_event;
 use crate::shown::{Shown, showing_in, silent};
-use sc_branches::{added_targets, heard, is_supervised, is_told_whole};
+use sc_branches::{added_targets, heard, is_told_whole};
 use sc_derived::handled;
-use sc_effects::proxy_place;
-use sc_legs::{is_invalid, take_answer};
+use sc_effects::{proxy_of, proxy_place};
+use sc_legs::{is_invalid, leg_of, take_answer};
 use sc_refusals::request_place;
 use sc_state::{Known, Proxy, Session};
-use sc_terms::{Event, RequestView, SessionView, View};
+use sc_terms::{Event, ProxyOptions, RequestView, SessionView, View};
 use sc_value::{Boxed, CloneIn, List, NoMemory, ReqId, Response, SessId, Shared};
 use std::alloc::Global;
 
@@ -138,6 +139,47 @@ fn hear(
     )
 }
 
+// The options of the proxy of the request that began the SipSession.
+#[tactic(auto, unfolding(sc_hosts::specs::PreparingResponses::dialog_options))]
+fn dialog_options(known: &Known, sess: SessId) -> Option<ProxyOptions>
+    ensures { result ≡ dialog_options known.now sess }
+{
+    match leg_of(known, sess) {
+        Some(leg) => options_of(known, leg.first),
+        None => None,
+    }
+}
+
+#[tactic(auto, unfolding(sc_hosts::specs::Preparing::proxy_of))]
+fn options_at(known: &Known, req: ReqId) -> Option<ProxyOptions>
+    ensures { result ≡ option_and_then (λ proxy. proxy.options) (find (λ proxy. same_request proxy.req req) known.now.proxies) }
+{
+    match proxy_of(known, req) {
+        Some(proxy) => proxy.options,
+        None => None,
+    }
+}
+
+fn options_of(known: &Known, first: Option<ReqId>) -> Option<ProxyOptions>
+    ensures { result ≡ option_and_then (λ req. option_and_then (λ proxy. proxy.options) (find (λ proxy. same_request proxy.req req) known.now.proxies)) first }
+{
+    match first {
+        Some(req) => options_at(known, req),
+        None => None,
+    }
+}
+
+// Whether the application is told of the responses.
+#[tactic(auto, unfolding(sc_hosts::specs::PreparingResponses::is_watched))]
+fn is_watched(known: &Known, proxy: &Proxy) -> bool
+    ensures { result ≡ is_watched known.now proxy.now }
+{
+    match proxy.options.or(dialog_options(known, proxy.sess)) {
+        Some(options) => options.supervised,
+        None => true,
+    }
+}
+
 // The response is handled in this SipSession.
 #[tactic(auto, unfolding(sc_hosts::specs::PreparingResponses::heard_in, sc_hosts::specs::PreparingRequests::silent, sc_hosts::specs::PreparingRequests::showing_in, sc_hosts::specs::PreparingResponses::with_branches))]
 fn heard_in(
@@ -151,6 +193,7 @@ fn heard_in(
     ensures { IfOk result (λ s. heard_in proxy.now branch response.now (sess, session.old) ≡ prepared_as session.new s) }
 {
     let now = session.view.now;
+    let watched = is_watched(&session.known, proxy);
     let sent = proxy.request.get();
     with_branches(alloc, &mut session.view, proxy, response.get())?;
     take_answer(alloc, &mut session.known, sess, sent, response.get())?;
@@ -163,7 +206,7 @@ fn heard_in(
         response,
         now,
     )?;
-    if !is_supervised(proxy) {
+    if !watched {
         return Ok(silent(List::new(alloc)));
     }
     let event = told(alloc, proxy, branch, response.get(), sess)?;
@@ -184,7 +227,15 @@ fn placed_by(
         Some(original) => {
             if proxy.options.is_some() {
                 let sent = proxy.request.get();
-                return handled(alloc, session, proxy.req, original, sent, response);
+                return handled(
+                    alloc,
+                    session,
+                    proxy.req,
+                    original,
+                    Some(sent),
+                    sent,
+                    response,
+                );
             }
             Ok(proxy.sess)
         }

@@ -7,14 +7,15 @@ ghost use Rattle.sc_model.specs.Dialogs.{tag_of};
 ghost use Rattle.sc_model.specs.Transactions.{is_success};
 ghost use Rattle.sc_hosts.specs.ViewChanges.{answered_in, tidy};
 ghost use Rattle.sc_hosts.specs.Looking.{change_request, request_in, session_in};
-ghost use Rattle.sc_hosts.specs.PreparingResponses.{is_first_success, placed, prepared_own, responded, responded_in, settled_legs, with_success};
+ghost use Rattle.sc_hosts.specs.PreparingResponses.{accepts_invite, is_first_success, noted_final, placed, prepared_own, responded, responded_again, responded_in, settled_legs, shown_again, with_success};
 ghost use Rattle.sc_shown.specs.Shown.{prepared_as};
 
+use crate::again::{shown_again, with_request_again};
 use crate::copies::session_copy;
-use crate::shown::{Shown, showing, showing_in, silent};
+use crate::shown::{Shown, showing, silent};
 use crate::successes::success_in;
 use sc_derived::{handled, overtaken, without_derived};
-use sc_effects::{answered_in, is_failure, is_success, request_copy, tidy};
+use sc_effects::{answered_in, final_noted, is_failure, is_success, request_copy, tidy};
 use sc_legs::take_answer;
 use sc_refusals::{is_gone_in, is_invite};
 use sc_state::{Kept, Session};
@@ -116,6 +117,14 @@ fn responded(
     )
 }
 
+// The final response is noted with its request.
+#[tactic(auto, unfolding(sc_hosts::specs::PreparingResponses::noted_final))]
+fn noted_final(session: &mut Session, req: ReqId, code: u16)
+    ensures { session.new ≡ noted_final req code session.old }
+{
+    final_noted(&mut session.view, req, code);
+}
+
 // Nothing is shown of a SipSession that is gone, and nothing changes in it.
 #[tactic(auto, unfolding(sc_hosts::specs::PreparingResponses::responded_in, sc_hosts::specs::PreparingRequests::silent, sc_hosts::specs::PreparingRequests::showing))]
 fn responded_in(
@@ -129,6 +138,7 @@ fn responded_in(
     ensures { IfOk result (λ s. responded_in kept.now request.now response.now (sess, session.old) ≡ prepared_as session.new s) }
 {
     if is_gone_in(&session.view, sess) {
+        noted_final(session, kept.id, response.code);
         return Ok(silent(List::new(alloc)));
     }
     responded(alloc, session, kept, request, response, sess)?;
@@ -151,7 +161,7 @@ fn placed_by(
         Some(original) => {
             if request.initial {
                 let sent = kept.request.get();
-                return handled(alloc, session, request.id, original, sent, response);
+                return handled(alloc, session, request.id, original, None, sent, response);
             }
             Ok(request.sess)
         }
@@ -173,6 +183,61 @@ fn placed(
     placed_by(alloc, session, kept, request, response, &original)
 }
 
+// Whether the response is a 2xx to an INVITE.
+fn accepts_invite(kept: &Kept, response: &Response) -> bool
+    ensures { result ≡ accepts_invite kept.now response.now }
+{
+    is_invite(kept.request.get().method.as_bytes()) && is_success(response.code)
+}
+
+// A 2xx to an INVITE that the view shows no more, in this SipSession.
+#[tactic(auto, unfolding(sc_hosts::specs::PreparingResponses::responded_again, sc_hosts::specs::PreparingRequests::silent, sc_hosts::specs::PreparingRequests::showing))]
+fn responded_again(
+    alloc: Global,
+    session: &mut Session,
+    kept: &Kept,
+    request: &RequestView,
+    response: &Response,
+    sess: SessId,
+) -> Result<Shown, NoMemory>
+    ensures { IfOk result (λ s. responded_again kept.now request.now response.now (sess, session.old) ≡ prepared_as session.new s) }
+{
+    if is_gone_in(&session.view, sess) {
+        return Ok(silent(List::new(alloc)));
+    }
+    with_request_again(alloc, session, request)?;
+    responded(alloc, session, kept, request, response, sess)?;
+    let event = response_event(alloc, kept.id, sess, response)?;
+    Ok(showing(event, None, List::new(alloc)))
+}
+
+fn again_in(
+    alloc: Global,
+    session: &mut Session,
+    kept: &Kept,
+    request: &RequestView,
+    response: &Response,
+) -> Result<Shown, NoMemory>
+    ensures { IfOk result (λ s. responded_again kept.now request.now response.now (placed session.old kept.now request.now response.now (session_in session.old.view request.now.sess)) ≡ prepared_as session.new s) }
+{
+    let sess = placed(alloc, session, kept, request, response)?;
+    responded_again(alloc, session, kept, request, response, sess)
+}
+
+// The INVITE comes back into the view.
+#[tactic(auto, unfolding(sc_hosts::specs::PreparingResponses::shown_again))]
+fn again_shown(
+    alloc: Global,
+    session: &mut Session,
+    kept: &Kept,
+    response: &Response,
+) -> Result<Shown, NoMemory>
+    ensures { IfOk result (λ s. responded_again kept.now (shown_again session.old.known kept.now response.now.code) response.now (placed session.old kept.now (shown_again session.old.known kept.now response.now.code) response.now (session_in session.old.view kept.now.sess)) ≡ prepared_as session.new s) }
+{
+    let request = shown_again(alloc, &session.known, kept, response.code)?;
+    again_in(alloc, session, kept, &request, response)
+}
+
 fn own_shown(
     alloc: Global,
     session: &mut Session,
@@ -187,8 +252,9 @@ fn own_shown(
 }
 
 /// A response to a request of one's own. A request that the view shows no more has had its final
-/// response: it is then a further 2xx of a later INVITE.
-#[tactic(auto, unfolding(sc_hosts::specs::PreparingResponses::prepared_own, sc_hosts::specs::PreparingRequests::showing_in))]
+/// response: where it is an INVITE, a 2xx brings it back, to be acknowledged again (RFC 3261 section
+/// 13.2.2.4).
+#[tactic(auto, unfolding(sc_hosts::specs::PreparingResponses::prepared_own, sc_hosts::specs::PreparingRequests::silent))]
 pub fn prepared_own(
     alloc: Global,
     session: &mut Session,
@@ -200,8 +266,10 @@ pub fn prepared_own(
     match request_copy(alloc, &session.view, kept.id)? {
         Some(request) => own_shown(alloc, session, kept, &request, response),
         None => {
-            let event = response_event(alloc, kept.id, kept.sess, response)?;
-            Ok(showing_in(&session.view, kept.sess, event, None, List::new(alloc)))
+            if accepts_invite(kept, response) {
+                return again_shown(alloc, session, kept, response);
+            }
+            Ok(silent(List::new(alloc)))
         }
     }
 }

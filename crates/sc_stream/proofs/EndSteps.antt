@@ -18,22 +18,21 @@ use Rattle.sc_stream.proofs.Knowing.{first_more}
 
 -- an end stays the end whatever comes
 pub end_stays : (ended : Ended) (text more : Bytes) → IsEnd ended text → IsEnd ended (text ++ more)
-end_stays (ends.Bad bad) text more (heads, front, same) = (heads, behind_stays text more (ap is_open front) ∙ front, same)
+end_stays (ends.Bad bad) text more front = behind_stays text more (ap is_open front) ∙ front
 end_stays ends.Long text more front = behind_stays text more (ap is_open front) ∙ front
 
 pub again_heard : (answer : Heard) (ended : Ended) (text : Bytes) → IsAgain answer ended → IsEnd ended text → Hears answer text text
 again_heard heard.NoMemory ended text same end = refl
 again_heard (heard.Message message) ended text same end = absurd same
 again_heard heard.NotYet ended text same end = absurd same
-again_heard (heard.Bad bad) ended text same end =
-    let (heads, front, told) = subst (λ e. IsEnd e text) same end in (heads, front, told, refl)
+again_heard (heard.Bad bad) ended text same end = (subst (λ e. IsEnd e text) same end, refl)
 again_heard heard.Long ended text same end = (subst (λ e. IsEnd e text) same end, refl)
 
 -- what is heard as the end is the end of these bytes
 pub ends_with : (answer : Heard) (ended : Ended) (text now : Bytes) → EndsWith answer ended → Hears answer text now → IsEnd ended text
 ends_with (heard.Message message) ended text now same h = absurd same
 ends_with heard.NotYet ended text now same h = absurd same
-ends_with (heard.Bad bad) ended text now same (heads, front, told, rest) = subst (λ e. IsEnd e text) (sym same) (heads, front, told)
+ends_with (heard.Bad bad) ended text now same (front, rest) = subst (λ e. IsEnd e text) (sym same) front
 ends_with heard.Long ended text now same (front, rest) = subst (λ e. IsEnd e text) (sym same) front
 ends_with heard.NoMemory ended text now same h = absurd same
 

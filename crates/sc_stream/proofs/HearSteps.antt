@@ -4,7 +4,7 @@ use Rattle.std.specs.Prelude.{IfOk}
 use Rattle.std.proofs.lemmas.Bool.{false≢true}
 use Rattle.std.proofs.lemmas.List.{drop-drop, length-drop, take_rest}
 use Rattle.sc_value.specs.declared.message.Message.{Message}
-use Rattle.sc_syntax.specs.declared.front.Answerable.{Answerable}
+use Rattle.sc_value.specs.declared.answerable.Answerable.{Answerable}
 use Rattle.sc_syntax.specs.declared.front.Front.{Front}
 use Rattle.sc_syntax.specs.declared.front.Front.TheVariants as fronts
 use Rattle.sc_tokens.specs.Bytes.{Bytes}
@@ -71,7 +71,7 @@ message_heard text breaks len message behind h = (len, sym h, sym (drop-drop len
 pub bad_heard : (answer : Heard) (text : Bytes) (at kind : ℕ) (heads : Option Answerable) → fronts.Bad at kind heads ≡ front_behind text → IsBad answer at kind heads → Hears answer text text
 bad_heard (heard.Message message) text at kind heads h bad = absurd bad
 bad_heard heard.NotYet text at kind heads h bad = absurd bad
-bad_heard (heard.Bad b) text at kind heads h (place, what, same) = (heads, sym h ∙ ap (λ n. fronts.Bad n kind heads) (sym place) ∙ ap (λ n. fronts.Bad b.at n heads) (sym what), same, refl)
+bad_heard (heard.Bad b) text at kind heads h (place, what, same) = (sym h ∙ ap (λ n. fronts.Bad n kind heads) (sym place) ∙ ap (λ n. fronts.Bad b.at n heads) (sym what) ∙ ap (fronts.Bad b.at b.kind) (sym same), refl)
 bad_heard heard.Long text at kind heads h bad = absurd bad
 bad_heard heard.NoMemory text at kind heads h bad = refl
 
@@ -82,7 +82,7 @@ same_rest given fed old now is h = subst (λ t. Splits given fed t) (sym is) h
 pub hears_stands : (answer : Heard) (old now fed : Bytes) (given : List Message) → Hears answer old now → Splits given fed old → Splits (given_after given answer) fed now
 hears_stands (heard.Message message) old now fed given (len, front, rest) h = subst (λ t. Splits (given_after given (heard.Message message)) fed t) (sym rest) (splits_given given fed old len message front h)
 hears_stands heard.NotYet old now fed given (front, rest) h = same_rest given fed old now rest h
-hears_stands (heard.Bad bad) old now fed given (heads, front, same, rest) h = same_rest given fed old now rest h
+hears_stands (heard.Bad bad) old now fed given (front, rest) h = same_rest given fed old now rest h
 hears_stands heard.Long old now fed given (front, rest) h = same_rest given fed old now rest h
 hears_stands heard.NoMemory old now fed given rest h = same_rest given fed old now rest h
 

@@ -1,4 +1,5 @@
 mod EndSteps
+mod FirstVias
 mod FrameLaws
 mod FrontLaws
 mod HearSteps

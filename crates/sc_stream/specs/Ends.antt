@@ -1,7 +1,5 @@
 -- What a stream keeps, and how it ends (RFC 3261 section 18.3). An ended stream keeps its answer alone.
 use Rattle.std.specs.Prelude.{◌≡◌, ℕ, Option, Some, None, [], ◌≤◌, length, drop, ⊤}
-use Rattle.std.specs.Option.{option_map}
-use Rattle.sc_syntax.specs.declared.front.Answerable.{Answerable}
 use Rattle.sc_syntax.specs.declared.front.Front.TheVariants as fronts
 use Rattle.sc_tokens.specs.Bytes.{Bytes}
 use Rattle.sc_stream.specs.declared.ends.Ended.{Ended}
@@ -10,12 +8,11 @@ use Rattle.sc_stream.specs.declared.first.First.{First}
 use Rattle.sc_stream.specs.declared.streams.Heard.{Heard}
 use Rattle.sc_stream.specs.declared.streams.Heard.TheVariants as heard
 use Rattle.sc_stream.specs.Frames.{front_behind}
-use Rattle.sc_stream.specs.Hearing.{with_heads}
 use Rattle.sc_stream.specs.Knowing.{IsFirst}
 
 -- this is what a stream with these bytes answers
 abbrev pub IsEnd : Ended → Bytes → Type 0
-IsEnd (ends.Bad bad) text = (heads : Option Answerable) × (front_behind text ≡ fronts.Bad bad.at bad.kind heads) × (bad.heads ≡ option_map with_heads heads)
+IsEnd (ends.Bad bad) text = front_behind text ≡ fronts.Bad bad.at bad.kind bad.heads
 IsEnd ends.Long text = front_behind text ≡ fronts.Long
 
 -- the bytes behind the messages: those that are kept, or those that an ended stream has let go

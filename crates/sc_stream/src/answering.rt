@@ -1,8 +1,9 @@
 //! What an answer takes from a head that is at fault (RFC 3261 section 8.2.6.2).
 
-ghost use Rattle.std.specs.Prelude.{◌≡◌, ◌++◌, Some, Option, IfOk, OnOk, false, take, slice_get, filter_map};
+ghost use Rattle.std.specs.Prelude.{◌≡◌, ◌++◌, Some, Option, IfOk, IfSome, OnOk, false, take, slice_get, filter_map};
 ghost use Rattle.std.specs.Option.{option_copied, option_map, option_map_or, option_zip};
 ghost use Rattle.sc_tokens.specs.HeaderNames.{call_id_name, cseq_name, from_name, to_name};
+ghost use Rattle.sc_value.specs.AnswerableValues.{BeginsWithBranch};
 ghost use Rattle.sc_syntax.specs.Addresses.{address_of};
 ghost use Rattle.sc_syntax.specs.Sequences.{cseq_of};
 ghost use Rattle.sc_syntax.specs.Vias.{vias_of};
@@ -19,9 +20,9 @@ use crate::fields::{fields_behind, only_value};
 use crate::names;
 use sc_head_text::{Unread, read_address, read_cseq, read_vias};
 use sc_message_text::split_start;
-use sc_syntax::Answerable;
 use sc_value::{
-    Address, CSeq, Field, HeaderValue, List, NoMemory, Via, branch, is_one_line, same_name,
+    Address, Answerable, CSeq, Field, HeaderValue, List, NoMemory, Via, branch, is_one_line,
+    same_name,
 };
 use std::alloc::Global;
 
@@ -75,6 +76,7 @@ fn answerable_in(alloc: Global, fields: &[Field]) -> Result<Option<Answerable>, 
 
 #[tactic(auto, unfolding(sc_syntax::specs::Fronts::answerable_with))]
 fn with_parts(parts: Option<Parts>) -> Option<Answerable>
+    requires { IfSome parts (λ parts. BeginsWithBranch parts.0.0) }
     ensures { result ≡ option_map answerable_with parts }
 {
     match parts {

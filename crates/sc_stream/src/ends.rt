@@ -6,8 +6,8 @@ ghost use Rattle.sc_stream.specs.Hearing.{Hears};
 ghost use Rattle.sc_stream.specs.Ends.{EndsWith, GoesOn, IsAgain, IsEnd};
 
 use crate::streams::Heard;
-use sc_terms::{Answerable, Bad};
-use sc_value::{Boxed, CloneIn, NoMemory};
+use sc_terms::Bad;
+use sc_value::{CloneIn, NoMemory};
 use std::alloc::Global;
 
 /// What a stream answers for ever.
@@ -56,26 +56,10 @@ fn copy_of(alloc: Global, ended: &Ended) -> Heard
 fn copy_of_bad(alloc: Global, bad: &Bad) -> Result<Bad, NoMemory>
     ensures { IfOk result (λ copy. copy ≡ bad.now) }
 {
-    let heads = match &bad.heads {
-        Some(heads) => Some(copy_of_heads(alloc, heads.get())?),
-        None => None,
-    };
+    let heads = bad.heads.clone_in(alloc)?;
     Ok(Bad {
         at: bad.at,
         kind: bad.kind,
         heads,
     })
-}
-
-fn copy_of_heads(alloc: Global, heads: &Answerable) -> Result<Boxed<Answerable>, NoMemory>
-    ensures { IfOk result (λ copy. copy ≡ heads.now) }
-{
-    let copy = Answerable {
-        via: heads.via.clone_in(alloc)?,
-        from: heads.from.clone_in(alloc)?,
-        to: heads.to.clone_in(alloc)?,
-        call_id: heads.call_id.clone_in(alloc)?,
-        cseq: heads.cseq.clone_in(alloc)?,
-    };
-    Boxed::new(alloc, copy)
 }

@@ -2,20 +2,19 @@
 //! that has ended lets its bytes go.
 
 ghost use Rattle.std.specs.Prelude.{◌≡◌, ◌≤◌, ◌<◌, ◌^◌, ◌++◌, [], List, IfOk, OnOk, OnErr, drop, length};
-ghost use Rattle.std.specs.Option.{option_map};
 ghost use Rattle.sc_value.specs.declared.message.Message.{Message};
 ghost use Rattle.sc_tokens.specs.Bytes.{Bytes};
 ghost use Rattle.sc_syntax.specs.Fronts.{behind_breaks};
 ghost use Rattle.sc_stream.specs.Frames.{Splits, front_behind};
-ghost use Rattle.sc_stream.specs.Hearing.{Hears, IsBad, given_after, with_heads};
+ghost use Rattle.sc_stream.specs.Hearing.{Hears, IsBad, given_after};
 ghost use Rattle.sc_stream.specs.Knowing.{IsFirst};
 
 use crate::ends::{Ended, again, parted};
 use crate::first::{First, behind, look, nothing_known, pass_breaks};
 use crate::gone::Gone;
-use sc_syntax::{Answerable, Front};
+use sc_syntax::Front;
 use sc_terms::Bad;
-use sc_value::{Boxed, Message, NoMemory};
+use sc_value::{Answerable, Boxed, Message, NoMemory};
 use std::alloc::Global;
 use std::marker::Model;
 use std::mem::replace;
@@ -195,26 +194,11 @@ fn hear_bad(alloc: Global, at: usize, kind: u8, heads: Option<Answerable>) -> He
     }
 }
 
-fn boxed(
-    alloc: Global,
-    heads: Option<Answerable>,
-) -> Result<Option<Boxed<sc_terms::Answerable>>, NoMemory>
-    ensures { IfOk result (λ boxed. boxed ≡ option_map with_heads heads) }
+fn boxed(alloc: Global, heads: Option<Answerable>) -> Result<Option<Boxed<Answerable>>, NoMemory>
+    ensures { IfOk result (λ boxed. boxed ≡ heads) }
 {
     match heads {
-        Some(heads) => {
-            let heads = Boxed::new(
-                alloc,
-                sc_terms::Answerable {
-                    via: heads.via,
-                    from: heads.from,
-                    to: heads.to,
-                    call_id: heads.call_id,
-                    cseq: heads.cseq,
-                },
-            )?;
-            Ok(Some(heads))
-        }
+        Some(heads) => Ok(Some(Boxed::new(alloc, heads)?)),
         None => Ok(None),
     }
 }

@@ -15,6 +15,8 @@ pub enum Status {
     Dar { line: u64, kind: u8 },
     /// A step was due that the journal had no room for.
     JournalFull,
+    /// The edge could not listen.
+    Edge,
     /// Want of memory.
     NoMemory,
     /// The script is refused, at this byte.

@@ -408,10 +408,11 @@ impl Switch {
         }
     }
 
-    /// The oldest message that was sent and not taken yet, None exactly where all were taken.
+    /// The oldest message that was sent and not taken yet, None exactly where all were taken; nothing
+    /// changes then.
     pub fn take_sent(&mut self) -> Option<Sent>
         ensures some { IfSome result (λ sent. self.old.left ≡ sent ∷ self.new.left) }
-        ensures none { IfNone result (self.old.left ≡ []) }
+        ensures none { IfNone result ((self.old.left ≡ []) × (self.new ≡ self.old)) }
         ensures same { self.new ≡ record self.old { left = self.new.left } }
     {
         self.left.pop_front()

@@ -13,7 +13,7 @@ use Rattle.sc_value.specs.declared.parts.CSeq.{CSeq}
 use Rattle.sc_value.specs.declared.parts.Field.{Field}
 use Rattle.sc_value.specs.declared.parts.Via.{Via}
 use Rattle.sc_syntax.specs.declared.ending.Ending.TheVariants.{Empty}
-use Rattle.sc_syntax.specs.declared.front.Answerable.{Answerable}
+use Rattle.sc_value.specs.declared.answerable.Answerable.{Answerable}
 use Rattle.sc_syntax.specs.declared.front.Front.{Front}
 use Rattle.sc_syntax.specs.declared.front.Front.TheVariants.{Open, Whole, Bad, Long}
 use Rattle.sc_tokens.specs.Bytes.{Bytes}

@@ -1,15 +1,4 @@
-use sc_value::{Address, CSeq, HeaderValue, List, Message, Via};
-
-/// What an answer takes from a request (RFC 3261 section 8.2.6.2). The list of Vias isn't empty, and
-/// the first one has its branch.
-#[derive(Drop)]
-pub struct Answerable {
-    pub via: List<Via>,
-    pub from: Address,
-    pub to: Address,
-    pub call_id: HeaderValue,
-    pub cseq: CSeq,
-}
+use sc_value::{Answerable, Message};
 
 /// What the bytes of a stream begin with, behind the line ends that stand before a message (RFC 3261
 /// sections 7.5 and 18.3). Places and lengths are in bytes from the message's first one.

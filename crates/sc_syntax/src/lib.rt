@@ -9,6 +9,6 @@ mod left;
 mod scan;
 
 pub use ending::Ending;
-pub use front::{Answerable, Front};
+pub use front::Front;
 pub use left::{HeadParts, Header, Left, Lists, Singles, Start};
 pub use scan::Scan;

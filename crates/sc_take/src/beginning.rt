@@ -74,7 +74,13 @@ fn begun_live(
     })
 }
 
-fn first_tag(alloc: Global, config: &Config, epoch: u32, app: AppId) -> Result<Text, NoMemory>
+// The tag that an application session draws as it begins.
+pub(crate) fn own_tag(
+    alloc: Global,
+    config: &Config,
+    epoch: u32,
+    app: AppId,
+) -> Result<Text, NoMemory>
     ensures { IfOk result (λ t. t ≡ tag_text config.now.salt epoch app 1) }
 {
     let mut text = Text::new(alloc);
@@ -119,7 +125,7 @@ fn begun(
     let event = sum(count, 1)?;
     let own = Shared::new(alloc, request.clone_in(alloc)?)?;
     let live = begun_live(alloc, config, epoch, app, now, noted, &own, event)?;
-    let tag = first_tag(alloc, config, epoch, app)?;
+    let tag = own_tag(alloc, config, epoch, app)?;
     with_live(alloc, live, serial, host)?;
     with_server(alloc, app, event, from, tag, &own, host)?;
     with_trying(alloc, from, now, request, quiet(event), host)

@@ -5,19 +5,21 @@ ghost use Rattle.std.specs.Option.{option_copied};
 ghost use Rattle.sc_hosts.specs.Taking.{named_live, queue_later, later_by, take_later};
 ghost use Rattle.sc_inboxes.specs.TakenParts.{taken_by};
 
+use crate::beginning::own_tag;
 use sc_inboxes::{
     Told, is_full, named_live, own_uri, queue, refuse_full, refuse_unknown, unrouted, with_server,
     with_trying,
 };
 use sc_state::{Host, Live, Peer, Queued, Session};
 use sc_terms::Config;
-use sc_value::{AppId, CloneIn, NoMemory, Request, Shared, Text, Uri, sum};
+use sc_value::{AppId, CloneIn, NoMemory, Request, Shared, Uri, sum};
 use std::alloc::Global;
 
 #[tactic(auto, unfolding(sc_hosts::specs::Taking::queue_later))]
 fn queue_later(
     alloc: Global,
     config: &Config,
+    epoch: u32,
     number: u32,
     from: Peer,
     now: u64,
@@ -26,7 +28,7 @@ fn queue_later(
     live: &Live<Session>,
     host: &mut Host<Session>,
 ) -> Result<Told, NoMemory>
-    ensures { IfOk result (λ t. queue_later config.now number from now request.now count live.now host.old ≡ taken_by host.new t) }
+    ensures { IfOk result (λ t. queue_later config.now epoch number from now request.now count live.now host.old ≡ taken_by host.new t) }
 {
     if is_full(live) {
         return refuse_full(alloc, config, from, request, count);
@@ -37,7 +39,8 @@ fn queue_later(
         serial: live.serial,
     };
     let event = sum(count, 1)?;
-    with_server(alloc, app, event, from, Text::new(alloc), &own, host)?;
+    let tag = own_tag(alloc, config, epoch, app)?;
+    with_server(alloc, app, event, from, tag, &own, host)?;
     let told = queue(
         alloc,
         live.serial,
@@ -53,6 +56,7 @@ fn queue_later(
 fn later_by(
     alloc: Global,
     config: &Config,
+    epoch: u32,
     number: u32,
     from: Peer,
     now: u64,
@@ -61,12 +65,13 @@ fn later_by(
     live: Option<Shared<Live<Session>>>,
     host: &mut Host<Session>,
 ) -> Result<Told, NoMemory>
-    ensures { IfOk result (λ t. later_by config.now number from now request.now count live host.old ≡ taken_by host.new t) }
+    ensures { IfOk result (λ t. later_by config.now epoch number from now request.now count live host.old ≡ taken_by host.new t) }
 {
     match live {
         Some(live) => queue_later(
             alloc,
             config,
+            epoch,
             number,
             from,
             now,
@@ -115,5 +120,7 @@ pub fn take_later(
 {
     let uri = own_uri(alloc, config, request)?;
     let live = named_by(alloc, epoch, number, uri, host)?;
-    later_by(alloc, config, number, from, now, request, count, live, host)
+    later_by(
+        alloc, config, epoch, number, from, now, request, count, live, host,
+    )
 }

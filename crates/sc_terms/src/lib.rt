@@ -19,5 +19,5 @@ pub use events::Event;
 pub use inside::Inside;
 pub use ranges::{Apps, Expires, Port, Within};
 pub use settings::{AppEntry, Config, Dar, HostEntry, MethodList, Modifier, Tuple};
-pub use steps::{Answerable, Bad, Line, Step};
+pub use steps::{Bad, Line, Step};
 pub use views::{Period, RequestView, Role, SessionView, State, TimerView, View};

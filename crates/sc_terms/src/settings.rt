@@ -1,7 +1,10 @@
 //! A configuration and a routing table as plain data.
 
+ghost use Rattle.sc_terms.specs.RoutingTables.{IsDar};
+
 use crate::{Apps, Expires, Port, Within};
 use sc_value::{Address, List, Region, Text, Token};
+use std::marker::Model;
 
 /// The settings of a container. Each number keeps its range.
 #[derive(Drop)]
@@ -46,10 +49,30 @@ pub struct AppEntry {
     pub expires: Expires,
 }
 
-/// The table of the Default Application Router (JSR 289 appendix C).
+/// The table of the Default Application Router (JSR 289 appendix C). Each method is a token that
+/// doesn't begin with `!`, stands once, and has 1 to 64 tuples.
 #[derive(Drop)]
 pub struct Dar {
     pub lists: List<MethodList>,
+}
+
+impl Model for Dar {
+    ghost use Rattle.sc_terms.specs.RoutingTables.{DarValue, IsDar};
+
+    ghost Value = { DarValue };
+
+    ghost view = { λ d. record { lists = d.lists } };
+
+    ghost invariant = { λ d. IsDar (record { lists = d.lists }) };
+}
+
+impl Dar {
+    /// Each method is a token that begins no comment, stands once, and has 1 to 64 tuples.
+    pub fn known(&self)
+        ensures { IsDar self.now }
+    {
+        let _ = &self.lists;
+    }
 }
 
 /// The applications for a method, in order.

@@ -1,15 +1,5 @@
 use crate::{CallRecord, End};
-use sc_value::{Address, AppId, Boxed, CSeq, HeaderValue, List, Message, Place, Text, Via};
-
-/// The headers of a text that isn't a message from which it can be answered.
-#[derive(Drop)]
-pub struct Answerable {
-    pub via: List<Via>,
-    pub from: Address,
-    pub to: Address,
-    pub call_id: HeaderValue,
-    pub cseq: CSeq,
-}
+use sc_value::{Answerable, AppId, Boxed, List, Message, Place, Text};
 
 /// A text on a stream that isn't a message.
 #[derive(Drop)]

@@ -2,50 +2,11 @@
 
 ghost use Rattle.std.specs.Prelude.{◌≡◌, false};
 ghost use Rattle.std.specs.Option.{option_map_or, option_copied};
-ghost use Rattle.sc_tokens.specs.Names.{same_bytes};
-ghost use Rattle.sc_value.specs.declared.ids.Place.{Place};
-ghost use Rattle.sc_hosts.specs.Transacting.{same_place, takes_from, goes_to, is_over, is_proceeding, is_completed, top_via, branch_of, port_of, same_via, same_top};
+ghost use Rattle.sc_hosts.specs.Transacting.{takes_from, goes_to, is_over, is_proceeding, is_completed, top_via, branch_of, port_of, same_via, same_top};
 
 use sc_parts::TxnState;
 use sc_state::Peer;
-use sc_value::{Place, Via, branch, same_name};
-
-fn same_ip(a: [u8; 4], b: [u8; 4]) -> bool
-    ensures { result ≡ same_bytes a b }
-{
-    a == b
-}
-
-/// Whether two outside places are the same.
-#[tactic(auto, unfolding(sc_hosts::specs::Transacting::same_place))]
-pub fn same_place(a: Place, b: Place) -> bool
-    ensures { result ≡ same_place a b }
-{
-    match a {
-        Place::Back(a) => is_back(a, b),
-        Place::To(ip, port) => is_to(ip, port, b),
-    }
-}
-
-#[tactic(auto, unfolding(sc_hosts::specs::Transacting::same_place))]
-fn is_back(number: u64, place: Place) -> bool
-    ensures { result ≡ same_place (Place.Back number) place }
-{
-    match place {
-        Place::Back(other) => number == other,
-        Place::To(_, _) => false,
-    }
-}
-
-#[tactic(auto, unfolding(sc_hosts::specs::Transacting::same_place))]
-fn is_to(ip: [u8; 4], port: u16, place: Place) -> bool
-    ensures { result ≡ same_place (Place.To ip port) place }
-{
-    match place {
-        Place::Back(_) => false,
-        Place::To(other, other_port) => same_ip(ip, other) && port == other_port,
-    }
-}
+use sc_value::{Place, Via, branch, same_name, same_place};
 
 /// Whether a transaction with this end takes a message from there.
 #[tactic(auto, unfolding(sc_hosts::specs::Transacting::takes_from))]

@@ -16,7 +16,7 @@ mod tidying;
 pub use clients::{
     client_for, client_of, due_of_client, out_of_client, pass_client, ringing_branches, with_client,
 };
-pub use ends::{goes_to, is_over, is_proceeding, same_place};
+pub use ends::{goes_to, is_over, is_proceeding};
 pub use methods::{
     is_ack, is_cancel, is_cancel_client, is_invite, is_invite_client, is_invite_server, method_of,
 };

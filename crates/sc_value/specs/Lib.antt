@@ -5,5 +5,7 @@ pub mod SequenceValues
 pub mod UriValues
 pub mod ViaValues
 pub mod AddressValues
+pub mod AnswerableValues
 pub mod ContactRules
 pub mod OtherFields
+pub mod Places

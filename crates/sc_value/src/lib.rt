@@ -5,6 +5,7 @@
 //! data there: two messages are equal exactly where all their parts are.
 #![tactic(auto)]
 
+mod answerable;
 mod boxed;
 mod clone_in;
 mod discard;
@@ -21,13 +22,16 @@ mod other_uri;
 mod others;
 mod part_copies;
 mod parts;
+mod places;
 mod reason;
 mod same;
 mod shared;
+mod shown_text;
 mod text;
 mod token;
 mod tokens;
 
+pub use answerable::Answerable;
 pub use boxed::Boxed;
 pub use clone_in::CloneIn;
 pub use discard::Discard;
@@ -41,6 +45,7 @@ pub use numbers::{number_after, sum, sum_u32, write_u64};
 pub use other_uri::OtherUri;
 pub use others::{Others, is_other};
 pub use parts::{Address, CSeq, Contact, Field, Param, SipUri, Uri, Via, branch, tag};
+pub use places::same_place;
 pub use reason::Reason;
 pub use same::Same;
 pub use shared::Shared;

@@ -8,7 +8,8 @@ use Rattle.sc_terms.specs.declared.views.View.{View}
 use Rattle.sc_terms.specs.declared.views.RequestView.{RequestView}
 use Rattle.sc_state.specs.declared.orders.Order.{Order}
 use Rattle.sc_state.specs.declared.session.Known.{Known}
-use Rattle.sc_hosts.specs.Working.{goodbyes, invite_branches, in_order, is_owed, owed_answer}
+use Rattle.sc_hosts.specs.ViewChanges.{is_owed}
+use Rattle.sc_hosts.specs.Working.{goodbyes, invite_branches, in_order, owed_answer}
 use Rattle.sc_work.specs.Goodbyes.{is_whose, owed_by, kept_branches, proxy_branches, cancel_now}
 use Rattle.sc_work.proofs.Endings.{flat_map_filter}
 

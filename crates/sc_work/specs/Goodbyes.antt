@@ -13,7 +13,8 @@ use Rattle.sc_state.specs.declared.session.Known.{Known}
 use Rattle.sc_model.specs.SessionStates.{invite}
 use Rattle.sc_hosts.specs.Branches.{is_invite}
 use Rattle.sc_hosts.specs.Looking.{same_session}
-use Rattle.sc_hosts.specs.Working.{branch_of, is_owed, owed_answer}
+use Rattle.sc_hosts.specs.ViewChanges.{is_owed}
+use Rattle.sc_hosts.specs.Working.{branch_of, owed_answer}
 
 -- the SipSession is this one; None stands for all
 unfoldable pub is_whose : Option SessId → SessId → Bool

@@ -5,28 +5,19 @@ ghost use Rattle.std.specs.List.{flat_map};
 ghost use Rattle.sc_value.specs.Lists.{change_nth};
 ghost use Rattle.sc_hosts.specs.Looking.{same_session};
 ghost use Rattle.sc_hosts.specs.Legs.{change_leg};
-ghost use Rattle.sc_hosts.specs.Working.{is_owed, owed_answer, insert_number, in_order, branch_of, invite_branches, goodbyes, invalidates};
+ghost use Rattle.sc_hosts.specs.Working.{owed_answer, insert_number, in_order, branch_of, invite_branches, goodbyes, invalidates};
 ghost use Rattle.sc_sending.specs.Pieces.{as_invalidated};
 ghost use Rattle.sc_work.specs.Goodbyes.{is_whose, owed_by, kept_branches, proxy_branches, cancel_now};
 ghost use Rattle.sc_model.specs.BestResponses.{server_error};
 
 use sc_branches::is_invite;
-use sc_effects::kept_of;
+use sc_effects::{is_owed, kept_of};
 use sc_legs::leg_place;
-use sc_refusals::is_ack;
 use sc_sending::answers;
 use sc_state::{Branch, Kept, Known, Leg, Order, Proxy, Way, Working};
 use sc_terms::{Answer, Config, RequestView, View};
 use sc_value::{List, NoMemory, SessId, Text};
 use std::alloc::Global;
-
-/// Whether a request was received and waits for its final response. An ACK has none.
-#[tactic(auto, unfolding(sc_hosts::specs::Working::is_owed))]
-pub fn is_owed(request: &RequestView) -> bool
-    ensures { result ≡ is_owed request.now }
-{
-    request.received && request.answered.is_none() && !is_ack(request.method.as_bytes())
-}
 
 #[tactic(auto, unfolding(sc_model::specs::BestResponses::server_error))]
 fn error_answer(alloc: Global) -> Result<Answer, NoMemory>

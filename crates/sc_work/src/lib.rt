@@ -5,5 +5,5 @@
 mod ending;
 mod working;
 
-pub use ending::{cancels_all, goodbyes_of, is_owed, owed_all};
+pub use ending::{cancels_all, goodbyes_of, owed_all};
 pub use working::{does, starts, worked, worked_all};

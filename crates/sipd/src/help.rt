@@ -31,6 +31,7 @@ The exit status, and the line on standard error:
    3  sipd: config KIND KEY   the configuration is refused
    4  sipd: dar LINE KIND     the routing table is refused, at this line
    5  sipd: journal full      a step was due that the journal had no room for
+   6  sipd: edge              the server could not listen; no form ends so yet
    7  sipd: no memory         want of memory
    8  sipd: script AT KIND    the script is refused, at this byte
    9  sipd: read              a file could not be read

@@ -1,8 +1,9 @@
 //! The kinds of applications that the program has.
 
 use sc_apps::ExtendsOnce;
-use sc_edge::{FileShelf, OutSink};
+use sc_edge::FileShelf;
 use sc_kinds::BuiltIn;
+use sc_limit::output;
 use sc_replay::{Command, Status, check, replay};
 use sc_servlets::{Catalogue, Listener};
 use sc_value::{NoMemory, Text};
@@ -34,7 +35,7 @@ pub fn run_with_kinds(
 
 fn run_with(rt: &HostRuntime, words: &[String], command: Command, apps: &Catalogue) -> Status {
     let alloc = rt.alloc();
-    let mut out = OutSink::new(rt);
+    let mut out = output(rt);
     let mut shelf = FileShelf::new(rt, alloc);
     match command {
         Command::Check => check(alloc, words, &mut shelf, apps, &mut out).status,

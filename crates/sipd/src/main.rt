@@ -7,7 +7,8 @@ mod kinds;
 
 use endings::{exit_status, write_line};
 use kinds::run_with_kinds;
-use sc_edge::{OutSink, put_all};
+use sc_edge::put_all;
+use sc_limit::{Stream, fitting, output, room_of};
 use sc_replay::{Command, Status, command_of, make};
 use sc_value::Text;
 use std::env;
@@ -44,7 +45,7 @@ fn run(rt: &HostRuntime, words: &[String]) -> Status {
 
 /// Writes a text on standard output.
 fn put(rt: &HostRuntime, text: &str) -> Status {
-    match put_all(&mut OutSink::new(rt), text.as_bytes()) {
+    match put_all(&mut output(rt), text.as_bytes()) {
         Ok(()) => Status::Done,
         Err(_) => Status::Write,
     }
@@ -53,15 +54,17 @@ fn put(rt: &HostRuntime, text: &str) -> Status {
 /// Runs the command that the words are.
 fn run_command(rt: &HostRuntime, words: &[String]) -> Status {
     match command_of(words) {
-        Command::Make => make(rt.alloc(), words, &mut OutSink::new(rt)).status,
+        Command::Make => make(rt.alloc(), words, &mut output(rt)).status,
         command => run_with_kinds(rt, words, command).unwrap_or(Status::NoMemory),
     }
 }
 
-/// Writes the line on standard error that the status has. Nobody is left to hear of a failure.
+/// Writes the line on standard error that the status has, as far as there is room for it. Nobody is
+/// left to hear of a failure.
 fn tell(rt: &HostRuntime, status: &Status) {
     let mut line = Text::new(rt.alloc());
     if write_line(status, &mut line).is_ok() {
-        let _ = rt.stderr().write_all(line.as_bytes());
+        let room = room_of(rt, Stream::Errors);
+        let _ = rt.stderr().write_all(fitting(room, line.as_bytes()));
     }
 }

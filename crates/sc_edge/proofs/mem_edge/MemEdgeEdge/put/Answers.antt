@@ -1,5 +1,5 @@
 use Rattle.std.proofs.Common.{◌-◌, ◌∙◌, length}
-use Rattle.sc_edge.proofs.EdgePutLaws.{part_of, put_barred, put_cut, put_later, put_leaves, put_stands, put_stays, put_took}
+use Rattle.sc_edge.proofs.EdgePutLaws.{part_of, put_barred, put_cut, put_later, put_leaves, put_no_poll, put_stands, put_stays, put_tells, put_took}
 use Rattle.sc_edge.proofs.mem_edge.MemEdgeEdge.put.Goals as goal
 
 pub returns-clause-later : goal.returns-clause-later
@@ -15,7 +15,7 @@ pub returns-clause-took : goal.returns-clause-took
 returns-clause-took c = rw (c.put_next.ensures.after, c.put_next.ensures.put) (put_took c.args.self.now c.args.to c.args.bytes.now)
 
 pub returns-clause-cut : goal.returns-clause-cut
-returns-clause-cut c = rw (c.put_next.ensures.after, c.put_next.ensures.put) (put_cut c.args.self.now c.args.to c.args.bytes.now)
+returns-clause-cut c = λ peer. rw (c.put_next.ensures.after, c.put_next.ensures.put) (put_cut c.args.self.now c.args.to c.args.bytes.now)
 
 pub returns-clause-leaves : goal.returns-clause-leaves
 returns-clause-leaves c = rw (c.put_next.ensures.after, c.put_next.ensures.put) (put_leaves c.args.self.now c.args.to c.args.bytes.now)
@@ -25,3 +25,9 @@ returns-clause-stays c = λ place apart. rw c.put_next.ensures.after (put_stays 
 
 pub returns-clause-stands : goal.returns-clause-stands
 returns-clause-stands c = λ place apart. rw c.put_next.ensures.after (put_stands c.args.self.now c.args.to c.args.bytes.now place apart)
+
+pub returns-clause-tells : goal.returns-clause-tells
+returns-clause-tells c = rw (c.put_next.ensures.after, c.put_next.ensures.put) (put_tells c.args.self.now c.args.to c.args.bytes.now)
+
+pub returns-clause-polled : goal.returns-clause-polled
+returns-clause-polled c = rw c.put_next.ensures.after (put_no_poll c.args.self.now c.args.to c.args.bytes.now)

@@ -1,0 +1,136 @@
+-- What comes from outside, a lost place and a tick keep each relation of nets with the laws.
+use Rattle.std.proofs.Common.{◌≡◌, ℕ, Option, None, Some, refl}
+use Rattle.sc_value.specs.declared.ids.AppId.{AppId}
+use Rattle.sc_value.specs.declared.ids.Place.{Place}
+use Rattle.sc_value.specs.declared.message.Message.{Message}
+use Rattle.sc_value.specs.declared.message.Message.TheVariants as messages
+use Rattle.sc_value.specs.declared.message.Request.{Request}
+use Rattle.sc_value.specs.declared.message.Response.{Response}
+use Rattle.sc_value.specs.declared.parts.Address.{Address}
+use Rattle.sc_terms.specs.declared.settings.Config.{Config}
+use Rattle.sc_value.specs.declared.answerable.Answerable.{Answerable}
+use Rattle.sc_parts.specs.declared.choice.Choice.{Choice}
+use Rattle.sc_parts.specs.declared.choice.Choice.TheVariants as choices
+use Rattle.sc_parts.specs.declared.setup.Setup.{Setup}
+use Rattle.sc_parts.specs.declared.transactions.ClientItem.{ClientItem}
+use Rattle.sc_parts.specs.declared.transactions.ClientItem.TheVariants as client_items
+use Rattle.sc_state.specs.declared.host.Client.{Client}
+use Rattle.sc_state.specs.declared.host.Host.{Host}
+use Rattle.sc_state.specs.declared.host.Live.{Live}
+use Rattle.sc_state.specs.declared.host.Peer.TheVariants as peers
+use Rattle.sc_state.specs.declared.net.Net.{Net}
+use Rattle.sc_state.specs.declared.net.Note.{Note}
+use Rattle.sc_state.specs.declared.orders.Outcome.{Outcome}
+use Rattle.sc_state.specs.declared.queue.Queued.TheVariants as queued
+use Rattle.sc_grammar.specs.Written.{Bytes}
+use Rattle.sc_model.specs.Timers.{DueEntry}
+use Rattle.sc_hosts.specs.Arrivals.{host_takes, taken_at, edge_answer, begins_by, initial_arrives, later_at, later_arrives, unclaimed, request_by, response_by, arrived, bad_by}
+use Rattle.sc_hosts.specs.Nets.{host_at}
+use Rattle.sc_hosts.specs.Routes.{unrouted_initial, popped_route}
+use Rattle.sc_hosts.specs.Sessions.{Form}
+use Rattle.sc_hosts.specs.Steps.{with_ready}
+use Rattle.sc_hosts.specs.Ticks.{told_at, passes, clients_to, lost, DueItem, Of_session, Of_client, Of_server, mark_fired, fires, due_items, ticked}
+use Rattle.sc_hosts.specs.Words.{unavailable}
+use Rattle.sc_walks.proofs.WalkHosts.{takes-walks, pass_server-walks}
+use Rattle.sc_walks.proofs.WalkNets.{if-walks, fold-walks, change_host-walks, put-walks, placed-walks, queue_for-walks, passed-walks}
+use Rattle.sc_walks.specs.Walks.{HostLaws, NetLaws}
+
+module _ {S : Type 0} (H : ℕ → ℕ → ℕ → Host S → ℕ → Host S → Type 0) (P : Net S → Net S → Type 0)
+    (hosts : (number now : ℕ) → HostLaws number now (H number now)) (law : NetLaws H P) where
+  -- ## A message or a text comes from outside
+
+  host_takes-walks : (form : Form S) (setup : Setup) (from : Place) (noted : Option Note) (message : Message) (number : ℕ) (found : Option (Host S)) (net : Net S) → host_at number net ≡ found
+      → P net (host_takes form setup from noted message number found net)
+  unfolding host_takes
+  host_takes-walks form setup from noted message number None net is = law.same net
+  host_takes-walks form setup from noted message number (Some host) net is =
+      placed-walks H P hosts law number _ host net is (takes-walks number net.moment (H number net.moment) (hosts number net.moment) form setup.config net.epoch (peers.Outside from) noted message net.count host)
+
+  taken_at-walks : (form : Form S) (setup : Setup) (from : Place) (noted : Option Note) (message : Message) (number : ℕ) (net : Net S) → P net (taken_at form setup from noted message number net)
+  unfolding taken_at
+  taken_at-walks form setup from noted message number net = host_takes-walks form setup from noted message number _ net refl
+
+  edge_answer-walks : (config : Config) (from : Place) (code : ℕ) (reason : Bytes) (request : Request) (net : Net S) → P net (edge_answer config from code reason request net)
+  unfolding edge_answer
+  edge_answer-walks config from code reason request net = if-walks H P hosts law _ net net _ (law.same net) (put-walks H P hosts law 0 (peers.Outside from) _ None net)
+
+  begins_by-walks : (form : Form S) (setup : Setup) (from : Place) (request : Request) (popped : Option Address) (choice : Choice) (net : Net S) → P net (begins_by form setup from request popped choice net)
+  unfolding begins_by
+  begins_by-walks form setup from request popped (choices.App host order region subscriber route) net = taken_at-walks form setup from _ _ host net
+  begins_by-walks form setup from request popped (choices.Send routes) net = edge_answer-walks setup.config from 404 _ request net
+  begins_by-walks form setup from request popped choices.Onward net = edge_answer-walks setup.config from 404 _ request net
+  begins_by-walks form setup from request popped choices.NotFound net = edge_answer-walks setup.config from 404 _ request net
+
+  initial_arrives-walks : (form : Form S) (setup : Setup) (from : Place) (request : Request) (net : Net S) → P net (initial_arrives form setup from request net)
+  unfolding initial_arrives
+  initial_arrives-walks form setup from request net =
+      if-walks H P hosts law _ net net _ (law.same net)
+      (if-walks H P hosts law _ net _ _ (edge_answer-walks setup.config from 481 _ request net)
+      (begins_by-walks form setup from (unrouted_initial setup.config request) (popped_route setup.config request) _ net))
+
+  later_at-walks : (form : Form S) (setup : Setup) (from : Place) (request : Request) (number : Option ℕ) (net : Net S) → P net (later_at form setup from request number net)
+  unfolding later_at
+  later_at-walks form setup from request None net = edge_answer-walks setup.config from 481 _ request net
+  later_at-walks form setup from request (Some number) net = taken_at-walks form setup from None _ number net
+
+  unclaimed-walks : (form : Form S) (setup : Setup) (from : Place) (request : Request) (net : Net S) → P net (unclaimed form setup from request net)
+  unfolding unclaimed later_arrives
+  unclaimed-walks form setup from request net =
+      if-walks H P hosts law _ net _ _ (edge_answer-walks setup.config from 481 _ request net)
+      (if-walks H P hosts law _ net _ _ (later_at-walks form setup from request _ net) (initial_arrives-walks form setup from request net))
+
+  request_by-walks : (form : Form S) (setup : Setup) (from : Place) (request : Request) (number : Option ℕ) (net : Net S) → P net (request_by form setup from request number net)
+  unfolding request_by
+  request_by-walks form setup from request None net = unclaimed-walks form setup from request net
+  request_by-walks form setup from request (Some number) net = taken_at-walks form setup from None _ number net
+
+  response_by-walks : (form : Form S) (setup : Setup) (from : Place) (response : Response) (number : Option ℕ) (net : Net S) → P net (response_by form setup from response number net)
+  unfolding response_by
+  response_by-walks form setup from response None net = law.same net
+  response_by-walks form setup from response (Some number) net = taken_at-walks form setup from None _ number net
+
+  pub arrived-walks : (form : Form S) (setup : Setup) (from : Place) (message : Message) (net : Net S) → P net (arrived form setup from message net)
+  unfolding arrived
+  arrived-walks form setup from (messages.Request request) net = request_by-walks form setup from request _ net
+  arrived-walks form setup from (messages.Response response) net = response_by-walks form setup from response _ net
+
+  pub bad_by-walks : (config : Config) (from : Place) (heads : Option Answerable) (net : Net S) → P net (bad_by config from heads net)
+  unfolding bad_by
+  bad_by-walks config from None net = law.same net
+  bad_by-walks config from (Some heads) net = if-walks H P hosts law _ net net _ (law.same net) (put-walks H P hosts law 0 (peers.Outside from) _ None net)
+
+  -- ## A place is lost, and time passes
+
+  told_at-walks : (config : Config) (client : Client) (reason : Bytes) (code : Option ℕ) (net : Net S) → P net (told_at config client reason code net)
+  unfolding told_at
+  told_at-walks config client reason None net = law.same net
+  told_at-walks config client reason (Some code) net = if-walks H P hosts law _ net net _ (law.same net) (queue_for-walks H P hosts law client.app _ net)
+
+  passes-walks : (config : Config) (item : ClientItem) (reason : Bytes) (net : Net S) (client : Client) → P net (passes config item reason net client)
+  unfolding passes
+  passes-walks config item reason net client = law.after _ _ _ (passed-walks H P hosts law client.app client.branch _ item net) (told_at-walks config client reason _ _)
+
+  pub lost-walks : (config : Config) (place : Place) (net : Net S) → P net (lost config place net)
+  unfolding lost
+  lost-walks config place net = fold-walks H P hosts law (clients_to place net) (passes config client_items.PlaceLost unavailable) (passes-walks config client_items.PlaceLost unavailable) net
+
+  fires-walks : (config : Config) (now : ℕ) (net : Net S) (entry : DueEntry) (item : DueItem) → P net (fires config now net entry item)
+  unfolding fires
+  fires-walks config now net entry (Of_session app event) =
+      law.after _ _ _ (change_host-walks H P hosts law app.host (mark_fired entry) net (λ host. (hosts app.host net.moment).marks entry net.count host)) (queue_for-walks H P hosts law app event _)
+  fires-walks config now net entry (Of_client client) = passes-walks config (client_items.MomentCame now) _ net client
+  fires-walks config now net entry (Of_server server) =
+      change_host-walks H P hosts law server.app.host _ net (λ host. pass_server-walks server.app.host net.moment (H server.app.host net.moment) (hosts server.app.host net.moment) server.event _ net.count host)
+
+  pub ticked-walks : (form : Form S) (config : Config) (now : ℕ) (net : Net S) → P net (ticked form config now net)
+  unfolding ticked
+  ticked-walks form config now net =
+      law.after _ _ _ (law.ticks net now)
+      (fold-walks H P hosts law (due_items form now net) (λ net d. fires config now net d.entry d.item) (λ net d. fires-walks config now net d.entry d.item) (record net { moment = now }))
+
+  -- ## After a turn
+
+  pub with_ready-walks : (app : AppId) (done : Outcome) (live : Option (Live S)) (net : Net S) → P net (with_ready app done live net)
+  unfolding with_ready
+  with_ready-walks app done None net = law.same net
+  with_ready-walks app done (Some live) net = if-walks H P hosts law _ net _ net (queue_for-walks H P hosts law app queued.Ready net) (law.same net)
