@@ -10,6 +10,7 @@ stop_after = 7
 journal_steps = 1000
 journal_bytes = 65536
 epoch_steps = 9
+journal_parts = true
 hosts = { \"b.test\" = \"10.0.0.2\", \"a.test\" = \"10.0.0.1\" }
 [[app]]
 name = \"first\"
@@ -108,7 +109,7 @@ fn reads_all_keys(rt: HostRuntime) -> Result<(), Fail> {
     assert!(rt; config.salt.as_bytes() == b"s1".as_slice());
     assert!(rt; config.workers.get() == 4 && config.stop_after.get() == 7);
     assert!(rt; config.journal_steps.get() == 1000 && config.journal_bytes.get() == 65536);
-    assert!(rt; config.epoch_steps.get() == 9);
+    assert!(rt; config.epoch_steps.get() == 9 && config.journal_parts);
     let hosts = config.hosts.as_slice();
     assert!(rt; hosts.len() == 2);
     assert!(rt; hosts[0].name.as_bytes() == b"a.test".as_slice() && hosts[0].ip == [10, 0, 0, 1]);

@@ -163,9 +163,10 @@ fn orders_of_list(rt: HostRuntime) -> Result<(), Fail> {
     Ok(())
 }
 
-// Tells a notice of an epoch of one step, whose journal is the number 7.
+// Tells a notice of an epoch of one step, whose parts are the numbers 6 and 7.
 fn tell<N: Notice<u64>>(notice: &mut N, alloc: Global) {
     notice.step(1);
+    notice.part(6);
     notice.epoch(0, 4, 7);
     notice.list(Listing {
         epoch: 1,
@@ -182,8 +183,16 @@ fn notice_that_keeps(rt: HostRuntime) {
     tell(&mut notice, alloc);
     tell(&mut NoNotice, alloc);
     OpenGate.pass(AppId { host: 0, serial: 1 }, 1);
-    let Some([Noted::Step(1), Noted::Epoch(0, 4, 7), Noted::List(listing)]) = notice.noted() else {
-        panic!(rt; "three notes");
+    let Some(
+        [
+            Noted::Step(1),
+            Noted::Part(6),
+            Noted::Epoch(0, 4, 7),
+            Noted::List(listing),
+        ],
+    ) = notice.noted()
+    else {
+        panic!(rt; "four notes");
     };
     assert_eq!(rt; listing.epoch, 1);
 }

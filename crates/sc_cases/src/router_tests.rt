@@ -39,6 +39,7 @@ fn settings(alloc: Global) -> Result<Config, NoMemory> {
         journal_steps: Within::of(1),
         journal_bytes: Within::of(1),
         epoch_steps: Within::of(0),
+        journal_parts: false,
         hosts: List::new(alloc),
         app,
     })

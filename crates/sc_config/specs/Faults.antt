@@ -11,7 +11,7 @@ use Rattle.sc_config.specs.declared.faults.Check.TheVariants.{UnknownKeys, Missi
 use Rattle.sc_config.specs.declared.faults.Wrong.{Wrong}
 use Rattle.sc_config.specs.declared.faults.Wrong.TheVariants.{TopKey, AppKey, Host}
 use Rattle.sc_config.specs.Documents.{Bytes, elements, first_key, first_given}
-use Rattle.sc_config.specs.KeyValues.{listen_in, text_in, number_in, is_wrong_host, is_params, expires_in, is_app_name, is_salt}
+use Rattle.sc_config.specs.KeyValues.{listen_in, text_in, number_in, flag_in, is_wrong_host, is_params, expires_in, is_app_name, is_salt}
 
 -- a kind of refusal and the key at fault
 abbrev pub Fault : Type 0
@@ -54,7 +54,7 @@ unfoldable pub is_top_key : Bytes → Bool
 is_top_key key =
     same_bytes key (codes "listen") || same_bytes key (codes "domain") || same_bytes key (codes "salt") || same_bytes key (codes "workers")
     || same_bytes key (codes "stop_after") || same_bytes key (codes "journal_steps") || same_bytes key (codes "journal_bytes")
-    || same_bytes key (codes "epoch_steps") || same_bytes key (codes "hosts") || same_bytes key (codes "app")
+    || same_bytes key (codes "epoch_steps") || same_bytes key (codes "journal_parts") || same_bytes key (codes "hosts") || same_bytes key (codes "app")
 
 unfoldable pub is_app_key : Bytes → Bool
 is_app_key key =
@@ -89,6 +89,10 @@ wrong_text test key table = wrong_if (is_none (text_in test (get_member key tabl
 -- the key has no number from low to high
 unfoldable pub wrong_number : ℕ → ℕ → Bytes → Members → Option Fault
 wrong_number low high key table = wrong_if (is_none (number_in low high low (get_member key table))) key
+
+-- the key is neither true nor false
+unfoldable pub wrong_flag : Bytes → Members → Option Fault
+wrong_flag key table = wrong_if (is_none (flag_in (get_member key table))) key
 
 unfoldable pub wrong_numbers : Members → Option Fault
 wrong_numbers top = first_fault (
@@ -152,6 +156,7 @@ top_fault Range top = first_fault (
     ∷ wrong_text is_host (codes "domain") top
     ∷ wrong_text is_salt (codes "salt") top
     ∷ wrong_numbers top
+    ∷ wrong_flag (codes "journal_parts") top
     ∷ wrong_hosts (get_member (codes "hosts") top)
     ∷ wrong_apps top
     ∷ [])

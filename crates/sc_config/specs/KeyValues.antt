@@ -1,11 +1,11 @@
 -- The value of each key: what it has to be, and what stands where it is absent.
-use Rattle.std.specs.Prelude.{ℕ, ℤ, pos, negsuc, Bool, true, not, ◌||◌, ◌&&◌, ◌==◌, Option, Some, None, [], ◌∷◌, length, nat_le, nat_lt, if◌then◌else◌, is_some, slice_index}
+use Rattle.std.specs.Prelude.{ℕ, ℤ, pos, negsuc, Bool, true, false, not, ◌||◌, ◌&&◌, ◌==◌, Option, Some, None, [], ◌∷◌, length, nat_le, nat_lt, if◌then◌else◌, is_some, slice_index}
 use Rattle.std.specs.List.{list_all, before_first, after_first}
 use Rattle.std.specs.Option.{option_and_then}
 use Rattle.std.specs.Char.{is_ascii_alphanumeric, is_ascii_digit}
 use Rattle.std.specs.Str.Parse.{digits_value}
 use Rattle.std.specs.Net.Reader.{read_ipv4}
-use Rattle.toml.specs.Data.{Data, as_str, as_integer, as_array}
+use Rattle.toml.specs.Data.{Data, as_str, as_integer, as_bool, as_array}
 use Rattle.sc_terms.specs.Ranges.{is_expiry}
 use Rattle.sc_tokens.specs.Hosts.{is_host}
 use Rattle.sc_config.specs.Documents.{Bytes, elements}
@@ -74,6 +74,11 @@ number_within low high (negsuc n) = None
 unfoldable pub number_in : ℕ → ℕ → ℕ → Option Data → Option ℕ
 number_in low high standard None = Some standard
 number_in low high standard (Some value) = option_and_then (number_within low high) (as_integer value)
+
+-- true or false, false where the key is absent
+unfoldable pub flag_in : Option Data → Option Bool
+flag_in None = Some false
+flag_in (Some value) = as_bool value
 
 unfoldable pub expiry_of : ℤ → Option ℤ
 expiry_of minutes = if is_expiry minutes then Some minutes else None

@@ -1,5 +1,5 @@
 -- The settings that a TOML text gives, or its first refusal.
-use Rattle.std.specs.Prelude.{ℕ, pos, Option, Some, None, Result, Ok, Err, List, [], ◌∷◌, map, codes, length, nat_lt, if◌then◌else◌, position}
+use Rattle.std.specs.Prelude.{ℕ, pos, false, Option, Some, None, Result, Ok, Err, List, [], ◌∷◌, map, codes, length, nat_lt, if◌then◌else◌, position}
 use Rattle.std.specs.Option.{option_and_then, option_map_or, unwrap_or}
 use Rattle.toml.specs.Data.{Data, Members, no_members, member, get_member, as_str, as_table}
 use Rattle.sc_tokens.specs.Names.{same_bytes}
@@ -9,7 +9,7 @@ use Rattle.sc_terms.specs.declared.settings.AppEntry.{AppEntry}
 use Rattle.sc_config.specs.declared.config_refused.ConfigRefused.{ConfigRefused}
 use Rattle.sc_config.specs.declared.config_refused.ConfigRefused.TheVariants.{Refused, NoMemory}
 use Rattle.sc_config.specs.Documents.{Bytes, document, elements}
-use Rattle.sc_config.specs.KeyValues.{listen_in, number_in, expires_in, host_ip}
+use Rattle.sc_config.specs.KeyValues.{listen_in, number_in, flag_in, expires_in, host_ip}
 use Rattle.sc_config.specs.Faults.{Fault, SYNTAX, LONG, app_text, apps_in, first_refusal}
 
 -- Each value below is taken from a document without fault, so what stands for an absent one is never met.
@@ -73,6 +73,7 @@ config_of kinds top = record {
   journal_steps = number_at 1 1000000 1000000 (codes "journal_steps") top;
   journal_bytes = number_at 1 67108864 67108864 (codes "journal_bytes") top;
   epoch_steps = number_at 0 1000000 0 (codes "epoch_steps") top;
+  journal_parts = unwrap_or (flag_in (get_member (codes "journal_parts") top)) false;
   hosts = hosts_in (get_member (codes "hosts") top);
   app = map (app_entry kinds) (apps_in top);
 }

@@ -6,7 +6,7 @@ ghost use Rattle.std.specs.Option.{option_map, option_map_or, option_copied, opt
 ghost use Rattle.toml.specs.Data.{as_str, as_table, get_member};
 ghost use Rattle.sc_tokens.specs.Names.{same_bytes};
 ghost use Rattle.toml.specs.View.{view, table_view};
-ghost use Rattle.sc_config.specs.Faults.{fault_if, missing, wrong_if, wrong_text, wrong_listen, wrong_number, wrong_params, wrong_expires, app_fault, top_fault, is_app_key, is_top_key, is_any, is_wrong, item_fault, apps_in, apps_fault, are_some_tables, wrong_apps, wrong_hosts, wrong_numbers, table_fault, app_text, is_kind, unknown_kind, double_name, first_refusal, first_fault};
+ghost use Rattle.sc_config.specs.Faults.{fault_if, missing, wrong_if, wrong_text, wrong_listen, wrong_number, wrong_flag, wrong_params, wrong_expires, app_fault, top_fault, is_app_key, is_top_key, is_any, is_wrong, item_fault, apps_in, apps_fault, are_some_tables, wrong_apps, wrong_hosts, wrong_numbers, table_fault, app_text, is_kind, unknown_kind, double_name, first_refusal, first_fault};
 ghost use Rattle.sc_config.specs.KeyValues.{is_wrong_host, text_in, text_if, is_salt, is_app_name, listen_in, is_params};
 ghost use Rattle.sc_tokens.specs.Hosts.{is_host};
 ghost use Rattle.sc_config.specs.declared.faults.Check.TheVariants.{UnknownKeys, Missing, Range};
@@ -15,7 +15,7 @@ ghost use Rattle.sc_config.specs.Documents.{first_key, first_given};
 use crate::config_refused::{DOUBLE_NAME, MISSING, RANGE, UNKNOWN_KEY, UNKNOWN_KIND};
 use crate::texts::{is_app_name, is_salt};
 use crate::values::{
-    elements, expires_in, host_ip, is_params, listen_in, number_in, text_at, value_at,
+    elements, expires_in, flag_in, host_ip, is_params, listen_in, number_in, text_at, value_at,
 };
 use sc_terms::Within;
 use sc_uri_text::is_host;
@@ -86,6 +86,13 @@ fn wrong_number<'a, const LOW: u64, const HIGH: u64>(
 {
     let number = number_in::<LOW, HIGH>(Within::of(LOW), value_at(table, key));
     fault_if(number.is_none(), RANGE, key)
+}
+
+#[tactic(auto, unfolding(crate::specs::Faults::wrong_flag))]
+fn wrong_flag<'a>(key: &'a str, table: &Table) -> Option<Fault<'a>>
+    ensures { result ≡ wrong_flag key.now (table_view table.now) }
+{
+    fault_if(flag_in(value_at(table, key)).is_none(), RANGE, key)
 }
 
 #[tactic(auto, unfolding(crate::specs::Faults::wrong_expires))]
@@ -189,6 +196,7 @@ fn is_top_key(key: &str) -> bool
         || key == "journal_steps"
         || key == "journal_bytes"
         || key == "epoch_steps"
+        || key == "journal_parts"
         || key == "hosts"
         || key == "app"
 }
@@ -358,6 +366,9 @@ fn range_at_top(table: &Table) -> Option<Fault<'_>>
         return Some(fault);
     }
     if let Some(fault) = wrong_numbers(table) {
+        return Some(fault);
+    }
+    if let Some(fault) = wrong_flag("journal_parts", table) {
         return Some(fault);
     }
     if let Some(fault) = wrong_hosts(table) {

@@ -12,7 +12,9 @@ ghost use Rattle.sc_config.specs.KeyValues.{is_salt};
 ghost use Rattle.sc_config.specs.ReadSettings.{param_text, params_in, kind_place, app_value, app_entry, host_entry, host_entries, hosts_in, number_at, top_text, config_of};
 
 use crate::faults::{app_text, apps_in};
-use crate::values::{elements, expires_in, host_ip, listen_in, number_in, text_at, value_at};
+use crate::values::{
+    elements, expires_in, flag_in, host_ip, listen_in, number_in, text_at, value_at,
+};
 use sc_terms::{AppEntry, Apps, Config, Expires, HostEntry, Port, Within};
 use sc_value::{List, NoMemory, Text, Token};
 use std::alloc::Global;
@@ -213,6 +215,7 @@ pub(crate) fn config_of(alloc: Global, kinds: &[Text], top: &Table) -> Result<Co
         journal_steps: number_at(Within::of(1_000_000), "journal_steps", top),
         journal_bytes: number_at(Within::of(67_108_864), "journal_bytes", top),
         epoch_steps: number_at(Within::of(0), "epoch_steps", top),
+        journal_parts: flag_in(value_at(top, "journal_parts")).unwrap_or(false),
         hosts,
         app,
     })

@@ -2,9 +2,9 @@
 
 ghost use Rattle.std.specs.Prelude.{◌≡◌, ◌≤◌, IfSome, map, Some, is_some};
 ghost use Rattle.std.specs.Option.{option_map, option_copied, option_and_then};
-ghost use Rattle.toml.specs.Data.{as_str, as_integer, get_member};
+ghost use Rattle.toml.specs.Data.{as_str, as_integer, as_bool, get_member};
 ghost use Rattle.toml.specs.View.{view, table_view};
-ghost use Rattle.sc_config.specs.KeyValues.{number_within, number_in, expires_in, expiry_of};
+ghost use Rattle.sc_config.specs.KeyValues.{number_within, number_in, flag_in, expires_in, expiry_of};
 ghost use Rattle.sc_config.specs.KeyValues.{host_ip, ip_of, is_params, listen_in, listen_text};
 ghost use Rattle.sc_config.specs.Documents.{elements, items_in};
 ghost use Rattle.std.specs.List.{list_all};
@@ -46,6 +46,17 @@ pub(crate) fn number_in<const LOW: u64, const HIGH: u64>(
             None => None,
         },
         None => Some(standard),
+    }
+}
+
+/// Whether a key is set, not where it is absent.
+#[tactic(auto, unfolding(crate::specs::KeyValues::flag_in))]
+pub(crate) fn flag_in(value: Option<&Value>) -> Option<bool>
+    ensures { result ≡ flag_in (option_map (λ v. view v.now) value.entry) }
+{
+    match value {
+        Some(value) => value.as_bool(),
+        None => Some(false),
     }
 }
 

@@ -68,4 +68,8 @@ impl<J: Drop> Notice<J> for KeepNotice<J> {
     fn list(&mut self, listing: Listing) {
         self.note(Noted::List(listing));
     }
+
+    fn part(&mut self, journal: J) {
+        self.note(Noted::Part(journal));
+    }
 }

@@ -8,7 +8,10 @@ use crate::Listing;
 pub enum Noted<J> {
     /// The journal of the epoch has this many steps now.
     Step(u64),
-    /// The epoch of this number, which began at this moment, has ended with this journal.
+    /// The steps of the running epoch that were handed on.
+    Part(J),
+    /// The epoch of this number, which began at this moment, has ended with this journal, or with
+    /// what of it wasn't handed on before.
     Epoch(u32, u64, J),
     /// What lives now.
     List(Listing),
@@ -32,6 +35,11 @@ pub trait Notice<J: Drop> {
     /// What lives now.
     fn list(&mut self, listing: Listing)
         ensures { Notes (noted self.old) (noted self.new) (Noted.List listing) };
+
+    /// Here are the steps of the running epoch that were kept so far; the epoch goes on. A notice that
+    /// doesn't tell may let them go.
+    fn part(&mut self, journal: J)
+        ensures { Notes (noted self.old) (noted self.new) (Noted.Part journal) };
 }
 
 /// A notice that drops what it is told.
@@ -46,4 +54,6 @@ impl<J: Drop> Notice<J> for NoNotice {
     fn epoch(&mut self, _number: u32, _began: u64, _journal: J) {}
 
     fn list(&mut self, _listing: Listing) {}
+
+    fn part(&mut self, _journal: J) {}
 }

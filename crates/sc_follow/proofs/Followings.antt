@@ -16,7 +16,7 @@ use Rattle.sc_runs.specs.Following.{Does, DoesPart, Follows, FollowsFrom, IsPart
 use Rattle.sc_runs.specs.Hearing.{HearsPart}
 use Rattle.sc_switch.specs.declared.refused.StepRefused.{StepRefused}
 use Rattle.sc_switch.specs.declared.refused.StepRefused.TheVariants as refused
-use Rattle.sc_switch.specs.Standing.{Known, net_of}
+use Rattle.sc_switch.specs.Standing.{Known, net_of, whole}
 use Rattle.sc_switch.proofs.Standings.{lawful-step}
 use Rattle.sc_follow.specs.Moving.{Came, DoesUpto, HasDue, IsCut, IsDone, IsDue, IsUntaken}
 use Rattle.sc_follow.specs.Leading.{IsDueWithoutRoom, IsFollowed, IsLeft, IsNew, IsStoppedIn, Leads}
@@ -31,11 +31,10 @@ none-sent setup = refl
 
 net-new : (known : Known) → IsNew known → net_of known ≡ start known.setup 0 0
 unfolding net_of chained chained_from
-net-new known is = rw (is.epoch_is, is.began_is, is.journal_is) refl
+net-new known is = rw (is.epoch_is, is.began_is, is.handed_is, is.journal_is) refl
 
 untaken-new : (known : Known) → IsNew known → IsUntaken known
-unfolding IsUntaken
-untaken-new known is = rw (is.left_is, is.epoch_is, is.began_is, is.journal_is) (sym (none-sent known.setup))
+untaken-new known is = record { handed_is = is.handed_is; left_is = rw (is.left_is, is.epoch_is, is.began_is, is.journal_is) (sym (none-sent known.setup)) }
 
 pub lead_start : (known : Known) (all : List Line) → IsNew known → Leads known.setup all known (bytes_of []) all
 unfolding bytes_of bytes_in Follows Upto
@@ -127,7 +126,7 @@ due setup all old new kept line made rest step is came is_due does lawful =
     let epoch_is = came.epoch_is ∙ is.epoch_is in
     let began_is = came.began_is ∙ is.began_is in (
       step,
-      lawful-step setup 0 0 new.journal step lawful (rw (setup_is, epoch_is, began_is) at is_due.allowed),
+      lawful-step setup 0 0 new.journal step lawful (rw (setup_is, epoch_is, began_is, came.untaken.handed_is) at is_due.allowed),
       upto-all setup all old new kept line [] made (step ∷ []) rest is came does,
       rw setup_is at is_due.full,
     )
@@ -191,6 +190,10 @@ pub run_began : {A : Type 0} (setup : Setup) (all : List Line) (known : Known) (
 run_began setup all known (Ok a) ok err = ok.began_is
 run_began setup all known (Err cause) ok err = err.began_is
 
+pub run_handed : {A : Type 0} (setup : Setup) (all : List Line) (known : Known) (r : Result A StepRefused) → OnOk r (IsFollowed setup all known) → IfErr r (λ cause. IsLeft setup all known cause) → known.handed ≡ []
+run_handed setup all known (Ok a) ok err = ok.untaken.handed_is
+run_handed setup all known (Err cause) ok err = err.untaken.handed_is
+
 pub run_untaken : {A : Type 0} (setup : Setup) (all : List Line) (known : Known) (r : Result A StepRefused) → OnOk r (IsFollowed setup all known) → IfErr r (λ cause. IsLeft setup all known cause) → IsUntaken known
 run_untaken setup all known (Ok a) ok err = ok.untaken
 run_untaken setup all known (Err cause) ok err = err.untaken
@@ -199,10 +202,10 @@ pub run_follows : {A : Type 0} (setup : Setup) (all : List Line) (known : Known)
 run_follows setup all known (Ok a) ok = ok.follows
 run_follows setup all known (Err cause) ok = tt
 
-lawful-at : (setup : Setup) (known : Known) → known.setup ≡ setup → known.epoch ≡ 0 → known.began ≡ 0 → IsLawful as_session known.setup known.epoch known.began known.journal → IsLawful as_session setup 0 0 known.journal
-lawful-at setup known setup_is epoch_is began_is lawful = rw (setup_is, epoch_is, began_is) at lawful
+lawful-at : (setup : Setup) (known : Known) → known.setup ≡ setup → known.epoch ≡ 0 → known.began ≡ 0 → known.handed ≡ [] → IsLawful as_session known.setup known.epoch known.began (whole known) → IsLawful as_session setup 0 0 known.journal
+lawful-at setup known setup_is epoch_is began_is handed_is lawful = rw (setup_is, epoch_is, began_is, handed_is) at lawful
 
-pub run_stopped : {A : Type 0} (setup : Setup) (all : List Line) (known : Known) (r : Result A StepRefused) → IsLawful as_session known.setup known.epoch known.began known.journal → IfErr r (λ cause. IsLeft setup all known cause)
+pub run_stopped : {A : Type 0} (setup : Setup) (all : List Line) (known : Known) (r : Result A StepRefused) → IsLawful as_session known.setup known.epoch known.began (whole known) → IfErr r (λ cause. IsLeft setup all known cause)
     → IfErr r (λ cause. IsStoppedIn setup all known.journal cause)
 run_stopped setup all known (Ok a) lawful left = tt
-run_stopped setup all known (Err cause) lawful left = left.stopped (lawful-at setup known left.setup_is left.epoch_is left.began_is lawful)
+run_stopped setup all known (Err cause) lawful left = left.stopped (lawful-at setup known left.setup_is left.epoch_is left.began_is left.untaken.handed_is lawful)

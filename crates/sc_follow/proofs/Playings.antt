@@ -34,11 +34,12 @@ use Rattle.sc_switch.specs.declared.refused.Committed.TheVariants as committed
 use Rattle.sc_switch.specs.declared.refused.StepRefused.{StepRefused}
 use Rattle.sc_switch.specs.declared.refused.StepRefused.TheVariants as refused
 use Rattle.sc_switch.specs.Answers.{IsGiven, Leased, LeasedOf, Received, RefusesRight, RefusesTurn, with_step}
-use Rattle.sc_switch.specs.Standing.{Known, net_of, next_free, is_leased, is_live_lease, has_number, has_other_number, without_number, IsLeaseOf, ShowsOf, ShowsFirst, Fits, servlet_of, listener_of, step_of}
+use Rattle.sc_leases.specs.Leases.{has_number, is_leased, is_of_other, kept_after, next_free, without_app, IsLeaseOf, ShowsFirst, ShowsOf}
+use Rattle.sc_switch.specs.Standing.{Known, net_of, is_live_lease, Fits, servlet_of, listener_of, step_of}
 use Rattle.sc_switch.proofs.Fitting.{fits_allowed}
 use Rattle.sc_follow.specs.Moving.{Came, CameTo, HasDue, IsCut, IsDone, IsDue, IsFree, IsUntaken, TookStep}
 use Rattle.sc_follow.specs.Playing.{turn_at, TookTurnOf, IsTurnDue, IsSameRun, IsTurnStopped, IsLent, Lends, LendsOf, TookTurn, IsRunStopped, TurnsUpto}
-use Rattle.sc_follow.proofs.Steppings.{came-none, came-on, net-came, stepped}
+use Rattle.sc_follow.proofs.Steppings.{came-none, came-on, net-came, untaken-step}
 
 -- ## Lending
 
@@ -60,11 +61,11 @@ unfolding is_leased
 none-leased kept app none e = let leased = rw none at e in cc
 
 given : (old new : Known) (lease : Lease) → IsUntaken old → IsFree old → IsGiven old new lease → IsSameRun old new × IsLent new lease
-unfolding net_of IsUntaken
+unfolding net_of
 given old new lease untaken free is = (
-  subst (λ (k : Known). IsSameRun old k) (sym is.new_is) (record { setup_is = refl; epoch_is = refl; began_is = refl; journal_is = refl; left_is = refl }),
+  subst (λ (k : Known). IsSameRun old k) (sym is.new_is) (record { setup_is = refl; epoch_is = refl; began_is = refl; handed_is = refl; journal_is = refl; left_is = refl }),
   subst (λ (k : Known). IsLent k lease) (sym is.new_is)
-      (record { kept_is = ap (λ kept. kept ++ lease ∷ []) free.kept_is; lease_is = is.lease_is; now_is = is.now_is; few = omega (arith, free.few); untaken = untaken }),
+      (record { kept_is = ap (λ kept. kept ++ lease ∷ []) free.kept_is; lease_is = is.lease_is; now_is = is.now_is; few = omega (arith, free.few); untaken = record { handed_is = untaken.handed_is; left_is = untaken.left_is } }),
 )
 
 lent : (old new : Known) (found : Option Lease) → IsSetup old.setup → IsUntaken old → IsFree old → length old.journal ≤ old.setup.config.journal_steps → Leased old new found → Lends old new found
@@ -91,17 +92,17 @@ lent_of_if app old new (Err cause) right untaken free within leased = tt
 -- ## Whom a lease calls
 
 -- the kind that a lease names is that of its application
-kind-of : (setup : Setup) (net : Net Session) (lease : Lease) (live : Live Session) (o : Option Waiting) → ShowsFirst setup net lease live o → option_map (λ (app : AppEntry). app.kind) (app_of setup.config lease.app.host) ≡ Some lease.kind
+kind-of : (setup : Setup) (net : Net Session) (lease : Lease) (live : Live Session) (o : Option Waiting) → ShowsFirst as_session setup net lease live o → option_map (λ (app : AppEntry). app.kind) (app_of setup.config lease.app.host) ≡ Some lease.kind
 unfolding ShowsFirst
 kind-of setup net lease live None shows = absurd shows
 kind-of setup net lease live (Some waiting) shows = shows.0.kind_is
 
-kind-in : (setup : Setup) (net : Net Session) (lease : Lease) (o : Option (Live Session)) → ShowsOf setup net lease o → option_map (λ (app : AppEntry). app.kind) (app_of setup.config lease.app.host) ≡ Some lease.kind
+kind-in : (setup : Setup) (net : Net Session) (lease : Lease) (o : Option (Live Session)) → ShowsOf as_session setup net lease o → option_map (λ (app : AppEntry). app.kind) (app_of setup.config lease.app.host) ≡ Some lease.kind
 unfolding ShowsOf
 kind-in setup net lease None shows = absurd shows
 kind-in setup net lease (Some live) shows = kind-of setup net lease live (slice_get live.inbox 0) shows
 
-kind_is : (setup : Setup) (net : Net Session) (lease : Lease) → IsLeaseOf setup net lease → option_map (λ (app : AppEntry). app.kind) (app_of setup.config lease.app.host) ≡ Some lease.kind
+kind_is : (setup : Setup) (net : Net Session) (lease : Lease) → IsLeaseOf as_session setup net lease → option_map (λ (app : AppEntry). app.kind) (app_of setup.config lease.app.host) ≡ Some lease.kind
 unfolding IsLeaseOf
 kind_is setup net lease is = kind-in setup net lease (live_at lease.app net) is
 
@@ -113,7 +114,7 @@ all_at : {A : Type 0} (P : A → Type 0) (xs : List A) (i : ℕ) (x : A) → All
 all_at P xs i x all e = subst P (get_or_from_slice_get xs i x x e) (All-get_or P xs i x (slice_get_within xs i x e) all)
 
 -- the kind of a lease is one of the kinds
-pub kind_within : (setup : Setup) (net : Net Session) (lease : Lease) (count : ℕ) → IsSetup setup → IsLeaseOf setup net lease → length setup.kinds ≡ count → lease.kind < count
+pub kind_within : (setup : Setup) (net : Net Session) (lease : Lease) (count : ℕ) → IsSetup setup → IsLeaseOf as_session setup net lease → length setup.kinds ≡ count → lease.kind < count
 kind_within setup net lease count right is long =
     subst (λ (n : ℕ). lease.kind < n) long
     (kind-below (app_of setup.config lease.app.host) lease.kind (length setup.kinds)
@@ -124,7 +125,7 @@ charters-in kinds None kind e = absurd (none-some kind e)
 charters-in kinds (Some app) kind e = ap (slice_get kinds) (same_Some app.kind kind e)
 
 -- the charters of a lease's application
-charters_at : (setup : Setup) (net : Net Session) (lease : Lease) → IsLeaseOf setup net lease → charters_of setup lease.app.host ≡ slice_get setup.kinds lease.kind
+charters_at : (setup : Setup) (net : Net Session) (lease : Lease) → IsLeaseOf as_session setup net lease → charters_of setup lease.app.host ≡ slice_get setup.kinds lease.kind
 unfolding charters_of
 charters_at setup net lease is = charters-in setup.kinds (app_of setup.config lease.app.host) lease.kind (kind_is setup net lease is)
 
@@ -144,7 +145,7 @@ found-one lease = rw (self-number lease.number) refl
 pub fits_made : (known : Known) (kinds : List Charters) (lease : Lease) (done : Done) → known.setup.kinds ≡ kinds → IsLent known lease → done.lease ≡ lease
     → option_map (servlet_at lease.event) (slice_get kinds lease.kind) ≡ Some done.charter
     → option_map (listener_at lease.event) (slice_get kinds lease.kind) ≡ Some done.listener
-    → Fits known.setup (net_of known) known.kept done
+    → Fits known.setup known.kept done
 unfolding servlet_of listener_of
 fits_made known kinds lease done kinds_is is lease_is charter listener =
     let found = charters_at known.setup (net_of known) lease is.lease_is ∙ ap (λ (ks : List Charters). slice_get ks lease.kind) kinds_is in
@@ -152,13 +153,12 @@ fits_made known kinds lease done kinds_is is lease_is charter listener =
       lease_is = rw (lease_is, is.kept_is) (found-one lease);
       charter_is = rw (lease_is, found) (told-of (servlet_at lease.event) (slice_get kinds lease.kind) done.charter charter);
       listener_is = rw (lease_is, found) (told-of (listener_at lease.event) (slice_get kinds lease.kind) done.listener listener);
-      shows = rw lease_is is.lease_is;
     }
 
 -- ## Bringing
 
 -- the live lease is live
-pub never_gone : (old new : Known) (done : Done) (answer : Committed) (number : ℕ) → Fits old.setup (net_of old) old.kept done → answer ≡ committed.Gone number → Received old new done answer → ⊥
+pub never_gone : (old new : Known) (done : Done) (answer : Committed) (number : ℕ) → Fits old.setup old.kept done → answer ≡ committed.Gone number → Received old new done answer → ⊥
 unfolding Received is_live_lease
 never_gone old new done answer number fits gone received =
     let dead = rw gone at received in
@@ -167,50 +167,48 @@ never_gone old new done answer number fits gone received =
     false≢true (sym none ∙ found)
 
 -- and it is the one
-pub never_other : (old new : Known) (done : Done) (answer : Committed) (number : ℕ) → Fits old.setup (net_of old) old.kept done → answer ≡ committed.Other number → Received old new done answer → ⊥
+pub never_other : (old new : Known) (done : Done) (answer : Committed) (number : ℕ) → Fits old.setup old.kept done → answer ≡ committed.Other number → Received old new done answer → ⊥
 unfolding Received
 never_other old new done answer number fits other received = let r = rw other at received in r.2 fits
 
 -- no lease is left
-none-left : (lease : Lease) → without_number lease.number (lease ∷ []) ≡ []
-unfolding without_number has_other_number
-none-left lease = rw (self-number lease.number) refl
+none-left : (lease : Lease) → without_app lease.app (lease ∷ []) ≡ []
+unfolding without_app is_of_other
+none-left lease = rw (self-number lease.app.host, self-number lease.app.serial) refl
 
-turned : (old : Known) (lease : Lease) (step : Step) → without_number lease.number old.kept ≡ [] → IsLent old lease → TookStep old (record (with_step old step) { kept = without_number lease.number old.kept }) step
-unfolding IsUntaken net_of
+turned : (old : Known) (lease : Lease) (step : Step) → kept_after step old.kept ≡ [] → IsLent old lease → TookStep old (with_step old step) step
 turned old lease step none is =
     let long = length-append old.journal (step ∷ []) in
-    let s = stepped (record old { kept = []; leases = 0 }) step [] 0 is.untaken refl (omega arith) (record { kept_is = refl; few = omega arith }) in
     record {
-      came = record { setup_is = refl; epoch_is = refl; began_is = refl; journal_is = refl; untaken = s.came.untaken };
+      came = record { setup_is = refl; epoch_is = refl; began_is = refl; handed_is = refl; journal_is = refl; untaken = untaken-step old step (kept_after step old.kept) old.leases is.untaken };
       free = record { kept_is = none; few = omega (arith, long, is.few) };
     }
 
 -- a turn that was taken
 pub took_turn : (old new : Known) (done : Done) (answer : Committed) → IsLent old done.lease → answer ≡ committed.Taken → Received old new done answer → TookTurnOf old new done.lease.app done.lease.event_number
-unfolding TookTurnOf Received step_of
+unfolding TookTurnOf Received step_of kept_after
 took_turn old new done answer is taken received =
     let r = rw taken at received in
-    let none : without_number done.lease.number old.kept ≡ [] = rw is.kept_is (none-left done.lease) in
     let step = steps.Turn done.lease.app done.lease.event_number done.lease.shown.now done.calls done.end in
+    let none : kept_after step old.kept ≡ [] = rw is.kept_is (none-left done.lease) in
     let at = subst (λ (k : Known). TookStep old k step) (sym r.1) (turned old done.lease step none is) in
     (done.calls, done.end, rw is.now_is at at)
 
-pub turn_stopped : (known : Known) (done : Done) (cause : StepRefused) → IsSetup known.setup → IsLent known done.lease → Fits known.setup (net_of known) known.kept done → done.end ≢ ends.Starved → RefusesTurn known done (step_size (step_of done)) cause
+pub turn_stopped : (known : Known) (done : Done) (cause : StepRefused) → IsSetup known.setup → IsLent known done.lease → Fits known.setup known.kept done → done.end ≢ ends.Starved → RefusesTurn known done (step_size (step_of done)) cause
     → IsTurnStopped known done.lease.app done.lease.event_number cause
 unfolding IsTurnStopped RefusesTurn RefusesRight IsTurnDue step_of
 turn_stopped known done refused.NoMemory right is fits counted refuses = tt
 turn_stopped known done (refused.JournalFull steps bytes) right is fits counted refuses = (
   done.calls,
   done.end,
-  rw (← is.now_is) (record { allowed = fits_allowed known.setup (net_of known) known.kept done right fits counted; full = refuses.0.2 }),
+  rw (← is.now_is) (record { allowed = fits_allowed known.setup (net_of known) known.kept done right is.lease_is fits counted; full = refuses.0.2 }),
 )
 
 -- ## The run with its lease, and without
 
 same_net : (old new : Known) → IsSameRun old new → net_of new ≡ net_of old
 unfolding net_of
-same_net old new same = rw (same.setup_is, same.epoch_is, same.began_is, same.journal_is) refl
+same_net old new same = rw (same.setup_is, same.epoch_is, same.began_is, same.handed_is, same.journal_is) refl
 
 took-of : (old mid new : Known) (app : AppId) (event : ℕ) → IsSameRun old mid → TookTurnOf mid new app event → TookTurnOf old new app event
 unfolding TookTurnOf
@@ -222,6 +220,7 @@ took-of old mid new app event same (calls, end, step) = (
       setup_is = step.came.setup_is ∙ same.setup_is;
       epoch_is = step.came.epoch_is ∙ same.epoch_is;
       began_is = step.came.began_is ∙ same.began_is;
+      handed_is = step.came.handed_is ∙ same.handed_is;
       journal_is = step.came.journal_is ∙ ap (λ (js : List Step). js ++ turn_at mid app event calls end ∷ []) same.journal_is;
       untaken = step.came.untaken;
     };
@@ -242,20 +241,23 @@ due-of old mid app event same (calls, end, due) = (
 )
 
 pub same_old : (old new : Known) → new ≡ old → IsSameRun old new
-same_old old new same = subst (λ (k : Known). IsSameRun old k) (sym same) (record { setup_is = refl; epoch_is = refl; began_is = refl; journal_is = refl; left_is = refl })
+same_old old new same = subst (λ (k : Known). IsSameRun old k) (sym same) (record { setup_is = refl; epoch_is = refl; began_is = refl; handed_is = refl; journal_is = refl; left_is = refl })
 
 same-on : (old mid new : Known) → IsSameRun old mid → new ≡ mid → IsSameRun old new
 same-on old mid new same e = subst (λ (k : Known). IsSameRun old k) (sym e) same
 
 -- no step more was taken
 came-same : (first old new : Known) (made : List Step) → Came first old made → IsSameRun old new → Came first new made
-unfolding IsUntaken
 came-same first old new made came same = record {
   setup_is = same.setup_is ∙ came.setup_is;
   epoch_is = same.epoch_is ∙ came.epoch_is;
   began_is = same.began_is ∙ came.began_is;
+  handed_is = same.handed_is ∙ came.handed_is;
   journal_is = same.journal_is ∙ came.journal_is;
-  untaken = rw (same.setup_is, same.epoch_is, same.began_is, same.journal_is, same.left_is) came.untaken;
+  untaken = record {
+    handed_is = same.handed_is ∙ came.untaken.handed_is;
+    left_is = rw (same.setup_is, same.epoch_is, same.began_is, same.journal_is, same.left_is) came.untaken.left_is;
+  };
 }
 
 due-same : (old new : Known) (step : Step) → IsSameRun old new → IsDue old step → IsDue new step

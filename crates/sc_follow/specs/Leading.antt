@@ -16,6 +16,7 @@ use Rattle.sc_follow.specs.Moving.{IsFree, IsUntaken}
 pub record IsNew (known : Known) : Type 0 where
   pub epoch_is : known.epoch ≡ 0
   pub began_is : known.began ≡ 0
+  pub handed_is : known.handed ≡ []
   pub journal_is : known.journal ≡ []
   pub left_is : known.left ≡ []
   pub kept_is : known.kept ≡ []

@@ -18,9 +18,10 @@ use Rattle.sc_switch.specs.declared.refused.StepRefused.TheVariants as refused
 use Rattle.sc_switch.specs.Answers.{IsFullFor}
 use Rattle.sc_switch.specs.Standing.{Known, net_of}
 
--- nothing that was sent was taken
-unfoldable pub IsUntaken : Known → Type 0
-IsUntaken known = known.left ≡ all_sent as_session known.setup known.epoch known.began known.journal
+-- no step was handed on, and nothing that was sent was taken
+pub record IsUntaken (known : Known) : Type 0 where
+  pub handed_is : known.handed ≡ []
+  pub left_is : known.left ≡ all_sent as_session known.setup known.epoch known.began known.journal
 
 -- no lease is live, and no more were given than steps were taken
 pub record IsFree (known : Known) : Type 0 where
@@ -32,6 +33,7 @@ pub record Came (old new : Known) (made : List Step) : Type 0 where
   pub setup_is : new.setup ≡ old.setup
   pub epoch_is : new.epoch ≡ old.epoch
   pub began_is : new.began ≡ old.began
+  pub handed_is : new.handed ≡ old.handed
   pub journal_is : new.journal ≡ old.journal ++ made
   pub untaken : IsUntaken new
 

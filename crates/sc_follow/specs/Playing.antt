@@ -11,7 +11,9 @@ use Rattle.sc_runs.specs.Following.{IsTurnOf, first_number}
 use Rattle.sc_runs.specs.Next.{Next, next_event}
 use Rattle.sc_switch.specs.declared.refused.StepRefused.{StepRefused}
 use Rattle.sc_switch.specs.declared.refused.StepRefused.TheVariants as refused
-use Rattle.sc_switch.specs.Standing.{Known, net_of, IsLeaseOf}
+use Rattle.sc_hosts.specs.Histories.{as_session}
+use Rattle.sc_leases.specs.Leases.{IsLeaseOf}
+use Rattle.sc_switch.specs.Standing.{Known, net_of}
 use Rattle.sc_follow.specs.Moving.{IsDue, IsUntaken, TookStep}
 
 -- a turn of this event at the last moment
@@ -31,6 +33,7 @@ pub record IsSameRun (old new : Known) : Type 0 where
   pub setup_is : new.setup ≡ old.setup
   pub epoch_is : new.epoch ≡ old.epoch
   pub began_is : new.began ≡ old.began
+  pub handed_is : new.handed ≡ old.handed
   pub journal_is : new.journal ≡ old.journal
   pub left_is : new.left ≡ old.left
 
@@ -42,7 +45,7 @@ IsTurnStopped known app event (refused.JournalFull steps bytes) = IsTurnDue know
 -- the one live lease, of an event at the last moment
 pub record IsLent (known : Known) (lease : Lease) : Type 0 where
   pub kept_is : known.kept ≡ lease ∷ []
-  pub lease_is : IsLeaseOf known.setup (net_of known) lease
+  pub lease_is : IsLeaseOf as_session known.setup (net_of known) lease
   pub now_is : lease.shown.now ≡ (net_of known).moment
   pub few : known.leases ≤ length known.journal + 1
   pub untaken : IsUntaken known

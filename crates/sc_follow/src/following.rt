@@ -1,6 +1,6 @@
 //! All lines of a script.
 
-ghost use Rattle.std.specs.Prelude.{◌≡◌, map, option_map, IfErr, OnOk};
+ghost use Rattle.std.specs.Prelude.{◌≡◌, [], map, option_map, IfErr, OnOk};
 ghost use Rattle.sc_servlets.specs.Stated.{both_charters};
 ghost use Rattle.sc_model.specs.Settings.{IsSetup};
 ghost use Rattle.sc_hosts.specs.Histories.{as_session};
@@ -33,6 +33,7 @@ pub fn follow(
     ensures setup { switch.new.setup ≡ switch.old.setup }
     ensures epoch { switch.new.epoch ≡ 0 }
     ensures began { switch.new.began ≡ 0 }
+    ensures handed { switch.new.handed ≡ [] }
     ensures untaken { IsUntaken switch.new }
     ensures follows { OnOk result (Follows as_session switch.old.setup lines.now switch.new.journal) }
     ensures stopped { IfErr result (λ cause. IsStoppedIn switch.old.setup lines.now switch.new.journal cause) }

@@ -134,7 +134,7 @@ fn bring(
 fn settle(alloc: Global, switch: &mut Switch, done: Done) -> Result<(), StepRefused>
     requires right { IsSetup switch.old.setup }
     requires lent { IsLent switch.old done.lease }
-    requires fits { Fits switch.old.setup (net_of switch.old) switch.old.kept done }
+    requires fits { Fits switch.old.setup switch.old.kept done }
     ensures ok { OnOk result (TookTurnOf switch.old switch.new done.lease.app done.lease.event_number) }
     ensures room { OnOk result (length switch.old.journal < switch.old.setup.config.journal_steps) }
     ensures err { OnErr result (switch.new ≡ switch.old) }

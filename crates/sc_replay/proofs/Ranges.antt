@@ -66,11 +66,11 @@ third_fifth a b c d e none =
     let fifth = fault_head d (e ∷ []) fourth.1 in
     (fourth.0, (fault_head e [] fifth.1).0)
 
-sixth_of : (a b c d e f : Option Fault) → first_fault (a ∷ b ∷ c ∷ d ∷ e ∷ f ∷ []) ≡ None → f ≡ None
-sixth_of a b c d e f none =
-    let second = fault_head a (b ∷ c ∷ d ∷ e ∷ f ∷ []) none in
-    let third = third_fifth b c d e f second.1 in
-    third.1
+seventh_of : (a b c d e f g : Option Fault) → first_fault (a ∷ b ∷ c ∷ d ∷ e ∷ f ∷ g ∷ []) ≡ None → g ≡ None
+seventh_of a b c d e f g none =
+    let second = fault_head a (b ∷ c ∷ d ∷ e ∷ f ∷ g ∷ []) none in
+    let third = fault_head b (c ∷ d ∷ e ∷ f ∷ g ∷ []) second.1 in
+    (third_fifth c d e f g third.1).1
 
 fault_none : (t : Bool) (kind : ℕ) (key : Bytes) → fault_if t kind key ≡ None → t ≡ false
 fault_none true kind key none = absurd (none-some _ (sym none))
@@ -146,7 +146,7 @@ no_faults : (names : List Bytes) (top : Members) → first_refusal names top ≡
 unfolding first_refusal table_fault top_fault
 no_faults names top none =
     let found = third_fifth _ _ _ _ _ none in
-    (sixth_of _ _ _ _ _ _ (first_of _ _ found.0), found.1)
+    (seventh_of _ _ _ _ _ _ _ (first_of _ _ found.0), found.1)
 
 made_in_range : (names : List Bytes) (top : Members) → first_refusal names top ≡ None → IsInRange names (config_of names top)
 unfolding config_of unknown_kind

@@ -13,7 +13,7 @@ use Rattle.sc_moments.proofs.FollowTicks.{follows-ticks}
 use Rattle.sc_runs.specs.Outputs.{output}
 use Rattle.sc_journal.specs.Kept.{Kept}
 use Rattle.sc_switch.specs.declared.ran.Ran.{Ran}
-use Rattle.sc_switch.specs.Standing.{Known}
+use Rattle.sc_switch.specs.Standing.{Known, whole}
 use Rattle.sc_switch.specs.declared.ran.Status.TheVariants as statuses
 use Rattle.sc_replay.specs.declared.running.RunRefused.TheVariants as runs
 use Rattle.sc_replay.specs.Replaying.{TellsScript, ComesIn, Leaves, Replays, ReplaysPart, ReplaysFull, LeavesNothing}
@@ -41,22 +41,22 @@ unfolding IsCutShort ComesIn
 comes_write setup told read write a b said journal (rose, follows, put) = rose
 
 -- a run of a switch, with its journal
-pub ran_on : (setup : Setup) (told : Option Bytes) (read write : Type 0) (a b : Option Bytes) (ran : Ran) (known : Known) (journal : Kept Step) → ran.journal ≡ Some journal → known.setup ≡ setup → known.epoch ≡ 0 → known.began ≡ 0 → journal.items ≡ known.journal
-    → IsLawful as_session known.setup known.epoch known.began known.journal → ComesIn setup told read write ran.status → Leaves setup told write a b ran.status known.journal → IsRan setup told read write a b ran
-ran_on setup told read write a b ran known journal journal_is setup_is epoch began items_is lawful comes leaves = record {
+pub ran_on : (setup : Setup) (told : Option Bytes) (read write : Type 0) (a b : Option Bytes) (ran : Ran) (known : Known) (journal : Kept Step) → ran.journal ≡ Some journal → known.setup ≡ setup → known.epoch ≡ 0 → known.began ≡ 0 → known.handed ≡ [] → journal.items ≡ known.journal
+    → IsLawful as_session known.setup known.epoch known.began (whole known) → ComesIn setup told read write ran.status → Leaves setup told write a b ran.status known.journal → IsRan setup told read write a b ran
+ran_on setup told read write a b ran known journal journal_is setup_is epoch began handed items_is lawful comes leaves = record {
   journal = journal;
   journal_is = journal_is;
   comes = comes;
-  lawful = rw (← setup_is, items_is) (rw (epoch, began) at lawful);
+  lawful = rw (← setup_is, items_is) (rw (epoch, began, handed) at lawful);
   leaves = subst (λ (items : List Step). Leaves setup told write a b ran.status items) (sym items_is) leaves;
 }
 
 -- ## A switch that was made
 
-pub made_new : (setup : Setup) (known : Known) → known ≡ record { setup = setup; epoch = 0; began = 0; journal = []; left = []; kept = []; leases = 0 } → IsNew known
-made_new setup known made = subst (λ (k : Known). IsNew k) (sym made) (record { epoch_is = refl; began_is = refl; journal_is = refl; left_is = refl; kept_is = refl; leases_is = refl })
+pub made_new : (setup : Setup) (known : Known) → known ≡ record { setup = setup; epoch = 0; began = 0; handed = []; journal = []; left = []; kept = []; leases = 0 } → IsNew known
+made_new setup known made = subst (λ (k : Known). IsNew k) (sym made) (record { epoch_is = refl; began_is = refl; handed_is = refl; journal_is = refl; left_is = refl; kept_is = refl; leases_is = refl })
 
-pub made_setup : (setup : Setup) (known : Known) → known ≡ record { setup = setup; epoch = 0; began = 0; journal = []; left = []; kept = []; leases = 0 } → known.setup ≡ setup
+pub made_setup : (setup : Setup) (known : Known) → known ≡ record { setup = setup; epoch = 0; began = 0; handed = []; journal = []; left = []; kept = []; leases = 0 } → known.setup ≡ setup
 made_setup setup known made = ap (λ (k : Known). k.setup) made
 
 -- the switch could not be made

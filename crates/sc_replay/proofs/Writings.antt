@@ -70,8 +70,8 @@ put_part a b c all first left rest sent all_is left_is before now =
 -- the records of all that was sent, and the last line, are the whole output
 pub output_of : (known : Known) (steps sent live : ℕ) → known.epoch ≡ 0 → known.began ≡ 0 → IsUntaken known → steps ≡ length known.journal → sent ≡ length known.left → live ≡ live_count (net_of known)
     → records known.left ++ end_text steps sent live ≡ output as_session known.setup known.journal
-unfolding output journal_records end_line IsUntaken net_of
-output_of known steps sent live epoch began untaken steps_is sent_is live_is = rw (steps_is, sent_is, live_is, untaken, epoch, began) refl
+unfolding output journal_records end_line net_of
+output_of known steps sent live epoch began untaken steps_is sent_is live_is = rw (steps_is, sent_is, live_is, untaken.left_is, epoch, began, untaken.handed_is) refl
 
 -- the records, and then the line
 pub ended : (a b c : Option (List ℕ)) (known : Known) (steps sent live : ℕ) → known.epoch ≡ 0 → known.began ≡ 0 → IsUntaken known → steps ≡ length known.journal → sent ≡ length known.left → live ≡ live_count (net_of known)
@@ -103,13 +103,13 @@ on_err (Err e) f p = f p
 
 -- all records of what the journal sends
 pub cut_whole : (a b : Option (List ℕ)) (known : Known) → known.epoch ≡ 0 → known.began ≡ 0 → IsUntaken known → Takes a b (records known.left) → Takes a b (journal_records as_session known.setup known.journal)
-unfolding journal_records IsUntaken
-cut_whole a b known epoch began untaken takes = subst (λ (sent : List Sent). Takes a b (records sent)) (rw (epoch, began) at untaken) takes
+unfolding journal_records
+cut_whole a b known epoch began untaken takes = subst (λ (sent : List Sent). Takes a b (records sent)) (rw (epoch, began) at untaken.left_is) takes
 
 -- a part of them
 pub cut_front : (a b : Option (List ℕ)) (known : Known) → known.epoch ≡ 0 → known.began ≡ 0 → IsUntaken known → TakesPart a b (records known.left) → TakesPart a b (journal_records as_session known.setup known.journal)
-unfolding journal_records IsUntaken
-cut_front a b known epoch began untaken takes = subst (λ (sent : List Sent). TakesPart a b (records sent)) (rw (epoch, began) at untaken) takes
+unfolding journal_records
+cut_front a b known epoch began untaken takes = subst (λ (sent : List Sent). TakesPart a b (records sent)) (rw (epoch, began) at untaken.left_is) takes
 
 -- which is a part of the output
 pub cut_output : (a b : Option (List ℕ)) (known : Known) → known.epoch ≡ 0 → known.began ≡ 0 → IsUntaken known → TakesPart a b (records known.left) → TakesPart a b (output as_session known.setup known.journal)

@@ -175,6 +175,7 @@ fn run_script<F: Shelf, K: Sink>(
     ensures setup { switch.new.setup ≡ switch.old.setup }
     ensures epoch { switch.new.epoch ≡ 0 }
     ensures began { switch.new.began ≡ 0 }
+    ensures handed { switch.new.handed ≡ [] }
     ensures later { F.faults shelf.old ≤ F.faults shelf.new }
     ensures comes { ComesIn switch.old.setup (F.holds shelf.old (string_bytes name.now)) (Rose (F.faults shelf.old) (F.faults shelf.new)) (Rose (K.faults out.old) (K.faults out.new)) result }
     ensures leaves { Leaves switch.old.setup (F.holds shelf.old (string_bytes name.now)) (Rose (K.faults out.old) (K.faults out.new)) (K.took out.old) (K.took out.new) result switch.new.journal }

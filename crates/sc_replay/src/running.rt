@@ -52,6 +52,7 @@ pub fn drive<K: Sink>(
     ensures setup { switch.new.setup ≡ switch.old.setup }
     ensures epoch { switch.new.epoch ≡ 0 }
     ensures began { switch.new.began ≡ 0 }
+    ensures handed { switch.new.handed ≡ [] }
     ensures follows { OnOk result (Follows as_session switch.old.setup lines.now switch.new.journal) }
     ensures takes { OnOk result (Takes (K.took out.old) (K.took out.new) (output as_session switch.old.setup switch.new.journal)) }
     ensures cut { IfErr result (λ cause. IsCutShort switch.old.setup lines.now (Rose (K.faults out.old) (K.faults out.new)) (K.took out.old) (K.took out.new) switch.new.journal cause) }

@@ -1,5 +1,5 @@
 -- Worked cases: the directives, a way back, and the end of a list.
-use Rattle.std.proofs.Common.{◌≡◌, ℕ, Option, Some, None, List, [], ◌∷◌, refl}
+use Rattle.std.proofs.Common.{◌≡◌, ℕ, false, Option, Some, None, List, [], ◌∷◌, refl}
 use Rattle.std.specs.Prelude.{codes}
 use Rattle.std.specs.Fmt.{digits}
 use Rattle.sc_tokens.specs.HeaderNames.{from_name, long_name}
@@ -36,6 +36,7 @@ config = record {
   journal_steps = 1000;
   journal_bytes = 1000;
   epoch_steps = 0;
+  journal_parts = false;
   hosts = [];
   app = [];
 }

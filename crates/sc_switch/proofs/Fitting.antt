@@ -22,7 +22,9 @@ use Rattle.sc_model.specs.Settings.{Charters, IsSetup, app_of, charters_of}
 use Rattle.sc_hosts.specs.Histories.{as_session}
 use Rattle.sc_hosts.specs.Runs.{AllowedBy, IsAllowed, MayTurn, shown}
 use Rattle.sc_hosts.specs.Steps.{live_at}
-use Rattle.sc_switch.specs.Standing.{Fits, IsLeaseOf, IsShown, IsTimely, ShowsFirst, ShowsOf, listener_of, servlet_of, step_of}
+use Rattle.sc_switch.specs.Standing.{AreKept, Fits, Known, listener_of, net_of, servlet_of, step_of}
+use Rattle.sc_leases.proofs.KeptLeases.{kept-shows}
+use Rattle.sc_leases.specs.Leases.{IsLeaseOf, IsShown, IsTimely, ShowsFirst, ShowsOf}
 
 -- ## The charters of an application
 
@@ -75,19 +77,24 @@ turn-of setup net done live waiting right live_is waiting_is timely is_shown cha
 }
 
 by-first : (setup : Setup) (net : Net Session) (done : Done) (live : Live Session) (o : Option Waiting) → IsSetup setup → live_at done.lease.app net ≡ Some live → slice_get live.inbox 0 ≡ o
-    → ShowsFirst setup net done.lease live o → done.charter ≡ servlet_of setup done.lease → done.listener ≡ listener_of setup done.lease → (done.end ≡ ends.Starved → ⊥)
+    → ShowsFirst as_session setup net done.lease live o → done.charter ≡ servlet_of setup done.lease → done.listener ≡ listener_of setup done.lease → (done.end ≡ ends.Starved → ⊥)
     → MayTurn as_session setup net done.lease.app done.lease.event_number done.lease.shown.now done.calls done.end
 unfolding ShowsFirst
 by-first setup net done live None right live_is first_is shows charter listener fed = absurd shows
 by-first setup net done live (Some waiting) right live_is first_is shows charter listener fed = turn-of setup net done live waiting right live_is first_is shows.0 shows.1 charter listener fed
 
 by-live : (setup : Setup) (net : Net Session) (done : Done) (o : Option (Live Session)) → IsSetup setup → live_at done.lease.app net ≡ o
-    → ShowsOf setup net done.lease o → done.charter ≡ servlet_of setup done.lease → done.listener ≡ listener_of setup done.lease → (done.end ≡ ends.Starved → ⊥)
+    → ShowsOf as_session setup net done.lease o → done.charter ≡ servlet_of setup done.lease → done.listener ≡ listener_of setup done.lease → (done.end ≡ ends.Starved → ⊥)
     → MayTurn as_session setup net done.lease.app done.lease.event_number done.lease.shown.now done.calls done.end
 unfolding ShowsOf
 by-live setup net done None right live_is shows charter listener fed = absurd shows
 by-live setup net done (Some live) right live_is shows charter listener fed = by-first setup net done live (slice_get live.inbox 0) right live_is refl shows charter listener fed
 
-pub fits_allowed : (setup : Setup) (net : Net Session) (kept : List Lease) (done : Done) → IsSetup setup → Fits setup net kept done → (done.end ≡ ends.Starved → ⊥) → IsAllowed as_session setup net (step_of done)
+pub fits_allowed : (setup : Setup) (net : Net Session) (kept : List Lease) (done : Done) → IsSetup setup → IsLeaseOf as_session setup net done.lease → Fits setup kept done → (done.end ≡ ends.Starved → ⊥) → IsAllowed as_session setup net (step_of done)
 unfolding IsAllowed step_of IsLeaseOf
-fits_allowed setup net kept done right fits fed = by-live setup net done (live_at done.lease.app net) right refl fits.shows fits.charter_is fits.listener_is fed
+fits_allowed setup net kept done right shows fits fed = by-live setup net done (live_at done.lease.app net) right refl shows fits.charter_is fits.listener_is fed
+
+-- the live lease of a number shows what there is
+pub kept_allowed : (known : Known) (done : Done) → IsSetup known.setup → AreKept known → Fits known.setup known.kept done → (done.end ≡ ends.Starved → ⊥) → IsAllowed as_session known.setup (net_of known) (step_of done)
+kept_allowed known done right are fits fed =
+    fits_allowed known.setup (net_of known) known.kept done right (kept-shows as_session known.setup (net_of known) known.kept 0 known.leases done.lease.number done.lease are fits.lease_is) fits fed

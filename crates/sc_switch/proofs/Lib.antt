@@ -1,5 +1,10 @@
+pub mod Epochs
 pub mod Firsts
 pub mod Fitting
+pub mod Handing
+pub mod Idle
+pub mod Ledger
+pub mod Listings
 pub mod Names
 pub mod Nexts
 pub mod Sames

@@ -16,7 +16,9 @@ use Rattle.sc_hosts.specs.Steps.{live_at}
 use Rattle.sc_lives.proofs.NumberedRuns.{chained-found}
 use Rattle.sc_runs.specs.Following.{first_number}
 use Rattle.sc_runs.specs.Next.{Next, next_of, next_from, next_events, earlier, lowest}
-use Rattle.sc_switch.specs.Standing.{Known, net_of, is_leased, next_free}
+use Rattle.sc_switch.specs.Standing.{Known, net_of, whole}
+use Rattle.sc_leases.proofs.KeptLeases.{next-alone}
+use Rattle.sc_leases.specs.Leases.{is_leased, next_free}
 use Rattle.sc_switch.specs.Offering.{IsOffer, Offers}
 
 -- the event is the first one of the session of its name
@@ -119,7 +121,7 @@ run-found setup epoch began journal kept =
 -- the next event without a lease is the first one of its session
 pub next_found : (known : Known) (next : Next) → next_free (net_of known) known.kept ≡ Some next → first_number (live_at next.app (net_of known)) ≡ Some next.number
 unfolding net_of
-next_found known next is = rw is at (run-found known.setup known.epoch known.began known.journal known.kept)
+next_found known next is = rw is at (run-found known.setup known.epoch known.began (whole known) known.kept)
 
 -- ## The lease of that session
 
@@ -129,6 +131,10 @@ some-number a b e = ap (λ o. unwrap_or o 0) e
 -- its event is the one that is next
 pub offer_number : (known : Known) (next : Next) (number : ℕ) (lease : Lease) → next_free (net_of known) known.kept ≡ Some next → IsOffer known.setup (net_of known) next.app number lease → lease.event_number ≡ next.number
 offer_number known next number lease is offer = some-number lease.event_number next.number (sym offer.first_is ∙ next_found known next is)
+
+-- and it has no lease
+pub offer_free : (known : Known) (next : Next) (number : ℕ) (lease : Lease) → next_free (net_of known) known.kept ≡ Some next → IsOffer known.setup (net_of known) next.app number lease → is_leased known.kept lease.app ≡ false
+offer_free known next number lease free offer = rw offer.app_is (next-alone (net_of known) known.kept next free)
 
 no-number : (n : ℕ) → None ≡ Some n → ⊥
 no-number n is = absurd (grind (arith, is))

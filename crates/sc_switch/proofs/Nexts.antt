@@ -11,7 +11,7 @@ use Rattle.sc_state.specs.declared.net.Net.{Net}
 use Rattle.sc_state.specs.declared.session.Session.{Session}
 use Rattle.sc_servlets.specs.declared.lease.Lease.{Lease}
 use Rattle.sc_runs.specs.Next.{Next, next_of, next_from, next_events, earlier, lowest}
-use Rattle.sc_switch.specs.Standing.{is_leased, next_free}
+use Rattle.sc_leases.specs.Leases.{is_leased, next_free}
 use Rattle.sc_switch.specs.Offering.{better, with_next, with_live, with_host, with_hosts}
 
 -- ## The loop over hosts

@@ -19,11 +19,10 @@ use Rattle.sc_hosts.specs.Runs.{shown}
 use Rattle.sc_hosts.specs.Steps.{live_at}
 use Rattle.sc_runs.specs.Following.{first_number}
 use Rattle.sc_runs.specs.Next.{Next, next_events}
-use Rattle.sc_switch.specs.declared.called.Judged.{Judged}
-use Rattle.sc_switch.specs.declared.called.Judged.TheVariants as judged
-use Rattle.sc_switch.specs.Standing.{Known, net_of, Fits, IsLeaseOf, IsNet, IsShown, IsTimely, ShowsFirst, ShowsOf, next_free}
+use Rattle.sc_switch.specs.Standing.{Known, net_of, IsNet}
+use Rattle.sc_leases.specs.Leases.{IsLeaseOf, IsShown, IsTimely, ShowsFirst, ShowsOf, next_free}
 use Rattle.sc_switch.specs.Answers.{IsGiven}
-use Rattle.sc_switch.specs.Offering.{IsMade, IsOffer, Judges, Offers}
+use Rattle.sc_switch.specs.Offering.{IsMade, IsOffer, Offers}
 
 abbrev unsent : Net Session → Net Session
 unsent run = record run { sent = [] }
@@ -33,52 +32,19 @@ unsent run = record run { sent = [] }
 timely-on : (setup : Setup) (run : Net Session) (lease : Lease) (live : Live Session) (waiting : Waiting) → IsTimely setup (unsent run) lease live waiting → IsTimely setup run lease live waiting
 timely-on setup run lease live waiting is = record { number_is = is.number_is; kind_is = is.kind_is; since = is.since; until = is.until }
 
-timely-back : (setup : Setup) (run : Net Session) (lease : Lease) (live : Live Session) (waiting : Waiting) → IsTimely setup run lease live waiting → IsTimely setup (unsent run) lease live waiting
-timely-back setup run lease live waiting is = record { number_is = is.number_is; kind_is = is.kind_is; since = is.since; until = is.until }
-
-first-on : (setup : Setup) (run : Net Session) (lease : Lease) (live : Live Session) (o : Option Waiting) → ShowsFirst setup (unsent run) lease live o → ShowsFirst setup run lease live o
+first-on : (setup : Setup) (run : Net Session) (lease : Lease) (live : Live Session) (o : Option Waiting) → ShowsFirst as_session setup (unsent run) lease live o → ShowsFirst as_session setup run lease live o
 unfolding ShowsFirst shown
 first-on setup run lease live None is = is
 first-on setup run lease live (Some waiting) is = (timely-on setup run lease live waiting is.0, is.1)
 
-first-back : (setup : Setup) (run : Net Session) (lease : Lease) (live : Live Session) (o : Option Waiting) → ShowsFirst setup run lease live o → ShowsFirst setup (unsent run) lease live o
-unfolding ShowsFirst shown
-first-back setup run lease live None is = is
-first-back setup run lease live (Some waiting) is = (timely-back setup run lease live waiting is.0, is.1)
-
-of-on : (setup : Setup) (run : Net Session) (lease : Lease) (o : Option (Live Session)) → ShowsOf setup (unsent run) lease o → ShowsOf setup run lease o
+of-on : (setup : Setup) (run : Net Session) (lease : Lease) (o : Option (Live Session)) → ShowsOf as_session setup (unsent run) lease o → ShowsOf as_session setup run lease o
 unfolding ShowsOf
 of-on setup run lease None is = is
 of-on setup run lease (Some live) is = first-on setup run lease live (slice_get live.inbox 0) is
 
-of-back : (setup : Setup) (run : Net Session) (lease : Lease) (o : Option (Live Session)) → ShowsOf setup run lease o → ShowsOf setup (unsent run) lease o
-unfolding ShowsOf
-of-back setup run lease None is = is
-of-back setup run lease (Some live) is = first-back setup run lease live (slice_get live.inbox 0) is
-
-lease-on : (setup : Setup) (run : Net Session) (lease : Lease) → IsLeaseOf setup (unsent run) lease → IsLeaseOf setup run lease
+lease-on : (setup : Setup) (run : Net Session) (lease : Lease) → IsLeaseOf as_session setup (unsent run) lease → IsLeaseOf as_session setup run lease
 unfolding IsLeaseOf
 lease-on setup run lease is = of-on setup run lease (live_at lease.app run) is
-
-lease-back : (setup : Setup) (run : Net Session) (lease : Lease) → IsLeaseOf setup run lease → IsLeaseOf setup (unsent run) lease
-unfolding IsLeaseOf
-lease-back setup run lease is = of-back setup run lease (live_at lease.app run) is
-
-fits-on : (setup : Setup) (run : Net Session) (kept : List Lease) (done : Done) → Fits setup (unsent run) kept done → Fits setup run kept done
-fits-on setup run kept done is = record { lease_is = is.lease_is; charter_is = is.charter_is; listener_is = is.listener_is; shows = lease-on setup run done.lease is.shows }
-
-fits-back : (setup : Setup) (run : Net Session) (kept : List Lease) (done : Done) → Fits setup run kept done → Fits setup (unsent run) kept done
-fits-back setup run kept done is = record { lease_is = is.lease_is; charter_is = is.charter_is; listener_is = is.listener_is; shows = lease-back setup run done.lease is.shows }
-
-judges-on : (setup : Setup) (run : Net Session) (kept : List Lease) (done : Done) (answer : Judged) → Judges setup (unsent run) kept done answer → Judges setup run kept done answer
-unfolding Judges
-judges-on setup run kept done judged.Fits is = fits-on setup run kept done is
-judges-on setup run kept done judged.Gone is = is
-judges-on setup run kept done judged.Other (live, other) = (live, λ fits. other (fits-back setup run kept done fits))
-
-pub judged_on : {E : Type 0} (setup : Setup) (run net : Net Session) (kept : List Lease) (done : Done) (r : Result Judged E) → net ≡ record run { sent = [] } → IfOk r (λ answer. Judges setup net kept done answer) → IfOk r (λ answer. Judges setup run kept done answer)
-judged_on setup run net kept done (Ok answer) same is = judges-on setup run kept done answer (rw same at is)
-judged_on setup run net kept done (Err e) same is = tt
 
 offer-on : (setup : Setup) (run : Net Session) (app : AppId) (number : ℕ) (o : Option Lease) → Offers setup (unsent run) app number o → Offers setup run app number o
 unfolding Offers
@@ -106,10 +72,10 @@ unfolding first_number
 first-is setup net app live waiting live_is first_is = rw (live_is, first_is) refl
 
 shows-by : (setup : Setup) (net : Net Session) (lease : Lease) (live : Live Session) (waiting : Waiting) → live_at lease.app net ≡ Some live → slice_get live.inbox 0 ≡ Some waiting → IsTimely setup net lease live waiting
-    → (shown as_session setup net lease.app live waiting lease.shown.now).view ≡ lease.shown → (shown as_session setup net lease.app live waiting lease.shown.now).event ≡ lease.event → IsLeaseOf setup net lease
+    → (shown as_session setup net lease.app live waiting lease.shown.now).view ≡ lease.shown → (shown as_session setup net lease.app live waiting lease.shown.now).event ≡ lease.event → IsLeaseOf as_session setup net lease
 unfolding IsLeaseOf ShowsOf ShowsFirst IsShown
 shows-by setup net lease live waiting live_is first_is timely view event =
-    subst (λ o. ShowsOf setup net lease o) (sym live_is) (subst (λ o. ShowsFirst setup net lease live o) (sym first_is) (timely, (view, event)))
+    subst (λ o. ShowsOf as_session setup net lease o) (sym live_is) (subst (λ o. ShowsFirst as_session setup net lease live o) (sym first_is) (timely, (view, event)))
 
 offered : (setup : Setup) (net : Net Session) (app : AppId) (live : Live Session) (waiting : Waiting) (number kind : ℕ) (prepared : Prepared) (lease : Lease) → live_at app net ≡ Some live → slice_get live.inbox 0 ≡ Some waiting → live.since ≤ net.moment
     → option_map (λ app. app.kind) (app_of setup.config app.host) ≡ Some kind → prepared ≡ shown as_session setup net app live waiting net.moment → IsMade number app kind waiting.number net.moment prepared lease → IsOffer setup net app number lease

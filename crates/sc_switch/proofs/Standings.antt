@@ -1,5 +1,5 @@
 -- A switch stands for its journal: at first, after one more step, and as messages are taken from it.
-use Rattle.std.proofs.Common.{◌≡◌, ℕ, ◌+◌, ◌<◌, ◌≤◌, ◌⊎◌, Option, List, [], ◌∷◌, ◌++◌, length, map, min, refl, sym, ap, ◌∙◌, subst, arith, length-append, append_assoc, inl, inr}
+use Rattle.std.proofs.Common.{◌≡◌, ℕ, ◌+◌, ◌<◌, ◌≤◌, ◌⊎◌, false, Option, List, [], ◌∷◌, ◌++◌, length, map, min, refl, sym, ap, ◌∙◌, subst, arith, length-append, append_assoc, inl, inr}
 use Rattle.std.specs.Prelude.{option_to_list, sum_by, Result, Ok, Err, OnOk, OnErr, IfErr, IsErr}
 use Rattle.std.proofs.lemmas.Bool.{false≢true}
 use Rattle.std.proofs.lemmas.List.{append-nil}
@@ -22,9 +22,11 @@ use Rattle.sc_hosts.proofs.RunLaws.{sent-of-beginning}
 use Rattle.sc_switch.specs.declared.refused.StepRefused.{StepRefused}
 use Rattle.sc_switch.specs.declared.refused.StepRefused.TheVariants as refused
 use Rattle.sc_switch.specs.declared.stepping.Stepped.{Stepped}
-use Rattle.sc_switch.specs.Standing.{Fits, Known, net_of, IsAllSent, IsNet, IsSwitch, step_of, without_number}
+use Rattle.sc_switch.specs.Standing.{AreKept, Fits, Known, net_of, whole, IsAllSent, IsNet, IsSwitch, step_of}
 use Rattle.sc_switch.specs.Stepping.{HasRoom, IsStepped, Refuses}
 use Rattle.sc_switch.specs.Answers.{RefusesRight, RefusesTurn, with_step}
+use Rattle.sc_leases.proofs.KeptLeases.{kept-after, kept-given, kept-without}
+use Rattle.sc_leases.specs.Leases.{AreLeases, IsLeaseOf, is_leased, kept_after, without_app, without_number}
 
 -- ## One more step of a journal
 
@@ -66,7 +68,15 @@ unsent : (setup : Setup) (run net : Net Session) (step : Step) → net ≡ recor
 unfolding after_step
 unsent setup run net step e = rw e refl
 
--- ## A new switch
+-- the steps of the whole epoch after one more
+whole-step : (old : Known) (step : Step) → whole (with_step old step) ≡ whole old ++ step ∷ []
+whole-step old step = sym (append_assoc old.handed old.journal (step ∷ []))
+
+pub net-step : (old : Known) (step : Step) → net_of (with_step old step) ≡ after_step as_session old.setup (net_of old) step
+unfolding net_of
+net-step old step = ap (chained as_session old.setup old.epoch old.began) (whole-step old step) ∙ chained-step old.setup old.epoch old.began (whole old) step
+
+-- ## An epoch that begins
 
 quiet-lives : (apps : List AppEntry) → sum_by (λ (host : Host Session). length host.sessions) (map (λ app. quiet_host) apps) ≡ 0
 unfolding quiet_host
@@ -78,18 +88,25 @@ unfolding quiet_host
 quiet-waits [] = refl
 quiet-waits (app ∷ apps) = quiet-waits apps
 
-pub IsSwitch-new : (setup : Setup) (room : ℕ) (net : Net Session) → IsSetup setup → net ≡ start setup 0 0
-    → IsSwitch setup 0 0 (record { items = []; used = 0; room = room; most_items = setup.config.journal_steps; most_bytes = setup.config.journal_bytes }) net 0 0 []
-unfolding IsLawful IsLawfulFrom chained chained_from start all_sent all_sent_from journal_size live_count waiting_count
-IsSwitch-new setup room net right net_is = record {
+-- nothing was taken, nothing sent, and no lease is out
+abbrev pub beginning : Setup → ℕ → ℕ → ℕ → Known
+beginning setup epoch began leases = record { setup = setup; epoch = epoch; began = began; handed = []; journal = []; left = []; kept = []; leases = leases }
+
+pub IsSwitch-begun : (setup : Setup) (epoch began leases : ℕ) (journal : Kept Step) (net : Net Session) → IsSetup setup → journal.items ≡ [] → journal.used ≡ 0 → journal.most_items ≡ setup.config.journal_steps → journal.most_bytes ≡ setup.config.journal_bytes
+    → net ≡ start setup epoch began → IsSwitch (beginning setup epoch began leases) journal 0 net 0 0
+unfolding net_of IsLawful IsLawfulFrom chained chained_from start all_sent all_sent_from journal_size live_count waiting_count AreLeases
+IsSwitch-begun setup epoch began leases journal net right items used most_items most_bytes net_is = record {
   right = right;
-  steps_is = refl;
-  bytes_is = refl;
-  within = omega arith;
-  used_is = refl;
+  items_is = items;
+  steps_is = most_items;
+  bytes_is = most_bytes;
+  within = rw items (omega arith);
+  used_is = rw (items, used) refl;
+  before_is = refl;
   lawful = tt;
   net_is = record { net_is = net_is; live_is = sym (quiet-lives setup.config.app); waiting_is = sym (quiet-waits setup.config.app) };
   sent_is = record { taken = []; sent_is = refl };
+  leases_are = omega arith;
 }
 
 -- ## One more step
@@ -103,96 +120,149 @@ sent_taken sent taken left rest e is =
     record { taken = is.taken ++ option_to_list taken; sent_is = is.sent_is ∙ (ap (λ (l : List Sent). is.taken ++ l) e ∙ sym (append_assoc is.taken (option_to_list taken) rest)) }
 
 -- a size that finds room is exact
-exact_size : (setup : Setup) (epoch began : ℕ) (journal : Kept Step) (net : Net Session) (live waiting : ℕ) (left : List Sent) (step : Step) (size : ℕ)
-    → IsSwitch setup epoch began journal net live waiting left → size ≡ min (step_size step) 18446744073709551615 → journal.used + size ≤ journal.most_bytes → size ≡ step_size step
-exact_size setup epoch began journal net live waiting left step size is size_is fit = omega (arith, size_is, fit, is.bytes_is, is.right.bytes)
+exact_size : (known : Known) (journal : Kept Step) (before : ℕ) (net : Net Session) (live waiting : ℕ) (step : Step) (size : ℕ)
+    → IsSwitch known journal before net live waiting → size ≡ min (step_size step) 18446744073709551615 → journal.used + size ≤ journal.most_bytes → size ≡ step_size step
+exact_size known journal before net live waiting step size is size_is fit = omega (arith, size_is, fit, is.bytes_is, is.right.bytes)
 
 -- what a step sends, of the net that the switch keeps
-stepped-sent : (setup : Setup) (epoch began : ℕ) (journal : Kept Step) (net : Net Session) (live waiting : ℕ) (left : List Sent) (step : Step) (made : Stepped) → IsSwitch setup epoch began journal net live waiting left → IsStepped setup net step made
-    → made.sent ≡ (after_step as_session setup (chained as_session setup epoch began journal.items) step).sent
-stepped-sent setup epoch began journal net live waiting left step made is stepped =
-    stepped.sent_is ∙ ap (λ (n : Net Session). n.sent) (unsent setup (chained as_session setup epoch began journal.items) net step is.net_is.net_is)
+stepped-sent : (known : Known) (journal : Kept Step) (before : ℕ) (net : Net Session) (live waiting : ℕ) (step : Step) (made : Stepped) → IsSwitch known journal before net live waiting → IsStepped known.setup net step made
+    → made.sent ≡ (after_step as_session known.setup (net_of known) step).sent
+stepped-sent known journal before net live waiting step made is stepped =
+    stepped.sent_is ∙ ap (λ (n : Net Session). n.sent) (unsent known.setup (net_of known) net step is.net_is.net_is)
 
-pub IsSwitch-step : (setup : Setup) (epoch began : ℕ) (journal mid new : Kept Step) (net net' : Net Session) (live waiting live' waiting' : ℕ) (left left' : List Sent) (step : Step) (made : Stepped) (size : ℕ)
-    → IsSwitch setup epoch began journal net live waiting left
-    → IsStepped setup net step made → IsAllowed as_session setup (chained as_session setup epoch began journal.items) step
+kept-step : (old : Known) (step : Step) → IsAllowed as_session old.setup (net_of old) step → AreKept old → AreKept (with_step old step)
+kept-step old step allowed are = rw (net-step old step) (kept-after as_session old.setup (net_of old) step old.kept 0 old.leases allowed are)
+
+step-is : (old : Known) (journal mid new : Kept Step) (before : ℕ) (net : Net Session) (live waiting : ℕ) (step : Step) (made : Stepped) (size : ℕ)
+    → IsSwitch old journal before net live waiting → IsStepped old.setup net step made → IsAllowed as_session old.setup (net_of old) step
     → mid ≡ record journal { room = mid.room } → HasRoom mid size → size ≡ min (step_size step) 18446744073709551615
-    → new ≡ record mid { items = mid.items ++ step ∷ []; used = mid.used + size; room = new.room } → left' ≡ left ++ made.sent
-    → net' ≡ made.net → live' ≡ made.live → waiting' ≡ made.waiting
-    → IsSwitch setup epoch began new net' live' waiting' left'
-IsSwitch-step setup epoch began journal mid new net net' live waiting live' waiting' left left' step made size is stepped allowed mid_is has size_is new_is left_is net_is live_is waiting_is =
+    → new ≡ record mid { items = mid.items ++ step ∷ []; used = mid.used + size; room = new.room }
+    → IsSwitch (with_step old step) new before made.net made.live made.waiting
+unfolding net_of
+step-is old journal mid new before net live waiting step made size is stepped allowed mid_is has size_is new_is =
     let long = length-append journal.items (step ∷ []) in
     let below : length journal.items < journal.most_items = rw mid_is at has.items in
     let fit : journal.used + size ≤ journal.most_bytes = rw mid_is at has.bytes_fit in
-    let exact = exact_size setup epoch began journal net live waiting left step size is size_is fit in
-    let run = chained as_session setup epoch began journal.items in
-    let next : IsNet (after_step as_session setup run step) made.net made.live made.waiting = subst (λ (n : Net Session). IsNet n made.net made.live made.waiting) (unsent setup run net step is.net_is.net_is) stepped.net_is in
-    rw (new_is, mid_is, left_is, net_is, live_is, waiting_is, stepped-sent setup epoch began journal net live waiting left step made is stepped)
+    let exact = exact_size old journal before net live waiting step size is size_is fit in
+    let run = net_of old in
+    let next : IsNet (after_step as_session old.setup run step) made.net made.live made.waiting = subst (λ (n : Net Session). IsNet n made.net made.live made.waiting) (unsent old.setup run net step is.net_is.net_is) stepped.net_is in
+    rw (new_is, mid_is)
     (record {
       right = is.right;
+      items_is = ap (λ (items : List Step). items ++ step ∷ []) is.items_is;
       steps_is = is.steps_is;
       bytes_is = is.bytes_is;
       within = omega (arith, long, below);
       used_is = rw (size-step, ← exact, ← is.used_is) refl;
-      lawful = lawful-step setup epoch began journal.items step is.lawful allowed;
-      net_is = rw (chained-step setup epoch began journal.items step) next;
-      sent_is = rw (sent-step setup epoch began journal.items step) (sent_more _ left _ is.sent_is);
+      before_is = is.before_is;
+      lawful = rw (whole-step old step) (lawful-step old.setup old.epoch old.began (whole old) step is.lawful allowed);
+      net_is = rw (net-step old step) next;
+      sent_is = rw (whole-step old step, sent-step old.setup old.epoch old.began (whole old) step) (sent_more _ old.left _ is.sent_is);
+      leases_are = kept-step old step allowed is.leases_are;
     })
 
 -- the view after a step
-pub known_step : (setup : Setup) (epoch began : ℕ) (journal mid new : Kept Step) (net : Net Session) (live waiting : ℕ) (left left' : List Sent) (kept : List Lease) (leases : ℕ) (step : Step) (made : Stepped) (size : ℕ)
-    → IsSwitch setup epoch began journal net live waiting left → IsStepped setup net step made
-    → mid ≡ record journal { room = mid.room } → new ≡ record mid { items = mid.items ++ step ∷ []; used = mid.used + size; room = new.room } → left' ≡ left ++ made.sent
-    → ◌≡◌ {A = Known} (record { setup = setup; epoch = epoch; began = began; journal = new.items; left = left'; kept = kept; leases = leases })
-    (with_step (record { setup = setup; epoch = epoch; began = began; journal = journal.items; left = left; kept = kept; leases = leases }) step)
-unfolding net_of
-known_step setup epoch began journal mid new net live waiting left left' kept leases step made size is stepped mid_is new_is left_is =
-    rw (new_is, mid_is, left_is, stepped-sent setup epoch began journal net live waiting left step made is stepped) refl
+pub known_step : (old : Known) (journal mid new : Kept Step) (before : ℕ) (net : Net Session) (live waiting : ℕ) (left : List Sent) (kept : List Lease) (step : Step) (made : Stepped) (size : ℕ)
+    → IsSwitch old journal before net live waiting → IsStepped old.setup net step made
+    → mid ≡ record journal { room = mid.room } → new ≡ record mid { items = mid.items ++ step ∷ []; used = mid.used + size; room = new.room } → left ≡ old.left ++ made.sent → kept ≡ kept_after step old.kept
+    → ◌≡◌ {A = Known} (record old { journal = new.items; left = left; kept = kept }) (with_step old step)
+known_step old journal mid new before net live waiting left kept step made size is stepped mid_is new_is left_is kept_is =
+    let items : new.items ≡ old.journal ++ step ∷ [] = ap (λ (j : Kept Step). j.items) new_is ∙ ap (λ (j : Kept Step). j.items ++ step ∷ []) mid_is ∙ ap (λ (items : List Step). items ++ step ∷ []) is.items_is in
+    rw (items, left_is, kept_is, stepped-sent old journal before net live waiting step made is stepped) refl
+
+pub IsSwitch-step : (old : Known) (journal mid new : Kept Step) (before : ℕ) (net net' : Net Session) (live waiting live' waiting' : ℕ) (left : List Sent) (kept : List Lease) (step : Step) (made : Stepped) (size : ℕ)
+    → IsSwitch old journal before net live waiting → IsStepped old.setup net step made → IsAllowed as_session old.setup (net_of old) step
+    → mid ≡ record journal { room = mid.room } → HasRoom mid size → size ≡ min (step_size step) 18446744073709551615
+    → new ≡ record mid { items = mid.items ++ step ∷ []; used = mid.used + size; room = new.room } → left ≡ old.left ++ made.sent → kept ≡ kept_after step old.kept
+    → net' ≡ made.net → live' ≡ made.live → waiting' ≡ made.waiting
+    → IsSwitch (record old { journal = new.items; left = left; kept = kept }) new before net' live' waiting'
+IsSwitch-step old journal mid new before net net' live waiting live' waiting' left kept step made size is stepped allowed mid_is has size_is new_is left_is kept_is net_is live_is waiting_is =
+    rw (net_is, live_is, waiting_is)
+    (subst (λ (k : Known). IsSwitch k new before made.net made.live made.waiting)
+    (sym (known_step old journal mid new before net live waiting left kept step made size is stepped mid_is new_is left_is kept_is))
+    (step-is old journal mid new before net live waiting step made size is stepped allowed mid_is has size_is new_is))
 
 -- ## What is refused
 
 -- room that was made is room
-pub not_full : (setup : Setup) (epoch began : ℕ) (journal mid : Kept Step) (net : Net Session) (live waiting : ℕ) (left : List Sent) (step : Step) (size : ℕ)
-    → IsSwitch setup epoch began journal net live waiting left → mid ≡ record journal { room = mid.room } → HasRoom mid size → size ≡ min (step_size step) 18446744073709551615
-    → HasNoRoom setup.config.journal_steps setup.config.journal_bytes journal.items (step_size step) → ⊥
+pub not_full : (known : Known) (journal mid : Kept Step) (before : ℕ) (net : Net Session) (live waiting : ℕ) (step : Step) (size : ℕ)
+    → IsSwitch known journal before net live waiting → mid ≡ record journal { room = mid.room } → HasRoom mid size → size ≡ min (step_size step) 18446744073709551615
+    → HasNoRoom known.setup.config.journal_steps known.setup.config.journal_bytes known.journal (step_size step) → ⊥
 unfolding HasNoRoom
-not_full setup epoch began journal mid net live waiting left step size is mid_is has size_is (inl full) =
-    let below : length journal.items < journal.most_items = rw mid_is at has.items in omega (arith, below, full, is.steps_is)
-not_full setup epoch began journal mid net live waiting left step size is mid_is has size_is (inr past) =
+not_full known journal mid before net live waiting step size is mid_is has size_is (inl full) =
+    let below : length journal.items < journal.most_items = rw mid_is at has.items in
+    let same = ap length is.items_is in
+    omega (arith, below, full, same, is.steps_is)
+not_full known journal mid before net live waiting step size is mid_is has size_is (inr past) =
     let fit : journal.used + size ≤ journal.most_bytes = rw mid_is at has.bytes_fit in
-    let exact = exact_size setup epoch began journal net live waiting left step size is size_is fit in
-    omega (arith, fit, past, exact, is.bytes_is, is.used_is)
+    let exact = exact_size known journal before net live waiting step size is size_is fit in
+    let same = ap journal_size is.items_is in
+    omega (arith, fit, past, exact, same, is.bytes_is, is.used_is)
 
-no-room : (setup : Setup) (epoch began : ℕ) (journal : Kept Step) (net : Net Session) (live waiting : ℕ) (left : List Sent) (step : Step) (size : ℕ)
-    → IsSwitch setup epoch began journal net live waiting left → size ≡ min (step_size step) 18446744073709551615 → (length journal.items ≡ journal.most_items) ⊎ (journal.most_bytes < journal.used + size)
-    → HasNoRoom setup.config.journal_steps setup.config.journal_bytes journal.items (step_size step)
+no-room : (known : Known) (journal : Kept Step) (before : ℕ) (net : Net Session) (live waiting : ℕ) (step : Step) (size : ℕ)
+    → IsSwitch known journal before net live waiting → size ≡ min (step_size step) 18446744073709551615 → (length journal.items ≡ journal.most_items) ⊎ (journal.most_bytes < journal.used + size)
+    → HasNoRoom known.setup.config.journal_steps known.setup.config.journal_bytes known.journal (step_size step)
 unfolding HasNoRoom
-no-room setup epoch began journal net live waiting left step size is size_is (inl full) = inl (omega (arith, full, is.steps_is))
-no-room setup epoch began journal net live waiting left step size is size_is (inr past) = inr (omega (arith, past, size_is, is.bytes_is, is.used_is))
+no-room known journal before net live waiting step size is size_is (inl full) =
+    let same = ap length is.items_is in inl (omega (arith, full, same, is.steps_is))
+no-room known journal before net live waiting step size is size_is (inr past) =
+    let same = ap journal_size is.items_is in inr (omega (arith, past, size_is, same, is.bytes_is, is.used_is))
 
 -- a refusal of the journal is one of the switch
-pub refuses_right : (setup : Setup) (epoch began : ℕ) (journal : Kept Step) (net : Net Session) (live waiting : ℕ) (left : List Sent) (kept : List Lease) (leases : ℕ) (step : Step) (size : ℕ) (cause : StepRefused)
-    → IsSwitch setup epoch began journal net live waiting left → size ≡ min (step_size step) 18446744073709551615 → Refuses journal size cause
-    → RefusesRight (record { setup = setup; epoch = epoch; began = began; journal = journal.items; left = left; kept = kept; leases = leases }) (step_size step) cause
+pub refuses_right : (known : Known) (journal : Kept Step) (before : ℕ) (net : Net Session) (live waiting : ℕ) (step : Step) (size : ℕ) (cause : StepRefused)
+    → IsSwitch known journal before net live waiting → size ≡ min (step_size step) 18446744073709551615 → Refuses journal size cause → RefusesRight known (step_size step) cause
 unfolding RefusesRight
-refuses_right setup epoch began journal net live waiting left kept leases step size (refused.JournalFull steps bytes) is size_is refuses =
-    (refuses.0 ∙ is.steps_is, refuses.1 ∙ is.bytes_is, no-room setup epoch began journal net live waiting left step size is size_is refuses.2)
-refuses_right setup epoch began journal net live waiting left kept leases step size refused.NoMemory is size_is refuses = tt
+refuses_right known journal before net live waiting step size (refused.JournalFull steps bytes) is size_is refuses =
+    (refuses.0 ∙ is.steps_is, refuses.1 ∙ is.bytes_is, no-room known journal before net live waiting step size is size_is refuses.2)
+refuses_right known journal before net live waiting step size refused.NoMemory is size_is refuses = tt
 
--- ## Messages that are taken
+-- ## Messages that are taken, and leases that are given or end
 
-pub IsSwitch-taken : (setup : Setup) (epoch began : ℕ) (journal : Kept Step) (net : Net Session) (live waiting : ℕ) (left rest : List Sent) (taken : Option Sent) → IsSwitch setup epoch began journal net live waiting left → left ≡ option_to_list taken ++ rest
-    → IsSwitch setup epoch began journal net live waiting rest
-IsSwitch-taken setup epoch began journal net live waiting left rest taken is left_is = record {
+pub IsSwitch-taken : (known : Known) (journal : Kept Step) (before : ℕ) (net : Net Session) (live waiting : ℕ) (rest : List Sent) (taken : Option Sent) → IsSwitch known journal before net live waiting → known.left ≡ option_to_list taken ++ rest
+    → IsSwitch (record known { left = rest }) journal before net live waiting
+unfolding net_of
+IsSwitch-taken known journal before net live waiting rest taken is left_is = record {
   right = is.right;
+  items_is = is.items_is;
   steps_is = is.steps_is;
   bytes_is = is.bytes_is;
   within = is.within;
   used_is = is.used_is;
+  before_is = is.before_is;
   lawful = is.lawful;
   net_is = is.net_is;
-  sent_is = sent_taken _ taken left rest left_is is.sent_is;
+  sent_is = sent_taken _ taken known.left rest left_is is.sent_is;
+  leases_are = is.leases_are;
 }
+
+with-leases : (known : Known) (journal : Kept Step) (before : ℕ) (net : Net Session) (live waiting : ℕ) (kept : List Lease) (leases : ℕ) → IsSwitch known journal before net live waiting
+    → AreLeases as_session known.setup (net_of known) kept 0 leases → IsSwitch (record known { kept = kept; leases = leases }) journal before net live waiting
+unfolding net_of
+with-leases known journal before net live waiting kept leases is are = record {
+  right = is.right;
+  items_is = is.items_is;
+  steps_is = is.steps_is;
+  bytes_is = is.bytes_is;
+  within = is.within;
+  used_is = is.used_is;
+  before_is = is.before_is;
+  lawful = is.lawful;
+  net_is = is.net_is;
+  sent_is = is.sent_is;
+  leases_are = are;
+}
+
+pub IsSwitch-given : (known : Known) (journal : Kept Step) (before : ℕ) (net : Net Session) (live waiting : ℕ) (lease : Lease) (kept : List Lease) (leases : ℕ) → IsSwitch known journal before net live waiting
+    → IsLeaseOf as_session known.setup (net_of known) lease → lease.number ≡ known.leases + 1 → is_leased known.kept lease.app ≡ false → kept ≡ known.kept ++ lease ∷ [] → leases ≡ known.leases + 1
+    → IsSwitch (record known { kept = kept; leases = leases }) journal before net live waiting
+IsSwitch-given known journal before net live waiting lease kept leases is shows number free kept_is leases_is =
+    rw (kept_is, leases_is)
+    (with-leases known journal before net live waiting (known.kept ++ lease ∷ []) (known.leases + 1) is (kept-given as_session known.setup (net_of known) lease known.kept 0 known.leases is.leases_are shows number free))
+
+pub IsSwitch-without : (known : Known) (journal : Kept Step) (before : ℕ) (net : Net Session) (live waiting number : ℕ) (kept : List Lease) → IsSwitch known journal before net live waiting → kept ≡ without_number number known.kept
+    → IsSwitch (record known { kept = kept }) journal before net live waiting
+IsSwitch-without known journal before net live waiting number kept is kept_is =
+    rw kept_is (with-leases known journal before net live waiting (without_number number known.kept) known.leases is (kept-without as_session known.setup (net_of known) known.kept 0 known.leases number is.leases_are))
 
 -- ## A step that is told as taken or refused
 
@@ -217,24 +287,19 @@ pub turn_size : (done : Done) (size : ℕ) → size ≡ min (sum_by record_size 
 unfolding step_size step_of
 turn_size done size is = is
 
--- the view after a turn whose lease ended
-pub known_turn : (setup : Setup) (epoch began : ℕ) (journal mid new : Kept Step) (net : Net Session) (live waiting : ℕ) (left left' : List Sent) (kept kept' : List Lease) (leases number : ℕ) (step : Step) (made : Stepped) (size : ℕ)
-    → IsSwitch setup epoch began journal net live waiting left → IsStepped setup net step made
-    → mid ≡ record journal { room = mid.room } → new ≡ record mid { items = mid.items ++ step ∷ []; used = mid.used + size; room = new.room } → left' ≡ left ++ made.sent → kept' ≡ without_number number kept
-    → ◌≡◌ {A = Known} (record { setup = setup; epoch = epoch; began = began; journal = new.items; left = left'; kept = kept'; leases = leases })
-    (record (with_step (record { setup = setup; epoch = epoch; began = began; journal = journal.items; left = left; kept = kept; leases = leases }) step) { kept = without_number number kept })
-unfolding net_of
-known_turn setup epoch began journal mid new net live waiting left left' kept kept' leases number step made size is stepped mid_is new_is left_is kept_is =
-    rw (new_is, mid_is, left_is, stepped-sent setup epoch began journal net live waiting left step made is stepped, kept_is) refl
+-- the lease of its session ends
+pub turn_ends : (done : Done) (kept after : List Lease) → after ≡ without_app done.lease.app kept → after ≡ kept_after (step_of done) kept
+unfolding step_of kept_after
+turn_ends done kept after is = is
 
-refuses-turn : (known : Known) (done : Done) (size : ℕ) (cause : StepRefused) → Fits known.setup (net_of known) known.kept done → RefusesRight known size cause → RefusesTurn known done size cause
+refuses-turn : (known : Known) (done : Done) (size : ℕ) (cause : StepRefused) → Fits known.setup known.kept done → RefusesRight known size cause → RefusesTurn known done size cause
 unfolding RefusesTurn
 refuses-turn known done size (refused.JournalFull steps bytes) fits refuses = (refuses, fits)
 refuses-turn known done size refused.NoMemory fits refuses = tt
 
-pub refuses_turn : (setup : Setup) (epoch began : ℕ) (journal : Kept Step) (net : Net Session) (live waiting : ℕ) (left : List Sent) (kept : List Lease) (leases : ℕ) (done : Done) (size : ℕ) (cause : StepRefused) (known : Known)
-    → IsSwitch setup epoch began journal net live waiting left → size ≡ min (sum_by record_size done.calls) 18446744073709551615 → Refuses journal size cause
-    → record { setup = setup; epoch = epoch; began = began; journal = journal.items; left = left; kept = kept; leases = leases } ≡ known → Fits known.setup (net_of known) known.kept done → RefusesTurn known done (step_size (step_of done)) cause
-refuses_turn setup epoch began journal net live waiting left kept leases done size cause known is size_is refuses same fits =
-    refuses-turn known done (step_size (step_of done)) cause fits
-    (subst (λ (k : Known). RefusesRight k (step_size (step_of done)) cause) same (refuses_right setup epoch began journal net live waiting left kept leases (step_of done) size cause is (turn_size done size size_is) refuses))
+pub refuses_turn : (known now : Known) (journal : Kept Step) (before : ℕ) (net : Net Session) (live waiting : ℕ) (done : Done) (size : ℕ) (cause : StepRefused)
+    → IsSwitch known journal before net live waiting → size ≡ min (sum_by record_size done.calls) 18446744073709551615 → Refuses journal size cause → known ≡ now → Fits now.setup now.kept done
+    → RefusesTurn now done (step_size (step_of done)) cause
+refuses_turn known now journal before net live waiting done size cause is size_is refuses same fits =
+    refuses-turn now done (step_size (step_of done)) cause fits
+    (subst (λ (k : Known). RefusesRight k (step_size (step_of done)) cause) same (refuses_right known journal before net live waiting (step_of done) size cause is (turn_size done size size_is) refuses))

@@ -1,4 +1,6 @@
 pub mod Answers
+pub mod Counting
+pub mod Ledger
 pub mod Offering
 pub mod Standing
 pub mod Stepping

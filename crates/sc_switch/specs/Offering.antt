@@ -10,12 +10,14 @@ use Rattle.sc_state.specs.declared.session.Session.{Session}
 use Rattle.sc_state.specs.declared.working.Prepared.{Prepared}
 use Rattle.sc_servlets.specs.declared.lease.Lease.{Lease}
 use Rattle.sc_servlets.specs.declared.done.Done.{Done}
+use Rattle.sc_hosts.specs.Histories.{as_session}
 use Rattle.sc_hosts.specs.Steps.{live_at}
 use Rattle.sc_runs.specs.Following.{first_number}
 use Rattle.sc_runs.specs.Next.{Next, next_of, earlier}
 use Rattle.sc_switch.specs.declared.called.Judged.{Judged}
 use Rattle.sc_switch.specs.declared.called.Judged.TheVariants as judged
-use Rattle.sc_switch.specs.Standing.{IsLeaseOf, is_leased, is_live_lease, Fits}
+use Rattle.sc_switch.specs.Standing.{is_live_lease, Fits}
+use Rattle.sc_leases.specs.Leases.{IsLeaseOf, is_leased}
 
 -- the lease of the first event of a session, of this number, at the last moment
 pub record IsOffer (setup : Setup) (net : Net Session) (app : AppId) (number : ℕ) (lease : Lease) : Type 0 where
@@ -23,7 +25,7 @@ pub record IsOffer (setup : Setup) (net : Net Session) (app : AppId) (number : �
   pub app_is : lease.app ≡ app
   pub first_is : first_number (live_at app net) ≡ Some lease.event_number
   pub now_is : lease.shown.now ≡ net.moment
-  pub shows : IsLeaseOf setup net lease
+  pub shows : IsLeaseOf as_session setup net lease
 
 -- the lease that is offered of a session; none where it doesn't live or no event waits for it
 unfoldable pub Offers : Setup → Net Session → AppId → ℕ → Option Lease → Type 0
@@ -64,7 +66,7 @@ with_hosts kept number best (host ∷ hosts) = with_hosts kept (number + 1) (wit
 
 -- ## What a brought turn is
 
-unfoldable pub Judges : Setup → Net Session → List Lease → Done → Judged → Type 0
-Judges setup net kept done judged.Fits = Fits setup net kept done
-Judges setup net kept done judged.Gone = is_live_lease kept done.lease.number ≡ false
-Judges setup net kept done judged.Other = (is_live_lease kept done.lease.number ≡ true) × (Fits setup net kept done → ⊥)
+unfoldable pub Judges : Setup → List Lease → Done → Judged → Type 0
+Judges setup kept done judged.Fits = Fits setup kept done
+Judges setup kept done judged.Gone = is_live_lease kept done.lease.number ≡ false
+Judges setup kept done judged.Other = (is_live_lease kept done.lease.number ≡ true) × (Fits setup kept done → ⊥)

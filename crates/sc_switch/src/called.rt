@@ -6,17 +6,16 @@ ghost use Rattle.std.specs.List.{find};
 ghost use Rattle.sc_model.specs.Settings.{charters_of};
 ghost use Rattle.sc_servlets.specs.Brought.{called_servlet, called_listener};
 ghost use Rattle.sc_servlets.specs.Stated.{servlet_at, listener_at};
-ghost use Rattle.sc_switch.specs.Standing.{servlet_of, listener_of, has_number, has_other_number, is_of_other, is_live_lease, without_app, without_number};
+ghost use Rattle.sc_switch.specs.Standing.{servlet_of, listener_of, is_live_lease};
+ghost use Rattle.sc_leases.specs.Leases.{has_number, has_other_number, is_of_other, kept_after, without_app, without_number};
 ghost use Rattle.sc_switch.specs.Offering.{Judges};
 
-use crate::leasing::{app_of, shows};
+use crate::leasing::app_of;
 use sc_parts::Setup;
 use sc_servlets::{Done, Lease, is_listened};
-use sc_state::{Net, Session};
-use sc_terms::{Charter, Event, ListenerCharter};
+use sc_terms::{Charter, Event, ListenerCharter, Step};
 use sc_transact::is_same_app;
-use sc_value::{AppId, List, NoMemory, Same};
-use std::alloc::Global;
+use sc_value::{AppId, List, Same};
 
 /// What a brought turn is to the live leases.
 #[derive(Clone, Copy, Debug, PartialEq, Eq)]
@@ -25,25 +24,18 @@ pub enum Judged {
     Fits,
     /// No lease of its number is live.
     Gone,
-    /// Another lease, or others called, under the number of a live one; or that one shows no longer
-    /// what there is.
+    /// Another lease, or others called, under the number of a live one.
     Other,
 }
 
 /// Judges a brought turn by the live leases.
 #[tactic(auto, unfolding(crate::specs::Offering::Judges, crate::specs::Standing::is_live_lease))]
-pub fn judge(
-    alloc: Global,
-    setup: &Setup,
-    net: &Net<Session>,
-    kept: &[Lease],
-    done: &Done,
-) -> Result<Judged, NoMemory>
-    ensures { IfOk result (λ judged. Judges setup.now net.now kept.now done.now judged) }
+pub fn judge(setup: &Setup, kept: &[Lease], done: &Done) -> Judged
+    ensures { Judges setup.now kept.now done.now result }
 {
     match lease_of(kept, done.lease.number) {
-        Some(lease) => judge_by(alloc, setup, net, kept, lease, done),
-        None => Ok(Judged::Gone),
+        Some(lease) => judge_by(setup, kept, lease, done),
+        None => Judged::Gone,
     }
 }
 
@@ -65,27 +57,14 @@ fn lease_place(kept: &[Lease], number: u64) -> Option<usize>
 }
 
 #[tactic(auto, unfolding(crate::specs::Offering::Judges, crate::specs::Standing::is_live_lease))]
-fn judge_by(
-    alloc: Global,
-    setup: &Setup,
-    net: &Net<Session>,
-    kept: &[Lease],
-    lease: &Lease,
-    done: &Done,
-) -> Result<Judged, NoMemory>
+fn judge_by(setup: &Setup, kept: &[Lease], lease: &Lease, done: &Done) -> Judged
     requires { find (has_number done.now.lease.number) kept.now ≡ Some lease.now }
-    ensures { IfOk result (λ judged. Judges setup.now net.now kept.now done.now judged) }
+    ensures { Judges setup.now kept.now done.now result }
 {
-    if !lease.same(&done.lease) {
-        return Ok(Judged::Other);
-    }
-    if !calls_right(setup, done) {
-        return Ok(Judged::Other);
-    }
-    if shows(alloc, setup, net, &done.lease)? {
-        Ok(Judged::Fits)
+    if lease.same(&done.lease) && calls_right(setup, done) {
+        Judged::Fits
     } else {
-        Ok(Judged::Other)
+        Judged::Other
     }
 }
 
@@ -167,7 +146,7 @@ fn kind_at(
     kinds.get(kind)
 }
 
-#[tactic(auto, unfolding(crate::specs::Standing::has_other_number))]
+#[tactic(auto, unfolding(sc_leases::specs::Leases::has_other_number))]
 fn has_other_number(number: u64, lease: &Lease) -> bool
     ensures { result ≡ has_other_number number lease.now }
 {
@@ -181,14 +160,14 @@ fn retain_others(number: u64, kept: &mut Vec<Lease>)
 }
 
 /// Ends the lease of this number.
-#[tactic(auto, unfolding(crate::specs::Standing::without_number))]
+#[tactic(auto, unfolding(sc_leases::specs::Leases::without_number))]
 pub fn end_lease(number: u64, kept: &mut List<Lease>)
     ensures { kept.new ≡ without_number number kept.old }
 {
     retain_others(number, &mut kept.items);
 }
 
-#[tactic(auto, unfolding(crate::specs::Standing::is_of_other))]
+#[tactic(auto, unfolding(sc_leases::specs::Leases::is_of_other))]
 fn is_of_other(app: AppId, lease: &Lease) -> bool
     ensures { result ≡ is_of_other app lease.now }
 {
@@ -202,9 +181,21 @@ fn retain_of_others(app: AppId, kept: &mut Vec<Lease>)
 }
 
 /// Ends the leases of a session.
-#[tactic(auto, unfolding(crate::specs::Standing::without_app))]
+#[tactic(auto, unfolding(sc_leases::specs::Leases::without_app))]
 pub fn end_leases(app: AppId, kept: &mut List<Lease>)
     ensures { kept.new ≡ without_app app kept.old }
 {
     retain_of_others(app, &mut kept.items);
+}
+
+/// Ends the leases of the session whose turn or withdrawal a step is.
+#[tactic(auto, unfolding(sc_leases::specs::Leases::kept_after))]
+pub fn end_own(step: &Step, kept: &mut List<Lease>)
+    ensures { kept.new ≡ kept_after step.now kept.old }
+{
+    match step {
+        Step::Turn { app, .. } => end_leases(*app, kept),
+        Step::Withdraw(app) => end_leases(*app, kept),
+        Step::In(..) | Step::Bad(..) | Step::Lost(_) | Step::Tick(_) => {}
+    }
 }

@@ -1,10 +1,12 @@
 //! What is counted in a net.
 
-ghost use Rattle.std.specs.Prelude.{◌≡◌, length, sum_by, IfOk};
+ghost use Rattle.std.specs.Prelude.{◌≡◌, length, min, filter, sum_by, IfOk};
 ghost use Rattle.sc_hosts.specs.Runs.{live_count, waiting_count};
+ghost use Rattle.sc_switch.specs.Counting.{busy_at, busy_count, is_busy_client, is_busy_server};
 ghost use Rattle.sc_switch.specs.Stepping.{waiting_at};
 
-use sc_state::{Host, Live, Net, Session};
+use sc_state::{Client, Host, Live, Net, Server, Session};
+use sc_transact::{is_over, state_of_client, state_of_server};
 use sc_value::{NoMemory, Shared, sum};
 
 /// How many application sessions live.
@@ -58,4 +60,65 @@ fn waiting_in(sessions: &[Shared<Live<Session>>]) -> Result<u64, NoMemory>
         count = sum(count, live.get().inbox.len() as u64)?;
     }
     Ok(count)
+}
+
+/// How many transactions live.
+#[tactic(auto, unfolding(crate::specs::Counting::busy_count))]
+pub fn busy_count(net: &Net<Session>) -> u64
+    ensures { result ≡ min (busy_count net.now) u64.MAX }
+{
+    busy_among(net.hosts.as_slice())
+}
+
+fn busy_among(hosts: &[Host<Session>]) -> u64
+    ensures { result ≡ min (sum_by busy_at hosts.now) u64.MAX }
+{
+    let mut count: u64 = 0;
+    for host in hosts {
+        count = count.saturating_add(busy_at(host));
+    }
+    count
+}
+
+#[tactic(auto, unfolding(crate::specs::Counting::busy_at))]
+fn busy_at(host: &Host<Session>) -> u64
+    ensures { result ≡ min (busy_at host.now) u64.MAX }
+{
+    busy_clients(host.clients.as_slice()).saturating_add(busy_servers(host.servers.as_slice()))
+}
+
+fn busy_clients(clients: &[Shared<Client>]) -> u64
+    ensures { result ≡ min (length (filter is_busy_client clients.now)) u64.MAX }
+{
+    let mut count: u64 = 0;
+    for client in clients {
+        count = count.saturating_add(u64::from(is_busy_client(client.get())));
+    }
+    count
+}
+
+/// Whether a client transaction lives.
+#[tactic(auto, unfolding(crate::specs::Counting::is_busy_client))]
+fn is_busy_client(client: &Client) -> bool
+    ensures { result ≡ is_busy_client client.now }
+{
+    !is_over(state_of_client(client))
+}
+
+fn busy_servers(servers: &[Shared<Server>]) -> u64
+    ensures { result ≡ min (length (filter is_busy_server servers.now)) u64.MAX }
+{
+    let mut count: u64 = 0;
+    for server in servers {
+        count = count.saturating_add(u64::from(is_busy_server(server.get())));
+    }
+    count
+}
+
+/// Whether a server transaction lives.
+#[tactic(auto, unfolding(crate::specs::Counting::is_busy_server))]
+fn is_busy_server(server: &Server) -> bool
+    ensures { result ≡ is_busy_server server.now }
+{
+    !is_over(state_of_server(server))
 }

@@ -7,7 +7,7 @@ ghost use Rattle.sc_hosts.specs.Runs.{shown};
 ghost use Rattle.sc_hosts.specs.Steps.{live_at};
 ghost use Rattle.sc_model.specs.Settings.{app_of};
 ghost use Rattle.sc_servlets.specs.Ranges.{is_numbered_below};
-ghost use Rattle.sc_switch.specs.Standing.{IsLeaseOf, ShowsFirst, IsTimely, IsShown};
+ghost use Rattle.sc_leases.specs.Leases.{IsLeaseOf, ShowsFirst, IsTimely, IsShown};
 ghost use Rattle.sc_switch.specs.Offering.{Offers, IsOffer, IsMade};
 
 use sc_parts::Setup;
@@ -170,85 +170,4 @@ fn offer_first(
     };
     let shown = shown(alloc, setup, net, app, live, waiting, net.moment)?;
     lease_of(number, app, kind, waiting.number, net.moment, shown)
-}
-
-/// Whether a lease shows the first event of its session, which lives.
-#[tactic(auto, unfolding(crate::specs::Standing::IsLeaseOf, crate::specs::Standing::ShowsOf))]
-pub fn shows(
-    alloc: Global,
-    setup: &Setup,
-    net: &Net<Session>,
-    lease: &Lease,
-) -> Result<bool, NoMemory>
-    ensures { IfOk result (λ b. IsTrue b ↔ IsLeaseOf setup.now net.now lease.now) }
-{
-    match live_at(lease.app, net) {
-        Some(live) => shows_live(alloc, setup, net, lease, live),
-        None => Ok(false),
-    }
-}
-
-#[tactic(auto, unfolding(crate::specs::Standing::ShowsFirst))]
-fn shows_live(
-    alloc: Global,
-    setup: &Setup,
-    net: &Net<Session>,
-    lease: &Lease,
-    live: &Live<Session>,
-) -> Result<bool, NoMemory>
-    ensures { IfOk result (λ b. IsTrue b ↔ ShowsFirst setup.now net.now lease.now live.now (slice_get live.now.inbox 0)) }
-{
-    match live.inbox.as_slice().first() {
-        Some(waiting) => shows_first(alloc, setup, net, lease, live, waiting),
-        None => Ok(false),
-    }
-}
-
-fn shows_first(
-    alloc: Global,
-    setup: &Setup,
-    net: &Net<Session>,
-    lease: &Lease,
-    live: &Live<Session>,
-    waiting: &Waiting,
-) -> Result<bool, NoMemory>
-    ensures { IfOk result (λ b. IsTrue b ↔ (IsTimely setup.now net.now lease.now live.now waiting.now × IsShown (shown as_session setup.now net.now lease.now.app live.now waiting.now lease.now.shown.now) lease.now)) }
-{
-    if !is_timely(setup, net, lease, live, waiting) {
-        return Ok(false);
-    }
-    let shown = shown(alloc, setup, net, lease.app, live, waiting, lease.shown.now)?;
-    Ok(is_shown(&shown, lease))
-}
-
-fn is_timely(
-    setup: &Setup,
-    net: &Net<Session>,
-    lease: &Lease,
-    live: &Live<Session>,
-    waiting: &Waiting,
-) -> bool
-    ensures { IsTrue result ↔ IsTimely setup.now net.now lease.now live.now waiting.now }
-{
-    waiting.number == lease.event_number
-        && is_kind(setup, lease)
-        && live.since <= lease.shown.now
-        && lease.shown.now <= net.moment
-}
-
-/// Whether the lease's kind is that of its application.
-fn is_kind(setup: &Setup, lease: &Lease) -> bool
-    ensures { IsTrue result ↔ (option_map (λ app. app.kind) (app_of setup.now.config lease.now.app.host) ≡ Some lease.now.kind) }
-{
-    match app_of(setup, lease.app.host) {
-        Some(entry) => entry.kind == lease.kind,
-        None => false,
-    }
-}
-
-#[tactic(auto, unfolding(crate::specs::Standing::IsShown))]
-fn is_shown(shown: &Prepared, lease: &Lease) -> bool
-    ensures { IsTrue result ↔ IsShown shown.now lease.now }
-{
-    shown.view.same(&lease.shown) && shown.event.same(&lease.event)
 }

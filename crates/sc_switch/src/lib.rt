@@ -5,7 +5,9 @@
 mod called;
 mod copying;
 mod counting;
+mod laws;
 mod leasing;
+mod listing;
 mod next;
 mod ran;
 mod refused;
@@ -14,8 +16,9 @@ mod starting;
 mod stepping;
 mod switch;
 
+pub use laws::leases_are_counted;
 pub use next::Next;
 pub use ran::{Ran, Status};
-pub use refused::{CommitRefused, Committed, StepRefused};
+pub use refused::{CommitRefused, Committed, Epoch, EpochRefused, StepRefused};
 pub use sc_journal::Journal;
 pub use switch::Switch;

@@ -4,7 +4,7 @@ ghost use Rattle.std.specs.Prelude.{◌≡◌, Option, None, Some, slice_get, If
 ghost use Rattle.std.specs.List.{fold, list_any};
 ghost use Rattle.sc_runs.specs.Next.{earlier, next_of};
 ghost use Rattle.sc_hosts.specs.Transacting.{is_same_app};
-ghost use Rattle.sc_switch.specs.Standing.{is_leased, is_of, next_free};
+ghost use Rattle.sc_leases.specs.Leases.{is_leased, is_of, next_free};
 ghost use Rattle.sc_switch.specs.Offering.{better, with_next, with_live, with_host, with_hosts};
 
 use sc_servlets::Lease;
@@ -31,7 +31,7 @@ impl Model for Next {
 }
 
 /// Whether the session has a live lease.
-#[tactic(auto, unfolding(crate::specs::Standing::is_leased))]
+#[tactic(auto, unfolding(sc_leases::specs::Leases::is_leased))]
 pub fn is_leased(kept: &[Lease], app: AppId) -> bool
     ensures { result ≡ is_leased kept.now app }
 {

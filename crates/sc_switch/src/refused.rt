@@ -1,4 +1,6 @@
+use sc_journal::Journal;
 use sc_servlets::Done;
+use sc_terms::Step;
 use std::alloc::AllocError;
 
 /// Why a step was refused. Nothing is changed and no message is sent.
@@ -28,6 +30,30 @@ pub enum Committed {
 pub struct CommitRefused {
     pub done: Done,
     pub cause: StepRefused,
+}
+
+/// An epoch that ended.
+#[derive(Drop)]
+pub struct Epoch {
+    /// Its number, from 0.
+    pub number: u32,
+    /// Its first moment, in milliseconds.
+    pub began: u64,
+    /// Its journal, or what of it wasn't handed on before.
+    pub journal: Journal<Step>,
+}
+
+/// Why an epoch goes on: the first that there is of these. Nothing is changed.
+#[derive(Clone, Copy, Debug, PartialEq, Eq)]
+pub enum EpochRefused {
+    /// So many application sessions live.
+    Live(u64),
+    /// So many transactions aren't Terminated yet.
+    Busy(u64),
+    /// So many messages were sent and not taken yet.
+    Unsent(u64),
+    /// It is the last one, of the number 4,294,967,295.
+    Last,
 }
 
 impl From<AllocError> for StepRefused {

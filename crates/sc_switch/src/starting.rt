@@ -70,6 +70,36 @@ fn quiet_host(alloc: Global) -> Host<Session>
     }
 }
 
+/// Hosts without sessions in place of these, in this epoch, at the moment that is.
+pub fn begin_net(epoch: u32, net: &mut Net<Session>)
+    ensures { net.new ≡ record { hosts = map (λ host. quiet_host) net.old.hosts; wire = []; epoch = epoch; moment = net.old.moment; count = 0; sent = [] } }
+{
+    quiet_all(&mut net.hosts.items);
+    net.wire.items.clear();
+    net.epoch = epoch;
+    net.count = 0;
+    net.sent.items.clear();
+}
+
+#[tactic(auto, using(sc_branches::proofs::Mapping::mapped_next))]
+fn quiet_all(hosts: &mut [Host<Session>])
+    ensures { hosts.new ≡ map (λ host. quiet_host) hosts.old }
+{
+    for host in hosts {
+        quiet(host);
+    }
+}
+
+#[tactic(auto, unfolding(sc_hosts::specs::Runs::quiet_host))]
+fn quiet(host: &mut Host<Session>)
+    ensures { host.new ≡ quiet_host }
+{
+    host.clients.items.clear();
+    host.servers.items.clear();
+    host.sessions.items.clear();
+    host.last = 0;
+}
+
 /// The charters of each kind of a catalogue.
 pub fn kinds_of(
     alloc: Global,

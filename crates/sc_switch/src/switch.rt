@@ -1,6 +1,6 @@
 //! The switch itself.
 
-ghost use Rattle.std.specs.Prelude.{◌≡◌, ◌+◌, ◌<◌, ◌≤◌, ◌^◌, ◌∷◌, [], ◌++◌, Ok, List, map, min, length, Option, Some, option_map, IfOk, IfErr, OnOk, OnErr, IfSome, IfNone, IsErr, is_some, true};
+ghost use Rattle.std.specs.Prelude.{◌≡◌, ◌+◌, ◌<◌, ◌≤◌, ◌^◌, ◌∷◌, [], ◌++◌, Ok, List, map, min, length, Option, Some, option_map, IfOk, IfErr, OnOk, OnErr, IfSome, IfNone, IsErr, is_some, true, false};
 ghost use Rattle.sc_servlets.specs.Stated.{both_charters};
 ghost use Rattle.sc_value.specs.declared.message.Sent.{Sent};
 ghost use Rattle.sc_grammar.specs.Written.{written};
@@ -9,17 +9,22 @@ ghost use Rattle.sc_model.specs.Settings.{IsSetup};
 ghost use Rattle.sc_hosts.specs.Histories.{as_session};
 ghost use Rattle.sc_hosts.specs.Steps.{live_at};
 ghost use Rattle.sc_hosts.specs.Runs.{HasVia, IsAllowed, IsLawful, all_sent, live_count, waiting_count};
-ghost use Rattle.sc_switch.specs.Standing.{Known, net_of, Fits, next_free, step_of};
-ghost use Rattle.sc_switch.specs.Answers.{IsGiven, Leased, LeasedOf, Received, RefusesRight, RefusesTurn, IsFullFor, Withdraws, with_step, LAST_LEASE};
+ghost use Rattle.sc_leases.specs.Leases.{AreLeases, IsLeaseOf, is_leased, next_free};
+ghost use Rattle.sc_switch.specs.Standing.{Known, AreKept, net_of, whole, Fits, step_of};
+ghost use Rattle.sc_switch.specs.Answers.{IsGiven, Leased, LeasedOf, Received, RefusesRight, RefusesTurn, IsFullFor, Withdraws, with_step, LAST_LEASE, IsListing, IsReady, IsTurned, LAST_EPOCH, RefusesEpoch, handing};
 ghost use Rattle.sc_switch.specs.Offering.{Judges, Offers};
 
-use crate::called::{Judged, end_lease, end_leases, judge};
+use crate::called::{Judged, end_lease, end_leases, end_own, judge};
+use crate::counting::busy_count;
 use crate::leasing::offer;
+use crate::listing::list_net;
 use crate::next::{Next, is_leased, next_free};
-use crate::refused::{CommitRefused, Committed, StepRefused};
+use crate::refused::{CommitRefused, Committed, Epoch, EpochRefused, StepRefused};
 use crate::sizes::total;
-use crate::starting::{kinds_of, start_net};
+use crate::starting::{begin_net, kinds_of, start_net};
 use crate::stepping::{Stepped, plan_step, plan_turn, send_all};
+use sc_edge::Listing;
+use sc_handed::Handed;
 use sc_journal::Journal;
 use sc_message_text::text_of;
 use sc_parts::Setup;
@@ -31,17 +36,24 @@ use sc_value::{AppId, CloneIn, Discard, List, Message, NoMemory, Place, Sent};
 use std::alloc::Global;
 use std::collections::VecDeque;
 use std::marker::Model;
+use std::mem::replace;
 
 /// The core of a container. It stands for its journal: what it sent and will send, its sessions and
 /// what waits in them are those of the journal's run.
 #[derive(Drop)]
 pub struct Switch {
+    alloc: Global,
     setup: Setup,
     epoch: u32,
     /// The first moment of the epoch.
     began: u64,
+    /// The journals of this epoch that were handed on.
+    handed: Handed<Journal<Step>>,
+    /// How many steps they have.
+    before: u64,
+    /// The steps of this epoch that weren't handed on.
     journal: Journal<Step>,
-    /// The net after the journal, with nothing sent.
+    /// The net after all steps of the epoch, with nothing sent.
     net: Net<Session>,
     /// How many application sessions live.
     live: u64,
@@ -56,13 +68,13 @@ pub struct Switch {
 }
 
 impl Model for Switch {
-    ghost use Rattle.sc_switch.specs.Standing.{Known, IsSwitch};
+    ghost use Rattle.sc_switch.specs.Standing.{Known, IsSwitch, steps_of};
 
     ghost Value = { Known };
 
-    ghost view = { λ s. record { setup = s.setup; epoch = s.epoch; began = s.began; journal = s.journal.items; left = s.left.items; kept = s.kept; leases = s.leases } };
+    ghost view = { λ s. record { setup = s.setup; epoch = s.epoch; began = s.began; handed = steps_of s.handed.items; journal = s.journal.items; left = s.left.items; kept = s.kept; leases = s.leases } };
 
-    ghost invariant = { λ s. IsSwitch s.setup s.epoch s.began s.journal s.net s.live s.waiting s.left.items };
+    ghost invariant = { λ s. IsSwitch (record { setup = s.setup; epoch = s.epoch; began = s.began; handed = steps_of s.handed.items; journal = s.journal.items; left = s.left.items; kept = s.kept; leases = s.leases }) s.journal s.before s.net s.live s.waiting };
 }
 
 /// The number of the last lease that is given.
@@ -85,7 +97,7 @@ impl Switch {
         apps: &Catalogue,
     ) -> Result<Switch, NoMemory>
         requires { IsSetup (record { config = config; dar = dar; kinds = map (λ k. both_charters (stated (k.servlet.vtable, k.servlet.value)) (option_map (λ l. listens (l.vtable, l.value)) k.listener)) apps.now.kinds }) }
-        ensures { IfOk result (λ s. s ≡ record { setup = record { config = config; dar = dar; kinds = map (λ k. both_charters (stated (k.servlet.vtable, k.servlet.value)) (option_map (λ l. listens (l.vtable, l.value)) k.listener)) apps.now.kinds }; epoch = 0; began = 0; journal = []; left = []; kept = []; leases = 0 }) }
+        ensures { IfOk result (λ s. s ≡ record { setup = record { config = config; dar = dar; kinds = map (λ k. both_charters (stated (k.servlet.vtable, k.servlet.value)) (option_map (λ l. listens (l.vtable, l.value)) k.listener)) apps.now.kinds }; epoch = 0; began = 0; handed = []; journal = []; left = []; kept = []; leases = 0 }) }
     {
         match kinds_of(alloc, apps) {
             Ok(kinds) => switch_of(alloc, Setup { config, dar, kinds }),
@@ -124,6 +136,7 @@ impl Switch {
                     waiting,
                 },
             ) => {
+                end_own(&step, &mut self.kept);
                 self.journal.put(step, bytes);
                 send_all(&mut self.left, sent);
                 set_net(&mut self.net, net);
@@ -234,10 +247,7 @@ impl Switch {
             return Ok(false);
         }
         match told(self.take(alloc, Step::Withdraw(app), 0)) {
-            Ok(()) => {
-                end_leases(app, &mut self.kept);
-                Ok(true)
-            }
+            Ok(()) => Ok(true),
             Err(cause) => Err(cause),
         }
     }
@@ -290,6 +300,9 @@ impl Switch {
     /// Keeps a copy of a lease that is given.
     fn lend(&mut self, alloc: Global, lease: Lease) -> Result<Lease, NoMemory>
         requires few { self.old.leases < LAST_LEASE }
+        requires number { lease.number ≡ self.old.leases + 1 }
+        requires shows { IsLeaseOf as_session self.old.setup (net_of self.old) lease }
+        requires free { is_leased self.old.kept lease.app ≡ false }
         ensures ok { IfOk result (λ given. (given ≡ lease) × (self.new ≡ record self.old { kept = self.old.kept ++ lease ∷ []; leases = self.old.leases + 1 })) }
         ensures err { OnErr result (self.new ≡ self.old) }
     {
@@ -340,31 +353,27 @@ impl Switch {
         ensures refused { IfErr result (λ refused. RefusesTurn self.old done (step_size (step_of done)) refused.cause) }
         ensures back { IfErr result (λ refused. refused.done ≡ done) }
     {
-        match self.judged(alloc, &done) {
-            Ok(Judged::Fits) => self.take_turn(alloc, done),
-            Ok(Judged::Gone) => Ok(gone(done)),
-            Ok(Judged::Other) => {
+        match self.judged(&done) {
+            Judged::Fits => self.take_turn(alloc, done),
+            Judged::Gone => Ok(gone(done)),
+            Judged::Other => {
                 let number = number_of(done);
                 end_lease(number, &mut self.kept);
                 Ok(Committed::Other(number))
             }
-            Err(NoMemory) => Err(CommitRefused {
-                done,
-                cause: StepRefused::NoMemory,
-            }),
         }
     }
 
-    fn judged(&self, alloc: Global, done: &Done) -> Result<Judged, NoMemory>
-        ensures { IfOk result (λ judged. Judges self.now.setup (net_of self.now) self.now.kept done.now judged) }
+    fn judged(&self, done: &Done) -> Judged
+        ensures { Judges self.now.setup self.now.kept done.now result }
     {
-        judge(alloc, &self.setup, &self.net, self.kept.as_slice(), done)
+        judge(&self.setup, self.kept.as_slice(), done)
     }
 
     /// Takes the turn of a live lease, as `commit`.
     #[tactic(auto, unfolding(crate::specs::Answers::Received, crate::specs::Answers::RefusesTurn))]
     fn take_turn(&mut self, alloc: Global, done: Done) -> Result<Committed, CommitRefused>
-        requires { Fits self.old.setup (net_of self.old) self.old.kept done }
+        requires { Fits self.old.setup self.old.kept done }
         ensures ok { IfOk result (λ answer. Received self.old self.new done answer) }
         ensures room { OnOk result (¬ (IsFullFor self.old (step_size (step_of done)))) }
         ensures err { OnErr result (self.new ≡ self.old) }
@@ -395,13 +404,12 @@ impl Switch {
                     waiting,
                 },
             ) => {
-                let number = done.lease.number;
+                end_leases(done.lease.app, &mut self.kept);
                 self.journal.put(step_of(done), bytes);
                 send_all(&mut self.left, sent);
                 set_net(&mut self.net, net);
                 self.live = live;
                 self.waiting = waiting;
-                end_lease(number, &mut self.kept);
                 Ok(Committed::Taken)
             }
             Err(cause) => Err(CommitRefused { done, cause }),
@@ -425,14 +433,142 @@ impl Switch {
         self.left.len() as u64
     }
 
-    /// The journal: it is lawful, and all that it sends is what was taken and then what is left.
+    /// The journal, without the steps that were handed on. The steps of the whole epoch are lawful, and
+    /// all that they send is what was taken and then what is left.
     pub fn journal(&self) -> &Journal<Step>
         ensures journal { result.now.items ≡ self.now.journal }
         ensures within { length self.now.journal ≤ self.now.setup.config.journal_steps }
-        ensures lawful { IsLawful as_session self.now.setup self.now.epoch self.now.began self.now.journal }
-        ensures sent { (taken : List Sent) × (all_sent as_session self.now.setup self.now.epoch self.now.began self.now.journal ≡ taken ++ self.now.left) }
+        ensures lawful { IsLawful as_session self.now.setup self.now.epoch self.now.began (whole self.now) }
+        ensures sent { (taken : List Sent) × (all_sent as_session self.now.setup self.now.epoch self.now.began (whole self.now) ≡ taken ++ self.now.left) }
     {
         &self.journal
+    }
+
+    /// Hands on the steps of the epoch that are kept, and goes on: the sessions live on, and leases stay.
+    /// It makes no step, takes no memory and isn't refused. The limits of steps and of bytes are from now
+    /// on those of what is kept.
+    pub fn hand_on(&mut self) -> Journal<Step>
+        ensures journal { result.items ≡ self.old.journal }
+        ensures handed { self.new ≡ handing self.old }
+        ensures net { net_of self.new ≡ net_of self.old }
+    {
+        let fresh = self.fresh_journal();
+        self.handed = self.handed.and(&self.journal);
+        self.before = self.before.saturating_add(self.journal.len());
+        replace(&mut self.journal, fresh)
+    }
+
+    /// An empty journal with the limits of this one.
+    fn fresh_journal(&self) -> Journal<Step>
+        ensures items { result.items ≡ [] }
+        ensures used { result.used ≡ 0 }
+        ensures most_items { result.most_items ≡ self.now.setup.config.journal_steps }
+        ensures most_bytes { result.most_bytes ≡ self.now.setup.config.journal_bytes }
+    {
+        Journal::new(
+            self.alloc,
+            self.journal.most_items(),
+            self.journal.most_bytes(),
+        )
+    }
+
+    /// The number of the epoch, from 0.
+    pub fn epoch(&self) -> u32
+        ensures { result ≡ self.now.epoch }
+    {
+        self.epoch
+    }
+
+    /// The first moment of the epoch, in milliseconds.
+    pub fn began(&self) -> u64
+        ensures { result ≡ self.now.began }
+    {
+        self.began
+    }
+
+    /// Ends the epoch, where nothing lives, and begins the next one at the last moment, with an empty
+    /// journal. Serials and event numbers begin at 1 again, names have the mark of the new epoch, and
+    /// lease numbers go on. It makes no step and takes no memory.
+    ///
+    /// # Errors
+    ///
+    /// The first that holds: `Live` where application sessions live, `Busy` where transactions aren't
+    /// Terminated, `Unsent` where messages weren't taken, `Last` where it is the last epoch. Nothing is
+    /// then changed.
+    pub fn turn_epoch(&mut self) -> Result<Epoch, EpochRefused>
+        ensures turned { IfOk result (λ ended. IsTurned self.old self.new ended) }
+        ensures last { OnOk result (self.old.epoch < LAST_EPOCH) }
+        ensures refused { IfErr result (λ cause. RefusesEpoch self.old cause) }
+        ensures err { OnErr result (self.new ≡ self.old) }
+    {
+        match self.unready() {
+            Some(cause) => Err(cause),
+            None => Ok(self.next_epoch()),
+        }
+    }
+
+    /// Why the epoch goes on, None where it may end.
+    #[tactic(auto, unfolding(crate::specs::Answers::RefusesEpoch))]
+    fn unready(&self) -> Option<EpochRefused>
+        ensures some { IfSome result (λ cause. RefusesEpoch self.now cause) }
+        ensures none { IfNone result (IsReady self.now) }
+    {
+        if self.live > 0 {
+            return Some(EpochRefused::Live(self.live));
+        }
+        let busy = busy_count(&self.net);
+        if busy > 0 {
+            return Some(EpochRefused::Busy(busy));
+        }
+        let unsent = self.untaken();
+        if unsent > 0 {
+            return Some(EpochRefused::Unsent(unsent));
+        }
+        if self.epoch == u32::MAX {
+            return Some(EpochRefused::Last);
+        }
+        None
+    }
+
+    /// Begins the next epoch.
+    fn next_epoch(&mut self) -> Epoch
+        requires { IsReady self.old }
+        ensures { IsTurned self.old self.new result }
+    {
+        let fresh = self.fresh_journal();
+        let journal = replace(&mut self.journal, fresh);
+        let number = self.epoch;
+        let began = self.began;
+        self.epoch += 1;
+        self.began = self.net.moment;
+        self.handed = Handed::new();
+        self.before = 0;
+        begin_net(self.epoch, &mut self.net);
+        self.live = 0;
+        self.waiting = 0;
+        Epoch {
+            number,
+            began,
+            journal,
+        }
+    }
+
+    /// What lives now: the sessions by host and serial, and how many events wait, with the number of the
+    /// epoch and how many steps it has, those that were handed on too.
+    ///
+    /// # Errors
+    ///
+    /// `NoMemory` for want of memory.
+    pub fn listing(&self, alloc: Global) -> Result<Listing, NoMemory>
+        ensures { IfOk result (λ listing. IsListing self.now listing) }
+    {
+        let live = list_net(alloc, &self.net)?;
+        Ok(Listing {
+            epoch: self.epoch,
+            steps: self.before.saturating_add(self.journal.len()),
+            live,
+            waiting: self.waiting,
+        })
     }
 
     /// The last moment, in milliseconds.
@@ -456,14 +592,16 @@ impl Switch {
         self.waiting
     }
 
-    /// How many leases are live.
+    /// How many leases are live. Each shows what there is, no two are of one session, and their numbers
+    /// rise.
     pub fn leases(&self) -> u64
-        ensures { result ≡ length self.now.kept }
+        ensures count { result ≡ length self.now.kept }
+        ensures kept { AreKept self.now }
     {
         self.kept.len() as u64
     }
 
-    /// Ends the switch and hands out its journal.
+    /// Ends the switch and hands out its journal, without the steps that were handed on.
     pub fn into_journal(self) -> Journal<Step>
         ensures { result.items ≡ self.journal }
     {
@@ -568,7 +706,7 @@ fn number_of(done: Done) -> u64
 
 fn switch_of(alloc: Global, setup: Setup) -> Result<Switch, NoMemory>
     requires { IsSetup setup }
-    ensures { IfOk result (λ s. s ≡ record { setup = setup; epoch = 0; began = 0; journal = []; left = []; kept = []; leases = 0 }) }
+    ensures { IfOk result (λ s. s ≡ record { setup = setup; epoch = 0; began = 0; handed = []; journal = []; left = []; kept = []; leases = 0 }) }
 {
     let journal = Journal::new(
         alloc,
@@ -577,9 +715,12 @@ fn switch_of(alloc: Global, setup: Setup) -> Result<Switch, NoMemory>
     );
     match start_net(alloc, &setup, 0, 0) {
         Ok(net) => Ok(Switch {
+            alloc,
             setup,
             epoch: 0,
             began: 0,
+            handed: Handed::new(),
+            before: 0,
             journal,
             net,
             live: 0,

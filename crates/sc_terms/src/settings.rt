@@ -25,6 +25,8 @@ pub struct Config {
     pub journal_bytes: Within<1, 67_108_864>,
     /// After so many steps an idle server begins a new journal, 0 for never; at most 1,000,000.
     pub epoch_steps: Within<0, 1_000_000>,
+    /// Whether a server hands on what its journal has while sessions live.
+    pub journal_parts: bool,
     /// The names that the container knows, in byte order.
     pub hosts: List<HostEntry>,
     /// The applications, 1 to 64. The place of one is the number of its host.

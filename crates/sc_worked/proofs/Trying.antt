@@ -1,5 +1,5 @@
 -- Worked cases as text: a case has its set-up, its script and what the run writes.
-use Rattle.std.specs.Prelude.{ℕ, pos, List, [], ◌∷◌, Bool, None, Some, Result, Ok, Err, codes}
+use Rattle.std.specs.Prelude.{ℕ, pos, List, [], ◌∷◌, Bool, false, None, Some, Result, Ok, Err, codes}
 use Rattle.std.specs.List.{list_all, flat_map}
 use Rattle.sc_value.specs.declared.ids.Place.{Place}
 use Rattle.sc_value.specs.declared.ids.Region.TheVariants.{Neutral}
@@ -46,6 +46,7 @@ settings apps = record {
   journal_steps = 1000000;
   journal_bytes = 67108864;
   epoch_steps = 0;
+  journal_parts = false;
   hosts = [];
   app = apps;
 }

@@ -1,4 +1,4 @@
-use Rattle.sc_follow.proofs.Followings.{run_setup, run_epoch, run_began, run_untaken, run_follows, run_stopped}
+use Rattle.sc_follow.proofs.Followings.{run_setup, run_epoch, run_began, run_handed, run_untaken, run_follows, run_stopped}
 use Rattle.sc_follow.proofs.following.follow.Goals as goal
 
 pub returns-clause-setup : goal.returns-clause-setup
@@ -9,6 +9,9 @@ returns-clause-epoch g c = run_epoch _ _ _ _ c.follow_lines-followed.ensures.ok 
 
 pub returns-clause-began : goal.returns-clause-began
 returns-clause-began g c = run_began _ _ _ _ c.follow_lines-followed.ensures.ok c.follow_lines-followed.ensures.err
+
+pub returns-clause-handed : goal.returns-clause-handed
+returns-clause-handed g c = run_handed _ _ _ _ c.follow_lines-followed.ensures.ok c.follow_lines-followed.ensures.err
 
 pub returns-clause-untaken : goal.returns-clause-untaken
 returns-clause-untaken g c = run_untaken _ _ _ _ c.follow_lines-followed.ensures.ok c.follow_lines-followed.ensures.err

@@ -1,7 +1,13 @@
-use Rattle.sc_switch.specs.Offering.{Offers}
-use Rattle.sc_switch.proofs.Names.{offer_number, offer_some}
+use Rattle.sc_switch.specs.Offering.{IsOffer, Offers}
+use Rattle.sc_switch.proofs.Names.{offer_free, offer_number, offer_some}
 use Rattle.sc_switch.proofs.Sames.{given, given_next}
 use Rattle.sc_switch.proofs.switch.Switch.lend_next.Goals as goal
+
+pub lend-requires : goal.lend-requires
+unfolding Offers
+lend-requires c =
+    let offer = rw c.in-Some.is at c.in_ok-lease.ensures in
+    record { few = c.requires.few; number = offer.number_is; shows = offer.shows; free = offer_free c.args.self.now _ _ c.in-Some.lease (rw (← c.next.view_is) at c.requires.free) offer }
 
 pub returns-clause-given : goal.returns-clause-given
 unfolding Offers

@@ -1,7 +1,5 @@
 use Rattle.std.proofs.Common.{ap}
-use Rattle.sc_switch.specs.Standing.{net_of}
 use Rattle.sc_switch.proofs.switch.Switch.now.Goals as goal
 
 pub returns : goal.returns
-unfolding net_of
 returns c = rw (← c.self.view_is) (ap (λ n. n.moment) c.self.invariant.net_is.net_is)

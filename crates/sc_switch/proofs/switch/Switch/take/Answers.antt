@@ -1,6 +1,6 @@
 use Rattle.std.proofs.Common.{◌∙◌, ap, subst, refl}
 use Rattle.sc_model.specs.JournalSizes.{step_size}
-use Rattle.sc_switch.specs.Standing.{Known, net_of}
+use Rattle.sc_switch.specs.Standing.{Known}
 use Rattle.sc_switch.specs.Answers.{RefusesRight, with_step}
 use Rattle.sc_switch.proofs.Standings.{IsSwitch-step, known_step, not_full, refuses_right}
 use Rattle.sc_switch.proofs.switch.Switch.take.Goals as goal
@@ -9,22 +9,22 @@ pub plan_step-requires : goal.plan_step-requires
 plan_step-requires c = record { within = c.self.invariant.within }
 
 pub invariant_of-self : goal.invariant_of-self
-unfolding net_of
 invariant_of-self c =
-    IsSwitch-step _ _ _ _ c.plan_step.new.journal c.put.new.self _ c.set_net.new.net _ _ _ _ _ c.send_all.new.left.items c.args.step c.in-Ok.field-0 c.args.bytes
-    c.self.invariant c.in-Ok.ensures.stepped (rw (← c.self.view_is) at c.requires.allowed) c.plan_step.ensures.same c.in-Ok.ensures.room c.requires.size c.put.ensures (rw c.plan_step.ensures.same_left at c.send_all.ensures) c.set_net.ensures refl refl
+    IsSwitch-step _ _ c.plan_step.new.journal c.put.new.self _ _ c.set_net.new.net _ _ _ _ c.send_all.new.left.items c.end_own.new.kept c.args.step c.in-Ok.field-0 c.args.bytes
+    c.self.invariant c.in-Ok.ensures.stepped (rw (← c.self.view_is) at c.requires.allowed) c.plan_step.ensures.same c.in-Ok.ensures.room c.requires.size c.put.ensures
+    (rw c.plan_step.ensures.same_left at c.send_all.ensures) c.end_own.ensures c.set_net.ensures refl refl
 
 pub returns-in-Ok-clause-ok : goal.returns-in-Ok-clause-ok
 returns-in-Ok-clause-ok c =
-    known_step _ _ _ _ c.plan_step.new.journal c.put.new.self _ _ _ _ c.send_all.new.left.items c.self.inside.kept c.self.inside.leases c.args.step c.in-Ok.field-0 c.args.bytes
-    c.self.invariant c.in-Ok.ensures.stepped c.plan_step.ensures.same c.put.ensures (rw c.plan_step.ensures.same_left at c.send_all.ensures)
+    known_step _ _ c.plan_step.new.journal c.put.new.self _ _ _ _ c.send_all.new.left.items c.end_own.new.kept c.args.step c.in-Ok.field-0 c.args.bytes
+    c.self.invariant c.in-Ok.ensures.stepped c.plan_step.ensures.same c.put.ensures (rw c.plan_step.ensures.same_left at c.send_all.ensures) c.end_own.ensures
     ∙ ap (λ (k : Known). with_step k c.args.step) c.self.view_is
 
 pub returns-in-Ok-clause-room : goal.returns-in-Ok-clause-room
 returns-in-Ok-clause-room c =
-    λ full. not_full _ _ _ _ c.plan_step.new.journal _ _ _ _ c.args.step c.args.bytes c.self.invariant c.plan_step.ensures.same c.in-Ok.ensures.room c.requires.size (rw (← c.self.view_is) at full)
+    λ full. not_full _ _ c.plan_step.new.journal _ _ _ _ c.args.step c.args.bytes c.self.invariant c.plan_step.ensures.same c.in-Ok.ensures.room c.requires.size (rw (← c.self.view_is) at full)
 
 pub returns-in-Err-clause-refused : goal.returns-in-Err-clause-refused
 returns-in-Err-clause-refused c =
     subst (λ (k : Known). RefusesRight k (step_size c.args.step) c.in-Err.cause) c.self.view_is
-    (refuses_right _ _ _ _ _ _ _ _ c.self.inside.kept c.self.inside.leases c.args.step c.args.bytes c.in-Err.cause c.self.invariant c.requires.size c.in-Err.ensures.refused)
+    (refuses_right _ _ _ _ _ _ c.args.step c.args.bytes c.in-Err.cause c.self.invariant c.requires.size c.in-Err.ensures.refused)

@@ -1,0 +1,10 @@
+pub mod StayingHosts
+pub mod StayingNets
+pub mod OtherStays
+pub mod FirstStays
+pub mod Ringing
+pub mod LeaseStays
+pub mod Joined
+pub mod Epochs
+pub mod KeptLeases
+pub mod KeptCounts
