@@ -1,0 +1,2 @@
+pub mod Freedom
+pub mod Setups
