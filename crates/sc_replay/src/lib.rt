@@ -17,3 +17,4 @@ pub use commanding::{Command, command_of, commands_are_named};
 pub use making::make;
 pub use replaying::replay;
 pub use sc_switch::{Ran, Status};
+pub use settings::{Settings, read_settings};

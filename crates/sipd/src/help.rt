@@ -8,6 +8,7 @@ sipd, a SIP Servlet container (JSR 289, RFC 3261)
 usage: sipd replay CONFIG DAR SCRIPT
        sipd check CONFIG DAR
        sipd make N
+       sipd serve CONFIG DAR
        sipd --help
        sipd --version
 
@@ -21,6 +22,9 @@ check reads a configuration and a routing table, and writes `ok A T`: how many
 applications and how many tuples they have. make writes a script of N calls, N
 from 1 to 1000.
 
+serve listens at the address of the configuration for SIP over TCP. Standard
+error has the line `sipd: listening A.B.C.D:PORT` once it does.
+
 CONFIG is a TOML text with the container's settings and its applications, each
 of a kind: answer, block, forward, fork, recorder, b2b, dial, reverse, ringer.
 DAR is the table of the Default Application Router.
@@ -31,7 +35,7 @@ The exit status, and the line on standard error:
    3  sipd: config KIND KEY   the configuration is refused
    4  sipd: dar LINE KIND     the routing table is refused, at this line
    5  sipd: journal full      a step was due that the journal had no room for
-   6  sipd: edge              the server could not listen; no form ends so yet
+   6  sipd: edge              the server could not listen
    7  sipd: no memory         want of memory
    8  sipd: script AT KIND    the script is refused, at this byte
    9  sipd: read              a file could not be read

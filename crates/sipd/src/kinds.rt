@@ -1,5 +1,6 @@
 //! The kinds of applications that the program has.
 
+use crate::connections::serve_connections;
 use sc_apps::ExtendsOnce;
 use sc_edge::FileShelf;
 use sc_kinds::BuiltIn;
@@ -7,11 +8,13 @@ use sc_limit::output;
 use sc_replay::{Command, Status, check, replay};
 use sc_servlets::{Catalogue, Listener};
 use sc_value::{NoMemory, Text};
+use std::sync::Wait;
 
-/// Runs a command over files and standard output with all kinds, each under the name by which a
+/// Runs a command over files, standard output and sockets with all kinds, each under the name by which a
 /// configuration asks for it. Words of another form are left to `replay`, which refuses them.
-pub fn run_with_kinds(
+pub fn run_with_kinds<W: Wait>(
     rt: &HostRuntime,
+    waits: &W,
     words: &[String],
     command: Command,
 ) -> Result<Status, NoMemory> {
@@ -30,15 +33,22 @@ pub fn run_with_kinds(
             Err(_) => return Err(NoMemory),
         }
     }
-    Ok(run_with(rt, words, command, &apps))
+    Ok(run_with(rt, waits, words, command, &apps))
 }
 
-fn run_with(rt: &HostRuntime, words: &[String], command: Command, apps: &Catalogue) -> Status {
+fn run_with<W: Wait>(
+    rt: &HostRuntime,
+    waits: &W,
+    words: &[String],
+    command: Command,
+    apps: &Catalogue,
+) -> Status {
     let alloc = rt.alloc();
     let mut out = output(rt);
     let mut shelf = FileShelf::new(rt, alloc);
     match command {
         Command::Check => check(alloc, words, &mut shelf, apps, &mut out).status,
+        Command::Serve => serve_connections(rt, waits, words, &mut shelf, apps),
         _ => replay(alloc, words, &mut shelf, apps, &mut out).status,
     }
 }

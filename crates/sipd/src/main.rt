@@ -1,6 +1,7 @@
 //! `sipd`, a SIP Servlet container (JSR 289, RFC 3261).
 #![tactic(auto)]
 
+mod connections;
 mod endings;
 mod help;
 mod kinds;
@@ -14,10 +15,11 @@ use sc_value::Text;
 use std::env;
 use std::io::{self, ErrorKind, Write};
 use std::process::ExitCode;
+use std::sync::Wait;
 
 fn main(rt: HostRuntime) -> ExitCode {
     let status = match words_of(&rt) {
-        Ok(words) => run(&rt, words.as_slice()),
+        Ok(words) => run(&rt, &rt, words.as_slice()),
         Err(e) if e.kind() == ErrorKind::OutOfMemory => Status::NoMemory,
         Err(_) => Status::Usage,
     };
@@ -35,11 +37,11 @@ fn words_of(rt: &HostRuntime) -> io::Result<Vec<String>> {
 }
 
 /// Does what the words ask for.
-fn run(rt: &HostRuntime, words: &[String]) -> Status {
+fn run<W: Wait>(rt: &HostRuntime, waits: &W, words: &[String]) -> Status {
     match words {
         [word] if word.as_str() == "--help" => put(rt, help::HELP),
         [word] if word.as_str() == "--version" => put(rt, help::VERSION),
-        _ => run_command(rt, words),
+        _ => run_command(rt, waits, words),
     }
 }
 
@@ -52,10 +54,10 @@ fn put(rt: &HostRuntime, text: &str) -> Status {
 }
 
 /// Runs the command that the words are.
-fn run_command(rt: &HostRuntime, words: &[String]) -> Status {
+fn run_command<W: Wait>(rt: &HostRuntime, waits: &W, words: &[String]) -> Status {
     match command_of(words) {
         Command::Make => make(rt.alloc(), words, &mut output(rt)).status,
-        command => run_with_kinds(rt, words, command).unwrap_or(Status::NoMemory),
+        command => run_with_kinds(rt, waits, words, command).unwrap_or(Status::NoMemory),
     }
 }
 

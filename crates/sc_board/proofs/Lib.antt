@@ -1,0 +1,5 @@
+pub mod HandSteps
+pub mod JobSteps
+pub mod ResultSteps
+pub mod Totals
+pub mod Works

@@ -1,0 +1,6 @@
+use Rattle.std.specs.Prelude.{◌≡◌}
+use Rattle.sc_board.specs.Boards.{IsOf, jobs_of, results_of}
+use Rattle.sc_board.proofs.working.look.Given as goal
+
+abbrev pub invariant-loop : goal.invariant-loop
+invariant-loop g l = record { is_of : IsOf l.board l.pass; jobs_are : jobs_of l.pass ≡ jobs_of l.fn.pass; results_are : results_of l.pass ≡ results_of l.fn.pass }

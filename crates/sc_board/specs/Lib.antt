@@ -1,0 +1,4 @@
+pub mod Boards
+pub mod JobRules
+pub mod ResultRules
+pub mod Ties

@@ -1,0 +1,69 @@
+-- How far a server came: the epochs of its journal, what each of their steps sent, and what a notice was told.
+use Rattle.std.specs.Prelude.{◌≡◌, ◌⊎◌, List, [], ◌∷◌, ◌++◌, Option, None, Some, map}
+use Rattle.std.specs.List.{fold}
+use Rattle.sc_journal.specs.Kept.{Kept}
+use Rattle.sc_terms.specs.declared.steps.Step.{Step}
+use Rattle.sc_parts.specs.declared.setup.Setup.{Setup}
+use Rattle.sc_state.specs.declared.net.Net.{Net}
+use Rattle.sc_state.specs.declared.session.Session.{Session}
+use Rattle.sc_edge.specs.Edges.{EdgeState}
+use Rattle.sc_edge.specs.declared.notice.Noted.{Noted}
+use Rattle.sc_edge.specs.declared.notice.Noted.TheVariants as noted
+use Rattle.sc_hosts.specs.Histories.{as_session}
+use Rattle.sc_hosts.specs.Runs.{AreLawful, Epoch, IsLawfulAfter, after_step, start}
+use Rattle.sc_outs.specs.Deeds.{Deed, step_of}
+
+-- what a notice was told, where it tells it
+abbrev pub Told : Type 0
+Told = Option (List (Noted (Kept Step)))
+
+-- each deed's step sends what the run of all steps sends there
+unfoldable pub AreSent : Setup → Net Session → List Deed → Type 0
+AreSent setup net [] = Unit {0}
+AreSent setup net (deed ∷ later) = (deed.sent ≡ (after_step as_session setup net deed.step).sent) × AreSent setup (after_step as_session setup net deed.step) later
+
+-- the deeds of an epoch: its journal's steps, each with what it sends
+unfoldable pub IsRun : Setup → Epoch → List Deed → Type 0
+IsRun setup epoch deeds = (map step_of deeds ≡ epoch.journal) × AreSent setup (start setup epoch.number epoch.began) deeds
+
+-- the deeds of epochs, one after the other
+unfoldable pub AreDeeds : Setup → List Epoch → List Deed → Type 0
+AreDeeds setup [] deeds = deeds ≡ []
+AreDeeds setup (epoch ∷ later) deeds = (mine : List Deed) × (rest : List Deed) × (deeds ≡ mine ++ rest) × IsRun setup epoch mine × AreDeeds setup later rest
+
+-- what a notice was told: the epochs that ended, and the steps of the one that runs which were handed on
+pub record Telling : Type 0 where
+  pub ended : List Epoch
+  pub handed : List Step
+
+unfoldable pub with_item : Telling → Noted (Kept Step) → Telling
+with_item telling (noted.Step count) = telling
+with_item telling (noted.Part journal) = record telling { handed = telling.handed ++ journal.items }
+with_item telling (noted.Epoch number began journal) = record { ended = telling.ended ++ record { number = number; began = began; journal = telling.handed ++ journal.items } ∷ []; handed = [] }
+with_item telling (noted.List listing) = telling
+
+unfoldable pub told_by : List (Noted (Kept Step)) → Telling
+told_by items = fold with_item (record { ended = []; handed = [] }) items
+
+-- a notice was told this from some moment on, or it doesn't tell
+unfoldable pub TellsEpochs : Told → Told → Telling → Type 0
+TellsEpochs None now telling = now ≡ None
+TellsEpochs (Some old) now telling = ((items : List (Noted (Kept Step))) × (now ≡ Some (old ++ items)) × (told_by items ≡ telling)) ⊎ (now ≡ None)
+
+-- where a server begins: its settings, what its notice was told, and its edge
+pub record Beginning : Type 0 where
+  pub setup : Setup
+  pub told : Told
+  pub edge : EdgeState
+
+-- how far it came: the epochs that ended, their deeds, and those of the epoch that runs, of which so much was
+-- handed on
+pub record Course (from : Beginning) (told : Told) (handed : List Step) (running : Epoch) (deeds : List Deed) : Type 0 where
+  pub ended : List Epoch
+  pub before : List Deed
+  pub mine : List Deed
+  pub deeds_are : deeds ≡ before ++ mine
+  pub tells : TellsEpochs from.told told (record { ended = ended; handed = handed })
+  pub lawful : (later : List Epoch) → IsLawfulAfter as_session from.setup running.number running.began later → AreLawful as_session from.setup (ended ++ later)
+  pub are : (later : List Epoch) (rest : List Deed) → AreDeeds from.setup later rest → AreDeeds from.setup (ended ++ later) (before ++ rest)
+  pub run : IsRun from.setup running mine

@@ -1,0 +1,4 @@
+pub mod Deeds
+pub mod Stretches
+pub mod Owing
+pub mod Puts

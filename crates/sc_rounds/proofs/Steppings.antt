@@ -1,0 +1,323 @@
+-- A step of a server: the switch takes it, and what it sends is taken from the switch.
+use Rattle.std.proofs.Common.{◌≡◌, ℕ, ◌+◌, Bool, true, false, Option, None, Some, List, [], ◌∷◌, ◌++◌, refl, ap, sym, ◌∙◌, subst, append_assoc, inl, inr}
+use Rattle.std.specs.Prelude.{Result, Ok, Err, OnOk, OnErr, IfOk}
+use Rattle.std.proofs.lemmas.List.{append-nil}
+use Rattle.sc_journal.specs.Kept.{Kept}
+use Rattle.sc_value.specs.declared.ids.Place.{Place}
+use Rattle.sc_value.specs.declared.message.Sent.{Sent}
+use Rattle.sc_terms.specs.declared.steps.Step.{Step}
+use Rattle.sc_terms.specs.declared.steps.Step.TheVariants as steps
+use Rattle.sc_parts.specs.declared.setup.Setup.{Setup}
+use Rattle.sc_edge.specs.Edges.{EdgeState}
+use Rattle.sc_edge.specs.Telling.{Notes}
+use Rattle.sc_edge.specs.declared.listing.Listing.{Listing}
+use Rattle.sc_edge.specs.declared.notice.Noted.TheVariants as noted
+use Rattle.sc_hosts.specs.Histories.{as_session}
+use Rattle.sc_hosts.specs.Runs.{IsLawful, after_step, chained, chained_from, is_idle, start}
+use Rattle.sc_hosts.specs.Runs.{net_of as net_after}
+use Rattle.sc_switch.specs.declared.refused.Epoch.{Epoch as Ended}
+use Rattle.sc_switch.specs.Standing.{Known, net_of, step_of, whole}
+use Rattle.sc_switch.specs.Answers.{IsTurned, Leased, Received, Withdraws, handing, with_step}
+use Rattle.sc_switch.specs.declared.refused.Committed.{Committed}
+use Rattle.sc_switch.specs.declared.refused.Committed.TheVariants as committed
+use Rattle.sc_servlets.specs.declared.done.Done.{Done}
+use Rattle.sc_servlets.specs.declared.lease.Lease.{Lease}
+use Rattle.sc_value.specs.declared.ids.AppId.{AppId}
+use Rattle.sc_value.specs.declared.no_memory.NoMemory.{NoMemory}
+use Rattle.sc_outs.specs.Deeds.{Deed}
+use Rattle.sc_outs.specs.Owing.{IsLostAt, IsOwed, Owing}
+use Rattle.sc_outs.specs.Puts.{Puts}
+use Rattle.sc_outs.proofs.Laws.{cut_more, cut_of, puts_failed, puts_owed, puts_step}
+use Rattle.sc_courses.specs.Courses.{Beginning, Course, Told}
+use Rattle.sc_courses.proofs.CourseLaws.{course_counted, course_handed, course_listed, course_next, course_step}
+use Rattle.sc_rounds.specs.declared.stepping.Core.{Core}
+use Rattle.sc_rounds.specs.Serving.{Ends, Runs, RunsOn, Same, Settles, Stands, Stopped, Took, deed, running}
+
+on_ok : {A E P Q : Type 0} (r : Result A E) → (P → Q) → OnOk r P → OnOk r Q
+on_ok (Ok a) f p = f p
+on_ok (Err e) f p = tt
+
+on_err : {A E P : Type 0} (r : Result A E) → P → OnErr r P
+on_err (Ok a) p = tt
+on_err (Err e) p = p
+
+-- ## The switch's step
+
+-- what a step of the switch sends, as the course has it
+abbrev sends : Beginning → Known → Step → List Sent
+sends from known step = (after_step as_session from.setup (net_after as_session from.setup (running known)) step).sent
+
+net-same : (from : Beginning) (known : Known) → known.setup ≡ from.setup → net_of known ≡ net_after as_session from.setup (running known)
+unfolding net_of net_after
+net-same from known e = ap (λ (setup : Setup). chained as_session setup known.epoch known.began (whole known)) e
+
+left-sent : (from : Beginning) (known : Known) (step : Step) → known.setup ≡ from.setup → known.left ≡ [] → (with_step known step).left ≡ sends from known step
+left-sent from known step e none =
+    ap (λ (left : List Sent). left ++ (after_step as_session known.setup (net_of known) step).sent) none
+    ∙ (ap (λ (setup : Setup). (after_step as_session setup (net_of known) step).sent) e ∙ ap (λ net. (after_step as_session from.setup net step).sent) (net-same from known e))
+
+runs-step : (from : Beginning) (told : Told) (known : Known) (deeds : List Deed) (step : Step) (failed : Bool) → Runs from told known deeds → Runs from told (with_step known step) (deeds ++ deed step (sends from known step) failed ∷ [])
+runs-step from told known deeds step failed runs = record {
+  setup_is = runs.setup_is;
+  course = subst (λ (journal : List Step). Course from told known.handed (record { number = known.epoch; began = known.began; journal = journal }) (deeds ++ deed step (sends from known step) failed ∷ []))
+      (append_assoc known.handed known.journal (step ∷ [])) (course_step from told known.handed (running known) deeds step failed runs.course);
+}
+
+pub runs-left : (from : Beginning) (told : Told) (old new : Known) (deeds : List Deed) → new ≡ record old { left = new.left } → Runs from told old deeds → Runs from told new deeds
+runs-left from told old new deeds same runs =
+    subst (λ (known : Known). Runs from told known deeds) (sym same) (record { setup_is = runs.setup_is; course = runs.course })
+
+-- ## Where a run ends
+
+ends-of : (from : Beginning) (edge : EdgeState) (told : Told) (core : Core) (deeds : List Deed) → Stands from edge told core deeds → Ends from edge told core.switch deeds
+ends-of from edge told core deeds s = record { runs = s.runs; cut = cut_of from.edge edge deeds core.outs [] s.puts }
+
+pub same_ends : (from : Beginning) (edge : EdgeState) (told : Told) (core : Core) (deeds : List Deed) → Stands from edge told core deeds → Ends from edge told core.switch deeds
+same_ends = ends-of
+
+-- ## A step
+
+abbrev stepped-core : Core → Known → Core
+stepped-core mid switch = record mid { switch = switch }
+
+step-stands : (step : Step) (mid : Core) (switch : Known) (new : Core) (told told2 : Told) → switch ≡ with_step mid.switch step → Settles (record mid { switch = switch }) new told told2
+    → (from : Beginning) (edge : EdgeState) (deeds : List Deed) → Stands from edge told mid deeds → (sent : List Sent) × Stands from edge told2 new (deeds ++ deed step sent false ∷ [])
+unfolding Settles
+step-stands step mid switch new told told2 e settles from edge deeds s =
+    let sent : List Sent = sends from mid.switch step in (
+      sent,
+      settles from edge (deeds ++ deed step sent false ∷ [])
+          (subst (λ (known : Known). Runs from told known (deeds ++ deed step sent false ∷ [])) (sym e) (runs-step from told mid.switch deeds step false s.runs))
+          (subst (λ (left : List Sent). Puts from.edge edge (deeds ++ deed step sent false ∷ []) mid.outs left)
+          (sym (ap (λ (known : Known). known.left) e ∙ left-sent from mid.switch step s.runs.setup_is s.left_is))
+          (puts_step from.edge edge deeds mid.outs (deed step sent false) refl s.puts)),
+    )
+
+pub took : (step : Step) (old mid : Core) (switch : Known) (new : Core) (told told1 told2 : Told) → Same old mid told told1 → switch ≡ with_step mid.switch step → Settles (record mid { switch = switch }) new told1 told2 → Took step false old new told told2
+unfolding Same Took
+took step old mid switch new told told1 told2 same e settles from edge deeds s = step-stands step mid switch new told1 told2 e settles from edge deeds (same from edge deeds s)
+
+pub took_ok : {A E : Type 0} (r : Result A E) (step : Step) (old mid : Core) (switch : Known) (new : Core) (told told1 told2 : Told) → Same old mid told told1 → switch ≡ with_step mid.switch step
+    → OnOk r (Settles (record mid { switch = switch }) new told1 told2) → OnOk r (Took step false old new told told2)
+took_ok r step old mid switch new told told1 told2 same e = on_ok r (took step old mid switch new told told1 told2 same e)
+
+-- the step was taken, and the run ended behind it
+pub cut_behind : (step : Step) (old mid : Core) (switch : Known) (new : Core) (told told1 told2 : Told) → Same old mid told told1 → switch ≡ with_step mid.switch step → RunsOn (record mid { switch = switch }) new told1 told2 → Stopped step false old new told told2
+unfolding Same Stopped RunsOn
+cut_behind step old mid switch new told told1 told2 same e on from edge deeds s =
+    let s1 : Stands from edge told1 mid deeds = same from edge deeds s in
+    let sent : List Sent = sends from mid.switch step in
+    inr (
+      sent,
+      record {
+        runs = on from (deeds ++ deed step sent false ∷ []) (subst (λ (known : Known). Runs from told1 known (deeds ++ deed step sent false ∷ [])) (sym e) (runs-step from told1 mid.switch deeds step false s1.runs));
+        cut = cut_more from.edge edge deeds (deed step sent false) (cut_of from.edge edge deeds mid.outs [] s1.puts);
+      },
+    )
+
+pub took_err : {A E : Type 0} (r : Result A E) (step : Step) (old mid : Core) (switch : Known) (new : Core) (told told1 told2 : Told) → Same old mid told told1 → switch ≡ with_step mid.switch step
+    → RunsOn (record mid { switch = switch }) new told1 told2 → OnErr r (Stopped step false old new told told2)
+took_err r step old mid switch new told told1 told2 same e on = on_err r (cut_behind step old mid switch new told told1 told2 same e on)
+
+-- no step was taken
+pub none_taken : (step : Step) (failed : Bool) (old mid new : Core) (told told1 : Told) → Same old mid told told1 → new.switch ≡ mid.switch → Stopped step failed old new told told1
+unfolding Same Stopped
+none_taken step failed old mid new told told1 same e from edge deeds s = inl (subst (λ (known : Known). Ends from edge told1 known deeds) (sym e) (ends-of from edge told1 mid deeds (same from edge deeds s)))
+
+-- ## A place that failed
+
+fall-stands : (at : Place) (mid : Core) (switch : Known) (outs : Owing) (new : Core) (told told2 : Told) → switch ≡ with_step mid.switch (steps.Lost at) → IsLostAt at mid.outs outs → Settles (record mid { switch = switch; outs = outs }) new told told2
+    → (from : Beginning) (edge : EdgeState) (deeds : List Deed) → Stands from edge told mid deeds → (sent : List Sent) × Stands from edge told2 new (deeds ++ deed (steps.Lost at) sent true ∷ [])
+unfolding Settles
+fall-stands at mid switch outs new told told2 e lost settles from edge deeds s =
+    let sent : List Sent = sends from mid.switch (steps.Lost at) in (
+      sent,
+      settles from edge (deeds ++ deed (steps.Lost at) sent true ∷ [])
+          (subst (λ (known : Known). Runs from told known (deeds ++ deed (steps.Lost at) sent true ∷ [])) (sym e) (runs-step from told mid.switch deeds (steps.Lost at) true s.runs))
+          (subst (λ (left : List Sent). Puts from.edge edge (deeds ++ deed (steps.Lost at) sent true ∷ []) outs left)
+          (sym (ap (λ (known : Known). known.left) e ∙ left-sent from mid.switch (steps.Lost at) s.runs.setup_is s.left_is))
+          (puts_failed from.edge edge deeds mid.outs outs at sent s.puts lost)),
+    )
+
+fell : (at : Place) (old mid : Core) (switch : Known) (outs : Owing) (new : Core) (told told1 told2 : Told) → Same old mid told told1 → switch ≡ with_step mid.switch (steps.Lost at) → IsLostAt at mid.outs outs
+    → Settles (record mid { switch = switch; outs = outs }) new told1 told2 → Took (steps.Lost at) true old new told told2
+unfolding Same Took
+fell at old mid switch outs new told told1 told2 same e lost settles from edge deeds s = fall-stands at mid switch outs new told1 told2 e lost settles from edge deeds (same from edge deeds s)
+
+pub fell_ok : {A E : Type 0} (r : Result A E) (at : Place) (old mid : Core) (switch : Known) (outs : Owing) (new : Core) (told told1 told2 : Told) → Same old mid told told1 → switch ≡ with_step mid.switch (steps.Lost at) → IsLostAt at mid.outs outs
+    → OnOk r (Settles (record mid { switch = switch; outs = outs }) new told1 told2) → OnOk r (Took (steps.Lost at) true old new told told2)
+fell_ok r at old mid switch outs new told told1 told2 same e lost = on_ok r (fell at old mid switch outs new told told1 told2 same e lost)
+
+fell-behind : (at : Place) (old mid : Core) (switch : Known) (outs : Owing) (new : Core) (told told1 told2 : Told) → Same old mid told told1 → switch ≡ with_step mid.switch (steps.Lost at)
+    → RunsOn (record mid { switch = switch; outs = outs }) new told1 told2 → Stopped (steps.Lost at) true old new told told2
+unfolding Same Stopped RunsOn
+fell-behind at old mid switch outs new told told1 told2 same e on from edge deeds s =
+    let s1 : Stands from edge told1 mid deeds = same from edge deeds s in
+    let sent : List Sent = sends from mid.switch (steps.Lost at) in
+    inr (
+      sent,
+      record {
+        runs = on from (deeds ++ deed (steps.Lost at) sent true ∷ []) (subst (λ (known : Known). Runs from told1 known (deeds ++ deed (steps.Lost at) sent true ∷ [])) (sym e) (runs-step from told1 mid.switch deeds (steps.Lost at) true s1.runs));
+        cut = cut_more from.edge edge deeds (deed (steps.Lost at) sent true) (cut_of from.edge edge deeds mid.outs [] s1.puts);
+      },
+    )
+
+pub fell_err : {A E : Type 0} (r : Result A E) (at : Place) (old mid : Core) (switch : Known) (outs : Owing) (new : Core) (told told1 told2 : Told) → Same old mid told told1 → switch ≡ with_step mid.switch (steps.Lost at)
+    → RunsOn (record mid { switch = switch; outs = outs }) new told1 told2 → OnErr r (Stopped (steps.Lost at) true old new told told2)
+fell_err r at old mid switch outs new told told1 told2 same e on = on_err r (fell-behind at old mid switch outs new told told1 told2 same e on)
+
+-- the step was taken, but not what is left of its place
+pub fell_starved : (at : Place) (old mid : Core) (new : Core) (told told1 : Told) → Same old mid told told1 → new.switch ≡ with_step mid.switch (steps.Lost at) → Stopped (steps.Lost at) true old new told told1
+unfolding Same Stopped
+fell_starved at old mid new told told1 same e from edge deeds s =
+    let s1 : Stands from edge told1 mid deeds = same from edge deeds s in
+    let sent : List Sent = sends from mid.switch (steps.Lost at) in
+    inr (
+      sent,
+      record {
+        runs = subst (λ (known : Known). Runs from told1 known (deeds ++ deed (steps.Lost at) sent true ∷ [])) (sym e) (runs-step from told1 mid.switch deeds (steps.Lost at) true s1.runs);
+        cut = cut_more from.edge edge deeds (deed (steps.Lost at) sent true) (cut_of from.edge edge deeds mid.outs [] s1.puts);
+      },
+    )
+
+-- ## Taking what was sent
+
+pub settled : (old new : Core) (told told2 : Told) (count : ℕ) → Notes told told2 (noted.Step count) → new.switch ≡ record old.switch { left = new.switch.left } → new.switch.left ≡ []
+    → ((first now : EdgeState) (deeds : List Deed) → Puts first now deeds old.outs old.switch.left → Puts first now deeds new.outs []) → Settles old new told told2
+unfolding Settles
+settled old new told told2 count notes same all keeps from edge deeds runs puts =
+    let told_runs : Runs from told2 old.switch deeds = record { setup_is = runs.setup_is; course = course_counted from told told2 old.switch.handed (running old.switch) deeds count notes runs.course } in
+    record { runs = runs-left from told2 old.switch new.switch deeds same told_runs; left_is = all; puts = keeps from.edge edge deeds puts }
+
+pub settled_runs : (old new : Core) (told told2 : Told) (count : ℕ) → Notes told told2 (noted.Step count) → new.switch ≡ record old.switch { left = new.switch.left } → RunsOn old new told told2
+unfolding RunsOn
+settled_runs old new told told2 count notes same from deeds runs =
+    runs-left from told2 old.switch new.switch deeds same (record { setup_is = runs.setup_is; course = course_counted from told told2 old.switch.handed (running old.switch) deeds count notes runs.course })
+
+pub owed_on : (outs outs2 : Owing) (sent : Sent) (before left : List Sent) → before ≡ sent ∷ left → IsOwed sent outs outs2
+    → (first now : EdgeState) (deeds : List Deed) → Puts first now deeds outs before → Puts first now deeds outs2 left
+owed_on outs outs2 sent before left e owed first now deeds puts = puts_owed first now deeds outs outs2 sent left (rw e at puts) owed
+
+-- ## Epochs and parts
+
+pub same_core : (core : Core) (told : Told) → Same core core told told
+unfolding Same
+same_core core told from edge deeds s = s
+
+pub same_then : (a b c : Core) (told told1 told2 : Told) → Same a b told told1 → Same b c told1 told2 → Same a c told told2
+unfolding Same
+same_then a b c told told1 told2 first later from edge deeds s = later from edge deeds (first from edge deeds s)
+
+same-notes : (told told2 : Told) (number number2 began began2 : ℕ) (journal : Kept Step) → number ≡ number2 → began ≡ began2 → Notes told told2 (noted.Epoch number began journal) → Notes told told2 (noted.Epoch number2 began2 journal)
+same-notes told told2 number number2 began began2 journal a b notes = subst (λ (n : ℕ). Notes told told2 (noted.Epoch n began2 journal)) a (subst (λ (n : ℕ). Notes told told2 (noted.Epoch number n journal)) b notes)
+
+runs-turned : (from : Beginning) (told told2 : Told) (old new : Known) (deeds : List Deed) (ended : Ended) → IsTurned old new ended → Notes told told2 (noted.Epoch ended.number ended.began ended.journal) → Runs from told old deeds → Runs from told2 new deeds
+runs-turned from told told2 old new deeds ended turned notes runs =
+    subst (λ (known : Known). Runs from told2 known deeds) (sym turned.new_is) (record {
+      setup_is = runs.setup_is;
+      course = subst (λ net. Course from told2 [] (record { number = old.epoch + 1; began = net.moment; journal = [] }) deeds) (sym (net-same from old runs.setup_is))
+          (course_next from told told2 old.handed (running old) deeds ended.journal (ap (λ (j : List Step). old.handed ++ j) turned.journal_is)
+          (same-notes told told2 ended.number old.epoch ended.began old.began ended.journal turned.number_is turned.began_is notes)
+          (subst (λ (setup : Setup). IsLawful as_session setup old.epoch old.began (whole old)) runs.setup_is turned.lawful)
+          (subst (λ net. is_idle net ≡ true) (net-same from old runs.setup_is) turned.idle) runs.course);
+    })
+
+pub turned_same : (old new : Core) (told told2 : Told) (ended : Ended) → IsTurned old.switch new.switch ended → new.outs ≡ old.outs → Notes told told2 (noted.Epoch ended.number ended.began ended.journal) → Same old new told told2
+unfolding Same
+turned_same old new told told2 ended turned outs notes from edge deeds s = record {
+  runs = runs-turned from told told2 old.switch new.switch deeds ended turned notes s.runs;
+  left_is = ap (λ (known : Known). known.left) turned.new_is;
+  puts = subst (λ (o : Owing). Puts from.edge edge deeds o []) (sym outs) s.puts;
+}
+
+pub turned_moment : (old new : Known) (ended : Ended) → IsTurned old new ended → (net_of new).moment ≡ (net_of old).moment
+unfolding net_of chained chained_from start
+turned_moment old new ended turned = rw turned.new_is refl
+
+runs-handed : (from : Beginning) (told told2 : Told) (old : Known) (deeds : List Deed) (journal : Kept Step) → journal.items ≡ old.journal → Notes told told2 (noted.Part journal) → Runs from told old deeds → Runs from told2 (handing old) deeds
+runs-handed from told told2 old deeds journal items notes runs = record {
+  setup_is = runs.setup_is;
+  course = subst (λ (whole2 : List Step). Course from told2 (whole old) (record { number = old.epoch; began = old.began; journal = whole2 }) deeds) (sym (append-nil (whole old)))
+      (subst (λ (items2 : List Step). Course from told2 (old.handed ++ items2) (running old) deeds) items (course_handed from told told2 old.handed (running old) deeds journal notes runs.course));
+}
+
+pub handed_same : (old new : Core) (told told2 : Told) (journal : Kept Step) → new.switch ≡ handing old.switch → new.outs ≡ old.outs → journal.items ≡ old.switch.journal → Notes told told2 (noted.Part journal) → Same old new told told2
+unfolding Same
+handed_same old new told told2 journal e outs items notes from edge deeds s = record {
+  runs = subst (λ (known : Known). Runs from told2 known deeds) (sym e) (runs-handed from told told2 old.switch deeds journal items notes s.runs);
+  left_is = ap (λ (known : Known). known.left) e ∙ s.left_is;
+  puts = subst (λ (o : Owing). Puts from.edge edge deeds o []) (sym outs) s.puts;
+}
+
+pub listed_same : (core : Core) (told told2 : Told) (listing : Listing) → Notes told told2 (noted.List listing) → Same core core told told2
+unfolding Same
+listed_same core told told2 listing notes from edge deeds s = record {
+  runs = record { setup_is = s.runs.setup_is; course = course_listed from told told2 core.switch.handed (running core.switch) deeds listing notes s.runs.course };
+  left_is = s.left_is;
+  puts = s.puts;
+}
+
+-- only leases changed
+pub leased_same : (old new : Core) (told : Told) → new.switch ≡ record old.switch { kept = new.switch.kept; leases = new.switch.leases } → new.outs ≡ old.outs → Same old new told told
+unfolding Same
+leased_same old new told e outs from edge deeds s = record {
+  runs = subst (λ (known : Known). Runs from told known deeds) (sym e) (record { setup_is = s.runs.setup_is; course = s.runs.course });
+  left_is = ap (λ (known : Known). known.left) e ∙ s.left_is;
+  puts = subst (λ (o : Owing). Puts from.edge edge deeds o []) (sym outs) s.puts;
+}
+
+-- nothing changed
+pub moved_same : (old new : Core) (told : Told) → new.switch ≡ old.switch → new.outs ≡ old.outs → Same old new told told
+unfolding Same
+moved_same old new told e outs from edge deeds s = record {
+  runs = subst (λ (known : Known). Runs from told known deeds) (sym e) s.runs;
+  left_is = ap (λ (known : Known). known.left) e ∙ s.left_is;
+  puts = subst (λ (o : Owing). Puts from.edge edge deeds o []) (sym outs) s.puts;
+}
+
+-- ## What the switch answers
+
+pub tail_same : (first old new : Known) → old ≡ record first { left = old.left } → new ≡ record old { left = new.left } → new ≡ record first { left = new.left }
+tail_same first old new before after = after ∙ ap (λ (known : Known). let k : Known = record known { left = new.left } in k) before
+
+pub withdrew_true : (old new : Known) (app : AppId) (lived : Bool) → lived ≡ true → Withdraws old new app lived → new ≡ with_step old (steps.Withdraw app)
+unfolding Withdraws
+withdrew_true old new app true e is = is.1
+withdrew_true old new app false e is = cc
+
+pub withdrew_false : (old new : Known) (app : AppId) (lived : Bool) → lived ≡ false → Withdraws old new app lived → new ≡ old
+unfolding Withdraws
+withdrew_false old new app true e is = cc
+withdrew_false old new app false e is = is.1
+
+pub taken : (old new : Known) (done : Done) (answer : Committed) → answer ≡ committed.Taken → Received old new done answer → new ≡ with_step old (step_of done)
+unfolding Received
+taken old new done answer e is = (rw e at is).1
+
+pub gone : (old new : Known) (done : Done) (answer : Committed) (number : ℕ) → answer ≡ committed.Gone number → Received old new done answer → new ≡ old
+unfolding Received
+gone old new done answer number e is = (rw e at is).2
+
+kept-form : (old new : Known) (kept : List Lease) → new ≡ record old { kept = kept } → new ≡ record old { kept = new.kept; leases = new.leases }
+kept-form old new kept e = rw e refl
+
+pub other : (old new : Known) (done : Done) (answer : Committed) (number : ℕ) → answer ≡ committed.Other number → Received old new done answer → new ≡ record old { kept = new.kept; leases = new.leases }
+unfolding Received
+other old new done answer number e is =
+    let (named, live, unfit, new_is) = rw e at is in
+    kept-form old new _ new_is
+
+given-form : (old new : Known) (kept : List Lease) (leases : ℕ) → new ≡ record old { kept = kept; leases = leases } → new ≡ record old { kept = new.kept; leases = new.leases }
+given-form old new kept leases e = rw e refl
+
+same-form : (old new : Known) → new ≡ old → new ≡ record old { kept = new.kept; leases = new.leases }
+same-form old new e = rw e refl
+
+leased-by : (old new : Known) (lease : Option Lease) → Leased old new lease → new ≡ record old { kept = new.kept; leases = new.leases }
+unfolding Leased
+leased-by old new None is = same-form old new is.0
+leased-by old new (Some lease) is = given-form old new _ _ is.1.new_is
+
+pub leased : (old new : Known) (r : Result (Option Lease) NoMemory) → IfOk r (λ lease. Leased old new lease) → OnErr r (new ≡ old) → new ≡ record old { kept = new.kept; leases = new.leases }
+leased old new (Ok lease) ok err = leased-by old new lease ok
+leased old new (Err cause) ok err = same-form old new err

@@ -1,0 +1,31 @@
+use Rattle.std.proofs.Common.{refl}
+use Rattle.sc_edge.specs.declared.edge.Got.TheVariants as got
+use Rattle.sc_rounds.proofs.Servings.{comes_of, serves_closed, serves_fault, serves_not_yet}
+use Rattle.sc_rounds.proofs.polling.take_got.Goals as goal
+
+pub returns-in-Bytes-clause-ok : goal.returns-in-Bytes-clause-ok
+returns-in-Bytes-clause-ok g c from old new s polls = c.take_bytes.ensures.ok from old new s (comes_of old new _ (got.Bytes c.in-Bytes.place c.in-Bytes.count) _ c.in-Bytes.is refl polls)
+
+pub returns-in-Bytes-clause-err : goal.returns-in-Bytes-clause-err
+returns-in-Bytes-clause-err g c from old new s polls = c.take_bytes.ensures.err from old new s (comes_of old new _ (got.Bytes c.in-Bytes.place c.in-Bytes.count) _ c.in-Bytes.is refl polls)
+
+pub returns-in-End-clause-ok : goal.returns-in-End-clause-ok
+returns-in-End-clause-ok g c from old new s polls = c.take_end.ensures.ok from old new s (comes_of old new _ (got.End c.in-End.place) _ c.in-End.is refl polls)
+
+pub returns-in-End-clause-err : goal.returns-in-End-clause-err
+returns-in-End-clause-err g c from old new s polls = c.take_end.ensures.err from old new s (comes_of old new _ (got.End c.in-End.place) _ c.in-End.is refl polls)
+
+pub returns-in-Failed-clause-ok : goal.returns-in-Failed-clause-ok
+returns-in-Failed-clause-ok g c from old new s polls = c.take_failure.ensures.ok from old new s (comes_of old new _ (got.Failed c.in-Failed.place) _ c.in-Failed.is refl polls)
+
+pub returns-in-Failed-clause-err : goal.returns-in-Failed-clause-err
+returns-in-Failed-clause-err g c from old new s polls = c.take_failure.ensures.err from old new s (comes_of old new _ (got.Failed c.in-Failed.place) _ c.in-Failed.is refl polls)
+
+pub returns-in-Closed-clause-ok : goal.returns-in-Closed-clause-ok
+returns-in-Closed-clause-ok g c from old new s polls = serves_closed from old new (g.N.Notice.noted c.args.notice.now) _ _ _ _ c.in-Closed.is s polls
+
+pub returns-in-NotYet-clause-ok : goal.returns-in-NotYet-clause-ok
+returns-in-NotYet-clause-ok g c from old new s polls = serves_not_yet from old new (g.N.Notice.noted c.args.notice.now) _ _ _ _ c.in-NotYet.is s polls
+
+pub returns-in-Fault-clause-ok : goal.returns-in-Fault-clause-ok
+returns-in-Fault-clause-ok g c from old new s polls = serves_fault from old new (g.N.Notice.noted c.args.notice.now) _ _ _ _ c.in-Fault.is s polls

@@ -1,0 +1,14 @@
+use Rattle.sc_rounds.proofs.Steppings.{fell_err, fell_ok, fell_starved, none_taken}
+use Rattle.sc_rounds.proofs.stepping.Core.fail.Goals as goal
+
+pub returns-in-Ok-lose-clause-ok : goal.returns-in-Ok-lose-clause-ok
+returns-in-Ok-lose-clause-ok g c = fell_ok _ _ _ _ _ _ _ _ _ _ c.make_room.ensures.same c.in-Ok.ensures.ok c.in-Ok-lose.ensures.ok c.settle.ensures.ok
+
+pub returns-in-Ok-lose-clause-err : goal.returns-in-Ok-lose-clause-err
+returns-in-Ok-lose-clause-err g c = fell_err _ _ _ _ _ _ _ _ _ _ c.make_room.ensures.same c.in-Ok.ensures.ok c.settle.ensures.err
+
+pub returns-in-Err-lose-clause-err : goal.returns-in-Err-lose-clause-err
+returns-in-Err-lose-clause-err g c = fell_starved _ _ _ _ _ _ c.make_room.ensures.same c.in-Ok.ensures.ok
+
+pub returns-in-Err-clause-err : goal.returns-in-Err-clause-err
+returns-in-Err-clause-err g c = none_taken _ _ _ _ _ _ _ c.make_room.ensures.same c.in-Err.ensures.err

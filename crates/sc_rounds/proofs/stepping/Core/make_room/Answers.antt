@@ -1,0 +1,5 @@
+use Rattle.sc_rounds.proofs.Steppings.{same_then}
+use Rattle.sc_rounds.proofs.stepping.Core.make_room.Goals as goal
+
+pub returns-clause-same : goal.returns-clause-same
+returns-clause-same g c = same_then _ _ _ _ _ _ c.end_epoch.ensures.same c.hand_on.ensures.same

@@ -1,0 +1,11 @@
+use Rattle.sc_rounds.proofs.Steppings.{settled, settled_runs}
+use Rattle.sc_rounds.proofs.stepping.Core.settle.Goals as goal
+
+pub returns-in-Ok-clause-ok : goal.returns-in-Ok-clause-ok
+returns-in-Ok-clause-ok g c = settled _ _ _ _ _ c.step.ensures c.drain.ensures.same c.in-Ok.ensures.all c.in-Ok.ensures.keeps
+
+pub returns-in-Ok-clause-err : goal.returns-in-Ok-clause-err
+returns-in-Ok-clause-err g c = settled_runs _ _ _ _ _ c.step.ensures c.drain.ensures.same
+
+pub returns-in-Err-clause-err : goal.returns-in-Err-clause-err
+returns-in-Err-clause-err g c = settled_runs _ _ _ _ _ c.step.ensures c.drain.ensures.same

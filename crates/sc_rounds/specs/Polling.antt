@@ -1,0 +1,19 @@
+-- What a poll, and a put that failed, told of an edge.
+use Rattle.std.specs.Prelude.{◌≡◌, ℕ, List}
+use Rattle.sc_value.specs.declared.ids.Place.{Place}
+use Rattle.sc_edge.specs.Edges.{EdgeState}
+use Rattle.sc_edge.specs.EdgeCalls.{Answers, Ends}
+use Rattle.sc_edge.specs.Telling.{Notes}
+use Rattle.sc_edge.specs.declared.edge.Got.{Got}
+use Rattle.sc_edge.specs.declared.edge.Polled.{Polled}
+
+-- a poll had this answer, and no place took anything meanwhile
+pub record Polls (old new : EdgeState) (answer : Got) (room : List ℕ) : Type 0 where
+  pub took : (place : Place) → new.took place ≡ old.took place
+  pub told : Answers old new answer room
+  pub ends : Ends old new answer
+
+-- this came, and no place took anything meanwhile
+pub record Comes (old new : EdgeState) (came : Polled) : Type 0 where
+  pub took : (place : Place) → new.took place ≡ old.took place
+  pub notes : Notes old.polled new.polled came

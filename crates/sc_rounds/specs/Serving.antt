@@ -1,0 +1,90 @@
+-- Where a server stands: between two steps, within an answer of its edge, and where its run ends.
+use Rattle.std.specs.Prelude.{◌≡◌, ◌⊎◌, Bool, true, false, List, [], ◌∷◌, ◌++◌}
+use Rattle.sc_tokens.specs.Bytes.{Bytes}
+use Rattle.sc_value.specs.declared.ids.Place.{Place}
+use Rattle.sc_value.specs.declared.message.Sent.{Sent}
+use Rattle.sc_terms.specs.declared.steps.Step.{Step}
+use Rattle.sc_edge.specs.Edges.{EdgeState}
+use Rattle.sc_hosts.specs.Runs.{Epoch}
+use Rattle.sc_switch.specs.Standing.{Known, whole}
+use Rattle.sc_outs.specs.Deeds.{Deed}
+use Rattle.sc_outs.specs.Puts.{IsCut, Puts}
+use Rattle.sc_courses.specs.Courses.{Beginning, Course, Told}
+use Rattle.sc_courses.specs.Marks.{Hearing, HearingPart, HearsOn}
+use Rattle.sc_rounds.specs.declared.stepping.Core.{Core}
+use Rattle.sc_rounds.specs.declared.streams.Pending.{Pending}
+use Rattle.sc_rounds.specs.Streaming.{bytes_of}
+
+-- the epoch that runs, with all its steps
+abbrev pub running : Known → Epoch
+running known = record { number = known.epoch; began = known.began; journal = whole known }
+
+-- the switch has run this course
+pub record Runs (from : Beginning) (told : Told) (known : Known) (deeds : List Deed) : Type 0 where
+  pub setup_is : known.setup ≡ from.setup
+  pub course : Course from told known.handed (running known) deeds
+
+-- between two steps all that was sent was taken from the switch, and was put or is left to be put
+pub record Stands (from : Beginning) (edge : EdgeState) (told : Told) (core : Core) (deeds : List Deed) : Type 0 where
+  pub runs : Runs from told core.switch deeds
+  pub left_is : core.switch.left ≡ []
+  pub puts : Puts from.edge edge deeds core.outs []
+
+-- where a run ends, whatever is left to be put
+pub record Ends (from : Beginning) (edge : EdgeState) (told : Told) (known : Known) (deeds : List Deed) : Type 0 where
+  pub runs : Runs from told known deeds
+  pub cut : IsCut from.edge edge deeds
+
+-- ## What a step does
+
+abbrev pub deed : Step → List Sent → Bool → Deed
+deed step sent failed = record { step = step; sent = sent; failed = failed }
+
+-- no step was taken
+unfoldable pub Same : Core → Core → Told → Told → Type 0
+Same old new told told2 = (from : Beginning) (edge : EdgeState) (deeds : List Deed) → Stands from edge told old deeds → Stands from edge told2 new deeds
+
+-- this step was taken
+unfoldable pub Took : Step → Bool → Core → Core → Told → Told → Type 0
+Took step failed old new told told2 =
+    (from : Beginning) (edge : EdgeState) (deeds : List Deed) → Stands from edge told old deeds
+    → (sent : List Sent) × Stands from edge told2 new (deeds ++ deed step sent failed ∷ [])
+
+-- the run ended before this step, or behind it
+unfoldable pub Stopped : Step → Bool → Core → Core → Told → Told → Type 0
+Stopped step failed old new told told2 =
+    (from : Beginning) (edge : EdgeState) (deeds : List Deed) → Stands from edge told old deeds
+    → Ends from edge told2 new.switch deeds ⊎ ((sent : List Sent) × Ends from edge told2 new.switch (deeds ++ deed step sent failed ∷ []))
+
+-- what the last step sent was taken from the switch
+unfoldable pub Settles : Core → Core → Told → Told → Type 0
+Settles old new told told2 =
+    (from : Beginning) (edge : EdgeState) (deeds : List Deed) → Runs from told old.switch deeds → Puts from.edge edge deeds old.outs old.switch.left → Stands from edge told2 new deeds
+
+unfoldable pub RunsOn : Core → Core → Told → Told → Type 0
+RunsOn old new told told2 = (from : Beginning) (deeds : List Deed) → Runs from told old.switch deeds → Runs from told2 new.switch deeds
+
+-- ## With what was heard
+
+-- between two steps
+pub record Serves (from : Beginning) (edge : EdgeState) (told : Told) (core : Core) (streams : List Pending) : Type 0 where
+  pub deeds : List Deed
+  pub stands : Stands from edge told core deeds
+  pub hearing : Hearing from.edge.polled edge.polled deeds (bytes_of streams)
+
+-- where the run ended
+pub record Ended (from : Beginning) (edge : EdgeState) (told : Told) (known : Known) : Type 0 where
+  pub deeds : List Deed
+  pub ends : Ends from edge told known deeds
+  pub hearing : HearingPart from.edge.polled edge.polled deeds
+
+-- within an answer of the edge, these bytes of a place
+pub record ServesOn (from : Beginning) (edge : EdgeState) (told : Told) (core : Core) (streams : List Pending) (place : Place) (text : Bytes) : Type 0 where
+  pub deeds : List Deed
+  pub stands : Stands from edge told core deeds
+  pub on : HearsOn from.edge.polled edge.polled deeds (bytes_of streams) place text
+
+-- within it, or behind it
+unfoldable pub ServesMore : Beginning → EdgeState → Told → Core → List Pending → Place → Bytes → Bool → Type 0
+ServesMore from edge told core streams place text true = ServesOn from edge told core streams place text
+ServesMore from edge told core streams place text false = Serves from edge told core streams

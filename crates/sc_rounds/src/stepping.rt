@@ -1,0 +1,349 @@
+//! The switch with what is left to be put of what it sent: each step of a server.
+
+ghost use Rattle.std.specs.Prelude.{◌≡◌, ◌≤◌, List, [], true, false, IfOk, OnOk, OnErr};
+ghost use Rattle.sc_terms.specs.declared.steps.Step.TheVariants as steps;
+ghost use Rattle.sc_edge.specs.Edges.{EdgeState};
+ghost use Rattle.sc_hosts.specs.Runs.{HasVia};
+ghost use Rattle.sc_switch.specs.Standing.{net_of, step_of};
+ghost use Rattle.sc_outs.specs.Deeds.{Deed};
+ghost use Rattle.sc_outs.specs.Owing.{nothing};
+ghost use Rattle.sc_courses.specs.Courses.{Told};
+ghost use Rattle.sc_outs.specs.Puts.{Puts};
+ghost use Rattle.sc_rounds.specs.Serving.{RunsOn, Same, Settles, Stopped, Took};
+ghost use Rattle.sc_rounds.specs.Stepping.{Commits, Ticks, Withdraws};
+
+use sc_edge::Notice;
+use sc_journal::Journal;
+use sc_outs::Outs;
+use sc_servlets::{Done, Lease};
+use sc_switch::{CommitRefused, Committed, Epoch, StepRefused, Switch};
+use sc_terms::{Bad, Step};
+use sc_value::{AppId, Discard, Message, NoMemory, Place};
+use std::alloc::Global;
+
+/// When a server begins a new journal.
+#[derive(Clone, Copy, Debug, PartialEq, Eq)]
+pub struct Turning {
+    /// After so many steps, where nothing lives; 0 for never.
+    pub epoch_steps: u64,
+    /// Whether it hands on what it has, once its journal is half full.
+    pub parts: bool,
+}
+
+/// A switch, and what is left to be put of what it sent. Between two steps nothing is left in the switch.
+#[derive(Drop)]
+pub struct Core {
+    pub alloc: Global,
+    pub turning: Turning,
+    pub switch: Switch,
+    pub outs: Outs,
+    /// How many steps of the epoch were handed on; it stays at its greatest value.
+    pub handed: u64,
+}
+
+impl Core {
+    /// A switch that took no step, with nothing to put.
+    pub fn new(alloc: Global, turning: Turning, switch: Switch) -> Core
+        ensures switch { result.switch ≡ switch }
+        ensures outs { result.outs ≡ nothing }
+    {
+        Core {
+            alloc,
+            turning,
+            switch,
+            outs: Outs::new(alloc),
+            handed: 0,
+        }
+    }
+
+    /// How many steps the running epoch has, those that were handed on too.
+    pub fn steps(&self) -> u64 {
+        self.handed.saturating_add(self.switch.journal().len())
+    }
+
+    /// Ends the epoch where its steps are as many as the settings ask for and nothing lives.
+    pub fn end_epoch<N: Notice<Journal<Step>>>(&mut self, notice: &mut N)
+        ensures same { Same self.old self.new (N.noted notice.old) (N.noted notice.new) }
+        ensures outs { self.new.outs ≡ self.old.outs }
+        ensures moment { (net_of self.new.switch).moment ≡ (net_of self.old.switch).moment }
+    {
+        if !self.is_epoch_due() {
+            return;
+        }
+        match self.switch.turn_epoch() {
+            Ok(
+                Epoch {
+                    number,
+                    began,
+                    journal,
+                },
+            ) => {
+                self.handed = 0;
+                notice.epoch(number, began, journal);
+            }
+            Err(_) => {}
+        }
+    }
+
+    fn is_epoch_due(&self) -> bool {
+        self.turning.epoch_steps > 0
+            && self.switch.live() == 0
+            && self.steps() >= self.turning.epoch_steps
+    }
+
+    /// Hands on the steps that are kept, where the settings ask for it and the journal is half full.
+    fn hand_on<N: Notice<Journal<Step>>>(&mut self, notice: &mut N)
+        ensures same { Same self.old self.new (N.noted notice.old) (N.noted notice.new) }
+        ensures moment { (net_of self.new.switch).moment ≡ (net_of self.old.switch).moment }
+    {
+        if !self.is_part_due() {
+            return;
+        }
+        let journal = self.switch.hand_on();
+        self.handed = self.handed.saturating_add(journal.len());
+        notice.part(journal);
+    }
+
+    fn is_part_due(&self) -> bool {
+        self.turning.parts && is_half_full(self.switch.journal())
+    }
+
+    /// Makes room for a step: ends the epoch or hands on its steps, where that is due.
+    fn make_room<N: Notice<Journal<Step>>>(&mut self, notice: &mut N)
+        ensures same { Same self.old self.new (N.noted notice.old) (N.noted notice.new) }
+        ensures moment { (net_of self.new.switch).moment ≡ (net_of self.old.switch).moment }
+    {
+        self.end_epoch(notice);
+        self.hand_on(notice);
+    }
+
+    /// Tells the notice of a step, and takes what it sent.
+    fn settle<N: Notice<Journal<Step>>>(&mut self, notice: &mut N) -> Result<(), StepRefused>
+        ensures ok { OnOk result (Settles self.old self.new (N.noted notice.old) (N.noted notice.new)) }
+        ensures err { RunsOn self.old self.new (N.noted notice.old) (N.noted notice.new) }
+    {
+        notice.step(self.steps());
+        match self.drain() {
+            Ok(()) => Ok(()),
+            Err(NoMemory) => Err(StepRefused::NoMemory),
+        }
+    }
+
+    /// Takes all that was sent from the switch, and puts each text behind what is left of its place.
+    fn drain(&mut self) -> Result<(), NoMemory>
+        ensures same { self.new.switch ≡ record self.old.switch { left = self.new.switch.left } }
+        ensures all { OnOk result (self.new.switch.left ≡ []) }
+        ensures keeps { OnOk result ((first now : EdgeState) (deeds : List Deed) → Puts first now deeds self.old.outs self.old.switch.left → Puts first now deeds self.new.outs []) }
+    {
+        while let Some(sent) = self.switch.take_sent() {
+            self.outs.owe(self.alloc, sent)?;
+        }
+        Ok(())
+    }
+
+    /// A message came from a place.
+    ///
+    /// # Errors
+    ///
+    /// `JournalFull` where the journal has no room for the step, and `NoMemory`, also behind the step.
+    /// The run can't go on then.
+    pub fn arrive<N: Notice<Journal<Step>>>(
+        &mut self,
+        notice: &mut N,
+        from: Place,
+        message: Message,
+    ) -> Result<(), StepRefused>
+        requires { HasVia message }
+        ensures ok { OnOk result (Took (Step.In from message) false self.old self.new (N.noted notice.old) (N.noted notice.new)) }
+        ensures err { OnErr result (Stopped (Step.In from message) false self.old self.new (N.noted notice.old) (N.noted notice.new)) }
+    {
+        self.make_room(notice);
+        match self.switch.arrive(self.alloc, from, message) {
+            Ok(()) => self.settle(notice),
+            Err(cause) => Err(cause),
+        }
+    }
+
+    /// A text came from a place that is no message.
+    ///
+    /// # Errors
+    ///
+    /// As of `arrive`.
+    pub fn hear_bad<N: Notice<Journal<Step>>>(
+        &mut self,
+        notice: &mut N,
+        from: Place,
+        bad: Bad,
+    ) -> Result<(), StepRefused>
+        ensures ok { OnOk result (Took (Step.Bad from bad) false self.old self.new (N.noted notice.old) (N.noted notice.new)) }
+        ensures err { OnErr result (Stopped (Step.Bad from bad) false self.old self.new (N.noted notice.old) (N.noted notice.new)) }
+    {
+        self.make_room(notice);
+        match self.switch.hear_bad(self.alloc, from, bad) {
+            Ok(()) => self.settle(notice),
+            Err(cause) => Err(cause),
+        }
+    }
+
+    /// A place is lost that gives nothing more, or nothing that is heard. What was sent there is still put.
+    ///
+    /// # Errors
+    ///
+    /// As of `arrive`.
+    pub fn lose<N: Notice<Journal<Step>>>(
+        &mut self,
+        notice: &mut N,
+        at: Place,
+    ) -> Result<(), StepRefused>
+        ensures ok { OnOk result (Took (Step.Lost at) false self.old self.new (N.noted notice.old) (N.noted notice.new)) }
+        ensures err { OnErr result (Stopped (Step.Lost at) false self.old self.new (N.noted notice.old) (N.noted notice.new)) }
+    {
+        self.make_room(notice);
+        match self.switch.lost(self.alloc, at) {
+            Ok(()) => self.settle(notice),
+            Err(cause) => Err(cause),
+        }
+    }
+
+    /// A place is lost that failed. What is left to be put there is dropped.
+    ///
+    /// # Errors
+    ///
+    /// As of `arrive`.
+    pub fn fail<N: Notice<Journal<Step>>>(
+        &mut self,
+        notice: &mut N,
+        at: Place,
+    ) -> Result<(), StepRefused>
+        ensures ok { OnOk result (Took (Step.Lost at) true self.old self.new (N.noted notice.old) (N.noted notice.new)) }
+        ensures err { OnErr result (Stopped (Step.Lost at) true self.old self.new (N.noted notice.old) (N.noted notice.new)) }
+    {
+        self.make_room(notice);
+        match self.switch.lost(self.alloc, at) {
+            Ok(()) => match self.outs.lose(at) {
+                Ok(()) => self.settle(notice),
+                Err(NoMemory) => Err(StepRefused::NoMemory),
+            },
+            Err(cause) => Err(cause),
+        }
+    }
+
+    /// The clock tells a moment, in milliseconds: false where it is no later one than the last. One past 2^63
+    /// is none.
+    ///
+    /// # Errors
+    ///
+    /// As of `arrive`.
+    pub fn tick<N: Notice<Journal<Step>>>(
+        &mut self,
+        notice: &mut N,
+        now: u64,
+    ) -> Result<bool, StepRefused>
+        ensures ok { IfOk result (λ later. Ticks now self.old self.new (N.noted notice.old) (N.noted notice.new) later) }
+        ensures err { OnErr result (Stopped (Step.Tick now) false self.old self.new (N.noted notice.old) (N.noted notice.new)) }
+    {
+        if now <= self.switch.now() || now > 1 << 63 {
+            return Ok(false);
+        }
+        match self.tick_at(notice, now) {
+            Ok(()) => Ok(true),
+            Err(cause) => Err(cause),
+        }
+    }
+
+    /// The step of a later moment.
+    fn tick_at<N: Notice<Journal<Step>>>(
+        &mut self,
+        notice: &mut N,
+        now: u64,
+    ) -> Result<(), StepRefused>
+        requires later { (net_of self.old.switch).moment ≤ now }
+        requires within { now ≤ 9223372036854775808 }
+        ensures ok { OnOk result (Took (Step.Tick now) false self.old self.new (N.noted notice.old) (N.noted notice.new)) }
+        ensures err { OnErr result (Stopped (Step.Tick now) false self.old self.new (N.noted notice.old) (N.noted notice.new)) }
+    {
+        self.make_room(notice);
+        match self.switch.tick(self.alloc, now) {
+            Ok(()) => self.settle(notice),
+            Err(cause) => Err(cause),
+        }
+    }
+
+    /// Ends an application session: false where it doesn't live.
+    ///
+    /// # Errors
+    ///
+    /// As of `arrive`.
+    pub fn withdraw<N: Notice<Journal<Step>>>(
+        &mut self,
+        notice: &mut N,
+        app: AppId,
+    ) -> Result<bool, StepRefused>
+        ensures ok { IfOk result (λ lived. Withdraws app self.old self.new (N.noted notice.old) (N.noted notice.new) lived) }
+        ensures err { OnErr result (Stopped (Step.Withdraw app) false self.old self.new (N.noted notice.old) (N.noted notice.new)) }
+    {
+        self.hand_on(notice);
+        match self.switch.withdraw(self.alloc, app) {
+            Ok(true) => match self.settle(notice) {
+                Ok(()) => Ok(true),
+                Err(cause) => Err(cause),
+            },
+            Ok(false) => Ok(false),
+            Err(cause) => Err(cause),
+        }
+    }
+
+    /// Takes a turn that was brought.
+    ///
+    /// # Errors
+    ///
+    /// As of `arrive`.
+    pub fn commit<N: Notice<Journal<Step>>>(
+        &mut self,
+        notice: &mut N,
+        done: Done,
+    ) -> Result<Committed, StepRefused>
+        ensures ok { IfOk result (λ answer. Commits done self.old self.new (N.noted notice.old) (N.noted notice.new) answer) }
+        ensures err { OnErr result (Stopped (step_of done) false self.old self.new (N.noted notice.old) (N.noted notice.new)) }
+    {
+        self.hand_on(notice);
+        match self.switch.commit(self.alloc, done) {
+            Ok(Committed::Taken) => match self.settle(notice) {
+                Ok(()) => Ok(Committed::Taken),
+                Err(cause) => Err(cause),
+            },
+            Ok(Committed::Gone(number)) => Ok(Committed::Gone(number)),
+            Ok(Committed::Other(number)) => Ok(Committed::Other(number)),
+            Err(CommitRefused { done, cause }) => {
+                done.discard();
+                Err(cause)
+            }
+        }
+    }
+
+    /// Whether more events wait than leases are out.
+    pub fn is_turn_due(&self) -> bool {
+        self.switch.waiting() > self.switch.leases()
+    }
+
+    /// Lends out the turn of the first event that waits, as [`Switch::lease`].
+    pub fn lease(&mut self) -> Result<Option<Lease>, NoMemory>
+        ensures { (told : Told) → Same self.old self.new told told }
+    {
+        self.switch.lease(self.alloc)
+    }
+
+    /// Tells the notice what lives.
+    pub fn list<N: Notice<Journal<Step>>>(&self, notice: &mut N) -> Result<(), NoMemory>
+        ensures { Same self.now self.now (N.noted notice.old) (N.noted notice.new) }
+    {
+        let listing = self.switch.listing(self.alloc)?;
+        notice.list(listing);
+        Ok(())
+    }
+}
+
+/// Whether at least half of a journal's steps or more than half of its bytes are taken.
+fn is_half_full(journal: &Journal<Step>) -> bool {
+    journal.len() >= journal.most_items().div_ceil(2) || journal.is_full(journal.most_bytes() / 2)
+}

@@ -1,0 +1,4 @@
+mod Endings
+mod Leavings
+mod Names
+mod Roundings

@@ -1,0 +1,176 @@
+-- What the parts of a round do, one after the other.
+use Rattle.std.proofs.Common.{◌≡◌, ◌≤◌, ℕ, List, [], refl, sym, ap, ◌∙◌, subst, inl, inr, arith}
+use Rattle.std.specs.Prelude.{◌⊎◌, Result, Ok, Err, IfErr}
+use Rattle.sc_value.specs.declared.ids.Place.{Place}
+use Rattle.sc_edge.specs.Edges.{CountsOn, EdgeState, Stands}
+use Rattle.sc_edge.specs.EdgeCalls.{Answers, Ends, PollBlames}
+use Rattle.sc_edge.specs.Faults.{Rose_after}
+use Rattle.sc_edge.specs.declared.edge.Got.{Got}
+use Rattle.sc_edge.specs.declared.edge.Got.TheVariants as got
+use Rattle.sc_outs.proofs.Laws.{cut_of, puts_stand}
+use Rattle.sc_courses.specs.Courses.{Beginning, Told}
+use Rattle.sc_courses.specs.Marks.{Hearing}
+use Rattle.sc_courses.proofs.HeardLaws.{hearing_part}
+use Rattle.sc_rounds.specs.declared.stepping.Core.{Core}
+use Rattle.sc_rounds.specs.declared.streams.Pending.{Pending}
+use Rattle.sc_rounds.specs.Moving.{Breaks, Moves}
+use Rattle.sc_rounds.specs.Polling.{Polls}
+use Rattle.sc_rounds.specs.Serving.{Ended, Serves}
+use Rattle.sc_rounds.specs.Streaming.{bytes_of}
+use Rattle.sc_serve.specs.declared.server.Server.{Server}
+use Rattle.sc_serve.specs.declared.stop.Stop.{Stop}
+use Rattle.sc_serve.specs.declared.stop.Stop.TheVariants as stops
+use Rattle.sc_serve.specs.Closing.{Rests}
+use Rattle.sc_outs.specs.Owing.{Owing, left_at}
+use Rattle.sc_serve.specs.Running.{Blames, Finishes, Goes, Halts}
+
+-- ## Counts of faults
+
+pub counts_none : (edge : EdgeState) → CountsOn edge edge
+counts_none edge = (omega arith, λ place. omega arith)
+
+pub counts_then : (a b c : EdgeState) → CountsOn a b → CountsOn b c → CountsOn a c
+counts_then a b c first later =
+    let x : a.faults ≤ b.faults = first.0 in
+    let y : b.faults ≤ c.faults = later.0 in
+    (omega arith, λ place. at (first.1 place) (later.1 place))
+  where
+    at : {m n k : ℕ} → m ≤ n → n ≤ k → m ≤ k
+    at mn nk = omega arith
+
+pub blames_after : (a b c : EdgeState) (cause : Stop) → CountsOn a b → Blames b c cause → Blames a c cause
+unfolding Blames
+blames_after a b c stops.JournalFull counts is = tt
+blames_after a b c stops.Edge counts is = Rose_after a.faults b.faults c.faults counts.0 is
+blames_after a b c stops.NoMemory counts is = tt
+
+pub if_blames_after : {A : Type 0} (r : Result A Stop) (a b c : EdgeState) → CountsOn a b → IfErr r (λ cause. Blames b c cause) → IfErr r (λ cause. Blames a c cause)
+if_blames_after (Ok x) a b c counts is = tt
+if_blames_after (Err cause) a b c counts is = blames_after a b c cause counts is
+
+-- ## One after the other
+
+pub goes_same : (server : Server) (edge : EdgeState) (told : Told) → Goes server server edge edge told told
+unfolding Goes
+goes_same server edge told from s = s
+
+pub goes_then : (a b c : Server) (e e1 e2 : EdgeState) (t t1 t2 : Told) → Goes a b e e1 t t1 → Goes b c e1 e2 t1 t2 → Goes a c e e2 t t2
+unfolding Goes
+goes_then a b c e e1 e2 t t1 t2 first later from s = later from (first from s)
+
+pub halts_then : (a b c : Server) (e e1 e2 : EdgeState) (t t1 t2 : Told) → Goes a b e e1 t t1 → Halts b c e1 e2 t1 t2 → Halts a c e e2 t t2
+unfolding Goes Halts
+halts_then a b c e e1 e2 t t1 t2 first later from s = later from (first from s)
+
+-- a run may end where it stands
+ended-of : (from : Beginning) (edge : EdgeState) (told : Told) (core : Core) (streams : List Pending) → Serves from edge told core streams → Ended from edge told core.switch
+ended-of from edge told core streams s = record {
+  deeds = s.deeds;
+  ends = record { runs = s.stands.runs; cut = cut_of from.edge edge s.deeds core.outs [] s.stands.puts };
+  hearing = hearing_part from.edge.polled edge.polled s.deeds (bytes_of streams) s.hearing;
+}
+
+pub goes_halts : (a b : Server) (e e1 : EdgeState) (t t1 : Told) → Goes a b e e1 t t1 → Halts a b e e1 t t1
+unfolding Goes Halts
+goes_halts a b e e1 t t1 goes from s = ended-of from e1 t1 b.core b.streams (goes from s)
+
+-- only what isn't told of changed
+pub goes_kept : (a b : Server) (edge : EdgeState) (told : Told) → b.core ≡ a.core → b.streams ≡ a.streams → Goes a b edge edge told told
+unfolding Goes
+goes_kept a b edge told core streams from s = subst (λ (c : Core). Serves from edge told c b.streams) (sym core) (subst (λ (ps : List Pending). Serves from edge told a.core ps) (sym streams) s)
+
+-- ## Steps that aren't heard
+
+pub moves_goes : (a b : Server) (edge : EdgeState) (t t1 : Told) → b.streams ≡ a.streams → Moves a.core b.core t t1 → Goes a b edge edge t t1
+unfolding Moves Goes
+moves_goes a b edge t t1 streams moves from s = moves from edge b.streams (subst (λ (ps : List Pending). Serves from edge t a.core ps) (sym streams) s)
+
+pub breaks_halts : (a b : Server) (edge : EdgeState) (t t1 : Told) → Breaks a.core b.core t t1 → Halts a b edge edge t t1
+unfolding Breaks Halts
+breaks_halts a b edge t t1 breaks from s = breaks from edge a.streams s
+
+-- ## A poll
+
+pub polls_of : (old new : EdgeState) (answer : Got) (room : List ℕ) → ((place : Place) → Stands old new place) → Answers old new answer room → Ends old new answer → Polls old new answer room
+polls_of old new answer room stands told ends = record { took = λ place. (stands place).0; told = told; ends = ends }
+
+pub fault_blames : (old new : EdgeState) (answer : Got) → answer ≡ got.Fault → PollBlames old new answer → Blames old new stops.Edge
+unfolding Blames
+fault_blames old new answer is blames = rw is at blames
+
+-- ## A close
+
+pub rests_goes : (a : Server) (old new : EdgeState) (told : Told) → Rests old new → Goes a a old new told told
+unfolding Goes
+rests_goes a old new told rests from s = record {
+  deeds = s.deeds;
+  stands = record { runs = s.stands.runs; left_is = s.stands.left_is; puts = puts_stand from.edge old new s.deeds a.core.outs [] rests.took s.stands.puts };
+  hearing = subst (λ polled. Hearing from.edge.polled polled s.deeds (bytes_of a.streams)) (sym rests.polled) s.hearing;
+}
+
+pub rests_none : (edge : EdgeState) → Rests edge edge
+rests_none edge = record { took = λ place. refl; polled = refl }
+
+pub rests_then : (a b c : EdgeState) → Rests a b → Rests b c → Rests a c
+rests_then a b c first later = record { took = λ place. later.took place ∙ first.took place; polled = later.polled ∙ first.polled }
+
+pub rests_of : (old new : EdgeState) → ((place : Place) → Stands old new place) → new.polled ≡ old.polled → Rests old new
+rests_of old new stands polled = record { took = λ place. (stands place).0; polled = polled }
+
+-- ## A cause
+
+pub no_blames : (edge edge2 : EdgeState) (cause : Stop) → (cause ≡ stops.JournalFull) ⊎ (cause ≡ stops.NoMemory) → Blames edge edge2 cause
+unfolding Blames
+no_blames edge edge2 cause (inl is) = rw is tt
+no_blames edge edge2 cause (inr is) = rw is tt
+
+pub memory_blames : (edge edge2 : EdgeState) → Blames edge edge2 stops.NoMemory
+unfolding Blames
+memory_blames edge edge2 = tt
+
+-- ## As the code does it
+
+pub poll_goes : (a b : Server) (e e1 : EdgeState) (t t1 : Told) (answer : Got) (room : List ℕ) → ((from : Beginning) (old new : EdgeState) → Serves from old t a.core a.streams → Polls old new answer room → Serves from new t1 b.core b.streams)
+    → Polls e e1 answer room → Goes a b e e1 t t1
+unfolding Goes
+poll_goes a b e e1 t t1 answer room took polls from s = took from e e1 s polls
+
+pub poll_halts : (a b : Server) (e e1 : EdgeState) (t t1 : Told) (answer : Got) (room : List ℕ) → ((from : Beginning) (old new : EdgeState) → Serves from old t a.core a.streams → Polls old new answer room → Ended from new t1 b.core.switch)
+    → Polls e e1 answer room → Halts a b e e1 t t1
+unfolding Halts
+poll_halts a b e e1 t t1 answer room took polls from s = took from e e1 s polls
+
+pub put_goes : (a b : Server) (e e1 : EdgeState) (t t1 : Told) → ((from : Beginning) → Serves from e t a.core a.streams → Serves from e1 t1 b.core b.streams) → Goes a b e e1 t t1
+unfolding Goes
+put_goes a b e e1 t t1 goes from s = goes from s
+
+pub put_halts : (a b : Server) (e e1 : EdgeState) (t t1 : Told) → ((from : Beginning) → Serves from e t a.core a.streams → Ended from e1 t1 b.core.switch) → Halts a b e e1 t t1
+unfolding Halts
+put_halts a b e e1 t t1 halts from s = halts from s
+
+-- and what the server remembers of it
+pub poll_then : (a b : Server) (e e1 : EdgeState) (t t1 : Told) (answer : Got) (room : List ℕ) (core : Core) (streams : List Pending)
+    → ((from : Beginning) (old new : EdgeState) → Serves from old t a.core a.streams → Polls old new answer room → Serves from new t1 core streams) → Polls e e1 answer room → b.core ≡ core → b.streams ≡ streams → Goes a b e e1 t t1
+unfolding Goes
+poll_then a b e e1 t t1 answer room core streams took polls core_is streams_is from s = rw (core_is, streams_is) (took from e e1 s polls)
+
+pub put_then : (a b : Server) (e e1 : EdgeState) (t t1 : Told) (core : Core) (streams : List Pending) → ((from : Beginning) → Serves from e t a.core a.streams → Serves from e1 t1 core streams) → b.core ≡ core → b.streams ≡ streams → Goes a b e e1 t t1
+unfolding Goes
+put_then a b e e1 t t1 core streams goes core_is streams_is from s = rw (core_is, streams_is) (goes from s)
+
+-- places were closed behind it
+pub close_then : (a b c : Server) (e e1 e2 : EdgeState) (t t1 : Told) → Goes a b e e1 t t1 → Rests e1 e2 → c.core ≡ b.core → c.streams ≡ b.streams → Goes a c e e2 t t1
+close_then a b c e e1 e2 t t1 first rests core streams = goes_then a b c e e1 e2 t t1 t1 first (goes_then b b c e1 e2 e2 t1 t1 t1 (rests_goes b e1 e2 t1 rests) (goes_kept b c e2 t1 core streams))
+
+-- a rest changes nothing
+pub rest_goes : (a b : Server) (e e1 e2 : EdgeState) (t t1 : Told) → e2 ≡ e1 → Goes a b e e1 t t1 → Goes a b e e2 t t1
+rest_goes a b e e1 e2 t t1 same goes = rw same goes
+
+pub rest_counts : (e e1 e2 : EdgeState) → e2 ≡ e1 → CountsOn e e1 → CountsOn e e2
+rest_counts e e1 e2 same counts = rw same counts
+
+-- the run is over, once the epoch was ended where that was due
+pub over : (a b c : Server) (e e1 : EdgeState) (t t1 t2 : Told) → Goes a b e e1 t t1 → c.streams ≡ b.streams → Moves b.core c.core t1 t2 → c.core.outs ≡ b.core.outs → ((place : Place) → left_at b.core.outs place ≡ []) → Finishes a c e e1 t t2
+unfolding Goes Moves Finishes
+over a b c e e1 t t1 t2 goes streams moves outs none from s =
+    (moves from e1 c.streams (subst (λ (ps : List Pending). Serves from e1 t1 b.core ps) (sym streams) (goes from s)), λ place. ap (λ (o : Owing). left_at o place) outs ∙ none place)

@@ -1,0 +1,15 @@
+use Rattle.std.proofs.Common.{refl}
+use Rattle.sc_serve.proofs.Roundings.{breaks_halts, goes_same, moves_goes, no_blames}
+use Rattle.sc_serve.proofs.rounds.list_once.Goals as goal
+
+pub returns-then-epoch-clause-ok : goal.returns-then-epoch-clause-ok
+returns-then-epoch-clause-ok g c edge = goes_same _ edge _
+
+pub returns-in-Ok-clause-ok : goal.returns-in-Ok-clause-ok
+returns-in-Ok-clause-ok g c edge = moves_goes _ _ edge _ _ refl c.in-Ok.ensures.ok
+
+pub returns-in-Err-clause-err : goal.returns-in-Err-clause-err
+returns-in-Err-clause-err g c edge = breaks_halts _ _ edge _ _ c.in-Err.ensures.err
+
+pub returns-in-Err-clause-blames : goal.returns-in-Err-clause-blames
+returns-in-Err-clause-blames g c edge = no_blames edge edge _ c.stop_of.ensures

@@ -1,0 +1,20 @@
+use Rattle.sc_serve.proofs.Roundings.{goes_halts, goes_same, memory_blames, no_blames, put_halts, put_then}
+use Rattle.sc_serve.proofs.rounds.put_at.Goals as goal
+
+pub returns-in-Ok-note_put-clause-ok : goal.returns-in-Ok-note_put-clause-ok
+returns-in-Ok-note_put-clause-ok g c = put_then _ _ _ _ _ _ _ _ c.in-Ok.ensures.ok c.note_put.ensures.core c.note_put.ensures.streams
+
+pub returns-in-Err-note_put-clause-err : goal.returns-in-Err-note_put-clause-err
+returns-in-Err-note_put-clause-err g c = goes_halts _ _ _ _ _ _ (put_then _ _ _ _ _ _ _ _ c.in-Ok.ensures.ok c.note_put.ensures.core c.note_put.ensures.streams)
+
+pub returns-in-Err-note_put-clause-blames : goal.returns-in-Err-note_put-clause-blames
+returns-in-Err-note_put-clause-blames g c = memory_blames _ _
+
+pub returns-in-Err-clause-err : goal.returns-in-Err-clause-err
+returns-in-Err-clause-err g c = put_halts _ _ _ _ _ _ c.in-Err.ensures.err
+
+pub returns-in-Err-clause-blames : goal.returns-in-Err-clause-blames
+returns-in-Err-clause-blames g c = no_blames _ _ _ c.stop_of.ensures
+
+pub returns-in-None-clause-ok : goal.returns-in-None-clause-ok
+returns-in-None-clause-ok g c = goes_same _ _ _

@@ -1,0 +1,8 @@
+-- A close takes nothing and tells nothing of what came.
+use Rattle.std.specs.Prelude.{◌≡◌}
+use Rattle.sc_value.specs.declared.ids.Place.{Place}
+use Rattle.sc_edge.specs.Edges.{EdgeState}
+
+pub record Rests (old new : EdgeState) : Type 0 where
+  pub took : (place : Place) → new.took place ≡ old.took place
+  pub polled : new.polled ≡ old.polled

@@ -1,0 +1,51 @@
+-- A server between its rounds, and where they end.
+use Rattle.std.specs.Prelude.{◌≡◌, List, [], Option, None, Some}
+use Rattle.sc_journal.specs.Kept.{Kept}
+use Rattle.sc_terms.specs.declared.steps.Step.{Step}
+use Rattle.sc_parts.specs.declared.setup.Setup.{Setup}
+use Rattle.sc_switch.specs.Standing.{Known}
+use Rattle.sc_switch.specs.declared.ran.Ran.{Ran}
+use Rattle.sc_edge.specs.Edges.{EdgeState}
+use Rattle.sc_edge.specs.Faults.{Rose}
+use Rattle.sc_courses.specs.Courses.{Beginning, Told}
+use Rattle.sc_outs.specs.Owing.{left_at}
+use Rattle.sc_value.specs.declared.ids.Place.{Place}
+use Rattle.sc_serve.specs.declared.server.Server.{Server}
+use Rattle.sc_serve.specs.declared.stop.Stop.{Stop}
+use Rattle.sc_serve.specs.declared.stop.Stop.TheVariants as stops
+use Rattle.sc_rounds.specs.Serving.{Ended, Serves}
+use Rattle.sc_serve.specs.Served.{Leaves}
+
+-- it stands between two rounds as before
+unfoldable pub Goes : Server → Server → EdgeState → EdgeState → Told → Told → Type 0
+Goes old new edge edge2 told told2 = (from : Beginning) → Serves from edge told old.core old.streams → Serves from edge2 told2 new.core new.streams
+
+-- the run ended
+unfoldable pub Halts : Server → Server → EdgeState → EdgeState → Told → Told → Type 0
+Halts old new edge edge2 told told2 = (from : Beginning) → Serves from edge told old.core old.streams → Ended from edge2 told2 new.core.switch
+
+-- a fault of the listener was counted where the cause is one
+unfoldable pub Blames : EdgeState → EdgeState → Stop → Type 0
+Blames edge edge2 stops.JournalFull = Unit {0}
+Blames edge edge2 stops.Edge = Rose edge.faults edge2.faults
+Blames edge edge2 stops.NoMemory = Unit {0}
+
+-- it stands behind its last round, with nothing left to be put
+unfoldable pub Finishes : Server → Server → EdgeState → EdgeState → Told → Told → Type 0
+Finishes old new edge edge2 told told2 =
+    (from : Beginning) → Serves from edge told old.core old.streams → Serves from edge2 told2 new.core new.streams × ((place : Place) → left_at new.core.outs place ≡ [])
+
+-- a switch that took no step
+abbrev pub fresh : Setup → Known
+fresh setup = record { setup = setup; epoch = 0; began = 0; handed = []; journal = []; left = []; kept = []; leases = 0 }
+
+-- the journal is there, with these items
+unfoldable pub HasItems : Option (Kept Step) → List Step → Type 0
+HasItems None items = ⊥
+HasItems (Some journal) items = journal.items ≡ items
+
+-- a run has its journal
+pub record IsServed (from : Beginning) (now : EdgeState) (told : Told) (ran : Ran) : Type 0 where
+  pub journal : Kept Step
+  pub journal_is : ran.journal ≡ Some journal
+  pub leaves : Leaves from now told ran journal

@@ -1,0 +1,79 @@
+-- What `serve` promises: when each status comes, and what was heard, taken, put and told until then.
+use Rattle.std.specs.Prelude.{◌≡◌, List, [], ◌∷◌, ◌++◌, Option, None, Some, codes, if◌then◌else◌}
+use Rattle.sc_tokens.specs.Names.{same_bytes}
+use Rattle.sc_terms.specs.declared.steps.Step.{Step}
+use Rattle.sc_parts.specs.declared.setup.Setup.{Setup}
+use Rattle.sc_grammar.specs.Written.{Bytes}
+use Rattle.sc_journal.specs.Kept.{Kept}
+use Rattle.sc_model.specs.Settings.{Charters}
+use Rattle.sc_edge.specs.Edges.{EdgeState}
+use Rattle.sc_edge.specs.Faults.{Rose}
+use Rattle.sc_hosts.specs.Histories.{as_session}
+use Rattle.sc_hosts.specs.Runs.{AreLawful, Epoch}
+use Rattle.sc_switch.specs.declared.ran.Ran.{Ran}
+use Rattle.sc_switch.specs.declared.ran.Status.{Status}
+use Rattle.sc_switch.specs.declared.ran.Status.TheVariants as statuses
+use Rattle.sc_replay.specs.Replaying.{IsUnset, TellsConfig, TellsTable, app_names}
+use Rattle.sc_runs.specs.Following.{Streams}
+use Rattle.sc_outs.specs.Deeds.{Deed}
+use Rattle.sc_outs.specs.Puts.{TookParts, TookWhole}
+use Rattle.sc_courses.specs.Courses.{AreDeeds, Beginning, TellsEpochs, Told}
+use Rattle.sc_courses.specs.Marks.{Hearing, HearingPart}
+
+-- CONFIG and DAR of `serve CONFIG DAR`, none of other words
+unfoldable pub served_names : List Bytes → Option (Bytes × Bytes)
+served_names (word ∷ config ∷ dar ∷ []) = if same_bytes word (codes "serve") then Some (config, dar) else None
+served_names words = None
+
+-- the set-up of a run: the configuration, the table for its applications, and the catalogue's kinds
+pub record IsSetUp (names : List Bytes) (kinds : List Charters) (configs dars : Option Bytes) (setup : Setup) : Type 0 where
+  pub config : TellsConfig names configs setup.config
+  pub table : TellsTable (app_names setup.config) dars setup.dar
+  pub kinds_is : setup.kinds ≡ kinds
+
+-- ## How a run ends
+
+-- at `Done` all that came was heard, and all that is sent to a place that isn't gone was taken; at `Edge` the edge
+-- counted a fault of its listener
+unfoldable pub ComesAt : EdgeState → EdgeState → List Deed → Status → Type 0
+ComesAt first now deeds statuses.Done = ((streams : Streams) × Hearing first.polled now.polled deeds streams) × TookWhole first now deeds
+ComesAt first now deeds statuses.Usage = ⊥
+ComesAt first now deeds (statuses.Config kind key) = ⊥
+ComesAt first now deeds (statuses.Dar line kind) = ⊥
+ComesAt first now deeds statuses.JournalFull = Unit {0}
+ComesAt first now deeds statuses.Edge = Rose first.faults now.faults
+ComesAt first now deeds statuses.NoMemory = Unit {0}
+ComesAt first now deeds (statuses.Script at kind) = ⊥
+ComesAt first now deeds statuses.Read = ⊥
+ComesAt first now deeds statuses.Write = ⊥
+
+-- the last epoch, of which so much was handed on
+abbrev pub last_epoch : Ran → List Step → Kept Step → Epoch
+last_epoch ran handed journal = record { number = ran.epoch; began = ran.began; journal = handed ++ journal.items }
+
+-- what a run leaves: its epochs are lawful, and the notice was told of all but the last; the steps that were heard are a
+-- beginning of what the edge's answers make; and of what each step sends parts were taken, place by place
+pub record Leaves (from : Beginning) (now : EdgeState) (told : Told) (ran : Ran) (journal : Kept Step) : Type 0 where
+  pub ended : List Epoch
+  pub handed : List Step
+  pub deeds : List Deed
+  pub tells : TellsEpochs from.told told (record { ended = ended; handed = handed })
+  pub lawful : AreLawful as_session from.setup (ended ++ last_epoch ran handed journal ∷ [])
+  pub deeds_are : AreDeeds from.setup (ended ++ last_epoch ran handed journal ∷ []) deeds
+  pub heard : HearingPart from.edge.polled now.polled deeds
+  pub took : TookParts from.edge now deeds
+  pub comes : ComesAt from.edge now deeds ran.status
+
+-- ## How a call ends
+
+-- the journal is there exactly where the settings were accepted, and the run is one with them; else the edge wasn't
+-- asked and the notice was told nothing. `read` says that the shelf's count of faults rose
+unfoldable pub Serves : List Bytes → List Charters → Option Bytes → Option Bytes → Type 0 → EdgeState → EdgeState → Told → Told → Ran → Option (Kept Step) → Type 0
+Serves names kinds configs dars read first now told told2 ran None = IsUnset names configs dars read ran.status × (now ≡ first) × (told2 ≡ told)
+Serves names kinds configs dars read first now told told2 ran (Some journal) =
+    (setup : Setup) × IsSetUp names kinds configs dars setup × Leaves (record { setup = setup; told = told; edge = first }) now told2 ran journal
+
+-- how the call ends for these words
+unfoldable pub ServesWords : Option (Bytes × Bytes) → List Bytes → List Charters → (Bytes → Option Bytes) → Type 0 → EdgeState → EdgeState → Told → Told → Ran → Type 0
+ServesWords (Some asked) names kinds holds read first now told told2 ran = Serves names kinds (holds asked.0) (holds asked.1) read first now told told2 ran ran.journal
+ServesWords None names kinds holds read first now told told2 ran = (ran.status ≡ statuses.Usage) × (ran.journal ≡ None) × (now ≡ first) × (told2 ≡ told)

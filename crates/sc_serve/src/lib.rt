@@ -1,0 +1,13 @@
+//! The command `serve`: the container over the connections of an edge.
+#![tactic(auto)]
+
+mod closing;
+mod naming;
+mod rounds;
+mod server;
+mod serving;
+mod stop;
+mod watch;
+
+pub use naming::listening_at;
+pub use serving::serve;

@@ -1,0 +1,59 @@
+//! The words of the command.
+
+ghost use Rattle.std.specs.Prelude.{◌≡◌, ◌≤◌, ℕ, List, map, string_bytes};
+ghost use Rattle.std.specs.Option.{option_map};
+ghost use Rattle.sc_tokens.specs.Names.{same_bytes};
+ghost use Rattle.sc_serve.specs.Served.{served_names};
+
+use sc_edge::Shelf;
+use sc_replay::read_settings;
+use sc_servlets::Catalogue;
+use sc_terms::Config;
+use std::alloc::Global;
+
+/// The names of the configuration and of the routing table, None exactly where the words are not
+/// `serve CONFIG DAR`.
+pub fn served_names(words: &[String]) -> Option<(&String, &String)>
+    ensures { option_map (λ p. (string_bytes p.0.now, string_bytes p.1.now)) result ≡ served_names (map string_bytes words.now) }
+{
+    let [word, config, dar] = words else {
+        return None;
+    };
+    if is_word(word.as_bytes(), b"serve") {
+        Some((config, dar))
+    } else {
+        None
+    }
+}
+
+/// Whether a word has these bytes.
+fn is_word(word: &[u8], expected: &[u8]) -> bool
+    ensures { result ≡ same_bytes word.now expected.now }
+{
+    word == expected
+}
+
+/// The address and the port that the settings of `serve CONFIG DAR` listen at: None of other words, and where the
+/// configuration or the routing table is refused or can't be read. `serve` reads them again, and says why.
+pub fn listening_at<F: Shelf>(
+    alloc: Global,
+    words: &[String],
+    shelf: &mut F,
+    apps: &Catalogue,
+) -> Option<([u8; 4], u16)>
+    ensures same { (n : List ℕ) → F.holds shelf.new n ≡ F.holds shelf.old n }
+    ensures later { F.faults shelf.old ≤ F.faults shelf.new }
+{
+    match served_names(words) {
+        Some((config, dar)) => match read_settings(alloc, config, dar, shelf, apps.names()) {
+            Ok(settings) => Some(address_of(&settings.config)),
+            Err(_) => None,
+        },
+        None => None,
+    }
+}
+
+fn address_of(config: &Config) -> ([u8; 4], u16) {
+    let (ip, port) = config.listen;
+    (ip, port.get())
+}

@@ -1,0 +1,216 @@
+//! The rounds of a server.
+
+ghost use Rattle.std.specs.Prelude.{◌≡◌, true, IfErr, OnOk, OnErr};
+ghost use Rattle.sc_edge.specs.Edges.{CountsOn, EdgeState};
+ghost use Rattle.sc_serve.specs.Running.{Blames, Goes, Halts};
+ghost use Rattle.sc_edge.specs.declared.edge.Got.TheVariants as answers;
+
+use crate::closing::close_broken;
+use crate::server::Server;
+use crate::stop::{Stop, stop_of};
+use sc_edge::{Clock, Edge, Got, Notice, Orders};
+use sc_journal::Journal;
+use sc_rounds::{Went, list, put_place, take_got, take_moment, take_order, take_turns};
+use sc_servlets::Catalogue;
+use sc_terms::Step;
+use sc_value::NoMemory;
+
+/// A round: what came is heard, an order and the clock are asked, turns are made, and what was sent is put.
+/// Whether anything came, was taken or was put.
+///
+/// # Errors
+///
+/// `Edge` where the edge can't listen, `JournalFull` where the journal has no room for a step, and `NoMemory`.
+pub fn round<E: Edge, T: Clock, O: Orders, N: Notice<Journal<Step>>>(
+    server: &mut Server,
+    edge: &mut E,
+    clock: &mut T,
+    orders: &mut O,
+    notice: &mut N,
+    apps: &Catalogue,
+) -> Result<bool, Stop>
+    ensures ok { OnOk result (Goes server.old server.new (E.state edge.old) (E.state edge.new) (N.noted notice.old) (N.noted notice.new)) }
+    ensures err { OnErr result (Halts server.old server.new (E.state edge.old) (E.state edge.new) (N.noted notice.old) (N.noted notice.new)) }
+    ensures later { CountsOn (E.state edge.old) (E.state edge.new) }
+    ensures blames { IfErr result (λ cause. Blames (E.state edge.old) (E.state edge.new) cause) }
+{
+    let steps = server.core.steps();
+    let epoch = server.core.switch.epoch();
+    match poll_once(server, edge, notice) {
+        Ok(came) => {
+            match step_once(server, clock, orders, notice, apps) {
+                Ok(turned) => {
+                    match put_once(server, edge, notice) {
+                        Ok(went) => {
+                            match list_once(server, notice, steps, epoch) {
+                                Ok(()) => Ok(came || turned || went),
+                                Err(stop) => Err(stop),
+                            }
+                        }
+                        Err(stop) => Err(stop),
+                    }
+                }
+                Err(stop) => Err(stop),
+            }
+        }
+        Err(stop) => Err(stop),
+    }
+}
+
+/// Polls the edge once, and takes the steps of what came: whether anything did.
+fn poll_once<E: Edge, N: Notice<Journal<Step>>>(
+    server: &mut Server,
+    edge: &mut E,
+    notice: &mut N,
+) -> Result<bool, Stop>
+    ensures ok { OnOk result (Goes server.old server.new (E.state edge.old) (E.state edge.new) (N.noted notice.old) (N.noted notice.new)) }
+    ensures err { OnErr result (Halts server.old server.new (E.state edge.old) (E.state edge.new) (N.noted notice.old) (N.noted notice.new)) }
+    ensures later { CountsOn (E.state edge.old) (E.state edge.new) }
+    ensures blames { IfErr result (λ cause. Blames (E.state edge.old) (E.state edge.new) cause) }
+{
+    let got = edge.poll(&mut server.room);
+    match take_got(
+        &mut server.core,
+        &mut server.streams,
+        notice,
+        got,
+        &server.room,
+    ) {
+        Ok(came) => {
+            if is_fault(got) {
+                return Err(Stop::Edge);
+            }
+            match server.note(came) {
+                Ok(some) => Ok(some),
+                Err(NoMemory) => Err(Stop::NoMemory),
+            }
+        }
+        Err(cause) => Err(stop_of(cause)),
+    }
+}
+
+/// Whether the edge can't listen.
+fn is_fault(got: Got) -> bool
+    ensures { result ≡ true → got ≡ answers.Fault }
+{
+    match got {
+        Got::Fault => true,
+        _ => false,
+    }
+}
+
+/// Takes one order, asks the clock, and makes turns: whether an order or a turn was taken.
+fn step_once<T: Clock, O: Orders, N: Notice<Journal<Step>>>(
+    server: &mut Server,
+    clock: &mut T,
+    orders: &mut O,
+    notice: &mut N,
+    apps: &Catalogue,
+) -> Result<bool, Stop>
+    ensures ok { OnOk result ((edge : EdgeState) → Goes server.old server.new edge edge (N.noted notice.old) (N.noted notice.new)) }
+    ensures err { OnErr result ((edge : EdgeState) → Halts server.old server.new edge edge (N.noted notice.old) (N.noted notice.new)) }
+    ensures blames { IfErr result (λ cause. (edge : EdgeState) → Blames edge edge cause) }
+{
+    match take_order(&mut server.core, notice, orders) {
+        Ok(ordered) => match take_moment(&mut server.core, notice, clock) {
+            Ok(_) => match take_turns(&mut server.core, notice, apps) {
+                Ok(turned) => Ok(ordered || turned),
+                Err(cause) => Err(stop_of(cause)),
+            },
+            Err(cause) => Err(stop_of(cause)),
+        },
+        Err(cause) => Err(stop_of(cause)),
+    }
+}
+
+/// Puts what is left to each place once, and closes the places that gave what is no message: whether anything
+/// was put or failed.
+fn put_once<E: Edge, N: Notice<Journal<Step>>>(
+    server: &mut Server,
+    edge: &mut E,
+    notice: &mut N,
+) -> Result<bool, Stop>
+    ensures ok { OnOk result (Goes server.old server.new (E.state edge.old) (E.state edge.new) (N.noted notice.old) (N.noted notice.new)) }
+    ensures err { OnErr result (Halts server.old server.new (E.state edge.old) (E.state edge.new) (N.noted notice.old) (N.noted notice.new)) }
+    ensures later { CountsOn (E.state edge.old) (E.state edge.new) }
+    ensures blames { IfErr result (λ cause. Blames (E.state edge.old) (E.state edge.new) cause) }
+{
+    match put_all(server, edge, notice) {
+        Ok(went) => {
+            close_broken(
+                edge,
+                &mut server.broken,
+                &server.core.outs,
+                &mut server.watch,
+            );
+            Ok(went)
+        }
+        Err(stop) => Err(stop),
+    }
+}
+
+/// Puts what is left to each place once. An entry that is done is taken out, so it goes from the last one on.
+fn put_all<E: Edge, N: Notice<Journal<Step>>>(
+    server: &mut Server,
+    edge: &mut E,
+    notice: &mut N,
+) -> Result<bool, Stop>
+    ensures ok { OnOk result (Goes server.old server.new (E.state edge.old) (E.state edge.new) (N.noted notice.old) (N.noted notice.new)) }
+    ensures err { OnErr result (Halts server.old server.new (E.state edge.old) (E.state edge.new) (N.noted notice.old) (N.noted notice.new)) }
+    ensures later { CountsOn (E.state edge.old) (E.state edge.new) }
+    ensures blames { IfErr result (λ cause. Blames (E.state edge.old) (E.state edge.new) cause) }
+{
+    let mut went = false;
+    let count = server.core.outs.len();
+    for done in 0..count {
+        match put_at(server, edge, notice, count - 1 - done) {
+            Ok(some) => went = went || some,
+            Err(stop) => return Err(stop),
+        }
+    }
+    Ok(went)
+}
+
+/// Puts what is left to the place of this entry, where there is one: whether anything was put or failed.
+fn put_at<E: Edge, N: Notice<Journal<Step>>>(
+    server: &mut Server,
+    edge: &mut E,
+    notice: &mut N,
+    at: usize,
+) -> Result<bool, Stop>
+    ensures ok { OnOk result (Goes server.old server.new (E.state edge.old) (E.state edge.new) (N.noted notice.old) (N.noted notice.new)) }
+    ensures err { OnErr result (Halts server.old server.new (E.state edge.old) (E.state edge.new) (N.noted notice.old) (N.noted notice.new)) }
+    ensures later { CountsOn (E.state edge.old) (E.state edge.new) }
+    ensures blames { IfErr result (λ cause. Blames (E.state edge.old) (E.state edge.new) cause) }
+{
+    match server.core.outs.place_at(at) {
+        Some(place) => match put_place(&mut server.core, &mut server.streams, edge, notice, place) {
+            Ok(went) => match server.note_put(place, went) {
+                Ok(some) => Ok(some),
+                Err(NoMemory) => Err(Stop::NoMemory),
+            },
+            Err(cause) => Err(stop_of(cause)),
+        },
+        None => Ok(false),
+    }
+}
+
+/// Tells the notice what lives, where a step was taken since there were so many in this epoch.
+fn list_once<N: Notice<Journal<Step>>>(
+    server: &mut Server,
+    notice: &mut N,
+    steps: u64,
+    epoch: u32,
+) -> Result<(), Stop>
+    ensures ok { OnOk result ((edge : EdgeState) → Goes server.old server.new edge edge (N.noted notice.old) (N.noted notice.new)) }
+    ensures err { OnErr result ((edge : EdgeState) → Halts server.old server.new edge edge (N.noted notice.old) (N.noted notice.new)) }
+    ensures blames { IfErr result (λ cause. (edge : EdgeState) → Blames edge edge cause) }
+{
+    if server.core.steps() == steps && server.core.switch.epoch() == epoch {
+        return Ok(());
+    }
+    match list(&mut server.core, notice) {
+        Ok(()) => Ok(()),
+        Err(cause) => Err(stop_of(cause)),
+    }
+}

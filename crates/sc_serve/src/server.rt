@@ -1,0 +1,95 @@
+ghost use Rattle.std.specs.Prelude.{◌≡◌, [], true};
+ghost use Rattle.sc_value.specs.declared.ids.Place.{Place};
+ghost use Rattle.sc_outs.specs.Owing.{left_at};
+
+use crate::watch::Watch;
+use sc_rounds::{Came, Core, Streams, Went};
+use sc_value::{List, NoMemory, Place};
+use std::alloc::Global;
+
+/// How many bytes a poll brings at most.
+const ROOM: usize = 4_096;
+
+/// What a server holds between two rounds.
+#[derive(Drop)]
+pub struct Server {
+    pub core: Core,
+    pub streams: Streams,
+    pub watch: Watch,
+    /// The places that gave what is no message, until they are closed.
+    pub broken: List<Place>,
+    /// Where the edge puts what came.
+    pub room: [u8; 4096],
+}
+
+impl Server {
+    /// A server over a switch that took no step, of which no place gave anything.
+    pub fn new(alloc: Global, core: Core, stop_after: u64) -> Server
+        ensures core { result.core ≡ core }
+        ensures streams { result.streams ≡ [] }
+    {
+        Server {
+            core,
+            streams: Streams::new(alloc),
+            watch: Watch::new(alloc, stop_after),
+            broken: List::new(alloc),
+            room: [0; ROOM],
+        }
+    }
+
+    /// Remembers what came: whether anything did.
+    pub fn note(&mut self, came: Came) -> Result<bool, NoMemory>
+        ensures core { self.new.core ≡ self.old.core }
+        ensures streams { self.new.streams ≡ self.old.streams }
+    {
+        match came {
+            Came::Nothing => Ok(false),
+            Came::Bytes(place) => {
+                self.watch.note_open(place)?;
+                Ok(true)
+            }
+            Came::Broken(place) => {
+                self.watch.note_open(place)?;
+                self.broken.push(place)?;
+                Ok(true)
+            }
+            Came::End(place) => {
+                self.watch.note_end(place);
+                Ok(true)
+            }
+            Came::Closed => {
+                self.watch.close();
+                Ok(false)
+            }
+            Came::Fault => Ok(false),
+        }
+    }
+
+    /// Remembers what a put to a place came to: whether bytes were taken, or the place failed.
+    pub fn note_put(&mut self, place: Place, went: Went) -> Result<bool, NoMemory>
+        ensures core { self.new.core ≡ self.old.core }
+        ensures streams { self.new.streams ≡ self.old.streams }
+    {
+        match went {
+            Went::On => {
+                self.watch.note_open(place)?;
+                Ok(true)
+            }
+            Went::Nothing => Ok(false),
+            Went::Failed => {
+                self.watch.note_end(place);
+                Ok(true)
+            }
+        }
+    }
+
+    /// Whether the run is over: no more is waited for, no event waits, and nothing is left to be put.
+    pub fn is_done(&self) -> bool
+        ensures { result ≡ true → (place : Place) → left_at self.now.core.outs place ≡ [] }
+    {
+        self.watch.is_over()
+            && self.core.switch.waiting() == 0
+            && self.broken.is_empty()
+            && self.core.outs.is_empty()
+    }
+}

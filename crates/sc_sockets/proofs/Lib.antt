@@ -1,0 +1,4 @@
+pub mod LineLaws
+pub mod GrowLaws
+pub mod PutLaws
+pub mod PollLaws
