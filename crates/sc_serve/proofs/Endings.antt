@@ -1,30 +1,21 @@
 -- How a call ends, from its parts.
-use Rattle.std.proofs.Common.{◌≡◌, List, Option, None, Some, refl, sym, ap, subst}
+use Rattle.std.specs.Prelude.{Result, Ok, Err, IfErr, IfOk}
+use Rattle.std.proofs.Common.{◌≡◌, List, Option, None, Some, refl, sym, subst}
 use Rattle.sc_parts.specs.declared.setup.Setup.{Setup}
 use Rattle.sc_grammar.specs.Written.{Bytes}
 use Rattle.sc_journal.specs.Kept.{Kept}
 use Rattle.sc_terms.specs.declared.steps.Step.{Step}
 use Rattle.sc_model.specs.Settings.{Charters}
 use Rattle.sc_edge.specs.Edges.{EdgeState}
-use Rattle.sc_switch.specs.Standing.{Known}
 use Rattle.sc_switch.specs.declared.ran.Ran.{Ran}
 use Rattle.sc_switch.specs.declared.ran.Status.{Status}
 use Rattle.sc_switch.specs.declared.ran.Status.TheVariants as statuses
 use Rattle.sc_replay.specs.Replaying.{IsUnset, TellsConfig, TellsTable, app_names}
 use Rattle.sc_courses.specs.Courses.{Told}
-use Rattle.sc_serve.specs.Running.{IsServed, fresh}
-use Rattle.sc_serve.specs.Served.{Serves, ServesWords}
+use Rattle.sc_serve.specs.declared.beginning.Begun.{Begun}
+use Rattle.sc_serve.specs.Running.{IsServed}
+use Rattle.sc_serve.specs.Served.{IsAsked, IsSetUp, Serves, ServesWords}
 use Rattle.sc_serve.proofs.Leavings.{beginning}
-
--- the set-up of the switch that was made
-pub served_for : (made setup : Setup) (told told2 : Told) (first now : EdgeState) (ran : Ran) → made ≡ setup → IsServed (beginning made told first) now told2 ran → IsServed (beginning setup told first) now told2 ran
-served_for made setup told told2 first now ran same served = subst (λ (s : Setup). IsServed (beginning s told first) now told2 ran) same served
-
-pub made_fresh : (setup : Setup) (known : Known) → known ≡ fresh setup → known ≡ fresh known.setup
-made_fresh setup known made = rw made refl
-
-pub made_setup : (setup : Setup) (known : Known) → known ≡ fresh setup → known.setup ≡ setup
-made_setup setup known made = ap (λ (k : Known). k.setup) made
 
 pub serves_ran : (names : List Bytes) (kinds : List Charters) (configs dars : Option Bytes) (read : Type 0) (first now : EdgeState) (told told2 : Told) (ran : Ran) (setup : Setup) → setup.kinds ≡ kinds → TellsConfig names configs setup.config
     → TellsTable (app_names setup.config) dars setup.dar → IsServed (beginning setup told first) now told2 ran → Serves names kinds configs dars read first now told told2 ran ran.journal
@@ -47,3 +38,35 @@ pub words_wrong : (asked : Option (Bytes × Bytes)) (names : List Bytes) (kinds 
     → ServesWords asked names kinds holds read first first told told ran
 unfolding ServesWords
 words_wrong asked names kinds holds read first told ran e status journal = rw (sym e) (status, journal, refl, refl)
+
+-- ## As a call begins
+
+pub ok_set : (r : Result Begun Ran) (names : List Bytes) (kinds : List Charters) (configs dars : Option Bytes) (setup : Setup) → setup.kinds ≡ kinds → TellsConfig names configs setup.config → TellsTable (app_names setup.config) dars setup.dar
+    → IfOk r (λ begun. begun.server.core.switch.setup ≡ setup) → IfOk r (λ begun. IsSetUp names kinds configs dars begun.server.core.switch.setup)
+ok_set (Ok begun) names kinds configs dars setup kinds_is config table is =
+    subst (λ (s : Setup). IsSetUp names kinds configs dars s) (sym is) (record { config = config; table = table; kinds_is = kinds_is })
+ok_set (Err ran) names kinds configs dars setup kinds_is config table is = tt
+
+pub err_set : (r : Result Begun Ran) (names : List Bytes) (kinds : List Charters) (configs dars : Option Bytes) (read : Type 0) (setup : Setup) → setup.kinds ≡ kinds → TellsConfig names configs setup.config → TellsTable (app_names setup.config) dars setup.dar
+    → IfErr r (λ ran. (edge : EdgeState) (told : Told) → IsServed (beginning setup told edge) edge told ran) → IfErr r (λ ran. (edge : EdgeState) (told : Told) → Serves names kinds configs dars read edge edge told told ran ran.journal)
+err_set (Ok begun) names kinds configs dars read setup kinds_is config table served = tt
+err_set (Err ran) names kinds configs dars read setup kinds_is config table served = λ edge told. serves_ran names kinds configs dars read edge edge told told ran setup kinds_is config table (served edge told)
+
+pub ok_asked : (r : Result Begun Ran) (asked : Option (Bytes × Bytes)) (config dar : Bytes) (names : List Bytes) (kinds : List Charters) (holds : Bytes → Option Bytes) → Some (config, dar) ≡ asked
+    → IfOk r (λ begun. IsSetUp names kinds (holds config) (holds dar) begun.server.core.switch.setup) → IfOk r (λ begun. IsAsked asked names kinds holds begun.server.core.switch.setup)
+unfolding IsAsked
+ok_asked (Ok begun) asked config dar names kinds holds e set = rw (sym e) set
+ok_asked (Err ran) asked config dar names kinds holds e set = tt
+
+pub err_asked : (r : Result Begun Ran) (asked : Option (Bytes × Bytes)) (config dar : Bytes) (names : List Bytes) (kinds : List Charters) (holds : Bytes → Option Bytes) (read : Type 0) → Some (config, dar) ≡ asked
+    → IfErr r (λ ran. (edge : EdgeState) (told : Told) → Serves names kinds (holds config) (holds dar) read edge edge told told ran ran.journal) → IfErr r (λ ran. (edge : EdgeState) (told : Told) → ServesWords asked names kinds holds read edge edge told told ran)
+err_asked (Ok begun) asked config dar names kinds holds read e serves = tt
+err_asked (Err ran) asked config dar names kinds holds read e serves = λ edge told. words_served asked config dar names kinds holds read edge edge told told ran e (serves edge told)
+
+-- and as it goes on
+pub asked_serves : (asked : Option (Bytes × Bytes)) (names : List Bytes) (kinds : List Charters) (holds : Bytes → Option Bytes) (read : Type 0) (first now : EdgeState) (told told2 : Told) (ran : Ran) (setup : Setup)
+    → IsAsked asked names kinds holds setup → IsServed (beginning setup told first) now told2 ran → ServesWords asked names kinds holds read first now told told2 ran
+unfolding IsAsked
+asked_serves (Some asked) names kinds holds read first now told told2 ran setup set served =
+    words_served (Some asked) asked.0 asked.1 names kinds holds read first now told told2 ran refl (serves_ran names kinds (holds asked.0) (holds asked.1) read first now told told2 ran setup set.kinds_is set.config set.table served)
+asked_serves None names kinds holds read first now told told2 ran setup set served = absurd set

@@ -1,5 +1,6 @@
 -- What a run leaves, from where its last round ended.
-use Rattle.std.proofs.Common.{◌≡◌, List, [], ◌∷◌, ◌++◌, Option, None, Some, refl, sym, ap, subst}
+use Rattle.std.specs.Prelude.{Result, Ok, Err, IfErr, OnOk, OnErr}
+use Rattle.std.proofs.Common.{◌≡◌, List, [], ◌∷◌, ◌++◌, Option, None, Some, refl, sym, ap, subst, ◌∙◌}
 use Rattle.sc_value.specs.declared.ids.Place.{Place}
 use Rattle.sc_terms.specs.declared.steps.Step.{Step}
 use Rattle.sc_parts.specs.declared.setup.Setup.{Setup}
@@ -26,7 +27,7 @@ use Rattle.sc_rounds.specs.Streaming.{bytes_in, bytes_of}
 use Rattle.sc_serve.specs.declared.server.Server.{Server}
 use Rattle.sc_serve.specs.declared.stop.Stop.{Stop}
 use Rattle.sc_serve.specs.declared.stop.Stop.TheVariants as stops
-use Rattle.sc_serve.specs.Running.{Blames, Finishes, Halts, HasItems, IsServed, fresh}
+use Rattle.sc_serve.specs.Running.{Blames, Finishes, Halts, HasItems, IsNew, IsServed, fresh, stopped}
 use Rattle.sc_serve.specs.Served.{ComesAt, Leaves, last_epoch}
 
 last-is : (ran : Ran) (known : Known) (journal : Kept Step) → ran.epoch ≡ known.epoch → ran.began ≡ known.began → journal.items ≡ known.journal → last_epoch ran known.handed journal ≡ running known
@@ -153,3 +154,19 @@ halt_served old new e e1 t t1 ran switch outs streams halts comes epoch began ha
 pub edge_comes : (first now : EdgeState) (status : Status) (cause : Stop) → status ≡ statuses.Edge → cause ≡ stops.Edge → Blames first now cause → (deeds : List Deed) → ComesAt first now deeds status
 unfolding ComesAt Blames
 edge_comes first now status cause is edge blames deeds = rw is (rw edge at blames)
+
+-- ## As the run ended
+
+stop_comes : (first now : EdgeState) (status : Status) (cause : Stop) → status ≡ stopped cause → Blames first now cause → (deeds : List Deed) → ComesAt first now deeds status
+stop_comes first now status stops.JournalFull is blames deeds = full_comes first now status is deeds
+stop_comes first now status stops.Edge is blames deeds = edge_comes first now status stops.Edge is refl blames deeds
+stop_comes first now status stops.NoMemory is blames deeds = starved_comes first now status is deeds
+
+pub ran_served : {A : Type 0} (r : Result A Stop) (old new : Server) (e e1 : EdgeState) (t t1 : Told) (status : Status) (ran : Ran) → IsNew old → OnOk r (Finishes old new e e1 t t1) → OnErr r (Halts old new e e1 t t1) → IfErr r (λ cause. Blames e e1 cause)
+    → OnOk r (status ≡ statuses.Done) → IfErr r (λ cause. status ≡ stopped cause) → ran.status ≡ status
+    → ran.epoch ≡ new.core.switch.epoch → ran.began ≡ new.core.switch.began → HasItems ran.journal new.core.switch.journal → IsLawful as_session new.core.switch.setup new.core.switch.epoch new.core.switch.began (whole new.core.switch)
+    → IsServed (beginning old.core.switch.setup t e) e1 t1 ran
+ran_served (Ok x) old new e e1 t t1 status ran is_new finishes halts blames done stop status_is epoch began has lawful =
+    done_served old new e e1 t t1 ran is_new.switch is_new.outs is_new.streams finishes (status_is ∙ done) epoch began has lawful
+ran_served (Err cause) old new e e1 t t1 status ran is_new finishes halts blames done stop status_is epoch began has lawful =
+    halt_served old new e e1 t t1 ran is_new.switch is_new.outs is_new.streams halts (stop_comes e e1 ran.status cause (status_is ∙ stop) blames) epoch began has lawful

@@ -1,3 +1,4 @@
 pub mod Closing
 pub mod Running
+pub mod Seated
 pub mod Served

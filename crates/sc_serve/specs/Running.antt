@@ -5,10 +5,12 @@ use Rattle.sc_terms.specs.declared.steps.Step.{Step}
 use Rattle.sc_parts.specs.declared.setup.Setup.{Setup}
 use Rattle.sc_switch.specs.Standing.{Known}
 use Rattle.sc_switch.specs.declared.ran.Ran.{Ran}
+use Rattle.sc_switch.specs.declared.ran.Status.{Status}
+use Rattle.sc_switch.specs.declared.ran.Status.TheVariants as statuses
 use Rattle.sc_edge.specs.Edges.{EdgeState}
 use Rattle.sc_edge.specs.Faults.{Rose}
 use Rattle.sc_courses.specs.Courses.{Beginning, Told}
-use Rattle.sc_outs.specs.Owing.{left_at}
+use Rattle.sc_outs.specs.Owing.{left_at, nothing}
 use Rattle.sc_value.specs.declared.ids.Place.{Place}
 use Rattle.sc_serve.specs.declared.server.Server.{Server}
 use Rattle.sc_serve.specs.declared.stop.Stop.{Stop}
@@ -38,6 +40,18 @@ Finishes old new edge edge2 told told2 =
 -- a switch that took no step
 abbrev pub fresh : Setup → Known
 fresh setup = record { setup = setup; epoch = 0; began = 0; handed = []; journal = []; left = []; kept = []; leases = 0 }
+
+-- a server that took no step
+pub record IsNew (server : Server) : Type 0 where
+  pub switch : server.core.switch ≡ fresh server.core.switch.setup
+  pub outs : server.core.outs ≡ nothing
+  pub streams : server.streams ≡ []
+
+-- the status of a run that couldn't go on
+abbrev pub stopped : Stop → Status
+stopped stops.JournalFull = statuses.JournalFull
+stopped stops.Edge = statuses.Edge
+stopped stops.NoMemory = statuses.NoMemory
 
 -- the journal is there, with these items
 unfoldable pub HasItems : Option (Kept Step) → List Step → Type 0

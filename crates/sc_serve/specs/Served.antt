@@ -31,6 +31,11 @@ pub record IsSetUp (names : List Bytes) (kinds : List Charters) (configs dars : 
   pub table : TellsTable (app_names setup.config) dars setup.dar
   pub kinds_is : setup.kinds ≡ kinds
 
+-- the words name texts of which this is the set-up
+unfoldable pub IsAsked : Option (Bytes × Bytes) → List Bytes → List Charters → (Bytes → Option Bytes) → Setup → Type 0
+IsAsked (Some asked) names kinds holds setup = IsSetUp names kinds (holds asked.0) (holds asked.1) setup
+IsAsked None names kinds holds setup = ⊥
+
 -- ## How a run ends
 
 -- at `Done` all that came was heard, and all that is sent to a place that isn't gone was taken; at `Edge` the edge

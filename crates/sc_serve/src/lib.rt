@@ -1,13 +1,17 @@
 //! The command `serve`: the container over the connections of an edge.
 #![tactic(auto)]
 
+mod beginning;
 mod closing;
+mod lending;
 mod naming;
 mod rounds;
+mod running;
+mod seat;
 mod server;
 mod serving;
 mod stop;
 mod watch;
 
 pub use naming::listening_at;
-pub use serving::serve;
+pub use serving::{serve, serve_alone};

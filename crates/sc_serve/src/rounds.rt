@@ -6,23 +6,28 @@ ghost use Rattle.sc_serve.specs.Running.{Blames, Goes, Halts};
 ghost use Rattle.sc_edge.specs.declared.edge.Got.TheVariants as answers;
 
 use crate::closing::close_broken;
+use crate::lending::work_once;
+use crate::seat::Seat;
 use crate::server::Server;
 use crate::stop::{Stop, stop_of};
 use sc_edge::{Clock, Edge, Got, Notice, Orders};
 use sc_journal::Journal;
-use sc_rounds::{Went, list, put_place, take_got, take_moment, take_order, take_turns};
+use sc_rounds::{Went, list, put_place, take_got, take_moment, take_order};
 use sc_servlets::Catalogue;
 use sc_terms::Step;
 use sc_value::NoMemory;
+use std::sync::Wait;
 
-/// A round: what came is heard, an order and the clock are asked, turns are made, and what was sent is put.
-/// Whether anything came, was taken or was put.
+/// A round: what came is heard, an order and the clock are asked, turns are lent out, those that were made are
+/// taken, and what was sent is put. Whether anything came, was lent, was taken or was put.
 ///
 /// # Errors
 ///
 /// `Edge` where the edge can't listen, `JournalFull` where the journal has no room for a step, and `NoMemory`.
-pub fn round<E: Edge, T: Clock, O: Orders, N: Notice<Journal<Step>>>(
+pub fn round<R: Wait, E: Edge, T: Clock, O: Orders, N: Notice<Journal<Step>>>(
+    rt: &R,
     server: &mut Server,
+    seat: &mut Option<Seat<'_>>,
     edge: &mut E,
     clock: &mut T,
     orders: &mut O,
@@ -38,7 +43,7 @@ pub fn round<E: Edge, T: Clock, O: Orders, N: Notice<Journal<Step>>>(
     let epoch = server.core.switch.epoch();
     match poll_once(server, edge, notice) {
         Ok(came) => {
-            match step_once(server, clock, orders, notice, apps) {
+            match step_once(rt, server, seat, clock, orders, notice, apps) {
                 Ok(turned) => {
                     match put_once(server, edge, notice) {
                         Ok(went) => {
@@ -99,9 +104,12 @@ fn is_fault(got: Got) -> bool
     }
 }
 
-/// Takes one order, asks the clock, and makes turns: whether an order or a turn was taken.
-fn step_once<T: Clock, O: Orders, N: Notice<Journal<Step>>>(
+/// Takes one order, asks the clock, lends out turns and takes those that were made: whether an order was taken,
+/// or a turn was lent or taken.
+fn step_once<R: Wait, T: Clock, O: Orders, N: Notice<Journal<Step>>>(
+    rt: &R,
     server: &mut Server,
+    seat: &mut Option<Seat<'_>>,
     clock: &mut T,
     orders: &mut O,
     notice: &mut N,
@@ -113,8 +121,8 @@ fn step_once<T: Clock, O: Orders, N: Notice<Journal<Step>>>(
 {
     match take_order(&mut server.core, notice, orders) {
         Ok(ordered) => match take_moment(&mut server.core, notice, clock) {
-            Ok(_) => match take_turns(&mut server.core, notice, apps) {
-                Ok(turned) => Ok(ordered || turned),
+            Ok(_) => match work_once(rt, &mut server.core, seat, notice, apps) {
+                Ok(worked) => Ok(ordered || worked),
                 Err(cause) => Err(stop_of(cause)),
             },
             Err(cause) => Err(stop_of(cause)),

@@ -65,14 +65,17 @@ impl Server {
         }
     }
 
-    /// Remembers what a put to a place came to: whether bytes were taken, or the place failed.
+    /// Remembers what a put to a place came to: whether bytes were taken, or the place failed. Only a connection that
+    /// the server made can begin by a put; one that ended before isn't open again by what is still put on it.
     pub fn note_put(&mut self, place: Place, went: Went) -> Result<bool, NoMemory>
         ensures core { self.new.core ≡ self.old.core }
         ensures streams { self.new.streams ≡ self.old.streams }
     {
         match went {
             Went::On => {
-                self.watch.note_open(place)?;
+                if is_made_here(place) {
+                    self.watch.note_open(place)?;
+                }
                 Ok(true)
             }
             Went::Nothing => Ok(false),
@@ -83,13 +86,20 @@ impl Server {
         }
     }
 
-    /// Whether the run is over: no more is waited for, no event waits, and nothing is left to be put.
+    /// Whether the run is over: no more is waited for, no event waits, no turn is lent out, and nothing is left to be
+    /// put.
     pub fn is_done(&self) -> bool
         ensures { result ≡ true → (place : Place) → left_at self.now.core.outs place ≡ [] }
     {
         self.watch.is_over()
             && self.core.switch.waiting() == 0
+            && self.core.switch.leases() == 0
             && self.broken.is_empty()
             && self.core.outs.is_empty()
     }
+}
+
+/// Whether the server makes the connections of a place itself.
+fn is_made_here(place: Place) -> bool {
+    matches!(place, Place::To(..))
 }

@@ -1,6 +1,6 @@
 //! The command `serve` over sockets.
 
-use sc_edge::{FileShelf, ListOrders, NoNotice};
+use sc_edge::{FileShelf, ListOrders, NoNotice, OpenGate};
 use sc_limit::{Stream, fitting, room_of};
 use sc_replay::Status;
 use sc_serve::{listening_at, serve};
@@ -9,13 +9,14 @@ use sc_sockets::{MioEdge, WallClock};
 use sc_value::{List, NoMemory, Text, write_u64};
 use std::io::Write;
 use std::sync::Wait;
+use std::thread::Threads;
 
 /// Serves the connections of the address that the settings name. Standard error has a line once it listens. Where
 /// the system's clock can't be read, or the address can't be listened at, the status is `Edge`.
-/// `waits` is the runtime as that by which a call may wait for ever.
-pub fn serve_connections<W: Wait>(
+/// `threads` is the runtime as that by which a call may begin threads and wait for ever.
+pub fn serve_connections<W: Threads + Wait + Sync>(
     rt: &HostRuntime,
-    waits: &W,
+    threads: &W,
     words: &[String],
     shelf: &mut FileShelf<HostRuntime>,
     apps: &Catalogue,
@@ -35,11 +36,12 @@ pub fn serve_connections<W: Wait>(
     let mut orders = ListOrders::new(List::new(alloc));
     let mut notice = NoNotice;
     serve(
-        waits,
+        threads,
         alloc,
         words,
         shelf,
         &mut edge,
+        &OpenGate,
         &mut clock,
         &mut orders,
         &mut notice,

@@ -9,12 +9,13 @@ use sc_replay::{Command, Status, check, replay};
 use sc_servlets::{Catalogue, Listener};
 use sc_value::{NoMemory, Text};
 use std::sync::Wait;
+use std::thread::Threads;
 
 /// Runs a command over files, standard output and sockets with all kinds, each under the name by which a
 /// configuration asks for it. Words of another form are left to `replay`, which refuses them.
-pub fn run_with_kinds<W: Wait>(
+pub fn run_with_kinds<W: Threads + Wait + Sync>(
     rt: &HostRuntime,
-    waits: &W,
+    threads: &W,
     words: &[String],
     command: Command,
 ) -> Result<Status, NoMemory> {
@@ -33,12 +34,12 @@ pub fn run_with_kinds<W: Wait>(
             Err(_) => return Err(NoMemory),
         }
     }
-    Ok(run_with(rt, waits, words, command, &apps))
+    Ok(run_with(rt, threads, words, command, &apps))
 }
 
-fn run_with<W: Wait>(
+fn run_with<W: Threads + Wait + Sync>(
     rt: &HostRuntime,
-    waits: &W,
+    threads: &W,
     words: &[String],
     command: Command,
     apps: &Catalogue,
@@ -48,7 +49,7 @@ fn run_with<W: Wait>(
     let mut shelf = FileShelf::new(rt, alloc);
     match command {
         Command::Check => check(alloc, words, &mut shelf, apps, &mut out).status,
-        Command::Serve => serve_connections(rt, waits, words, &mut shelf, apps),
+        Command::Serve => serve_connections(rt, threads, words, &mut shelf, apps),
         _ => replay(alloc, words, &mut shelf, apps, &mut out).status,
     }
 }

@@ -16,6 +16,7 @@ use std::env;
 use std::io::{self, ErrorKind, Write};
 use std::process::ExitCode;
 use std::sync::Wait;
+use std::thread::Threads;
 
 fn main(rt: HostRuntime) -> ExitCode {
     let status = match words_of(&rt) {
@@ -37,11 +38,11 @@ fn words_of(rt: &HostRuntime) -> io::Result<Vec<String>> {
 }
 
 /// Does what the words ask for.
-fn run<W: Wait>(rt: &HostRuntime, waits: &W, words: &[String]) -> Status {
+fn run<W: Threads + Wait + Sync>(rt: &HostRuntime, threads: &W, words: &[String]) -> Status {
     match words {
         [word] if word.as_str() == "--help" => put(rt, help::HELP),
         [word] if word.as_str() == "--version" => put(rt, help::VERSION),
-        _ => run_command(rt, waits, words),
+        _ => run_command(rt, threads, words),
     }
 }
 
@@ -54,10 +55,14 @@ fn put(rt: &HostRuntime, text: &str) -> Status {
 }
 
 /// Runs the command that the words are.
-fn run_command<W: Wait>(rt: &HostRuntime, waits: &W, words: &[String]) -> Status {
+fn run_command<W: Threads + Wait + Sync>(
+    rt: &HostRuntime,
+    threads: &W,
+    words: &[String],
+) -> Status {
     match command_of(words) {
         Command::Make => make(rt.alloc(), words, &mut output(rt)).status,
-        command => run_with_kinds(rt, waits, words, command).unwrap_or(Status::NoMemory),
+        command => run_with_kinds(rt, threads, words, command).unwrap_or(Status::NoMemory),
     }
 }
 

@@ -1,9 +1,10 @@
-use Rattle.std.specs.Prelude.{string_bytes}
-use Rattle.sc_serve.proofs.Endings.{words_served, words_wrong}
+use Rattle.sc_serve.proofs.Endings.{asked_serves}
+use Rattle.sc_serve.proofs.Leavings.{ran_served}
 use Rattle.sc_serve.proofs.serving.serve.Goals as goal
 
-pub returns-in-Some-clause-serves : goal.returns-in-Some-clause-serves
-returns-in-Some-clause-serves g c = words_served _ (string_bytes c.in-Some.config.now) (string_bytes c.in-Some.dar.now) _ _ _ _ (g.E.Edge.state c.args.edge.now) (g.E.Edge.state c.serve_named.new.edge) (g.N.Notice.noted c.args.notice.now) (g.N.Notice.noted c.serve_named.new.notice) c.serve_named.result c.in-Some.ensures c.serve_named.ensures.serves
+pub returns-in-Ok-clause-serves : goal.returns-in-Ok-clause-serves
+returns-in-Ok-clause-serves g c = asked_serves _ _ _ _ _ (g.E.Edge.state c.args.edge.now) (g.E.Edge.state c.run_beside-ended.new.edge) (g.N.Notice.noted c.args.notice.now) (g.N.Notice.noted c.run_beside-ended.new.notice) c.finish.result _ c.in-Ok.ensures.asked
+    (ran_served c.run_beside-ended.result _ c.run_beside-ended.new.server (g.E.Edge.state c.args.edge.now) (g.E.Edge.state c.run_beside-ended.new.edge) (g.N.Notice.noted c.args.notice.now) (g.N.Notice.noted c.run_beside-ended.new.notice) c.status_after.result c.finish.result c.in-Ok.ensures.new c.run_beside-ended.ensures.ok c.run_beside-ended.ensures.err c.run_beside-ended.ensures.blames c.status_after.ensures.done c.status_after.ensures.stopped c.finish.ensures.status c.finish.ensures.epoch c.finish.ensures.began c.finish.ensures.journal c.finish.ensures.lawful)
 
-pub returns-in-None-clause-serves : goal.returns-in-None-clause-serves
-returns-in-None-clause-serves g c = words_wrong _ _ _ _ _ (g.E.Edge.state c.args.edge.now) (g.N.Notice.noted c.args.notice.now) c.without_journal.result c.in-None.ensures c.without_journal.ensures.status c.without_journal.ensures.journal
+pub returns-in-Err-clause-serves : goal.returns-in-Err-clause-serves
+returns-in-Err-clause-serves g c = c.in-Err.ensures.unserved (g.E.Edge.state c.args.edge.now) (g.N.Notice.noted c.args.notice.now)

@@ -1,6 +1,6 @@
 use Rattle.sc_edge.specs.Edges.{CountsOn}
 use Rattle.sc_serve.specs.Running.{Goes}
-use Rattle.sc_serve.proofs.serving.run.Given as goal
+use Rattle.sc_serve.proofs.running.run.Given as goal
 
 abbrev pub invariant-loop : goal.invariant-loop
 invariant-loop g l = record {

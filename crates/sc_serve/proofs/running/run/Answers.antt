@@ -1,6 +1,6 @@
 use Rattle.std.proofs.Common.{refl}
 use Rattle.sc_serve.proofs.Roundings.{blames_after, counts_none, counts_then, goes_same, goes_then, halts_then, over, rest_counts, rest_goes}
-use Rattle.sc_serve.proofs.serving.run.Goals as goal
+use Rattle.sc_serve.proofs.running.run.Goals as goal
 
 pub loop-init : goal.loop-init
 loop-init g c = record { goes = goes_same _ _ _; later = counts_none (g.E.Edge.state c.args.edge.now) }
