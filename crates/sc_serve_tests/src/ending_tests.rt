@@ -7,7 +7,7 @@ use crate::running::hold;
 use sc_edge::Share;
 use std::test::Fail;
 
-const SLOW_ROWS: [Row; 4] = [
+const SLOW_ROWS: [Row; 5] = [
     Row {
         name: "a byte at a time",
         coming: &[All(1, First)],
@@ -39,6 +39,23 @@ const SLOW_ROWS: [Row; 4] = [
     Row {
         name: "an answer goes to a peer that gives nothing more",
         coming: &[All(1, First), End(1)],
+        share: Share::NotYet,
+        shares: 2,
+        told: b"Done epoch 0 from 0 steps 4\n\
+              polls 4\n\
+              c1 200 of c1 by 0-1;\n\
+              step 1\n\
+              step 2\n\
+              step 3\n\
+              list of epoch 0 steps 3 live 0 waiting 0\n\
+              step 4\n\
+              list of epoch 0 steps 4 live 0 waiting 0\n",
+        ..EMPTY
+    },
+    Row {
+        name: "an answer that is put after the last connection ended",
+        settings: b"stop_after = 1\n",
+        coming: &[All(1, First), End(1), NotYet, NotYet, NotYet, NotYet, Fault],
         share: Share::NotYet,
         shares: 2,
         told: b"Done epoch 0 from 0 steps 4\n\
