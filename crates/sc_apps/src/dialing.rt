@@ -2,7 +2,7 @@
 
 ghost use Rattle.std.specs.Prelude.{◌≡◌, ◌+◌, ◌<◌, [], false, IfOk, OnOk};
 ghost use Rattle.sc_terms.specs.declared.charters.Charter.{Charter};
-ghost use Rattle.sc_hosts.specs.Scripting.{Make, only, reply, then_make, with_number};
+ghost use Rattle.sc_hosts.specs.Scripting.{Make, only, reply, then_make, uri_param, with_number};
 ghost use Rattle.sc_hosts.specs.Charters.{dial_ask, dial_script, plain_address};
 ghost use Rattle.sc_hosts.specs.RefusalParts.{MOST_CALLS};
 ghost use Rattle.sc_hosts.specs.Words.{ok, options};
@@ -40,7 +40,7 @@ impl SipServlet for Dials {
     }
 }
 
-#[tactic(auto, unfolding(sc_hosts::specs::Charters::dial_script, crate::specs::Scripted::dial_from, crate::specs::Scripted::dial_to), using(crate::proofs::Playing::played_done, crate::proofs::Playing::begun_room))]
+#[tactic(auto, unfolding(sc_hosts::specs::Charters::dial_script, crate::specs::Scripted::dial_from, crate::specs::Scripted::dial_to), using(crate::proofs::Playing::played_done))]
 fn dial(t: &mut Turn, e: &Event) -> Result<(), NoMemory>
     requires calls { t.old.calls ≡ [] }
     requires memory { t.old.starved ≡ false }
@@ -48,14 +48,30 @@ fn dial(t: &mut Turn, e: &Event) -> Result<(), NoMemory>
     ensures played { OnOk result (IsPlayed (dial_script t.old.shown e.now) t.old t.new) }
 {
     match e {
-        Event::Initial { req, .. } => {
-            let alloc = memory_of(t);
-            let from = uri_param(alloc, shown(t), 0)?;
-            let to = uri_param(alloc, shown(t), 1)?;
-            answer_and_dial(t, *req, &from, &to)
-        }
+        Event::Initial { req, .. } => answer_and_dial_from(t, *req),
         _ => Ok(()),
     }
+}
+
+fn answer_and_dial_from(t: &mut Turn, req: ReqId) -> Result<(), NoMemory>
+    requires calls { t.old.calls ≡ [] }
+    requires memory { t.old.starved ≡ false }
+    ensures same { t.new.shown ≡ t.old.shown }
+    ensures played { OnOk result (IsPlayed (then_make (reply req 200 ok) (dial_from (uri_param t.old.shown 0) (uri_param t.old.shown 1))) t.old t.new) }
+{
+    let from = uri_param(memory_of(t), shown(t), 0)?;
+    answer_and_dial_to(t, req, &from)
+}
+
+#[tactic(auto, using(crate::proofs::Playing::begun_room))]
+fn answer_and_dial_to(t: &mut Turn, req: ReqId, from: &Option<Uri>) -> Result<(), NoMemory>
+    requires calls { t.old.calls ≡ [] }
+    requires memory { t.old.starved ≡ false }
+    ensures same { t.new.shown ≡ t.old.shown }
+    ensures played { OnOk result (IsPlayed (then_make (reply req 200 ok) (dial_from from.now (uri_param t.old.shown 1))) t.old t.new) }
+{
+    let to = uri_param(memory_of(t), shown(t), 1)?;
+    answer_and_dial(t, req, from, &to)
 }
 
 #[tactic(auto, using(crate::proofs::Playing::played_then))]

@@ -5,7 +5,7 @@ use Rattle.std.proofs.Math.ListN.{drop_of_length-le}
 use Rattle.sc_value.specs.declared.ids.Place.{Place}
 use Rattle.sc_value.specs.declared.message.Request.{Request}
 use Rattle.sc_value.specs.declared.message.Response.{Response}
-use Rattle.sc_state.specs.declared.host.Host.{Host}
+use Rattle.sc_state.specs.Hosts.{Host}
 use Rattle.sc_state.specs.declared.session.Session.{Session}
 use Rattle.sc_grammar.specs.Written.{Bytes}
 use Rattle.sc_hosts.specs.Arrivals.{first_host}

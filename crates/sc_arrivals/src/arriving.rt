@@ -13,7 +13,7 @@ use sc_net::taken_at;
 use sc_parts::Setup;
 use sc_state::{Net, Session};
 use sc_transact::is_cancel;
-use sc_value::{Message, NoMemory, Place, Request, tag};
+use sc_value::{Message, NoMemory, Place, Request, Shared, tag};
 use std::alloc::Global;
 
 // No transaction takes the request.
@@ -22,18 +22,18 @@ fn unclaimed(
     alloc: Global,
     setup: &Setup,
     from: Place,
-    request: &Request,
+    request: &Shared<Request>,
     net: &mut Net<Session>,
 ) -> Result<(), NoMemory>
     ensures { OnOk result (net.new ≡ unclaimed as_session setup.now from request.now net.old) }
 {
-    if is_cancel(request) {
-        return answer_unknown(alloc, &setup.config, from, request, net);
+    if is_cancel(request.get()) {
+        return answer_unknown(alloc, &setup.config, from, request.get(), net);
     }
-    if tag(&request.head.to).is_some() {
+    if tag(&request.get().head.to).is_some() {
         return later_arrives(alloc, setup, from, request, net);
     }
-    initial_arrives(alloc, setup, from, request, net)
+    initial_arrives(alloc, setup, from, request.get(), net)
 }
 
 #[tactic(auto, unfolding(crate::specs::Arriving::untaken))]
@@ -65,7 +65,7 @@ pub fn arrived(
 ) -> Result<(), NoMemory>
     ensures { OnOk result (net.new ≡ arrived as_session setup.now from message.now net.old) }
 {
-    match first_for(setup.config.salt.as_text(), from, message, net)? {
+    match first_for(alloc, setup.config.salt.as_text(), from, message, net)? {
         Some(host) => taken_at(alloc, setup, from, &None, message, host, net),
         None => untaken(alloc, setup, from, message, net),
     }

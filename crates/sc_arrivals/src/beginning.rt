@@ -46,7 +46,7 @@ fn begins_by(
     alloc: Global,
     setup: &Setup,
     from: Place,
-    request: &Request,
+    request: &Shared<Request>,
     popped: Option<&Address>,
     choice: Choice,
     net: &mut Net<Session>,
@@ -70,9 +70,9 @@ fn begins_by(
             });
             take_request(alloc, setup, from, &noted, request, host, net)
         }
-        Choice::Send(_) => answer_not_found(alloc, &setup.config, from, request, net),
-        Choice::Onward => answer_not_found(alloc, &setup.config, from, request, net),
-        Choice::NotFound => answer_not_found(alloc, &setup.config, from, request, net),
+        Choice::Send(_) => answer_not_found(alloc, &setup.config, from, request.get(), net),
+        Choice::Onward => answer_not_found(alloc, &setup.config, from, request.get(), net),
+        Choice::NotFound => answer_not_found(alloc, &setup.config, from, request.get(), net),
     }
 }
 
@@ -118,7 +118,7 @@ fn begins(
     let popped = popped_route(alloc, &setup.config, request)?;
     let unrouted = shared_unrouted(alloc, setup, request)?;
     let choice = chosen(alloc, setup, unrouted.get(), position)?;
-    begins_by(alloc, setup, from, unrouted.get(), popped, choice, net)
+    begins_by(alloc, setup, from, &unrouted, popped, choice, net)
 }
 
 /// A request without To tag, which no transaction takes, begins a session where the router has an

@@ -9,17 +9,24 @@ use sc_state::{Host, Net, Peer, Session};
 use sc_take::is_claimed;
 use sc_transact::client_for;
 use sc_value::{Message, NoMemory, Place, Request, Response, Text, sum_u32};
+use std::alloc::Global;
 
 #[tactic(auto, unfolding(crate::specs::HostTests::claims))]
-fn claims(from: Place, request: &Request, host: &Host<Session>) -> bool
-    ensures { result ≡ claims from request.now host.now }
+fn claims(
+    alloc: Global,
+    from: Place,
+    request: &Request,
+    host: &Host<Session>,
+) -> Result<bool, NoMemory>
+    ensures { IfOk result (λ has. has ≡ claims from request.now host.now) }
 {
-    is_claimed(Peer::Outside(from), request, host)
+    is_claimed(alloc, Peer::Outside(from), request, host)
 }
 
 // The host with the server transaction of a request (RFC 3261 section 17.2.3).
 #[tactic(auto, using(crate::proofs::FirstHosts::claimed_here, crate::proofs::FirstHosts::claimed_later, crate::proofs::FirstHosts::found_nowhere))]
 fn claiming_host(
+    alloc: Global,
     from: Place,
     request: &Request,
     hosts: &[Host<Session>],
@@ -28,7 +35,7 @@ fn claiming_host(
 {
     let mut number: u32 = 0;
     for host in hosts {
-        if claims(from, request, host) {
+        if claims(alloc, from, request, host)? {
             return Ok(Some(number));
         }
         number = sum_u32(number, 1)?;
@@ -37,15 +44,23 @@ fn claiming_host(
 }
 
 #[tactic(auto, unfolding(crate::specs::HostTests::awaits))]
-fn awaits(salt: &[u8], epoch: u32, from: Place, response: &Response, host: &Host<Session>) -> bool
-    ensures { result ≡ awaits salt.now epoch from response.now host.now }
+fn awaits(
+    alloc: Global,
+    salt: &[u8],
+    epoch: u32,
+    from: Place,
+    response: &Response,
+    host: &Host<Session>,
+) -> Result<bool, NoMemory>
+    ensures { IfOk result (λ has. has ≡ awaits salt.now epoch from response.now host.now) }
 {
-    client_for(salt, epoch, Peer::Outside(from), response, host).is_some()
+    Ok(client_for(alloc, salt, epoch, Peer::Outside(from), response, host)?.is_some())
 }
 
 // The host with the client transaction of a response (RFC 3261 section 17.1.3).
 #[tactic(auto, using(crate::proofs::FirstHosts::awaited_here, crate::proofs::FirstHosts::awaited_later, crate::proofs::FirstHosts::found_nowhere))]
 fn awaiting_host(
+    alloc: Global,
     salt: &[u8],
     epoch: u32,
     from: Place,
@@ -56,7 +71,7 @@ fn awaiting_host(
 {
     let mut number: u32 = 0;
     for host in hosts {
-        if awaits(salt, epoch, from, response, host) {
+        if awaits(alloc, salt, epoch, from, response, host)? {
             return Ok(Some(number));
         }
         number = sum_u32(number, 1)?;
@@ -68,6 +83,7 @@ fn awaiting_host(
 /// none.
 #[tactic(auto, unfolding(crate::specs::Arriving::first_for))]
 pub fn first_for(
+    alloc: Global,
     salt: &Text,
     from: Place,
     message: &Message,
@@ -77,9 +93,16 @@ pub fn first_for(
 {
     let hosts = net.hosts.as_slice();
     match message {
-        Message::Request(request) => claiming_host(from, request, hosts),
+        Message::Request(request) => claiming_host(alloc, from, request.get(), hosts),
         Message::Response(response) => {
-            awaiting_host(salt.as_bytes(), net.epoch, from, response, hosts)
+            awaiting_host(
+                alloc,
+                salt.as_bytes(),
+                net.epoch,
+                from,
+                response.get(),
+                hosts,
+            )
         }
     }
 }

@@ -12,15 +12,15 @@ use crate::messages::take_request;
 use sc_inboxes::own_uri;
 use sc_parts::Setup;
 use sc_state::{Net, Session};
-use sc_value::{NoMemory, Place, Request, Uri};
+use sc_value::{NoMemory, Place, Request, Shared, Uri};
 use sc_wire::named_host;
 use std::alloc::Global;
 
-fn host_named(uri: Option<&Uri>, net: &Net<Session>) -> Result<Option<u32>, NoMemory>
+fn host_named(alloc: Global, uri: Option<&Uri>, net: &Net<Session>) -> Result<Option<u32>, NoMemory>
     ensures { IfOk result (λ number. number ≡ option_and_then (λ uri. named_host uri net.now) (option_copied uri.entry)) }
 {
     match uri {
-        Some(uri) => named_host(uri, net),
+        Some(uri) => named_host(alloc, uri, net),
         None => Ok(None),
     }
 }
@@ -30,7 +30,7 @@ fn later_at(
     alloc: Global,
     setup: &Setup,
     from: Place,
-    request: &Request,
+    request: &Shared<Request>,
     host: Option<u32>,
     net: &mut Net<Session>,
 ) -> Result<(), NoMemory>
@@ -38,7 +38,7 @@ fn later_at(
 {
     match host {
         Some(host) => take_request(alloc, setup, from, &None, request, host, net),
-        None => answer_unknown(alloc, &setup.config, from, request, net),
+        None => answer_unknown(alloc, &setup.config, from, request.get(), net),
     }
 }
 
@@ -48,12 +48,12 @@ pub fn later_arrives(
     alloc: Global,
     setup: &Setup,
     from: Place,
-    request: &Request,
+    request: &Shared<Request>,
     net: &mut Net<Session>,
 ) -> Result<(), NoMemory>
     ensures { OnOk result (net.new ≡ later_arrives as_session setup.now from request.now net.old) }
 {
-    let uri = own_uri(alloc, &setup.config, request)?;
-    let host = host_named(uri, net)?;
+    let uri = own_uri(alloc, &setup.config, request.get())?;
+    let host = host_named(alloc, uri, net)?;
     later_at(alloc, setup, from, request, host, net)
 }

@@ -6,7 +6,7 @@ use sc_head_text::read_address;
 use sc_message_text::{text_of, uri_text};
 use sc_value::{
     Address, CSeq, Contact, Discard, Head, HeaderValue, List, Message, NoMemory, Others, Reason,
-    Request, Response, Text, Token, Uri, is_one_line,
+    Request, Response, Shared, Text, Token, Uri, is_one_line,
 };
 use std::alloc::Global;
 
@@ -224,7 +224,7 @@ fn bye_of(alloc: Global, dialog: &mut Dialog) -> Result<Request, NoMemory> {
 }
 
 fn written(alloc: Global, request: Request) -> Result<Text, NoMemory> {
-    let message = Message::Request(request);
+    let message = Message::Request(Shared::new(alloc, request)?);
     let text = text_of(alloc, &message);
     message.discard();
     text

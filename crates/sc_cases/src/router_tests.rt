@@ -79,7 +79,7 @@ fn host(
     let config = settings(alloc)?;
     let dar = table(alloc)?;
     let request = match message {
-        Message::Request(request) => request,
+        Message::Request(request) => request.get(),
         Message::Response(_) => return Ok(None),
     };
     let choice = next(

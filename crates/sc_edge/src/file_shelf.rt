@@ -54,7 +54,7 @@ impl<R: Files> Shelf for FileShelf<'_, R> {
 
     fn read(&mut self, name: &Text, max: usize) -> Shelved {
         match front_of(self.rt, self.alloc, name.as_bytes(), max.saturating_add(1)) {
-            Ok(front) => whole(front, max),
+            Ok(front) => whole(self.alloc, front, max),
             Err(e) if e.kind() == ErrorKind::OutOfMemory => Shelved::NoMemory,
             Err(_) => {
                 self.faults = counted(self.faults);
@@ -77,11 +77,11 @@ fn front_of<R: Files>(rt: &R, alloc: Global, name: &[u8], most: usize) -> io::Re
 }
 
 // The answer for an item that begins with these bytes, which are all of it if they are at most `max`.
-fn whole(front: Vec<u8>, max: usize) -> Shelved
+fn whole(alloc: Global, front: Vec<u8>, max: usize) -> Shelved
     ensures { Gives result (Some front.items) max ⊥ }
 {
     if front.len() <= max {
-        Shelved::Got(Text::from_vec(front))
+        Shelved::Got(Text::from_vec(alloc, front))
     } else {
         Shelved::Long
     }

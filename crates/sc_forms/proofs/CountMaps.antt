@@ -14,7 +14,7 @@ use Rattle.sc_hosts.specs.Sessions.{Form, Turn}
 use Rattle.sc_hosts.specs.Steps.{live_at, turn_of}
 use Rattle.sc_hosts.specs.Transacting.{is_same_app}
 use Rattle.sc_parts.specs.declared.setup.Setup.{Setup}
-use Rattle.sc_state.specs.declared.host.Host.{Host}
+use Rattle.sc_state.specs.Hosts.{Host}
 use Rattle.sc_state.specs.declared.host.Live.{Live}
 use Rattle.sc_state.specs.declared.net.Net.{Net}
 use Rattle.sc_state.specs.declared.orders.Outcome.{Outcome}

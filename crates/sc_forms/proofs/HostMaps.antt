@@ -12,7 +12,7 @@ use Rattle.sc_parts.specs.declared.transactions.ClientItem.{ClientItem}
 use Rattle.sc_parts.specs.declared.transactions.ClientOut.{ClientOut}
 use Rattle.sc_parts.specs.declared.transactions.ServerItem.{ServerItem}
 use Rattle.sc_state.specs.declared.host.Client.{Client}
-use Rattle.sc_state.specs.declared.host.Host.{Host}
+use Rattle.sc_state.specs.Hosts.{Host}
 use Rattle.sc_state.specs.declared.host.Live.{Live}
 use Rattle.sc_state.specs.declared.host.Peer.{Peer}
 use Rattle.sc_state.specs.declared.host.Server.{Server}

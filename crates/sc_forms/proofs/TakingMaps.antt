@@ -15,7 +15,7 @@ use Rattle.sc_hosts.specs.Words.{ok, does_not_exist, unavailable}
 use Rattle.sc_model.specs.Dialogs.{tag_of}
 use Rattle.sc_model.specs.Names.{tag_text}
 use Rattle.sc_model.specs.SessionStates.{invite, ack}
-use Rattle.sc_state.specs.declared.host.Host.{Host}
+use Rattle.sc_state.specs.Hosts.{Host}
 use Rattle.sc_state.specs.declared.host.Live.{Live}
 use Rattle.sc_state.specs.declared.host.Peer.{Peer}
 use Rattle.sc_state.specs.declared.host.Server.{Server}

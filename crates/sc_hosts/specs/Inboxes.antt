@@ -4,7 +4,8 @@ use Rattle.std.specs.List.{find}
 use Rattle.std.specs.Option.{option_map_or}
 use Rattle.sc_value.specs.declared.message.Message.{Message}
 use Rattle.sc_value.specs.Lists.{change_first}
-use Rattle.sc_state.specs.declared.host.Host.{Host}
+use Rattle.sc_state.specs.Hosts.{Host}
+pub use Rattle.sc_state.specs.Keeping.{is_live}
 use Rattle.sc_state.specs.declared.host.Live.{Live}
 use Rattle.sc_state.specs.declared.host.Peer.{Peer}
 use Rattle.sc_state.specs.declared.host.Taken.{Taken}
@@ -19,9 +20,6 @@ abbrev pub MOST_WAITING : ℕ
 MOST_WAITING = 64
 
 -- ## Sessions and their inboxes
-
-abbrev pub is_live : {S : Type 0} → ℕ → Live S → Bool
-is_live serial live = live.serial == serial
 
 abbrev pub live_in : {S : Type 0} → ℕ → Host S → Option (Live S)
 live_in serial host = find (is_live serial) host.sessions

@@ -15,7 +15,7 @@ use Rattle.sc_tokens.specs.Names.{same_bytes}
 use Rattle.sc_value.specs.Params.{param_value}
 use Rattle.sc_terms.specs.declared.settings.Config.{Config}
 use Rattle.sc_parts.specs.declared.transactions.ServerItem.TheVariants as server_items
-use Rattle.sc_state.specs.declared.host.Host.{Host}
+use Rattle.sc_state.specs.Hosts.{Host}
 use Rattle.sc_state.specs.declared.host.Live.{Live}
 use Rattle.sc_state.specs.declared.host.Peer.{Peer}
 use Rattle.sc_state.specs.declared.host.Server.{Server}

@@ -6,7 +6,7 @@ use Rattle.sc_terms.specs.declared.settings.Config.{Config}
 use Rattle.sc_parts.specs.declared.transactions.ClientItem.TheVariants as client_items
 use Rattle.sc_parts.specs.declared.transactions.ClientOut.{ClientOut}
 use Rattle.sc_state.specs.declared.host.Client.{Client}
-use Rattle.sc_state.specs.declared.host.Host.{Host}
+use Rattle.sc_state.specs.Hosts.{Host}
 use Rattle.sc_state.specs.declared.host.Peer.{Peer}
 use Rattle.sc_state.specs.declared.host.Taken.{Taken}
 use Rattle.sc_state.specs.declared.queue.Queued.TheVariants as queued

@@ -1,6 +1,6 @@
 -- A place is lost, and time passes.
 use Rattle.std.specs.Prelude.{ℕ, ◌+◌, ◌*◌, ◌==◌, List, [], ◌∷◌, ◌++◌, Bool, ◌&&◌, Option, None, Some, if◌then◌else◌, map, filter}
-use Rattle.std.specs.List.{find, list_any, filter_map, flat_map, fold}
+use Rattle.std.specs.List.{find, filter_map, flat_map, fold}
 use Rattle.sc_value.specs.declared.ids.AppId.{AppId}
 use Rattle.sc_value.specs.declared.ids.Place.{Place}
 use Rattle.sc_value.specs.declared.message.Response.{Response}
@@ -10,13 +10,13 @@ use Rattle.sc_parts.specs.declared.transactions.ClientItem.{ClientItem}
 use Rattle.sc_parts.specs.declared.transactions.ClientItem.TheVariants as client_items
 use Rattle.sc_parts.specs.declared.transactions.ServerItem.TheVariants as server_items
 use Rattle.sc_state.specs.declared.host.Client.{Client}
-use Rattle.sc_state.specs.declared.host.Fired.{Fired}
-use Rattle.sc_state.specs.declared.host.Host.{Host}
+use Rattle.sc_state.specs.Hosts.{Host}
 use Rattle.sc_state.specs.declared.host.Live.{Live}
 use Rattle.sc_state.specs.declared.host.Server.{Server}
 use Rattle.sc_state.specs.declared.net.Net.{Net}
 use Rattle.sc_state.specs.declared.queue.Queued.{Queued}
 use Rattle.sc_state.specs.declared.queue.Queued.TheVariants as queued
+unfoldable pub use Rattle.sc_state.specs.Entries.{is_fired}
 use Rattle.sc_grammar.specs.Written.{Bytes}
 use Rattle.sc_model.specs.Names.{edge_tag}
 use Rattle.sc_model.specs.Timers.{DueEntry, in_order, is_due}
@@ -78,9 +78,6 @@ client_dated client = dated client.app (8 * client.branch + (if is_cancel_client
 
 unfoldable pub server_dated : Server → List Dated
 server_dated server = dated server.app (8 * server.event + 5) (Of_server server) (due_of_server server)
-
-unfoldable pub is_fired : List Fired → ℕ → ℕ → Bool
-is_fired fired due number = list_any (λ f. f.due == due && f.number == number) fired
 
 unfoldable pub live_dated : {S : Type 0} → Form S → ℕ → Live S → List Dated
 live_dated form host live =

@@ -1,5 +1,5 @@
 -- A host with what it answers at once.
-use Rattle.sc_state.specs.declared.host.Host.{Host}
+use Rattle.sc_state.specs.Hosts.{Host}
 use Rattle.sc_state.specs.declared.host.Taken.{Taken}
 use Rattle.sc_state.specs.declared.session.Session.{Session}
 use Rattle.sc_inboxes.specs.declared.told.Told.{Told}

@@ -1,7 +1,6 @@
 //! Live sessions and the events that wait in them.
 
-ghost use Rattle.std.specs.Prelude.{◌≡◌, ◌==◌, length, position, if◌then◌else◌, IfOk, OnOk};
-ghost use Rattle.std.specs.List.{find};
+ghost use Rattle.std.specs.Prelude.{◌≡◌, ◌==◌, length, if◌then◌else◌, IfOk, OnOk};
 ghost use Rattle.std.specs.Option.{option_copied};
 ghost use Rattle.sc_value.specs.Lists.{change_first};
 ghost use Rattle.sc_hosts.specs.Inboxes.{is_live, live_in, with_event, queue, is_full, is_full_at};
@@ -12,28 +11,11 @@ use sc_state::{Host, Live, Queued, Session, Waiting};
 use sc_value::{CloneIn, NoMemory, Shared, sum};
 use std::alloc::Global;
 
-/// The place of the session of this number, None where it doesn't live.
-pub fn live_place(serial: u64, sessions: &[Shared<Live<Session>>]) -> Option<usize>
-    ensures { result ≡ position (is_live serial) sessions.now }
-{
-    sessions.iter().position(|live| live.get().serial == serial)
-}
-
-#[tactic(auto, using(sc_value::proofs::ListFacts::find_position, sc_value::proofs::ListFacts::find_none))]
-fn live_among(serial: u64, sessions: &[Shared<Live<Session>>]) -> Option<&Shared<Live<Session>>>
-    ensures { option_copied result ≡ find (is_live serial) sessions.now }
-{
-    match live_place(serial, sessions) {
-        Some(at) => Some(&sessions[at]),
-        None => None,
-    }
-}
-
 /// The session of this number, None where it doesn't live.
 pub fn live_in(serial: u64, host: &Host<Session>) -> Option<&Shared<Live<Session>>>
     ensures { option_copied result ≡ live_in serial host.entry.now }
 {
-    live_among(serial, host.sessions.as_slice())
+    host.live(serial)
 }
 
 fn since_with(now: u64, live: &Live<Session>) -> u64
@@ -52,32 +34,32 @@ fn with_event(
     number: u64,
     now: u64,
     event: Queued,
-    live: &mut Shared<Live<Session>>,
-) -> Result<(), NoMemory>
-    ensures { OnOk result (live.new ≡ with_event number now event live.old) }
+    live: &Live<Session>,
+) -> Result<Shared<Live<Session>>, NoMemory>
+    ensures { IfOk result (λ own. own ≡ with_event number now event live.now) }
 {
-    let mut own = live.get().clone_in(alloc)?;
-    own.since = since_with(now, live.get());
+    let mut own = live.clone_in(alloc)?;
+    own.since = since_with(now, live);
     own.inbox.push(Waiting { number, event })?;
-    *live = Shared::new(alloc, own)?;
-    Ok(())
+    Shared::new(alloc, own)
 }
 
-#[tactic(auto, using(sc_value::proofs::ListFacts::change_first_position, sc_value::proofs::ListFacts::change_first_none))]
+#[tactic(auto, using(crate::proofs::HostUses::queued_none, crate::proofs::HostUses::queued_found))]
 fn queue_in(
     alloc: Global,
     serial: u64,
     number: u64,
     now: u64,
     event: Queued,
-    sessions: &mut [Shared<Live<Session>>],
+    host: &mut Host<Session>,
 ) -> Result<(), NoMemory>
-    ensures { OnOk result (sessions.new ≡ change_first (is_live serial) (with_event number now event) sessions.old) }
+    ensures { OnOk result (host.new ≡ record host.old { sessions = change_first (is_live serial) (with_event number now event) host.old.sessions }) }
 {
-    match live_place(serial, sessions) {
-        Some(at) => with_event(alloc, number, now, event, &mut sessions[at]),
-        None => Ok(()),
-    }
+    let own = match host.live(serial) {
+        Some(live) => with_event(alloc, number, now, event, live.get())?,
+        None => return Ok(()),
+    };
+    host.set_live(own)
 }
 
 /// Queues an event where its session lives; else it is dropped.
@@ -96,7 +78,7 @@ pub fn queue(
         return Ok(quiet(count));
     }
     let number = sum(count, 1)?;
-    queue_in(alloc, serial, number, now, event, &mut host.sessions.items)?;
+    queue_in(alloc, serial, number, now, event, host)?;
     Ok(quiet(number))
 }
 

@@ -9,8 +9,8 @@ mod server_parts;
 mod told;
 mod uris;
 
-pub use inboxes::{is_full, is_full_at, live_in, live_place, queue};
+pub use inboxes::{is_full, is_full_at, live_in, queue};
 pub use refusals::{edge_response, refuse_full, refuse_unknown};
 pub use server_parts::{with_server, with_trying};
-pub use told::{Told, quiet, replying};
+pub use told::{Told, answering, asking, quiet, replying};
 pub use uris::{is_own_routed, named_live, own_uri, unrouted, uri_param, without_top};

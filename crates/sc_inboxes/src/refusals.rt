@@ -1,7 +1,7 @@
 //! Answers without a transaction.
 
 ghost use Rattle.std.specs.Prelude.{◌≡◌, IfOk};
-ghost use Rattle.sc_state.specs.declared.host.Host.{Host};
+ghost use Rattle.sc_state.specs.Hosts.{Host};
 ghost use Rattle.sc_state.specs.declared.session.Session.{Session};
 ghost use Rattle.sc_model.specs.Names.{edge_tag};
 ghost use Rattle.sc_hosts.specs.Messages.{own_response};
@@ -9,13 +9,13 @@ ghost use Rattle.sc_hosts.specs.Taking.{refuse};
 ghost use Rattle.sc_hosts.specs.Words.{does_not_exist, unavailable};
 ghost use Rattle.sc_inboxes.specs.TakenParts.{taken_by};
 
-use crate::told::{Told, quiet, replying};
+use crate::told::{Told, answering, quiet};
 use sc_messages::own_response;
 use sc_names::edge_tag;
 use sc_state::Peer;
 use sc_terms::Config;
 use sc_transact::is_ack;
-use sc_value::{Message, NoMemory, Request, Response, Text};
+use sc_value::{NoMemory, Request, Response, Text};
 use std::alloc::Global;
 
 /// A response that no session gives.
@@ -50,7 +50,7 @@ fn refuse(
         return Ok(quiet(count));
     }
     let response = edge_response(alloc, config, code, reason, request)?;
-    replying(alloc, from, Message::Response(response), quiet(count))
+    answering(alloc, from, response, quiet(count))
 }
 
 /// 481, as no transaction or session takes the request.

@@ -9,12 +9,12 @@ ghost use Rattle.sc_hosts.specs.Transacting.{is_server};
 ghost use Rattle.sc_hosts.specs.Words.{trying};
 ghost use Rattle.sc_inboxes.specs.TakenParts.{taken_by};
 
-use crate::told::{Told, replying};
+use crate::told::{Told, answering};
 use sc_messages::trying_response;
 use sc_parts::ServerItem;
 use sc_state::{Host, Peer, Server, Session};
-use sc_transact::{is_ack, is_invite, server_place};
-use sc_value::{AppId, CloneIn, List, Message, NoMemory, Request, Response, Shared, Text};
+use sc_transact::{is_ack, is_invite};
+use sc_value::{AppId, CloneIn, List, NoMemory, Request, Response, Shared, Text};
 use std::alloc::Global;
 
 fn new_server(
@@ -57,8 +57,7 @@ pub fn with_server(
         return Ok(());
     }
     let server = new_server(alloc, app, event, peer, tag, request)?;
-    host.servers.push(server)?;
-    Ok(())
+    host.push_server(server)
 }
 
 #[tactic(auto, unfolding(sc_hosts::specs::Words::trying))]
@@ -73,12 +72,12 @@ fn tried(
     alloc: Global,
     request: &Request,
     now: u64,
-    server: &mut Shared<Server>,
-) -> Result<(), NoMemory>
-    ensures { OnOk result (server.new ≡ tried request.now now server.old) }
+    server: &Server,
+) -> Result<Shared<Server>, NoMemory>
+    ensures { IfOk result (λ own. own ≡ tried request.now now server.now) }
 {
     let last = Shared::new(alloc, trying(alloc, request)?)?;
-    let mut own = server.get().clone_in(alloc)?;
+    let mut own = server.clone_in(alloc)?;
     own.last = Some(last);
     own.passed.items.insert(
         0,
@@ -87,24 +86,24 @@ fn tried(
             moment: now,
         },
     )?;
-    *server = Shared::new(alloc, own)?;
-    Ok(())
+    Shared::new(alloc, own)
 }
 
-#[tactic(auto, using(sc_value::proofs::ListFacts::change_first_position, sc_value::proofs::ListFacts::change_first_none))]
+#[tactic(auto, using(crate::proofs::HostUses::tried_none, crate::proofs::HostUses::tried_found))]
 fn try_in(
     alloc: Global,
     event: u64,
     request: &Request,
     now: u64,
-    servers: &mut [Shared<Server>],
+    host: &mut Host<Session>,
 ) -> Result<(), NoMemory>
-    ensures { OnOk result (servers.new ≡ change_first (is_server event) (tried request.now now) servers.old) }
+    ensures { OnOk result (host.new ≡ record host.old { servers = change_first (is_server event) (tried request.now now) host.old.servers }) }
 {
-    match server_place(event, servers) {
-        Some(at) => tried(alloc, request, now, &mut servers[at]),
-        None => Ok(()),
-    }
+    let own = match host.server(event) {
+        Some(server) => tried(alloc, request, now, server.get())?,
+        None => return Ok(()),
+    };
+    host.set_server(own)
 }
 
 /// An INVITE is answered 100 at once.
@@ -122,7 +121,7 @@ pub fn with_trying(
     if !is_invite(request) {
         return Ok(told);
     }
-    try_in(alloc, told.count, request, now, &mut host.servers.items)?;
+    try_in(alloc, told.count, request, now, host)?;
     let response = trying(alloc, request)?;
-    replying(alloc, from, Message::Response(response), told)
+    answering(alloc, from, response, told)
 }

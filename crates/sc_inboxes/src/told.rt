@@ -1,7 +1,8 @@
 ghost use Rattle.std.specs.Prelude.{◌≡◌, Some, None, IfOk};
+ghost use Rattle.sc_value.specs.declared.message.Message.{Message};
 
 use sc_state::{Peer, Reply};
-use sc_value::{Boxed, Message, NoMemory};
+use sc_value::{Message, NoMemory, Request, Response, Shared};
 use std::alloc::Global;
 
 /// What a host answers at once where it took something.
@@ -19,13 +20,33 @@ pub fn quiet(count: u64) -> Told
     Told { reply: None, count }
 }
 
-/// The same with this answer.
-pub fn replying(alloc: Global, peer: Peer, message: Message, told: Told) -> Result<Told, NoMemory>
-    ensures { IfOk result (λ t. t ≡ record told { reply = Some (record { peer = peer; message = message }) }) }
+/// The same with this message.
+pub fn replying(peer: Peer, message: Message, told: Told) -> Told
+    ensures { result ≡ record told { reply = Some (record { peer = peer; message = message }) } }
 {
-    let message = Boxed::new(alloc, message)?;
-    Ok(Told {
+    Told {
         reply: Some(Reply { peer, message }),
         count: told.count,
-    })
+    }
+}
+
+/// The same with this response.
+pub fn answering(
+    alloc: Global,
+    peer: Peer,
+    response: Response,
+    told: Told,
+) -> Result<Told, NoMemory>
+    ensures { IfOk result (λ t. t ≡ record told { reply = Some (record { peer = peer; message = Message.Response response }) }) }
+{
+    let response = Shared::new(alloc, response)?;
+    Ok(replying(peer, Message::Response(response), told))
+}
+
+/// The same with this request.
+pub fn asking(alloc: Global, peer: Peer, request: Request, told: Told) -> Result<Told, NoMemory>
+    ensures { IfOk result (λ t. t ≡ record told { reply = Some (record { peer = peer; message = Message.Request request }) }) }
+{
+    let request = Shared::new(alloc, request)?;
+    Ok(replying(peer, Message::Request(request), told))
 }

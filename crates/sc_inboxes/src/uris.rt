@@ -1,15 +1,18 @@
 //! The own URI by which a request comes, and the session that a URI names.
 
-ghost use Rattle.std.specs.Prelude.{◌≡◌, false, option_map, position, slice_get, drop, IfOk};
-ghost use Rattle.std.specs.List.{find};
+ghost use Rattle.std.specs.Prelude.{◌≡◌, ◌==◌, ◌+◌, ℕ, true, false, decimal, length, if◌then◌else◌, option_map, position, slice_get, drop, IfOk};
 ghost use Rattle.std.specs.Option.{option_copied, option_map_or};
 ghost use Rattle.sc_value.specs.Params.{param_value, is_named};
+ghost use Rattle.sc_model.specs.Names.{ap_value};
 ghost use Rattle.sc_model.specs.OwnHosts.{is_own};
+ghost use Rattle.sc_state.specs.Groups.{serial_number};
 ghost use Rattle.sc_hosts.specs.Taking.{ap_of, own_uri, unrouted, names, is_named_live, named_live};
 ghost use Rattle.sc_inboxes.specs.UriParams.{uri_param};
 
+use itoa::Buffer;
+use sc_book::Probe;
 use sc_router::is_own;
-use sc_state::{Host, Live, Session};
+use sc_state::{Host, Live, Session, text_number};
 use sc_terms::Config;
 use sc_transact::is_ap_value;
 use sc_value::{
@@ -73,45 +76,80 @@ fn is_named_live(epoch: u32, number: u32, uri: &Uri, live: &Live<Session>) -> bo
     names(epoch, app, uri)
 }
 
-fn named_place(
+/// Whether a URI names a session of the host of this number.
+#[derive(Clone, Copy)]
+struct Named<'a> {
     epoch: u32,
     number: u32,
-    uri: &Uri,
-    sessions: &[Shared<Live<Session>>],
-) -> Option<usize>
-    ensures { result ≡ position (is_named_live epoch number uri.now) sessions.now }
-{
-    sessions
-        .iter()
-        .position(|live| is_named_live(epoch, number, uri, live.get()))
+    uri: &'a Uri,
 }
 
-#[tactic(auto, using(sc_value::proofs::ListFacts::find_position, sc_value::proofs::ListFacts::find_none))]
-fn named_among<'a>(
-    epoch: u32,
-    number: u32,
-    uri: &Uri,
-    sessions: &'a [Shared<Live<Session>>],
-) -> Option<&'a Shared<Live<Session>>>
-    ensures { option_copied result ≡ find (is_named_live epoch number uri.now) sessions.now }
+impl Probe<Live<Session>> for Named<'_> {
+    ghost passes = { λ p. is_named_live p.epoch p.number p.uri.now };
+
+    fn passes(&self, live: &Live<Session>) -> bool {
+        is_named_live(self.epoch, self.number, self.uri, live)
+    }
+}
+
+// How many bytes a name has before its serial.
+fn start_len(number: u32) -> usize
+    ensures { result ≡ length (decimal number) + 1 }
 {
-    match named_place(epoch, number, uri, sessions) {
-        Some(at) => Some(&sessions[at]),
-        None => None,
+    let mut buffer = Buffer::new();
+    buffer.format(number).len() + 1
+}
+
+// How many bytes a name ends with for its epoch.
+fn end_len(epoch: u32) -> usize
+    ensures { result ≡ (if epoch == 0 then 0 else length (decimal epoch) + 1) }
+{
+    if epoch == 0 {
+        return 0;
+    }
+    let mut buffer = Buffer::new();
+    buffer.format(epoch).len() + 1
+}
+
+// What stands in a value of `ap` of this epoch and host for the session.
+#[tactic(auto, using(crate::proofs::NamedLives::serial_within))]
+fn serial_part<'a>(value: &'a [u8], epoch: u32, number: u32) -> &'a [u8]
+    ensures { (serial : ℕ) → value.now ≡ ap_value epoch (record { host = number; serial = serial }) → result.now ≡ decimal serial }
+{
+    let start = start_len(number);
+    let end = value.len().saturating_sub(end_len(epoch));
+    if start <= end {
+        let front = &value[..end];
+        &front[start..]
+    } else {
+        b""
+    }
+}
+
+// The number under which the session is found that the URI names.
+#[tactic(auto, using(crate::proofs::NamedLives::serial_named))]
+fn named_number(epoch: u32, number: u32, uri: &Uri) -> u64
+    ensures { (serial : ℕ) → names epoch (record { host = number; serial = serial }) uri.now ≡ true → result ≡ serial_number serial }
+{
+    match ap_of(uri) {
+        Some(value) => text_number(serial_part(value.as_bytes(), epoch, number)),
+        None => 0,
     }
 }
 
 /// The live session of this host that the URI names, None where it names none.
-#[tactic(auto, unfolding(sc_hosts::specs::Taking::named_live))]
+#[tactic(auto, unfolding(sc_hosts::specs::Taking::named_live), using(crate::proofs::NamedLives::named_grouped))]
 pub fn named_live<'a>(
+    alloc: Global,
     epoch: u32,
     number: u32,
     uri: &Uri,
     host: &'a Host<Session>,
-) -> Option<&'a Shared<Live<Session>>>
-    ensures { option_copied result ≡ named_live epoch number uri.now host.entry.now }
+) -> Result<Option<&'a Shared<Live<Session>>>, NoMemory>
+    ensures { IfOk result (λ found. option_copied found ≡ named_live epoch number uri.now host.entry.now) }
 {
-    named_among(epoch, number, uri, host.sessions.as_slice())
+    let group = named_number(epoch, number, uri);
+    host.find_live(alloc, group, &Named { epoch, number, uri })
 }
 
 fn top_route(request: &Request) -> Option<&Address>
@@ -176,11 +214,15 @@ pub fn without_top(alloc: Global, request: &Request) -> Result<Request, NoMemory
 
 /// The own top Route is taken off.
 #[tactic(auto, unfolding(sc_hosts::specs::Taking::unrouted))]
-pub fn unrouted(alloc: Global, config: &Config, request: &Request) -> Result<Request, NoMemory>
+pub fn unrouted(
+    alloc: Global,
+    config: &Config,
+    request: &Shared<Request>,
+) -> Result<Shared<Request>, NoMemory>
     ensures { IfOk result (λ r. r ≡ unrouted config.now request.now) }
 {
-    if is_own_routed(alloc, config, request)? {
-        without_top(alloc, request)
+    if is_own_routed(alloc, config, request.get())? {
+        Shared::new(alloc, without_top(alloc, request.get())?)
     } else {
         request.clone_in(alloc)
     }

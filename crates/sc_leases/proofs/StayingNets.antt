@@ -5,7 +5,7 @@ use Rattle.std.proofs.lemmas.Bool.Decides.{nat_tests}
 use Rattle.sc_value.specs.Lists.{change_nth}
 use Rattle.sc_value.proofs.ListFacts.{slice_get-change_nth}
 use Rattle.sc_value.specs.declared.ids.AppId.{AppId}
-use Rattle.sc_state.specs.declared.host.Host.{Host}
+use Rattle.sc_state.specs.Hosts.{Host}
 use Rattle.sc_state.specs.declared.host.Live.{Live}
 use Rattle.sc_state.specs.declared.net.Net.{Net}
 use Rattle.sc_state.specs.declared.queue.Waiting.{Waiting}

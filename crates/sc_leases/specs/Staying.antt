@@ -1,7 +1,7 @@
 -- A session that goes on to live with the same first event: later events only come at the end of its inbox.
 use Rattle.std.specs.Prelude.{◌≡◌, ℕ, List, ◌++◌, Option, Some, slice_get}
 use Rattle.sc_value.specs.declared.ids.AppId.{AppId}
-use Rattle.sc_state.specs.declared.host.Host.{Host}
+use Rattle.sc_state.specs.Hosts.{Host}
 use Rattle.sc_state.specs.declared.host.Live.{Live}
 use Rattle.sc_state.specs.declared.net.Net.{Net}
 use Rattle.sc_state.specs.declared.queue.Waiting.{Waiting}

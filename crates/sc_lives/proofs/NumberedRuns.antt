@@ -5,7 +5,7 @@ use Rattle.std.proofs.lemmas.List.Elements.{All-nil, All-cons}
 use Rattle.sc_terms.specs.declared.settings.AppEntry.{AppEntry}
 use Rattle.sc_terms.specs.declared.steps.Step.{Step}
 use Rattle.sc_parts.specs.declared.setup.Setup.{Setup}
-use Rattle.sc_state.specs.declared.host.Host.{Host}
+use Rattle.sc_state.specs.Hosts.{Host}
 use Rattle.sc_state.specs.declared.net.Net.{Net}
 use Rattle.sc_hosts.specs.Nets.{host_at}
 use Rattle.sc_hosts.specs.Runs.{quiet_host, start, after_step, chained_from, chained}

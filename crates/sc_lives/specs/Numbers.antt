@@ -1,7 +1,7 @@
 -- Live sessions in the order of their serials, none above the last that was given.
 use Rattle.std.specs.Prelude.{◌≤◌, ◌<◌, ℕ, List, [], ◌∷◌, Option, None, Some}
 use Rattle.std.specs.List.{All}
-use Rattle.sc_state.specs.declared.host.Host.{Host}
+use Rattle.sc_state.specs.Hosts.{Host}
 use Rattle.sc_state.specs.declared.host.Live.{Live}
 use Rattle.sc_state.specs.declared.net.Net.{Net}
 

@@ -2,7 +2,7 @@ ghost use Rattle.std.specs.Prelude.{◌≡◌, ℕ, List, Some, length};
 ghost use Rattle.std.specs.List.{All};
 ghost use Rattle.sc_terms.specs.declared.steps.Step.{Step};
 ghost use Rattle.sc_parts.specs.declared.setup.Setup.{Setup};
-ghost use Rattle.sc_state.specs.declared.host.Host.{Host};
+ghost use Rattle.sc_state.specs.Hosts.{Host};
 ghost use Rattle.sc_state.specs.declared.session.Session.{Session};
 ghost use Rattle.sc_hosts.specs.Histories.{History};
 ghost use Rattle.sc_hosts.specs.Nets.{host_at};

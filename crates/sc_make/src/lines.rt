@@ -6,7 +6,7 @@ ghost use Rattle.sc_grammar.specs.Written.{written};
 ghost use Rattle.sc_value.specs.declared.message.Message.{Message};
 
 use sc_message_text::text_of;
-use sc_value::{Discard, Message, NoMemory, Request, Text, write_u64};
+use sc_value::{Discard, Message, NoMemory, Request, Shared, Text, write_u64};
 use std::alloc::Global;
 
 /// Puts the message as one that comes on connection 1 at the end of the text, and `run`.
@@ -14,7 +14,7 @@ use std::alloc::Global;
 pub fn put_arrival(alloc: Global, request: Request, out: &mut Text) -> Result<(), NoMemory>
     ensures { OnOk result (out.new ≡ out.old ++ arrives request) }
 {
-    let message = Message::Request(request);
+    let message = Message::Request(Shared::new(alloc, request)?);
     let text = text_of(alloc, &message);
     message.discard();
     let text = text?;

@@ -1,6 +1,6 @@
 -- A message put together, and its text as a whole.
 use Rattle.std.proofs.Common.{◌≡◌, ℕ, Bool, true, false, cond, not, ◌==◌, Ok, Err, Option, Some, None, Result, length, refl, sym, ap, ◌∙◌}
-use Rattle.std.specs.Prelude.{is_some}
+use Rattle.std.specs.Prelude.{is_some, IfOk}
 use Rattle.std.specs.Option.{option_map_or}
 use Rattle.std.proofs.lemmas.Bool.{false≢true}
 use Rattle.sc_value.specs.declared.message.Head.{Head}
@@ -31,13 +31,15 @@ complete start left body peers some is =
     ap (λ t. cond t (Err 7) (option_map_or (finished_with start left.lists left.singles.hops left.singles.length body) (peers_of left.singles) (Err 7))) some
     ∙ ap (λ o. option_map_or (finished_with start left.lists left.singles.hops left.singles.length body) o (Err 7)) is
 
-pub finished_read : (result : Result Message ℕ) (start : Start) (left : Left) (body : Bytes) (peers : Peers) → (length left.lists.via == 0) ≡ false → Some peers ≡ peers_of left.singles
-    → result ≡ finished_with start left.lists left.singles.hops left.singles.length body peers → result ≡ finished start left body
-finished_read result start left body peers some is h = h ∙ sym (complete start left body peers some (sym is))
+pub finished_read : {E : Type 0} (result : Result (Result Message ℕ) E) (start : Start) (left : Left) (body : Bytes) (peers : Peers) → (length left.lists.via == 0) ≡ false → Some peers ≡ peers_of left.singles
+    → IfOk result (λ read. read ≡ finished_with start left.lists left.singles.hops left.singles.length body peers) → IfOk result (λ read. read ≡ finished start left body)
+finished_read (Ok read) start left body peers some is h = h ∙ sym (complete start left body peers some (sym is))
+finished_read (Err cause) start left body peers some is h = h
 
-pub finished_made : (start : Start) (lists : Lists) (hops len : Option ℕ) (bytes body : Bytes) (peers : Peers) (head : Head) (message : Message) → bytes ≡ body
+pub finished_made : {E : Type 0} (result : Result (Result Message ℕ) E) (start : Start) (lists : Lists) (hops len : Option ℕ) (bytes body : Bytes) (peers : Peers) (head : Head) → bytes ≡ body
     → ◌≡◌ {A = Option ℕ} None (cond (not (is_method_of start peers.1.1.method)) (Some 10) (cond (not (fits len bytes)) (Some 12) None))
-    → head ≡ head_of lists peers body → message ≡ message_with start hops head → Ok message ≡ finished_with start lists hops len body peers
-finished_made start lists hops len bytes body peers head message same none is made =
-    ap Ok (made ∙ ap (message_with start hops) is)
+    → head ≡ head_of lists peers body → IfOk result (λ read. read ≡ Ok (message_with start hops head)) → IfOk result (λ read. read ≡ finished_with start lists hops len body peers)
+finished_made (Ok read) start lists hops len bytes body peers head same none is made =
+    made ∙ ap (λ h. Ok (message_with start hops h)) is
     ∙ sym (finished_well start lists hops len body peers (none ∙ ap (λ b. cond (not (is_method_of start peers.1.1.method)) (Some 10) (cond (not (fits len b)) (Some 12) None)) same))
+finished_made (Err cause) start lists hops len bytes body peers head same none is made = made

@@ -1,11 +1,14 @@
 //! What the header lines have left, put together with start line and body (RFC 3261 section 7).
 
-ghost use Rattle.std.specs.Prelude.{◌≡◌, Some, None, not, if◌then◌else◌};
+ghost use Rattle.std.specs.Prelude.{◌≡◌, Some, None, Ok, IfOk, not, if◌then◌else◌};
 ghost use Rattle.std.specs.Option.{option_copied, option_map};
 ghost use Rattle.sc_syntax.specs.Messages.{finished, finished_with, fits, head_of, is_method_of, lacking, message_with, peers_of};
 
 use sc_syntax::{HeadParts, Left, Lists, Singles, Start};
-use sc_value::{Address, CSeq, Head, HeaderValue, Message, Request, Response, Text};
+use sc_value::{
+    Address, CSeq, Head, HeaderValue, Message, NoMemory, Request, Response, Shared, Text,
+};
+use std::alloc::Global;
 
 // From and To, Call-ID and CSeq.
 type Peers = ((Address, Address), (HeaderValue, CSeq));
@@ -48,30 +51,39 @@ fn method_fault(start: &Start, named: &[u8]) -> Option<u8>
 
 /// The message of a head that is read and of its body, or the kind of the fault that shows at the empty
 /// line: 7 or 10, as [`lacking`] tells, or 12, a body of another length than Content-Length (RFC 3261
-/// section 7). It takes no memory.
-pub fn put_together(parts: HeadParts, body: Text) -> Result<Message, u8>
-    ensures { result ≡ finished parts.start parts.left body }
+/// section 7). `NoMemory` says nothing of it.
+pub fn put_together(
+    alloc: Global,
+    parts: HeadParts,
+    body: Text,
+) -> Result<Result<Message, u8>, NoMemory>
+    ensures { IfOk result (λ read. read ≡ finished parts.start parts.left body) }
 {
-    finish(parts.start, parts.left, body)
+    finish(alloc, parts.start, parts.left, body)
 }
 
 #[tactic(auto, unfolding(sc_syntax::specs::Messages::finished))]
-fn finish(start: Start, left: Left, body: Text) -> Result<Message, u8>
-    ensures { result ≡ finished start left body }
+fn finish(
+    alloc: Global,
+    start: Start,
+    left: Left,
+    body: Text,
+) -> Result<Result<Message, u8>, NoMemory>
+    ensures { IfOk result (λ read. read ≡ finished start left body) }
 {
     if left.lists.via.is_empty() {
         drop(left);
         drop(start);
-        return Err(7);
+        return Ok(Err(7));
     }
     let (hops, length) = (left.singles.hops, left.singles.length);
     let lists = left.lists;
     match peers_of(left.singles) {
-        Some(peers) => finish_with(start, lists, peers, hops, length, body),
+        Some(peers) => finish_with(alloc, start, lists, peers, hops, length, body),
         None => {
             drop(lists);
             drop(start);
-            Err(7)
+            Ok(Err(7))
         }
     }
 }
@@ -87,23 +99,24 @@ fn peers_of(singles: Singles) -> Option<Peers>
 // The same, where Via, From, To, Call-ID and CSeq are there.
 #[tactic(auto, unfolding(sc_syntax::specs::Messages::finished_with))]
 fn finish_with(
+    alloc: Global,
     start: Start,
     lists: Lists,
     peers: Peers,
     hops: Option<u8>,
     length: Option<u64>,
     body: Text,
-) -> Result<Message, u8>
-    ensures { result ≡ finished_with start lists hops length body peers }
+) -> Result<Result<Message, u8>, NoMemory>
+    ensures { IfOk result (λ read. read ≡ finished_with start lists hops length body peers) }
 {
     match end_fault(&start, &peers.1.1, length, body.as_bytes()) {
         Some(kind) => {
             drop(peers);
             drop(lists);
             drop(start);
-            Err(kind)
+            Ok(Err(kind))
         }
-        None => Ok(message_with(start, hops, head_of(lists, peers, body))),
+        None => made(alloc, start, hops, head_of(lists, peers, body)),
     }
 }
 
@@ -162,16 +175,39 @@ fn head_of(lists: Lists, peers: Peers, body: Text) -> Head
 }
 
 #[tactic(auto, unfolding(sc_syntax::specs::Messages::message_with))]
-fn message_with(start: Start, hops: Option<u8>, head: Head) -> Message
-    ensures { result ≡ message_with start hops head }
+fn message_with(
+    alloc: Global,
+    start: Start,
+    hops: Option<u8>,
+    head: Head,
+) -> Result<Message, NoMemory>
+    ensures { IfOk result (λ message. message ≡ message_with start hops head) }
 {
     match start {
-        Start::Request { method, uri } => Message::Request(Request {
-            method,
-            uri,
-            hops: hops.unwrap_or(70),
-            head,
-        }),
-        Start::Status { code, reason } => Message::Response(Response { code, reason, head }),
+        Start::Request { method, uri } => {
+            let request = Request {
+                method,
+                uri,
+                hops: hops.unwrap_or(70),
+                head,
+            };
+            Ok(Message::Request(Shared::new(alloc, request)?))
+        }
+        Start::Status { code, reason } => {
+            let response = Response { code, reason, head };
+            Ok(Message::Response(Shared::new(alloc, response)?))
+        }
     }
+}
+
+fn made(
+    alloc: Global,
+    start: Start,
+    hops: Option<u8>,
+    head: Head,
+) -> Result<Result<Message, u8>, NoMemory>
+    ensures { IfOk result (λ read. read ≡ Ok (message_with start hops head)) }
+{
+    let message = message_with(alloc, start, hops, head)?;
+    Ok(Ok(message))
 }

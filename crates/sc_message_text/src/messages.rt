@@ -63,12 +63,12 @@ fn put_message(message: &Message, out: &mut Text) -> Result<(), NoMemory>
 {
     match message {
         Message::Request(request) => {
-            put_request_line(request, out)?;
-            put_head(Some(request.hops), &request.head, out)
+            put_request_line(request.get(), out)?;
+            put_head(Some(request.get().hops), &request.get().head, out)
         }
         Message::Response(response) => {
-            put_status_line(response, out)?;
-            put_head(None, &response.head, out)
+            put_status_line(response.get(), out)?;
+            put_head(None, &response.get().head, out)
         }
     }
 }

@@ -116,9 +116,10 @@ fn finish_at(
     ensures { Reads result (placed end (finished parts.start parts.left body.now)) }
 {
     match Text::from_slice(alloc, body) {
-        Ok(body) => match put_together(parts, body) {
-            Ok(message) => Ok(message),
-            Err(kind) => Err(MessageRefused::Refused { at: end, kind }),
+        Ok(body) => match put_together(alloc, parts, body) {
+            Ok(Ok(message)) => Ok(message),
+            Ok(Err(kind)) => Err(MessageRefused::Refused { at: end, kind }),
+            Err(NoMemory) => Err(MessageRefused::NoMemory),
         },
         Err(NoMemory) => Err(MessageRefused::NoMemory),
     }

@@ -14,18 +14,16 @@ use sc_messages::cancel_of;
 use sc_parts::ClientItem;
 use sc_state::{Client, Host, Net, Session};
 use sc_take::cancelling;
-use sc_transact::{
-    client_of, is_invite_client, is_proceeding, out_of_client, pass_client, state_of_client,
-};
-use sc_value::{AppId, Boxed, CloneIn, Message, NoMemory, Shared};
+use sc_transact::{is_invite_client, is_proceeding, out_of_client, pass_client, state_of_client};
+use sc_value::{AppId, CloneIn, Message, NoMemory, Shared};
 use sc_wire::{host_at, put, with_client_at};
 use std::alloc::Global;
 
-fn cancel_message(alloc: Global, client: &Client) -> Result<Boxed<Message>, NoMemory>
+fn cancel_message(alloc: Global, client: &Client) -> Result<Message, NoMemory>
     ensures { IfOk result (λ m. m ≡ Message.Request (cancel_of client.now.request)) }
 {
     let request = cancel_of(alloc, client.request.get())?;
-    Boxed::new(alloc, Message::Request(request))
+    Ok(Message::Request(Shared::new(alloc, request)?))
 }
 
 // A CANCEL goes with its own client transaction.
@@ -132,11 +130,11 @@ fn client_in(
     alloc: Global,
     app: AppId,
     branch: u64,
-    clients: &[Shared<Client>],
+    host: &Host<Session>,
 ) -> Result<Option<Shared<Client>>, NoMemory>
-    ensures { IfOk result (λ client. client ≡ find (is_client app branch false) clients.now) }
+    ensures { IfOk result (λ client. client ≡ find (is_client app branch false) host.now.clients) }
 {
-    match client_of(app, branch, false, clients) {
+    match host.client(alloc, app, branch, false)? {
         Some(client) => Ok(Some(client.clone_in(alloc)?)),
         None => Ok(None),
     }
@@ -152,7 +150,7 @@ fn client_at(
     ensures { IfOk result (λ client. client ≡ client_at app branch (option_copied host.entry)) }
 {
     match host {
-        Some(host) => client_in(alloc, app, branch, host.clients.as_slice()),
+        Some(host) => client_in(alloc, app, branch, host),
         None => Ok(None),
     }
 }

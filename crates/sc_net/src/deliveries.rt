@@ -26,7 +26,7 @@ fn deliver_at(
         entry.receiver,
         Peer::Inside(entry.sender),
         &entry.note,
-        entry.message.get(),
+        &entry.message,
         net,
     )
 }

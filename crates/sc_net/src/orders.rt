@@ -62,9 +62,7 @@ pub fn obey(
         Order::Send { branch, request } => {
             send_later(alloc, &setup.config, app, *branch, request, net)
         }
-        Order::Acknowledge { request } => {
-            acknowledge(alloc, &setup.config, app, request.get(), net)
-        }
+        Order::Acknowledge { request } => { acknowledge(alloc, &setup.config, app, request, net) }
         Order::Cancel { branch } => cancel(alloc, app, *branch, false, net),
         Order::CancelNow { branch } => cancel(alloc, app, *branch, true, net),
     }

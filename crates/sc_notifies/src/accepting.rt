@@ -19,7 +19,7 @@ use sc_apps::{memory_of, shown};
 use sc_helpers::{answer_first, answer_only, field, number_field, one};
 use sc_terms::View;
 use sc_turn::Turn;
-use sc_value::{NoMemory, ReqId, Request, SessId, Text};
+use sc_value::{Field, List, NoMemory, ReqId, Request, SessId, Text};
 use std::alloc::Global;
 
 /// Answers a SUBSCRIBE: 489 `Bad Event` where its Event is of another package, 423 `Interval Too Brief`
@@ -69,13 +69,19 @@ fn refuse_event(t: &mut Turn, req: ReqId, event_package: &[u8]) -> Result<(), No
     answer_only(t, req, 489, b"Bad Event", fields)
 }
 
+fn least_field(alloc: Global, least: u32) -> Result<List<Field>, NoMemory>
+    ensures { IfOk result (λ fields. fields ≡ field (codes "Min-Expires") (decimal least) ∷ []) }
+{
+    let field = number_field(alloc, b"Min-Expires", u64::from(least))?;
+    one(alloc, field)
+}
+
 fn refuse_brief(t: &mut Turn, req: ReqId, least: u32) -> Result<(), NoMemory>
     requires { (play_of t.old).listed < MOST_CALLS }
     ensures same { t.new.shown ≡ t.old.shown }
     ensures played { OnOk result (IsPlayed (only (answer_with req 423 (codes "Interval Too Brief") (field (codes "Min-Expires") (decimal least) ∷ []))) t.old t.new) }
 {
-    let field = number_field(memory_of(t), b"Min-Expires", u64::from(least))?;
-    let fields = one(memory_of(t), field)?;
+    let fields = least_field(memory_of(t), least)?;
     answer_only(t, req, 423, b"Interval Too Brief", fields)
 }
 

@@ -6,7 +6,7 @@ use Rattle.std.proofs.lemmas.List.{append-nil}
 use Rattle.sc_value.specs.Lists.{change_nth}
 use Rattle.sc_value.proofs.ListFacts.{slice_get-change_nth}
 use Rattle.sc_value.specs.declared.ids.AppId.{AppId}
-use Rattle.sc_state.specs.declared.host.Host.{Host}
+use Rattle.sc_state.specs.Hosts.{Host}
 use Rattle.sc_state.specs.declared.net.Net.{Net}
 use Rattle.sc_hosts.specs.EventLists.{waiting_in}
 use Rattle.sc_hosts.specs.Nets.{host_at, change_host}

@@ -43,7 +43,8 @@ fn owe_first(outs: &mut List<Held>, place: Place, text: Text) -> Result<(), NoMe
     ensures ok { OnOk result (IsKept (bytes_of outs.old) place (bytes_of outs.old place ++ text) (bytes_of outs.new)) }
     ensures err { OnErr result (outs.new ≡ outs.old) }
 {
-    outs.push(Held::new(place, text))?;
+    let held = Held::new(place, text)?;
+    outs.push(held)?;
     Ok(())
 }
 

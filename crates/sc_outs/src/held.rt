@@ -1,6 +1,6 @@
 //! What is left to be put to one place.
 
-ghost use Rattle.std.specs.Prelude.{◌≡◌, ◌≤◌, ◌++◌, ◌==◌, drop, length, OnOk, OnErr};
+ghost use Rattle.std.specs.Prelude.{◌≡◌, ◌≤◌, ◌++◌, ◌==◌, drop, length, IfOk, OnOk, OnErr};
 
 use sc_value::{NoMemory, Place, Text};
 use std::marker::Model;
@@ -25,15 +25,16 @@ impl Model for Held {
 }
 
 impl Held {
-    /// All of the text is left. Its bytes are moved and not copied.
-    pub fn new(place: Place, text: Text) -> Held
-        ensures { result ≡ record { place = place; left = text } }
+    /// All of the text is left. Its bytes are moved where nobody else owns them, else copied.
+    pub fn new(place: Place, text: Text) -> Result<Held, NoMemory>
+        ensures { IfOk result (λ held. held ≡ record { place = place; left = text }) }
     {
-        Held {
+        let bytes = text.into_vec()?;
+        Ok(Held {
             place,
-            bytes: text.into_vec(),
+            bytes,
             from: 0,
-        }
+        })
     }
 
     /// The place.

@@ -13,7 +13,7 @@ use sc_refusals::{is_ack, is_proxy, session_in};
 use sc_shown::{Shown, one_response, showing, silent};
 use sc_state::{Order, Session};
 use sc_terms::{Event, Role};
-use sc_value::{Boxed, CloneIn, List, NoMemory, Request, SessId, Shared};
+use sc_value::{CloneIn, List, NoMemory, Request, SessId, Shared};
 use std::alloc::Global;
 
 // An answer of the container to a request that has a To tag; an ACK has none.
@@ -67,7 +67,7 @@ fn taken_by(
     let req = next_id(session);
     received(alloc, session, number, sess, false, is_proxy(role), request)?;
     take_request(alloc, &mut session.known, sess, request.get())?;
-    let request = Boxed::new(alloc, request.get().clone_in(alloc)?)?;
+    let request = request.clone_in(alloc)?;
     let event = Event::Request { req, sess, request };
     Ok(showing(event, Some(req), List::new(alloc)))
 }

@@ -16,9 +16,7 @@ use sc_legs::session_for;
 use sc_shown::{Shown, branch_copy, prepared_branch, prepared_own, sent_copy, showing, silent};
 use sc_state::{Kept, Prepared, Proxy, Queued, Session, Waiting};
 use sc_terms::{Config, Event};
-use sc_value::{
-    Address, Boxed, CloneIn, List, NoMemory, Region, Request, Response, SessId, Shared, Text,
-};
+use sc_value::{Address, CloneIn, List, NoMemory, Region, Request, Response, SessId, Shared, Text};
 use std::alloc::Global;
 
 // The request that begins the application session.
@@ -41,7 +39,7 @@ fn initial(
     received(alloc, session, number, sess, true, false, request)?;
     let subscriber = subscriber.clone_in(alloc)?;
     let popped = popped.clone_in(alloc)?;
-    let request = Boxed::new(alloc, request.get().clone_in(alloc)?)?;
+    let request = request.clone_in(alloc)?;
     let event = Event::Initial {
         req,
         sess,
@@ -63,7 +61,7 @@ fn own_response(
 ) -> Result<Shown, NoMemory>
     ensures { IfOk result (λ s. prepared_response session.old branch response.now (Some kept.now) (find (has_branch branch) session.old.known.proxies) ≡ prepared_as session.new s) }
 {
-    prepared_own(alloc, session, kept, response.get())
+    prepared_own(alloc, session, kept, response)
 }
 
 #[tactic(auto, unfolding(sc_hosts::specs::PreparingResponses::prepared_response))]

@@ -1,6 +1,6 @@
 //! Which answer a request gets that asks for a session interval (RFC 4028 section 9).
 
-ghost use Rattle.std.specs.Prelude.{◌≡◌, ◌<◌, ◌∷◌, ◌||◌, [], false, nat_lt, Some, None, codes, decimal, option_and_then, if◌then◌else◌, OnOk};
+ghost use Rattle.std.specs.Prelude.{◌≡◌, ◌<◌, ◌∷◌, ◌||◌, [], false, nat_lt, Some, None, codes, decimal, option_and_then, if◌then◌else◌, IfOk, OnOk};
 ghost use Rattle.sc_hosts.specs.HelperParts.{answer_with, field};
 ghost use Rattle.sc_hosts.specs.RefusalParts.{MOST_CALLS};
 ghost use Rattle.sc_hosts.specs.Scripting.{only, param_at, small_number};
@@ -15,7 +15,8 @@ use sc_apps::{memory_of, param_at, shown, small_number};
 use sc_helpers::{answer_only, number_field, one};
 use sc_terms::View;
 use sc_turn::Turn;
-use sc_value::{NoMemory, ReqId, Request, SessId};
+use sc_value::{Field, List, NoMemory, ReqId, Request, SessId};
+use std::alloc::Global;
 
 fn number_param(view: &View) -> Option<u32>
     ensures { result ≡ option_and_then small_number (param_at view.entry.now 0) }
@@ -80,13 +81,19 @@ fn grant_by(
     }
 }
 
+fn least_field(alloc: Global, least: u32) -> Result<List<Field>, NoMemory>
+    ensures { IfOk result (λ fields. fields ≡ field (codes "Min-SE") (decimal least) ∷ []) }
+{
+    let field = number_field(alloc, b"Min-SE", u64::from(least))?;
+    one(alloc, field)
+}
+
 #[tactic(auto, unfolding(sc_hosts::specs::SessionTimers::too_small))]
 fn refuse(t: &mut Turn, req: ReqId, least: u32) -> Result<(), NoMemory>
     requires { (play_of t.old).listed < MOST_CALLS }
     ensures same { t.new.shown ≡ t.old.shown }
     ensures played { OnOk result (IsPlayed (only (answer_with req 422 too_small (field (codes "Min-SE") (decimal least) ∷ []))) t.old t.new) }
 {
-    let field = number_field(memory_of(t), b"Min-SE", u64::from(least))?;
-    let fields = one(memory_of(t), field)?;
+    let fields = least_field(memory_of(t), least)?;
     answer_only(t, req, 422, b"Session Interval Too Small", fields)
 }

@@ -5,8 +5,7 @@ use Rattle.std.proofs.lemmas.Bool.{false≢true}
 use Rattle.sc_tokens.specs.Names.{same_bytes}
 use Rattle.sc_grammar.specs.Written.{Bytes}
 use Rattle.sc_replay.specs.declared.commanding.Command.TheVariants.{Usage}
-use Rattle.sc_replay.specs.Commands.{command_of, counted_command, settled_command, scripted_command}
-use Rattle.sc_replay.specs.Making.{made_count, count_made}
+use Rattle.sc_replay.specs.Commands.{command_of, count_behind, counted, counted_command, settled_command, scripted_command}
 use Rattle.sc_replay.specs.Checking.{checked_names}
 
 pub two_words : {S : Type 0} (f : S → Bytes) (words : List S) (a b : S) → 2 ≤ length words → length words < 3 → a ≡ get_or words 0 a → b ≡ get_or words 1 b
@@ -49,28 +48,28 @@ many_words f (x ∷ y ∷ z ∷ []) least = absurd (omega (arith, least))
 many_words f (x ∷ y ∷ z ∷ v ∷ []) least = absurd (omega (arith, least))
 many_words f (x ∷ y ∷ z ∷ v ∷ w ∷ more) least = refl
 
--- ## `make`
+-- ## `make` and `trial`
 
-pub made_two : {S : Type 0} (f : S → Bytes) (words : List S) (a b : S) → 2 ≤ length words → length words < 3 → a ≡ get_or words 0 a → b ≡ get_or words 1 b
-    → count_made (f a) (f b) ≡ made_count (map f words)
-unfolding made_count
-made_two f [] a b least below first second = absurd (omega (arith, least))
-made_two f (x ∷ []) a b least below first second = absurd (omega (arith, least))
-made_two f (x ∷ y ∷ []) a b least below first second = ap (λ w. count_made (f w) (f b)) first ∙ ap (λ w. count_made (f x) (f w)) second
-made_two f (x ∷ y ∷ z ∷ more) a b least below first second = absurd (omega (arith, below))
+pub counted_two : {S : Type 0} (f : S → Bytes) (name : Bytes) (words : List S) (a b : S) → 2 ≤ length words → length words < 3 → a ≡ get_or words 0 a → b ≡ get_or words 1 b
+    → count_behind name (f a) (f b) ≡ counted name (map f words)
+unfolding counted
+counted_two f name [] a b least below first second = absurd (omega (arith, least))
+counted_two f name (x ∷ []) a b least below first second = absurd (omega (arith, least))
+counted_two f name (x ∷ y ∷ []) a b least below first second = ap (λ w. count_behind name (f w) (f b)) first ∙ ap (λ w. count_behind name (f x) (f w)) second
+counted_two f name (x ∷ y ∷ z ∷ more) a b least below first second = absurd (omega (arith, below))
 
-pub made_few : {S : Type 0} (f : S → Bytes) (words : List S) → length words < 2 → ◌≡◌ {A = Option ℕ} None (made_count (map f words))
-unfolding made_count
-made_few f [] below = refl
-made_few f (x ∷ []) below = refl
-made_few f (x ∷ y ∷ more) below = absurd (omega (arith, below))
+pub counted_few : {S : Type 0} (f : S → Bytes) (name : Bytes) (words : List S) → length words < 2 → ◌≡◌ {A = Option ℕ} None (counted name (map f words))
+unfolding counted
+counted_few f name [] below = refl
+counted_few f name (x ∷ []) below = refl
+counted_few f name (x ∷ y ∷ more) below = absurd (omega (arith, below))
 
-pub made_many : {S : Type 0} (f : S → Bytes) (words : List S) → 3 ≤ length words → ◌≡◌ {A = Option ℕ} None (made_count (map f words))
-unfolding made_count
-made_many f [] least = absurd (omega (arith, least))
-made_many f (x ∷ []) least = absurd (omega (arith, least))
-made_many f (x ∷ y ∷ []) least = absurd (omega (arith, least))
-made_many f (x ∷ y ∷ z ∷ more) least = refl
+pub counted_many : {S : Type 0} (f : S → Bytes) (name : Bytes) (words : List S) → 3 ≤ length words → ◌≡◌ {A = Option ℕ} None (counted name (map f words))
+unfolding counted
+counted_many f name [] least = absurd (omega (arith, least))
+counted_many f name (x ∷ []) least = absurd (omega (arith, least))
+counted_many f name (x ∷ y ∷ []) least = absurd (omega (arith, least))
+counted_many f name (x ∷ y ∷ z ∷ more) least = refl
 
 -- ## `check`
 

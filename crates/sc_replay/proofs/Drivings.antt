@@ -26,7 +26,7 @@ upto_from setup net kept [] taken follows = follows
 upto_from setup net kept (line ∷ later) taken (made, rest, after, taken_is, does, follows) =
     inr (made, rest, after, taken_is, does, upto_from setup (chained_from as_session setup net made) after later rest follows)
 
-upto_whole : (setup : Setup) (said : List Line) (journal : List Step) → Follows as_session setup said journal → Upto as_session setup said journal
+pub upto_whole : (setup : Setup) (said : List Line) (journal : List Step) → Follows as_session setup said journal → Upto as_session setup said journal
 unfolding Follows Upto
 upto_whole setup said journal follows = upto_from setup (start setup 0 0) no_bytes said journal follows
 

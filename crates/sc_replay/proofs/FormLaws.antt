@@ -8,9 +8,10 @@ use Rattle.sc_syntax.proofs.ListedLaws.{same_text}
 use Rattle.sc_replay.specs.declared.commanding.Command.{Command}
 use Rattle.sc_replay.specs.declared.commanding.Command.TheVariants.{Replay, Check, Make, Trial, Serve, Usage}
 use Rattle.sc_replay.specs.Checking.{checked_names}
-use Rattle.sc_replay.specs.Making.{made_count, count_made}
+use Rattle.sc_replay.specs.Making.{made_count}
 use Rattle.sc_replay.specs.Replaying.{IsReplay, replay_word}
-use Rattle.sc_replay.specs.Commands.{HasForm, IsNamed, command_of, count_in, counted_command, settled_command, scripted_command}
+use Rattle.sc_replay.specs.Trying.{tried_count}
+use Rattle.sc_replay.specs.Commands.{HasForm, IsCounted, IsNamed, command_of, count_in, counted, counted_command, settled_command, scripted_command}
 
 -- ## The command that is found has its form
 
@@ -59,7 +60,7 @@ form_only words Trial (count, n, number, is) = rw is (counted_is (codes "trial")
 form_only words Serve (config, dar, is) = rw is refl
 form_only words Usage none = absurd none
 
--- ## What `replay`, `check` and `make` take
+-- ## What `replay`, `check`, `make` and `trial` take
 
 form_of_command : (words : List Bytes) (command : Command) → ¬ (command ≡ Usage) → command_of words ≡ command → HasForm command words
 form_of_command words command other is = split (form_named words)
@@ -110,25 +111,36 @@ check_named words named = given (form_of_command words Check (λ e. false≢true
     given : HasForm Check words → is_some (checked_names words) ≡ true
     given (config, dar, are) = rw are refl
 
-make_if : (word count : Bytes) (is : Bool) (n : Option ℕ) → same_bytes word (codes "make") ≡ is → count_in count ≡ n → is_some (cond is n None) ≡ true → HasForm Make (word ∷ count ∷ [])
-unfolding HasForm
-make_if word count true (Some n) is number some = (count, n, number, ap (λ (w : Bytes). w ∷ count ∷ []) (same_text word (codes "make") is))
-make_if word count true None is number some = absurd (false≢true some)
-make_if word count false n is number some = absurd (false≢true some)
+counted_if : (name word count : Bytes) (is : Bool) (n : Option ℕ) → same_bytes word name ≡ is → count_in count ≡ n → is_some (cond is n None) ≡ true → IsCounted name (word ∷ count ∷ [])
+counted_if name word count true (Some n) is number some = (count, n, number, ap (λ (w : Bytes). w ∷ count ∷ []) (same_text word name is))
+counted_if name word count true None is number some = absurd (false≢true some)
+counted_if name word count false n is number some = absurd (false≢true some)
 
-make_form : (words : List Bytes) → is_some (made_count words) ≡ true → HasForm Make words
-unfolding made_count count_made
-make_form [] some = absurd (false≢true some)
-make_form (word ∷ []) some = absurd (false≢true some)
-make_form (word ∷ count ∷ []) some = make_if word count (same_bytes word (codes "make")) (count_in count) refl refl some
-make_form (word ∷ count ∷ next ∷ more) some = absurd (false≢true some)
+counted_form : (name : Bytes) (words : List Bytes) → is_some (counted name words) ≡ true → IsCounted name words
+unfolding counted
+counted_form name [] some = absurd (false≢true some)
+counted_form name (word ∷ []) some = absurd (false≢true some)
+counted_form name (word ∷ count ∷ []) some = counted_if name word count (same_bytes word name) (count_in count) refl refl some
+counted_form name (word ∷ count ∷ next ∷ more) some = absurd (false≢true some)
 
 pub make_taken : (words : List Bytes) → is_some (made_count words) ≡ true → command_of words ≡ Make
-make_taken words some = form_only words Make (make_form words some)
+unfolding HasForm
+make_taken words some = form_only words Make (counted_form (codes "make") words some)
 
 pub make_named : (words : List Bytes) → command_of words ≡ Make → is_some (made_count words) ≡ true
-unfolding HasForm made_count count_made
+unfolding HasForm counted
 make_named words named = given (form_of_command words Make (λ e. false≢true (ap is_usage e)) named)
   where
     given : HasForm Make words → is_some (made_count words) ≡ true
+    given (count, n, number, are) = rw are (rw number refl)
+
+pub trial_taken : (words : List Bytes) → is_some (tried_count words) ≡ true → command_of words ≡ Trial
+unfolding HasForm
+trial_taken words some = form_only words Trial (counted_form (codes "trial") words some)
+
+pub trial_named : (words : List Bytes) → command_of words ≡ Trial → is_some (tried_count words) ≡ true
+unfolding HasForm counted
+trial_named words named = given (form_of_command words Trial (λ e. false≢true (ap is_usage e)) named)
+  where
+    given : HasForm Trial words → is_some (tried_count words) ≡ true
     given (count, n, number, are) = rw are (rw number refl)

@@ -3,10 +3,14 @@ pub mod CommandLaws
 pub mod Drivings
 pub mod Endings
 pub mod FormLaws
+pub mod MadeScripts
+pub mod MadeSizes
 pub mod Ranges
 pub mod Readings
 pub mod Replayings
+pub mod ScriptRows
 pub mod Settled
 pub mod TableLengths
+pub mod Tryings
 pub mod Words
 pub mod Writings

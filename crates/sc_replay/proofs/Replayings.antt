@@ -13,6 +13,7 @@ use Rattle.sc_moments.proofs.FollowTicks.{follows-ticks}
 use Rattle.sc_runs.specs.Outputs.{output}
 use Rattle.sc_journal.specs.Kept.{Kept}
 use Rattle.sc_switch.specs.declared.ran.Ran.{Ran}
+use Rattle.sc_switch.specs.declared.ran.Status.{Status}
 use Rattle.sc_switch.specs.Standing.{Known, whole}
 use Rattle.sc_switch.specs.declared.ran.Status.TheVariants as statuses
 use Rattle.sc_replay.specs.declared.running.RunRefused.TheVariants as runs
@@ -40,16 +41,23 @@ pub comes_write : (setup : Setup) (told : Option Bytes) (read write : Type 0) (a
 unfolding IsCutShort ComesIn
 comes_write setup told read write a b said journal (rose, follows, put) = rose
 
+-- the journal of a run that has one
+pub the_journal : (taken : List Step) (found : Option (Kept Step)) → is_some found ≡ true → IfSome found (λ journal. journal.items ≡ taken) → (journal : Kept Step) × (found ≡ Some journal) × (journal.items ≡ taken)
+the_journal taken None none items = absurd (grind (arith, none))
+the_journal taken (Some journal) some items = (journal, refl, items)
+
 -- a run of a switch, with its journal
-pub ran_on : (setup : Setup) (told : Option Bytes) (read write : Type 0) (a b : Option Bytes) (ran : Ran) (known : Known) (journal : Kept Step) → ran.journal ≡ Some journal → known.setup ≡ setup → known.epoch ≡ 0 → known.began ≡ 0 → known.handed ≡ [] → journal.items ≡ known.journal
-    → IsLawful as_session known.setup known.epoch known.began (whole known) → ComesIn setup told read write ran.status → Leaves setup told write a b ran.status known.journal → IsRan setup told read write a b ran
-ran_on setup told read write a b ran known journal journal_is setup_is epoch began handed items_is lawful comes leaves = record {
-  journal = journal;
-  journal_is = journal_is;
-  comes = comes;
-  lawful = rw (← setup_is, items_is) (rw (epoch, began, handed) at lawful);
-  leaves = subst (λ (items : List Step). Leaves setup told write a b ran.status items) (sym items_is) leaves;
-}
+pub ran_on : (setup : Setup) (told : Option Bytes) (read write : Type 0) (a b : Option Bytes) (status : Status) (ran : Ran) (known : Known) → ran.status ≡ status → is_some ran.journal ≡ true → IfSome ran.journal (λ journal. journal.items ≡ known.journal) → known.setup ≡ setup → known.epoch ≡ 0 → known.began ≡ 0
+    → known.handed ≡ [] → IsLawful as_session known.setup known.epoch known.began (whole known) → ComesIn setup told read write status → Leaves setup told write a b status known.journal → IsRan setup told read write a b ran
+ran_on setup told read write a b status ran known status_is some items setup_is epoch began handed lawful comes leaves =
+    let (journal, journal_is, items_is) = the_journal known.journal ran.journal some items in
+    record {
+      journal = journal;
+      journal_is = journal_is;
+      comes = rw status_is comes;
+      lawful = rw (← setup_is, items_is) (rw (epoch, began, handed) at lawful);
+      leaves = rw (status_is, items_is) leaves;
+    }
 
 -- ## A switch that was made
 
@@ -69,11 +77,6 @@ ran_not setup told read write a ran status_is journal journal_is items_is = reco
   lawful = rw items_is tt;
   leaves = rw status_is (inr (items_is, refl));
 }
-
--- the journal of a run that has one
-pub the_journal : (found : Option (Kept Step)) → is_some found ≡ true → IfSome found (λ journal. journal.items ≡ []) → (journal : Kept Step) × (found ≡ Some journal) × (journal.items ≡ [])
-the_journal None none items = absurd (grind (arith, none))
-the_journal (Some journal) some items = (journal, refl, items)
 
 pub ran_for : (made setup : Setup) (told : Option Bytes) (read write : Type 0) (a b : Option Bytes) (ran : Ran) → made ≡ setup → IsRan made told read write a b ran → IsRan setup told read write a b ran
 ran_for made setup told read write a b ran same is = subst (λ (s : Setup). IsRan s told read write a b ran) same is

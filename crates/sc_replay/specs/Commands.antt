@@ -14,6 +14,14 @@ if_positive n = if nat_le 1 n then Some n else None
 unfoldable pub count_in : Bytes → Option ℕ
 count_in text = option_and_then if_positive (decimal_upto 1000 text)
 
+abbrev pub count_behind : Bytes → Bytes → Bytes → Option ℕ
+count_behind name word count = if same_bytes word name then count_in count else None
+
+-- the N of `NAME N`, none of other words
+unfoldable pub counted : Bytes → List Bytes → Option ℕ
+counted name (word ∷ count ∷ []) = count_behind name word count
+counted name words = None
+
 -- the word, and the number of a command
 abbrev pub IsCounted : Bytes → List Bytes → Type 0
 IsCounted word words = (count : Bytes) × (n : ℕ) × (count_in count ≡ Some n) × (words ≡ word ∷ count ∷ [])

@@ -4,3 +4,4 @@ pub mod Making
 pub mod Putting
 pub mod Replaying
 pub mod Running
+pub mod Trying

@@ -1,20 +1,15 @@
 -- What `make` promises.
-use Rattle.std.specs.Prelude.{◌≡◌, ℕ, Option, Some, None, List, [], ◌∷◌, codes, if◌then◌else◌}
-use Rattle.sc_tokens.specs.Names.{same_bytes}
+use Rattle.std.specs.Prelude.{◌≡◌, ℕ, Option, Some, None, List, codes}
 use Rattle.sc_grammar.specs.Written.{Bytes}
 use Rattle.sc_model.specs.Generated.{generated}
 use Rattle.sc_switch.specs.declared.ran.Status.{Status}
 use Rattle.sc_switch.specs.declared.ran.Status.TheVariants as statuses
-use Rattle.sc_replay.specs.Commands.{count_in}
+use Rattle.sc_replay.specs.Commands.{counted}
 use Rattle.sc_replay.specs.Putting.{IsPut}
 
-unfoldable pub count_made : Bytes → Bytes → Option ℕ
-count_made word count = if same_bytes word (codes "make") then count_in count else None
-
 -- the N of `make N`, none of other words
-unfoldable pub made_count : List Bytes → Option ℕ
-made_count (word ∷ count ∷ []) = count_made word count
-made_count words = None
+abbrev pub made_count : List Bytes → Option ℕ
+made_count words = counted (codes "make") words
 
 -- how it ends, and what the sink then took
 unfoldable pub Makes : Option ℕ → Type 0 → Option Bytes → Option Bytes → Status → Type 0

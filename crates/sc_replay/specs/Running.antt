@@ -1,7 +1,6 @@
 -- What the parts of `replay` answer.
 use Rattle.std.specs.Prelude.{◌≡◌, ◌⊎◌, List, Option, Some}
 use Rattle.sc_terms.specs.declared.steps.Line.{Line}
-use Rattle.sc_terms.specs.declared.steps.Line.TheVariants as lines
 use Rattle.sc_terms.specs.declared.steps.Step.{Step}
 use Rattle.sc_parts.specs.declared.setup.Setup.{Setup}
 use Rattle.sc_grammar.specs.Written.{Bytes}
@@ -12,7 +11,6 @@ use Rattle.sc_hosts.specs.Runs.{IsLawful}
 use Rattle.sc_runs.specs.Following.{Follows, Upto}
 use Rattle.sc_runs.specs.Outputs.{journal_records, output}
 use Rattle.sc_follow.specs.Leading.{IsDueWithoutRoom}
-use Rattle.sc_switch.specs.declared.refused.StepRefused.TheVariants as refused
 use Rattle.sc_switch.specs.declared.ran.Ran.{Ran}
 use Rattle.sc_switch.specs.declared.ran.Status.{Status}
 use Rattle.sc_switch.specs.declared.ran.Status.TheVariants as statuses

@@ -5,8 +5,9 @@ ghost use Rattle.sc_grammar.specs.Written.{Bytes};
 ghost use Rattle.sc_replay.specs.Checking.{checked_names};
 ghost use Rattle.sc_replay.specs.Making.{made_count};
 ghost use Rattle.sc_replay.specs.Replaying.{IsReplay};
+ghost use Rattle.sc_replay.specs.Trying.{tried_count};
 ghost use Rattle.sc_tokens.specs.Names.{same_bytes};
-ghost use Rattle.sc_replay.specs.Commands.{HasForm, IsNamed, command_of, count_in, counted_command, settled_command, scripted_command};
+ghost use Rattle.sc_replay.specs.Commands.{HasForm, IsNamed, command_of, count_behind, count_in, counted, counted_command, settled_command, scripted_command};
 ghost use Rattle.sc_replay.specs.declared.commanding.Command.{Command};
 
 use sc_script::decimal_upto;
@@ -39,9 +40,9 @@ pub fn command_of(words: &[String]) -> Command
     form_of(words)
 }
 
-/// `replay`, `check` and `make` take exactly the words that are named so. The contract is the law, and the
-/// call does nothing.
-#[tactic(auto, using(crate::proofs::FormLaws::replay_taken, crate::proofs::FormLaws::replay_named, crate::proofs::FormLaws::check_taken, crate::proofs::FormLaws::check_named, crate::proofs::FormLaws::make_taken, crate::proofs::FormLaws::make_named))]
+/// `replay`, `check`, `make` and `trial` take exactly the words that are named so. The contract is the law,
+/// and the call does nothing.
+#[tactic(auto, using(crate::proofs::FormLaws::replay_taken, crate::proofs::FormLaws::replay_named, crate::proofs::FormLaws::check_taken, crate::proofs::FormLaws::check_named, crate::proofs::FormLaws::make_taken, crate::proofs::FormLaws::make_named, crate::proofs::FormLaws::trial_taken, crate::proofs::FormLaws::trial_named))]
 pub fn commands_are_named()
     ensures replays { (words : List Bytes) → IsReplay words → command_of words ≡ Command.Replay }
     ensures replay { (words : List Bytes) → command_of words ≡ Command.Replay → IsReplay words }
@@ -49,6 +50,8 @@ pub fn commands_are_named()
     ensures check { (words : List Bytes) → command_of words ≡ Command.Check → is_some (checked_names words) ≡ true }
     ensures makes { (words : List Bytes) → is_some (made_count words) ≡ true → command_of words ≡ Command.Make }
     ensures make { (words : List Bytes) → command_of words ≡ Command.Make → is_some (made_count words) ≡ true }
+    ensures trials { (words : List Bytes) → is_some (tried_count words) ≡ true → command_of words ≡ Command.Trial }
+    ensures trial { (words : List Bytes) → command_of words ≡ Command.Trial → is_some (tried_count words) ≡ true }
 {}
 
 // The command by its first word and the number of words.
@@ -114,6 +117,30 @@ pub fn count_in(word: &[u8]) -> Option<u32>
     match decimal_upto(1000, word) {
         Some(count) if count >= 1 => Some(count as u32),
         _ => None,
+    }
+}
+
+/// The N of the words `NAME N`, None exactly where the words aren't these.
+pub fn counted(name: &[u8], words: &[String]) -> Option<u32>
+    ensures exact { result ≡ counted name.now (map string_bytes words.now) }
+    ensures least { IfSome result (λ n. 1 ≤ n) }
+    ensures most { IfSome result (λ n. n ≤ 1000) }
+{
+    let [word, count] = words else {
+        return None;
+    };
+    count_behind(name, word.as_bytes(), count.as_bytes())
+}
+
+fn count_behind(name: &[u8], word: &[u8], count: &[u8]) -> Option<u32>
+    ensures exact { result ≡ count_behind name.now word.now count.now }
+    ensures least { IfSome result (λ n. 1 ≤ n) }
+    ensures most { IfSome result (λ n. n ≤ 1000) }
+{
+    if is_word(word, name) {
+        count_in(count)
+    } else {
+        None
     }
 }
 

@@ -1,5 +1,5 @@
 //! The commands: `replay` runs a script on a switch and writes what it sent, `check` reads the
-//! settings alone, and `make` writes a script.
+//! settings alone, `make` writes a script, and `trial` runs such a script with settings of its own.
 #![tactic(auto)]
 
 mod checking;
@@ -10,6 +10,7 @@ mod reading;
 mod replaying;
 mod running;
 mod settings;
+mod trying;
 mod writing;
 
 pub use checking::check;
@@ -18,3 +19,4 @@ pub use making::make;
 pub use replaying::replay;
 pub use sc_switch::{Ran, Status};
 pub use settings::{Settings, read_settings};
+pub use trying::trial;

@@ -1,12 +1,12 @@
 //! The command `make`.
 
-ghost use Rattle.std.specs.Prelude.{◌≡◌, ◌≤◌, None, IfSome, map, string_bytes};
+ghost use Rattle.std.specs.Prelude.{◌≡◌, ◌≤◌, None, map, string_bytes};
 ghost use Rattle.sc_edge.specs.Faults.{Rose};
 ghost use Rattle.sc_model.specs.Generated.{generated};
-ghost use Rattle.sc_replay.specs.Making.{Makes, count_made, made_count};
+ghost use Rattle.sc_replay.specs.Making.{Makes, made_count};
 ghost use Rattle.sc_replay.specs.Putting.{IsPut};
 
-use crate::commanding::{count_in, is_word};
+use crate::commanding::counted;
 use crate::putting::{ended, put_whole};
 use sc_edge::Sink;
 use sc_make::script;
@@ -32,34 +32,9 @@ pub fn make<K: Sink>(alloc: Global, words: &[String], out: &mut K) -> Ran
     ensures epoch { result.epoch ≡ 0 }
     ensures began { result.began ≡ 0 }
 {
-    match made_count(words) {
+    match counted(b"make", words) {
         Some(count) => ended(put_script(alloc, count, out)),
         None => ended(Status::Usage),
-    }
-}
-
-/// The N of `make N`, None exactly where the words aren't this.
-fn made_count(words: &[String]) -> Option<u32>
-    ensures exact { result ≡ made_count (map string_bytes words.now) }
-    ensures least { IfSome result (λ n. 1 ≤ n) }
-    ensures most { IfSome result (λ n. n ≤ 1000) }
-{
-    let [word, count] = words else {
-        return None;
-    };
-    count_made(word.as_bytes(), count.as_bytes())
-}
-
-#[tactic(auto, unfolding(crate::specs::Making::count_made))]
-fn count_made(word: &[u8], count: &[u8]) -> Option<u32>
-    ensures exact { result ≡ count_made word.now count.now }
-    ensures least { IfSome result (λ n. 1 ≤ n) }
-    ensures most { IfSome result (λ n. n ≤ 1000) }
-{
-    if is_word(word, b"make") {
-        count_in(count)
-    } else {
-        None
     }
 }
 

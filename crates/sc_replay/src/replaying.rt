@@ -1,6 +1,6 @@
 //! The command `replay`.
 
-ghost use Rattle.std.specs.Prelude.{◌≡◌, ◌↔◌, ◌≤◌, [], true, None, IfSome, is_some, get_or, map, option_map, string_bytes, IsTrue};
+ghost use Rattle.std.specs.Prelude.{◌≡◌, ◌↔◌, ◌≤◌, [], None, IfSome, is_some, get_or, map, option_map, string_bytes, IsTrue};
 ghost use Rattle.sc_servlets.specs.Stated.{both_charters};
 ghost use Rattle.sc_edge.specs.Faults.{Rose};
 ghost use Rattle.sc_model.specs.Settings.{IsSetup};
@@ -8,11 +8,11 @@ ghost use Rattle.sc_replay.specs.Replaying.{IsReplay, ComesIn, Ends, Leaves, tol
 ghost use Rattle.sc_follow.specs.Leading.{IsNew};
 ghost use Rattle.sc_replay.specs.Running.{IsRan};
 
+use crate::putting::{ended, not_started, run_ended};
 use crate::reading::{ScriptUnread, read_script};
 use crate::running::{RunRefused, drive};
 use crate::settings::{Settings, read_settings};
 use sc_edge::{Shelf, Sink};
-use sc_journal::Journal;
 use sc_servlets::Catalogue;
 use sc_switch::{Ran, Status, Switch};
 use sc_value::NoMemory;
@@ -53,7 +53,7 @@ pub fn replay<F: Shelf, K: Sink>(
         Some((config, dar, script)) => {
             replay_texts(alloc, config, dar, script, shelf, apps, out)
         }
-        None => without_journal(Status::Usage),
+        None => ended(Status::Usage),
     }
 }
 
@@ -90,7 +90,7 @@ fn replay_texts<F: Shelf, K: Sink>(
 {
     match read_settings(alloc, config, dar, shelf, apps.names()) {
         Ok(settings) => replay_over(alloc, settings, script, shelf, apps, out),
-        Err(status) => without_journal(status),
+        Err(status) => ended(status),
     }
 }
 
@@ -116,22 +116,6 @@ fn replay_over<F: Shelf, K: Sink>(
     }
 }
 
-/// The end of a run for which no switch could be made: its journal is empty.
-fn not_started(alloc: Global) -> Ran
-    ensures status { result.status ≡ Status.NoMemory }
-    ensures journal { IfSome result.journal (λ journal. journal.items ≡ []) }
-    ensures some { is_some result.journal ≡ true }
-    ensures epoch { result.epoch ≡ 0 }
-    ensures began { result.began ≡ 0 }
-{
-    Ran {
-        status: Status::NoMemory,
-        epoch: 0,
-        began: 0,
-        journal: Some(Journal::new(alloc, 1_000_000, 67_108_864)),
-    }
-}
-
 /// Runs the script of this name on a switch that took no step.
 fn replay_on<F: Shelf, K: Sink>(
     alloc: Global,
@@ -150,13 +134,7 @@ fn replay_on<F: Shelf, K: Sink>(
     ensures began { result.began ≡ 0 }
 {
     let status = run_script(alloc, &mut switch, name, shelf, apps, out);
-    let _ = switch.journal();
-    Ran {
-        status,
-        epoch: 0,
-        began: 0,
-        journal: Some(switch.into_journal()),
-    }
+    run_ended(status, switch)
 }
 
 /// Reads the script of this name and runs it.
@@ -190,21 +168,6 @@ fn run_script<F: Shelf, K: Sink>(
         Err(ScriptUnread::Failed) => Status::Read,
         Err(ScriptUnread::Refused { at, kind }) => Status::Script { at, kind },
         Err(ScriptUnread::NoMemory) => Status::NoMemory,
-    }
-}
-
-/// The end of a call whose words or settings were not accepted.
-fn without_journal(status: Status) -> Ran
-    ensures status { result.status ≡ status }
-    ensures journal { result.journal ≡ None }
-    ensures epoch { result.epoch ≡ 0 }
-    ensures began { result.began ≡ 0 }
-{
-    Ran {
-        status,
-        epoch: 0,
-        began: 0,
-        journal: None,
     }
 }
 

@@ -1,6 +1,6 @@
 //! Reading the configuration and the routing table.
 
-ghost use Rattle.std.specs.Prelude.{◌≡◌, ◌≤◌, ◌++◌, ℕ, List, [], Option, IfOk, IfErr, OnOk, length, map, string_bytes};
+ghost use Rattle.std.specs.Prelude.{◌≡◌, ◌≤◌, ◌++◌, ℕ, List, [], Option, Some, IfOk, IfErr, OnOk, length, map, string_bytes};
 ghost use Rattle.std.specs.List.{All};
 ghost use Rattle.sc_edge.specs.Faults.{Rose};
 ghost use Rattle.sc_edge.specs.Shelving.{GivesAll};
@@ -52,6 +52,44 @@ pub fn read_settings<F: Shelf>(
     match read_config(alloc, config, shelf, kinds) {
         Ok(config) => with_table(alloc, config, dar, shelf),
         Err(status) => Err(status),
+    }
+}
+
+/// The settings of a configuration's and a routing table's text. `kinds` are the names of the kinds of
+/// applications.
+///
+/// # Errors
+///
+/// `Config` where the configuration's text is refused so; else `Dar` where the routing table's text is
+/// refused so for its applications; and `NoMemory`.
+pub fn settings_of(
+    alloc: Global,
+    config: &Text,
+    dar: &Text,
+    kinds: &List<Text>,
+) -> Result<Settings, Status>
+    ensures config { IfOk result (λ settings. TellsConfig kinds.now (Some config.now) settings.config) }
+    ensures table { IfOk result (λ settings. TellsTable (app_names settings.config) (Some dar.now) settings.dar) }
+    ensures unset { IfErr result (λ status. IsUnset kinds.now (Some config.now) (Some dar.now) ⊥ status) }
+{
+    match config_of(alloc, config, kinds) {
+        Ok(config) => with_table_of(alloc, config, dar),
+        Err(status) => Err(status),
+    }
+}
+
+/// The settings of this configuration and of the routing table of this text.
+fn with_table_of(alloc: Global, config: Config, text: &Text) -> Result<Settings, Status>
+    ensures config { IfOk result (λ settings. settings.config ≡ config) }
+    ensures table { IfOk result (λ settings. TellsTable (app_names config) (Some text.now) settings.dar) }
+    ensures unread { IfErr result (λ status. IsTableUnread (app_names config) (Some text.now) ⊥ status) }
+{
+    match table_of(alloc, text, config.app.as_slice()) {
+        Ok(dar) => Ok(Settings { config, dar }),
+        Err(status) => {
+            drop(config);
+            Err(status)
+        }
     }
 }
 

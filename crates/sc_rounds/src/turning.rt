@@ -1,4 +1,4 @@
-//! What makes steps that aren't heard: turns, moments and orders.
+//! What makes steps that aren't heard: moments and orders.
 
 ghost use Rattle.std.specs.Prelude.{◌≡◌, OnOk, OnErr};
 ghost use Rattle.sc_rounds.specs.Moving.{Breaks, Moves};
@@ -6,83 +6,16 @@ ghost use Rattle.sc_rounds.specs.Moving.{Breaks, Moves};
 use crate::stepping::Core;
 use sc_edge::{Clock, Notice, Order, Orders};
 use sc_journal::Journal;
-use sc_servlets::{Catalogue, Lease};
 use sc_switch::StepRefused;
 use sc_terms::Step;
-use sc_value::{Discard, NoMemory};
-
-/// How many turns a round takes at most.
-const MOST_TURNS: u64 = 64;
-
-/// Makes turns that are due, 64 at most: whether one was taken.
-///
-/// # Errors
-///
-/// `JournalFull` where the journal has no room for a turn, and `NoMemory`. The steps before it stand.
-pub fn take_turns<N: Notice<Journal<Step>>>(
-    core: &mut Core,
-    notice: &mut N,
-    apps: &Catalogue,
-) -> Result<bool, StepRefused>
-    ensures ok { OnOk result (Moves core.old core.new (N.noted notice.old) (N.noted notice.new)) }
-    ensures err { OnErr result (Breaks core.old core.new (N.noted notice.old) (N.noted notice.new)) }
-{
-    let mut some = false;
-    for _ in 0..MOST_TURNS {
-        if !take_turn(core, notice, apps)? {
-            return Ok(some);
-        }
-        some = true;
-    }
-    Ok(some)
-}
-
-/// Makes the turn of the first event that waits: whether one was taken.
-fn take_turn<N: Notice<Journal<Step>>>(
-    core: &mut Core,
-    notice: &mut N,
-    apps: &Catalogue,
-) -> Result<bool, StepRefused>
-    ensures ok { OnOk result (Moves core.old core.new (N.noted notice.old) (N.noted notice.new)) }
-    ensures err { OnErr result (Breaks core.old core.new (N.noted notice.old) (N.noted notice.new)) }
-{
-    if !core.is_turn_due() {
-        return Ok(false);
-    }
-    match core.lease() {
-        Ok(Some(lease)) => make_turn(core, notice, apps, lease),
-        Ok(None) => Ok(false),
-        Err(NoMemory) => Err(StepRefused::NoMemory),
-    }
-}
-
-/// Makes the turn of a lease. A kind that the catalogue hasn't makes none.
-fn make_turn<N: Notice<Journal<Step>>>(
-    core: &mut Core,
-    notice: &mut N,
-    apps: &Catalogue,
-    lease: Lease,
-) -> Result<bool, StepRefused>
-    ensures ok { OnOk result (Moves core.old core.new (N.noted notice.old) (N.noted notice.new)) }
-    ensures err { OnErr result (Breaks core.old core.new (N.noted notice.old) (N.noted notice.new)) }
-{
-    if lease.kind >= apps.kinds.len() {
-        lease.discard();
-        return Ok(false);
-    }
-    let done = apps.react(core.alloc, lease);
-    match core.commit(notice, done) {
-        Ok(_) => Ok(true),
-        Err(cause) => Err(cause),
-    }
-}
+use sc_value::NoMemory;
 
 /// Takes one order, if there is one: whether a session was withdrawn. An order of another epoch withdraws
 /// nothing.
 ///
 /// # Errors
 ///
-/// As of `take_turns`.
+/// `JournalFull` where the journal has no room for the step, and `NoMemory`.
 pub fn take_order<O: Orders, N: Notice<Journal<Step>>>(
     core: &mut Core,
     notice: &mut N,
@@ -115,7 +48,7 @@ fn withdraw<N: Notice<Journal<Step>>>(
 ///
 /// # Errors
 ///
-/// As of `take_turns`.
+/// As of `take_order`.
 pub fn take_moment<T: Clock, N: Notice<Journal<Step>>>(
     core: &mut Core,
     notice: &mut N,

@@ -241,6 +241,21 @@ fn sends_initial(
     begins(alloc, config, draft.directive, sess, request, working)
 }
 
+// An initial request, as it leaves from here.
+fn sends_asked(
+    alloc: Global,
+    config: &Config,
+    draft: &Written,
+    sess: SessId,
+    request: &Shared<Request>,
+    working: &mut Working,
+) -> Result<(), NoMemory>
+    ensures { OnOk result (working.new ≡ sends_initial config.now draft.now sess (from_here config.now working.old.play.view request.now) working.old) }
+{
+    let made = made_here(alloc, config, &working.play.view, request)?;
+    sends_initial(alloc, config, draft, sess, made, working)
+}
+
 #[tactic(auto, unfolding(sc_hosts::specs::Working::sends_written))]
 fn sends_written(
     alloc: Global,
@@ -252,10 +267,7 @@ fn sends_written(
     ensures { OnOk result (working.new ≡ sends_written config.now draft.now sess draft.now.asked working.old) }
 {
     match &draft.asked {
-        Asked::Initial(request) => {
-            let made = made_here(alloc, config, &working.play.view, request)?;
-            sends_initial(alloc, config, draft, sess, made, working)
-        }
+        Asked::Initial(request) => sends_asked(alloc, config, draft, sess, request, working),
         Asked::Later(ask) => sends_in(alloc, config, sess, ask, working),
     }
 }

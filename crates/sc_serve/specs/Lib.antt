@@ -1,4 +1,3 @@
 pub mod Closing
 pub mod Running
-pub mod Seated
 pub mod Served

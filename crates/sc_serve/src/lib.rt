@@ -3,11 +3,9 @@
 
 mod beginning;
 mod closing;
-mod lending;
 mod naming;
 mod rounds;
 mod running;
-mod seat;
 mod server;
 mod serving;
 mod stop;

@@ -6,12 +6,11 @@ ghost use Rattle.sc_serve.specs.Running.{Blames, Goes, Halts};
 ghost use Rattle.sc_edge.specs.declared.edge.Got.TheVariants as answers;
 
 use crate::closing::close_broken;
-use crate::lending::work_once;
-use crate::seat::Seat;
 use crate::server::Server;
 use crate::stop::{Stop, stop_of};
 use sc_edge::{Clock, Edge, Got, Notice, Orders};
 use sc_journal::Journal;
+use sc_lending::{Seat, work_once};
 use sc_rounds::{Went, list, put_place, take_got, take_moment, take_order};
 use sc_servlets::Catalogue;
 use sc_terms::Step;

@@ -7,12 +7,12 @@ ghost use Rattle.sc_board.specs.Boards.{IsOf, MayWork, jobs_of};
 ghost use Rattle.sc_serve.specs.Running.{Blames, Finishes, Halts};
 
 use crate::rounds::round;
-use crate::seat::{Seat, await_at, dismiss_at};
 use crate::server::Server;
 use crate::stop::Stop;
 use sc_board::{Board, BoardPass, beside_crew};
 use sc_edge::{Clock, Edge, Gate, Notice, Orders};
 use sc_journal::Journal;
+use sc_lending::{Seat, await_at, dismiss_at};
 use sc_rounds::end_epoch;
 use sc_servlets::Catalogue;
 use sc_terms::{Step, Within};

@@ -1,10 +1,9 @@
 //! When a run is over.
 
-use crate::letters::Letter::{First, Odd, Second};
-use crate::rows::Come::{All, End, Failed, Fault, Front, NotYet};
-use crate::rows::{EMPTY, Row};
-use crate::running::hold;
 use sc_edge::Share;
+use sc_serve_rows::Come::{All, End, Failed, Fault, Front, NotYet};
+use sc_serve_rows::Letter::{First, Odd, Second};
+use sc_serve_rows::{EMPTY, Row, hold};
 use std::test::Fail;
 
 const SLOW_ROWS: [Row; 5] = [

@@ -1,10 +1,9 @@
 //! Connections, listeners and puts that fail, and texts that are no messages.
 
-use crate::letters::Letter::{First, Nameless, Odd, Second};
-use crate::rows::Come::{All, Back, Both, Failed, Fault, Front, NotYet};
-use crate::rows::{EMPTY, Row};
-use crate::running::hold;
 use sc_edge::Share;
+use sc_serve_rows::Come::{All, Back, Both, Failed, Fault, Front, NotYet};
+use sc_serve_rows::Letter::{First, Nameless, Odd, Second};
+use sc_serve_rows::{EMPTY, Row, hold};
 use std::test::Fail;
 
 const BAD_ROWS: [Row; 5] = [

@@ -1,9 +1,8 @@
 //! Requests in one piece and in several.
 
-use crate::letters::Letter::{First, Second};
-use crate::rows::Come::{All, Back, Both, Front, NotYet};
-use crate::rows::{EMPTY, Row};
-use crate::running::hold;
+use sc_serve_rows::Come::{All, Back, Both, Front, NotYet};
+use sc_serve_rows::Letter::{First, Second};
+use sc_serve_rows::{EMPTY, Row, hold};
 use std::test::Fail;
 
 const ROWS: [Row; 4] = [

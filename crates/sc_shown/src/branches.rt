@@ -19,18 +19,18 @@ use sc_legs::{is_invalid, leg_of, take_answer};
 use sc_refusals::request_place;
 use sc_state::{Known, Proxy, Session};
 use sc_terms::{Event, ProxyOptions, RequestView, SessionView, View};
-use sc_value::{Boxed, CloneIn, List, NoMemory, ReqId, Response, SessId, Shared};
+use sc_value::{CloneIn, List, NoMemory, ReqId, Response, SessId, Shared};
 use std::alloc::Global;
 
 fn branch_event(
     alloc: Global,
     req: ReqId,
     sess: SessId,
-    response: &Response,
+    response: &Shared<Response>,
 ) -> Result<Event, NoMemory>
     ensures { IfOk result (λ e. e ≡ Event.Branch req sess response.now) }
 {
-    let response = Boxed::new(alloc, response.clone_in(alloc)?)?;
+    let response = response.clone_in(alloc)?;
     Ok(Event::Branch {
         req,
         sess,
@@ -44,12 +44,12 @@ fn told(
     alloc: Global,
     proxy: &Proxy,
     branch: u64,
-    response: &Response,
+    response: &Shared<Response>,
     sess: SessId,
 ) -> Result<Event, NoMemory>
     ensures { IfOk result (λ e. e ≡ told proxy.now branch response.now sess) }
 {
-    if is_told_whole(alloc, branch, response, proxy)? {
+    if is_told_whole(alloc, branch, response.get(), proxy)? {
         return response_event(alloc, proxy.req, sess, response);
     }
     branch_event(alloc, proxy.req, sess, response)
@@ -209,7 +209,7 @@ fn heard_in(
     if !watched {
         return Ok(silent(List::new(alloc)));
     }
-    let event = told(alloc, proxy, branch, response.get(), sess)?;
+    let event = told(alloc, proxy, branch, response, sess)?;
     Ok(showing_in(&session.view, sess, event, None, List::new(alloc)))
 }
 

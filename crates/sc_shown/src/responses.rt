@@ -1,10 +1,11 @@
 //! A response to a request of one's own (RFC 3261 section 13.2.2, JSR 289 section 6.2).
 
-ghost use Rattle.std.specs.Prelude.{◌≡◌, false, is_some, IfOk, OnOk};
+ghost use Rattle.std.specs.Prelude.{◌≡◌, [], false, None, is_some, IfOk, OnOk};
 ghost use Rattle.std.specs.Option.{option_map_or};
 ghost use Rattle.sc_terms.specs.declared.events.Event.{Event};
 ghost use Rattle.sc_model.specs.Dialogs.{tag_of};
 ghost use Rattle.sc_model.specs.Transactions.{is_success};
+ghost use Rattle.sc_hosts.specs.PreparingRequests.{showing};
 ghost use Rattle.sc_hosts.specs.ViewChanges.{answered_in, tidy};
 ghost use Rattle.sc_hosts.specs.Looking.{change_request, request_in, session_in};
 ghost use Rattle.sc_hosts.specs.PreparingResponses.{accepts_invite, is_first_success, noted_final, placed, prepared_own, responded, responded_again, responded_in, settled_legs, shown_again, with_success};
@@ -20,7 +21,7 @@ use sc_legs::take_answer;
 use sc_refusals::{is_gone_in, is_invite};
 use sc_state::{Kept, Session};
 use sc_terms::{Event, RequestView, SessionView, View};
-use sc_value::{Boxed, CloneIn, List, NoMemory, ReqId, Response, SessId, tag};
+use sc_value::{CloneIn, List, NoMemory, ReqId, Response, SessId, Shared, tag};
 use std::alloc::Global;
 
 /// A response as it is shown.
@@ -28,11 +29,11 @@ pub fn response_event(
     alloc: Global,
     req: ReqId,
     sess: SessId,
-    response: &Response,
+    response: &Shared<Response>,
 ) -> Result<Event, NoMemory>
     ensures { IfOk result (λ e. e ≡ Event.Response req sess response.now) }
 {
-    let response = Boxed::new(alloc, response.clone_in(alloc)?)?;
+    let response = response.clone_in(alloc)?;
     Ok(Event::Response {
         req,
         sess,
@@ -125,25 +126,40 @@ fn noted_final(session: &mut Session, req: ReqId, code: u16)
     final_noted(&mut session.view, req, code);
 }
 
+// A response handled in this SipSession and shown.
+#[tactic(auto, unfolding(sc_hosts::specs::PreparingRequests::showing))]
+fn responded_shown(
+    alloc: Global,
+    session: &mut Session,
+    kept: &Kept,
+    request: &RequestView,
+    response: &Shared<Response>,
+    sess: SessId,
+) -> Result<Shown, NoMemory>
+    ensures { IfOk result (λ s. showing (responded kept.now request.now response.now sess session.old) (Event.Response kept.now.id sess response.now) None [] ≡ prepared_as session.new s) }
+{
+    responded(alloc, session, kept, request, response.get(), sess)?;
+    let event = response_event(alloc, kept.id, sess, response)?;
+    Ok(showing(event, None, List::new(alloc)))
+}
+
 // Nothing is shown of a SipSession that is gone, and nothing changes in it.
-#[tactic(auto, unfolding(sc_hosts::specs::PreparingResponses::responded_in, sc_hosts::specs::PreparingRequests::silent, sc_hosts::specs::PreparingRequests::showing))]
+#[tactic(auto, unfolding(sc_hosts::specs::PreparingResponses::responded_in, sc_hosts::specs::PreparingRequests::silent))]
 fn responded_in(
     alloc: Global,
     session: &mut Session,
     kept: &Kept,
     request: &RequestView,
-    response: &Response,
+    response: &Shared<Response>,
     sess: SessId,
 ) -> Result<Shown, NoMemory>
     ensures { IfOk result (λ s. responded_in kept.now request.now response.now (sess, session.old) ≡ prepared_as session.new s) }
 {
     if is_gone_in(&session.view, sess) {
-        noted_final(session, kept.id, response.code);
+        noted_final(session, kept.id, response.get().code);
         return Ok(silent(List::new(alloc)));
     }
-    responded(alloc, session, kept, request, response, sess)?;
-    let event = response_event(alloc, kept.id, sess, response)?;
-    Ok(showing(event, None, List::new(alloc)))
+    responded_shown(alloc, session, kept, request, response, sess)
 }
 
 #[tactic(auto, unfolding(sc_hosts::specs::PreparingResponses::placed))]
@@ -191,13 +207,13 @@ fn accepts_invite(kept: &Kept, response: &Response) -> bool
 }
 
 // A 2xx to an INVITE that the view shows no more, in this SipSession.
-#[tactic(auto, unfolding(sc_hosts::specs::PreparingResponses::responded_again, sc_hosts::specs::PreparingRequests::silent, sc_hosts::specs::PreparingRequests::showing))]
+#[tactic(auto, unfolding(sc_hosts::specs::PreparingResponses::responded_again, sc_hosts::specs::PreparingRequests::silent))]
 fn responded_again(
     alloc: Global,
     session: &mut Session,
     kept: &Kept,
     request: &RequestView,
-    response: &Response,
+    response: &Shared<Response>,
     sess: SessId,
 ) -> Result<Shown, NoMemory>
     ensures { IfOk result (λ s. responded_again kept.now request.now response.now (sess, session.old) ≡ prepared_as session.new s) }
@@ -206,9 +222,7 @@ fn responded_again(
         return Ok(silent(List::new(alloc)));
     }
     with_request_again(alloc, session, request)?;
-    responded(alloc, session, kept, request, response, sess)?;
-    let event = response_event(alloc, kept.id, sess, response)?;
-    Ok(showing(event, None, List::new(alloc)))
+    responded_shown(alloc, session, kept, request, response, sess)
 }
 
 fn again_in(
@@ -216,11 +230,11 @@ fn again_in(
     session: &mut Session,
     kept: &Kept,
     request: &RequestView,
-    response: &Response,
+    response: &Shared<Response>,
 ) -> Result<Shown, NoMemory>
     ensures { IfOk result (λ s. responded_again kept.now request.now response.now (placed session.old kept.now request.now response.now (session_in session.old.view request.now.sess)) ≡ prepared_as session.new s) }
 {
-    let sess = placed(alloc, session, kept, request, response)?;
+    let sess = placed(alloc, session, kept, request, response.get())?;
     responded_again(alloc, session, kept, request, response, sess)
 }
 
@@ -230,11 +244,11 @@ fn again_shown(
     alloc: Global,
     session: &mut Session,
     kept: &Kept,
-    response: &Response,
+    response: &Shared<Response>,
 ) -> Result<Shown, NoMemory>
     ensures { IfOk result (λ s. responded_again kept.now (shown_again session.old.known kept.now response.now.code) response.now (placed session.old kept.now (shown_again session.old.known kept.now response.now.code) response.now (session_in session.old.view kept.now.sess)) ≡ prepared_as session.new s) }
 {
-    let request = shown_again(alloc, &session.known, kept, response.code)?;
+    let request = shown_again(alloc, &session.known, kept, response.get().code)?;
     again_in(alloc, session, kept, &request, response)
 }
 
@@ -243,11 +257,11 @@ fn own_shown(
     session: &mut Session,
     kept: &Kept,
     request: &RequestView,
-    response: &Response,
+    response: &Shared<Response>,
 ) -> Result<Shown, NoMemory>
     ensures { IfOk result (λ s. responded_in kept.now request.now response.now (placed session.old kept.now request.now response.now (session_in session.old.view request.now.sess)) ≡ prepared_as session.new s) }
 {
-    let sess = placed(alloc, session, kept, request, response)?;
+    let sess = placed(alloc, session, kept, request, response.get())?;
     responded_in(alloc, session, kept, request, response, sess)
 }
 
@@ -259,14 +273,14 @@ pub fn prepared_own(
     alloc: Global,
     session: &mut Session,
     kept: &Kept,
-    response: &Response,
+    response: &Shared<Response>,
 ) -> Result<Shown, NoMemory>
     ensures { IfOk result (λ s. prepared_own session.old kept.now response.now (request_in session.old.view kept.now.id) ≡ prepared_as session.new s) }
 {
     match request_copy(alloc, &session.view, kept.id)? {
         Some(request) => own_shown(alloc, session, kept, &request, response),
         None => {
-            if accepts_invite(kept, response) {
+            if accepts_invite(kept, response.get()) {
                 return again_shown(alloc, session, kept, response);
             }
             Ok(silent(List::new(alloc)))

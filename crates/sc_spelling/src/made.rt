@@ -33,12 +33,14 @@ fn known(message: &Message)
 {
     match message {
         Message::Request(request) => {
+            let request = request.get();
             request.method.known();
             request.uri.known();
             hops_known(request.hops);
             head_known(&request.head);
         }
         Message::Response(response) => {
+            let response = response.get();
             response.reason.known();
             code_known(response.code);
             head_known(&response.head);

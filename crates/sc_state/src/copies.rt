@@ -1,8 +1,8 @@
 //! Copies of what a session, a host and the net are made of.
 
 use crate::{
-    Branch, Client, Fired, Got, Host, Invited, Kept, Known, Leg, Live, Note, Passing, Proxy,
-    Queued, Server, Session, Waiting,
+    Branch, Client, Fired, Got, Invited, Kept, Known, Leg, Live, Note, Passing, Proxy, Queued,
+    Server, Session, Waiting,
 };
 use sc_value::{CloneIn, NoMemory};
 use std::alloc::Global;
@@ -216,20 +216,6 @@ impl<S: Drop> CloneIn for Live<S> {
             inbox,
             since: self.since,
             fired,
-        })
-    }
-}
-
-impl<S: Drop> CloneIn for Host<S> {
-    fn clone_in(&self, alloc: Global) -> Result<Host<S>, NoMemory> {
-        let clients = self.clients.clone_in(alloc)?;
-        let servers = self.servers.clone_in(alloc)?;
-        let sessions = self.sessions.clone_in(alloc)?;
-        Ok(Host {
-            clients,
-            servers,
-            sessions,
-            last: self.last,
         })
     }
 }

@@ -1,6 +1,6 @@
-use crate::Waiting;
+use crate::{Host, Timed, Waiting};
 use sc_parts::{ClientItem, ServerItem};
-use sc_value::{AppId, Boxed, List, Message, Place, Request, Response, Shared, Text};
+use sc_value::{AppId, List, Message, Place, Request, Response, Shared, Text};
 
 /// The other end of a transaction.
 #[derive(Clone, Copy, Debug, PartialEq, Eq)]
@@ -63,26 +63,16 @@ pub struct Live<S> {
     pub fired: List<Fired>,
 }
 
-/// A host: it knows its own transactions and sessions alone.
-#[derive(Drop)]
-pub struct Host<S> {
-    pub clients: List<Shared<Client>>,
-    pub servers: List<Shared<Server>>,
-    pub sessions: List<Shared<Live<S>>>,
-    /// The serial of its last session.
-    pub last: u64,
-}
-
 /// A message that goes to the other end of a transaction.
 #[derive(Drop)]
 pub struct Reply {
     pub peer: Peer,
-    pub message: Boxed<Message>,
+    pub message: Message,
 }
 
 /// A host that took a message, with what it answers at once.
 #[derive(Drop)]
-pub struct Taken<S> {
+pub struct Taken<S: Timed> {
     pub host: Host<S>,
     pub reply: Option<Reply>,
     /// How many events were queued since the container began.

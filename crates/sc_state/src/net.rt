@@ -1,5 +1,5 @@
-use crate::Host;
-use sc_value::{Address, Boxed, List, Message, Region, Sent, Text};
+use crate::{Host, Timed};
+use sc_value::{Address, List, Message, Region, Sent, Text};
 
 /// What goes with a request that begins an application session.
 #[derive(Drop)]
@@ -17,13 +17,13 @@ pub struct Note {
 pub struct Entry {
     pub sender: u32,
     pub receiver: u32,
-    pub message: Boxed<Message>,
+    pub message: Message,
     pub note: Option<Note>,
 }
 
 /// The hosts by number, and the messages between them.
 #[derive(Drop)]
-pub struct Net<S> {
+pub struct Net<S: Timed> {
     pub hosts: List<Host<S>>,
     /// In the order in which they were sent.
     pub wire: List<Entry>,

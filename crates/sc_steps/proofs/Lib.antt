@@ -1,1 +1,2 @@
 pub mod LiveTurns
+mod TurnedHosts

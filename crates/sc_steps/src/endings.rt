@@ -1,56 +1,43 @@
 //! A session goes away.
 
 ghost use Rattle.std.specs.Prelude.{◌≡◌, OnOk};
-ghost use Rattle.sc_value.specs.Lists.{change_nth, remove_first};
+ghost use Rattle.sc_value.specs.Lists.{change_nth};
 ghost use Rattle.sc_hosts.specs.Histories.{as_session};
 ghost use Rattle.sc_hosts.specs.Nets.{obeyed};
 ghost use Rattle.sc_hosts.specs.Steps.{without_live, inbox_of, invalidated, withdrawn, live_at};
-ghost use Rattle.sc_hosts.specs.Inboxes.{is_live};
 ghost use Rattle.sc_steps.specs.TurnParts.{host_without};
 
 use crate::lives::live_copy;
 use sc_finish::goodbye;
-use sc_inboxes::live_place;
 use sc_net::obeyed;
 use sc_parts::Setup;
 use sc_state::{Host, Live, Net, Order, Session, Waiting};
-use sc_transact::tidied;
-use sc_value::{AppId, List, NoMemory, Shared};
+use sc_value::{AppId, NoMemory, Shared};
 use std::alloc::Global;
 
-#[tactic(auto, using(sc_value::proofs::ListFacts::remove_first_position, sc_value::proofs::ListFacts::remove_first_none))]
-fn remove_live(serial: u64, sessions: &mut List<Shared<Live<Session>>>)
-    ensures { sessions.new ≡ remove_first (is_live serial) sessions.old }
-{
-    match live_place(serial, sessions.as_slice()) {
-        Some(at) => drop(sessions.items.remove(at)),
-        None => {}
-    }
-}
-
 #[tactic(auto, unfolding(crate::specs::TurnParts::host_without))]
-fn host_without(serial: u64, host: &mut Host<Session>)
-    ensures { host.new ≡ host_without serial host.old }
+fn host_without(alloc: Global, serial: u64, host: &mut Host<Session>) -> Result<(), NoMemory>
+    ensures { OnOk result (host.new ≡ host_without serial host.old) }
 {
-    remove_live(serial, &mut host.sessions);
-    tidied(host);
+    host.end_live(alloc, serial)
 }
 
 #[tactic(auto, using(sc_value::proofs::ListFacts::change_nth_at, sc_value::proofs::ListFacts::change_nth_none))]
-fn hosts_without(app: AppId, hosts: &mut [Host<Session>])
-    ensures { hosts.new ≡ change_nth app.host (host_without app.serial) hosts.old }
+fn hosts_without(alloc: Global, app: AppId, hosts: &mut [Host<Session>]) -> Result<(), NoMemory>
+    ensures { OnOk result (hosts.new ≡ change_nth app.host (host_without app.serial) hosts.old) }
 {
     let at = app.host as usize;
     if at < hosts.len() {
-        host_without(app.serial, &mut hosts[at]);
+        return host_without(alloc, app.serial, &mut hosts[at]);
     }
+    Ok(())
 }
 
 #[tactic(auto, unfolding(sc_hosts::specs::Steps::without_live, crate::specs::TurnParts::host_without))]
-fn without_live(app: AppId, net: &mut Net<Session>)
-    ensures { net.new ≡ without_live app net.old }
+fn without_live(alloc: Global, app: AppId, net: &mut Net<Session>) -> Result<(), NoMemory>
+    ensures { OnOk result (net.new ≡ without_live app net.old) }
 {
-    hosts_without(app, &mut net.hosts.items);
+    hosts_without(alloc, app, &mut net.hosts.items)
 }
 
 fn goes(
@@ -63,8 +50,7 @@ fn goes(
     ensures { OnOk result (net.new ≡ without_live app (obeyed setup.now app given.now net.old)) }
 {
     obeyed(alloc, setup, app, given, net)?;
-    without_live(app, net);
-    Ok(())
+    without_live(alloc, app, net)
 }
 
 /// What invalidation sends is sent, and the session goes (JSR 289 section 6.1.2).

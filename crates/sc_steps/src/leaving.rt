@@ -1,12 +1,10 @@
 //! What a turn leaves of its live session.
 
 ghost use Rattle.std.specs.Prelude.{◌≡◌, ◌++◌, IfOk, OnOk, drop, filter};
-ghost use Rattle.sc_value.specs.Lists.{change_first, change_nth};
+ghost use Rattle.sc_value.specs.Lists.{change_nth};
 ghost use Rattle.sc_hosts.specs.Steps.{still_fired};
-ghost use Rattle.sc_hosts.specs.Inboxes.{is_live};
 ghost use Rattle.sc_steps.specs.TurnParts.{is_running, live_after, host_after, net_after};
 
-use sc_inboxes::live_place;
 use sc_state::{Fired, Host, Live, Net, Session, Waiting};
 use sc_ticks::runs;
 use sc_value::{AppId, CloneIn, List, NoMemory, Shared};
@@ -57,37 +55,20 @@ fn live_after(
     alloc: Global,
     now: u64,
     session: &Shared<Session>,
-    live: &mut Shared<Live<Session>>,
-) -> Result<(), NoMemory>
-    ensures { OnOk result (live.new ≡ live_after now session.now live.old) }
+    live: &Live<Session>,
+) -> Result<Shared<Live<Session>>, NoMemory>
+    ensures { IfOk result (λ own. own ≡ live_after now session.now live.now) }
 {
-    let running = still_fired(alloc, session.get(), live.get().fired.as_slice())?;
-    let mut own = live.get().clone_in(alloc)?;
+    let running = still_fired(alloc, session.get(), live.fired.as_slice())?;
+    let mut own = live.clone_in(alloc)?;
     own.session = session.clone_in(alloc)?;
     drop_first(&mut own.inbox);
     own.since = now;
     own.fired = running;
-    *live = Shared::new(alloc, own)?;
-    Ok(())
+    Shared::new(alloc, own)
 }
 
-#[tactic(auto, using(sc_value::proofs::ListFacts::change_first_position, sc_value::proofs::ListFacts::change_first_none))]
-fn sessions_after(
-    alloc: Global,
-    serial: u64,
-    now: u64,
-    session: &Shared<Session>,
-    sessions: &mut [Shared<Live<Session>>],
-) -> Result<(), NoMemory>
-    ensures { OnOk result (sessions.new ≡ change_first (is_live serial) (live_after now session.now) sessions.old) }
-{
-    match live_place(serial, sessions) {
-        Some(at) => live_after(alloc, now, session, &mut sessions[at]),
-        None => Ok(()),
-    }
-}
-
-#[tactic(auto, unfolding(crate::specs::TurnParts::host_after))]
+#[tactic(auto, using(crate::proofs::TurnedHosts::after_none))]
 fn host_after(
     alloc: Global,
     serial: u64,
@@ -97,7 +78,11 @@ fn host_after(
 ) -> Result<(), NoMemory>
     ensures { OnOk result (host.new ≡ host_after serial now session.now host.old) }
 {
-    sessions_after(alloc, serial, now, session, &mut host.sessions.items)
+    let own = match host.live(serial) {
+        Some(live) => live_after(alloc, now, session, live.get())?,
+        None => return Ok(()),
+    };
+    host.set_live(own)
 }
 
 #[tactic(auto, using(sc_value::proofs::ListFacts::change_nth_at, sc_value::proofs::ListFacts::change_nth_none))]

@@ -196,7 +196,7 @@ pub fn whole(
     requires read { parts_in head.now ≡ Ok parts }
     ensures { IfOk result (λ front. front ≡ whole head.now len (message_in head.now body)) }
 {
-    match put_together(parts, body) {
+    match put_together(alloc, parts, body)? {
         Ok(message) => Ok(Front::Whole { len, message }),
         Err(kind) => bad(alloc, head, head.len() + 2, kind),
     }

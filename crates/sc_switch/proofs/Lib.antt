@@ -10,3 +10,4 @@ pub mod Nexts
 pub mod Sames
 pub mod Sendings
 pub mod Standings
+mod Busy

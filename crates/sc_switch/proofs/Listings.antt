@@ -6,7 +6,7 @@ use Rattle.sc_value.specs.declared.ids.AppId.{AppId}
 use Rattle.sc_journal.specs.Kept.{Kept}
 use Rattle.sc_terms.specs.declared.steps.Step.{Step}
 use Rattle.sc_edge.specs.declared.listing.Listing.{Listing}
-use Rattle.sc_state.specs.declared.host.Host.{Host}
+use Rattle.sc_state.specs.Hosts.{Host}
 use Rattle.sc_state.specs.declared.host.Live.{Live}
 use Rattle.sc_state.specs.declared.net.Net.{Net}
 use Rattle.sc_state.specs.declared.session.Session.{Session}

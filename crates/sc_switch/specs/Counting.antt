@@ -1,7 +1,7 @@
 -- The transactions of a net that live.
 use Rattle.std.specs.Prelude.{ℕ, ◌+◌, Bool, not, length, filter, sum_by}
 use Rattle.sc_state.specs.declared.host.Client.{Client}
-use Rattle.sc_state.specs.declared.host.Host.{Host}
+use Rattle.sc_state.specs.Hosts.{Host}
 use Rattle.sc_state.specs.declared.host.Server.{Server}
 use Rattle.sc_state.specs.declared.net.Net.{Net}
 use Rattle.sc_hosts.specs.Transacting.{state_of_client, state_of_server, is_over}

@@ -1,9 +1,9 @@
 -- What is lent out, and what a brought turn is to the live leases.
-use Rattle.std.specs.Prelude.{◌≡◌, ℕ, ◌+◌, List, [], ◌∷◌, true, false, Option, None, Some, if◌then◌else◌}
+use Rattle.std.specs.Prelude.{◌≡◌, ◌==◌, ℕ, ◌+◌, map, filter, List, [], ◌∷◌, true, false, Option, None, Some, if◌then◌else◌}
 use Rattle.std.specs.List.{fold}
 use Rattle.sc_value.specs.declared.ids.AppId.{AppId}
 use Rattle.sc_parts.specs.declared.setup.Setup.{Setup}
-use Rattle.sc_state.specs.declared.host.Host.{Host}
+use Rattle.sc_state.specs.Hosts.{Host}
 use Rattle.sc_state.specs.declared.host.Live.{Live}
 use Rattle.sc_state.specs.declared.net.Net.{Net}
 use Rattle.sc_state.specs.declared.session.Session.{Session}
@@ -53,6 +53,10 @@ better (Some best) next = Some (earlier best next)
 unfoldable pub with_next : List Lease → Option Next → Option Next → Option Next
 with_next kept best None = best
 with_next kept best (Some next) = if is_leased kept next.app then best else better best next
+
+-- the sessions of a host that have a live lease
+unfoldable pub leased_at : ℕ → List Lease → List ℕ
+leased_at number kept = map (λ lease. lease.app.serial) (filter (λ lease. lease.app.host == number) kept)
 
 unfoldable pub with_live : List Lease → ℕ → Option Next → Live Session → Option Next
 with_live kept number best live = with_next kept best (next_of number live)

@@ -5,9 +5,8 @@ ghost use Rattle.sc_hosts.specs.Runs.{live_count, waiting_count};
 ghost use Rattle.sc_switch.specs.Counting.{busy_at, busy_count, is_busy_client, is_busy_server};
 ghost use Rattle.sc_switch.specs.Stepping.{waiting_at};
 
-use sc_state::{Client, Host, Live, Net, Server, Session};
-use sc_transact::{is_over, state_of_client, state_of_server};
-use sc_value::{NoMemory, Shared, sum};
+use sc_state::{Host, Net, Session};
+use sc_value::{NoMemory, sum};
 
 /// How many application sessions live.
 #[tactic(auto, unfolding(sc_hosts::specs::Runs::live_count))]
@@ -22,7 +21,7 @@ fn live_among(hosts: &[Host<Session>]) -> Result<u64, NoMemory>
 {
     let mut count = 0;
     for host in hosts {
-        count = sum(count, host.sessions.len() as u64)?;
+        count = sum(count, host.live_count() as u64)?;
     }
     Ok(count)
 }
@@ -40,26 +39,16 @@ fn waiting_among(hosts: &[Host<Session>]) -> Result<u64, NoMemory>
 {
     let mut count = 0;
     for host in hosts {
-        count = sum(count, waiting_at(host)?)?;
+        count = sum(count, waiting_at(host))?;
     }
     Ok(count)
 }
 
 #[tactic(auto, unfolding(crate::specs::Stepping::waiting_at))]
-fn waiting_at(host: &Host<Session>) -> Result<u64, NoMemory>
-    ensures { IfOk result (λ count. count ≡ waiting_at host.now) }
+fn waiting_at(host: &Host<Session>) -> u64
+    ensures { result ≡ waiting_at host.now }
 {
-    waiting_in(host.sessions.as_slice())
-}
-
-fn waiting_in(sessions: &[Shared<Live<Session>>]) -> Result<u64, NoMemory>
-    ensures { IfOk result (λ count. count ≡ sum_by (λ live. length live.inbox) sessions.now) }
-{
-    let mut count = 0;
-    for live in sessions {
-        count = sum(count, live.get().inbox.len() as u64)?;
-    }
-    Ok(count)
+    host.waiting_count()
 }
 
 /// How many transactions live.
@@ -80,45 +69,9 @@ fn busy_among(hosts: &[Host<Session>]) -> u64
     count
 }
 
-#[tactic(auto, unfolding(crate::specs::Counting::busy_at))]
+#[tactic(auto, using(crate::proofs::Busy::busy_here))]
 fn busy_at(host: &Host<Session>) -> u64
     ensures { result ≡ min (busy_at host.now) u64.MAX }
 {
-    busy_clients(host.clients.as_slice()).saturating_add(busy_servers(host.servers.as_slice()))
-}
-
-fn busy_clients(clients: &[Shared<Client>]) -> u64
-    ensures { result ≡ min (length (filter is_busy_client clients.now)) u64.MAX }
-{
-    let mut count: u64 = 0;
-    for client in clients {
-        count = count.saturating_add(u64::from(is_busy_client(client.get())));
-    }
-    count
-}
-
-/// Whether a client transaction lives.
-#[tactic(auto, unfolding(crate::specs::Counting::is_busy_client))]
-fn is_busy_client(client: &Client) -> bool
-    ensures { result ≡ is_busy_client client.now }
-{
-    !is_over(state_of_client(client))
-}
-
-fn busy_servers(servers: &[Shared<Server>]) -> u64
-    ensures { result ≡ min (length (filter is_busy_server servers.now)) u64.MAX }
-{
-    let mut count: u64 = 0;
-    for server in servers {
-        count = count.saturating_add(u64::from(is_busy_server(server.get())));
-    }
-    count
-}
-
-/// Whether a server transaction lives.
-#[tactic(auto, unfolding(crate::specs::Counting::is_busy_server))]
-fn is_busy_server(server: &Server) -> bool
-    ensures { result ≡ is_busy_server server.now }
-{
-    !is_over(state_of_server(server))
+    host.busy_clients().saturating_add(host.busy_servers())
 }

@@ -22,7 +22,7 @@ fn list_hosts(alloc: Global, hosts: &[Host<Session>]) -> Result<List<AppId>, NoM
     let mut live = List::new(alloc);
     let mut number: u32 = 0;
     for host in hosts {
-        add_lives(number, host.sessions.as_slice(), &mut live)?;
+        add_lives(number, host.lives(alloc)?.as_slice(), &mut live)?;
         number = sum_u32(number, 1)?;
     }
     Ok(live)

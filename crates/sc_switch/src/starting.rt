@@ -2,7 +2,7 @@
 
 ghost use Rattle.std.specs.Prelude.{◌≡◌, ◌∷◌, [], ◌++◌, map, Option, option_map, IfOk, OnOk};
 ghost use Rattle.sc_servlets.specs.Stated.{both_charters};
-ghost use Rattle.sc_state.specs.declared.host.Host.{Host};
+ghost use Rattle.sc_state.specs.Hosts.{Host};
 ghost use Rattle.sc_state.specs.declared.session.Session.{Session};
 ghost use Rattle.sc_hosts.specs.Runs.{quiet_host, start};
 
@@ -62,12 +62,7 @@ fn add_hosts(
 fn quiet_host(alloc: Global) -> Host<Session>
     ensures { result ≡ quiet_host }
 {
-    Host {
-        clients: List::new(alloc),
-        servers: List::new(alloc),
-        sessions: List::new(alloc),
-        last: 0,
-    }
+    Host::new(alloc)
 }
 
 /// Hosts without sessions in place of these, in this epoch, at the moment that is.
@@ -94,10 +89,7 @@ fn quiet_all(hosts: &mut [Host<Session>])
 fn quiet(host: &mut Host<Session>)
     ensures { host.new ≡ quiet_host }
 {
-    host.clients.items.clear();
-    host.servers.items.clear();
-    host.sessions.items.clear();
-    host.last = 0;
+    host.clear();
 }
 
 /// The charters of each kind of a catalogue.

@@ -29,7 +29,7 @@ use sc_journal::Journal;
 use sc_message_text::text_of;
 use sc_parts::Setup;
 use sc_servlets::{Catalogue, Done, Lease};
-use sc_state::{Net, Session};
+use sc_state::{Host, Net, Session};
 use sc_steps::live_at;
 use sc_terms::{Bad, Config, Dar, End, Step};
 use sc_value::{AppId, CloneIn, Discard, List, Message, NoMemory, Place, Sent};
@@ -139,7 +139,7 @@ impl Switch {
                 end_own(&step, &mut self.kept);
                 self.journal.put(step, bytes);
                 send_all(&mut self.left, sent);
-                set_net(&mut self.net, net);
+                set_net(alloc, &mut self.net, net);
                 self.live = live;
                 self.waiting = waiting;
                 Ok(())
@@ -272,7 +272,7 @@ impl Switch {
     fn next(&self) -> Result<Option<Next>, NoMemory>
         ensures { IfOk result (λ next. next ≡ next_free (net_of self.now) self.now.kept) }
     {
-        next_free(&self.net, self.kept.as_slice())
+        next_free(self.alloc, &self.net, self.kept.as_slice())
     }
 
     /// Lends out the turn of the event that is next.
@@ -407,7 +407,7 @@ impl Switch {
                 end_leases(done.lease.app, &mut self.kept);
                 self.journal.put(step_of(done), bytes);
                 send_all(&mut self.left, sent);
-                set_net(&mut self.net, net);
+                set_net(alloc, &mut self.net, net);
                 self.live = live;
                 self.waiting = waiting;
                 Ok(Committed::Taken)
@@ -651,10 +651,21 @@ fn told(taken: Result<(), Untaken>) -> Result<(), StepRefused>
     }
 }
 
-fn set_net(net: &mut Net<Session>, next: Net<Session>)
+/// Puts a net in place of another. What a step changed goes where a look-up costs least, as nobody else
+/// holds it now.
+fn set_net(alloc: Global, net: &mut Net<Session>, next: Net<Session>)
     ensures { net.new ≡ next }
 {
     *net = next;
+    settle_all(alloc, &mut net.hosts.items);
+}
+
+fn settle_all(alloc: Global, hosts: &mut [Host<Session>])
+    ensures { hosts.new ≡ hosts.old }
+{
+    for host in hosts {
+        host.settle(alloc);
+    }
 }
 
 fn keep_copy(alloc: Global, lease: &Lease, kept: &mut List<Lease>) -> Result<(), NoMemory>

@@ -398,7 +398,7 @@ fn has_via(message: &Message) -> bool
     ensures { IsTrue result → HasVia message.now }
 {
     match message {
-        Message::Request(request) => !request.head.via.is_empty(),
-        Message::Response(response) => !response.head.via.is_empty(),
+        Message::Request(request) => !request.get().head.via.is_empty(),
+        Message::Response(response) => !response.get().head.via.is_empty(),
     }
 }

@@ -30,8 +30,8 @@ pub fn tell_place(place: Place, told: &mut Text) -> Result<(), NoMemory> {
 /// Via.
 pub fn tell_message(message: &Message, told: &mut Text) -> Result<(), NoMemory> {
     match message {
-        Message::Request(request) => tell_request(request, told),
-        Message::Response(response) => tell_response(response, told),
+        Message::Request(request) => tell_request(request.get(), told),
+        Message::Response(response) => tell_response(response.get(), told),
     }
 }
 

@@ -97,9 +97,7 @@ fn with_live(
     ensures { OnOk result (host.new ≡ record host.old { sessions = host.old.sessions ++ live ∷ []; last = serial }) }
 {
     let live = Shared::new(alloc, live)?;
-    host.sessions.push(live)?;
-    host.last = serial;
-    Ok(())
+    host.push_live(live, serial)
 }
 
 #[tactic(auto, unfolding(sc_hosts::specs::Taking::begun, sc_hosts::specs::Inboxes::quiet))]
@@ -111,24 +109,23 @@ fn begun(
     from: Peer,
     now: u64,
     noted: &Note,
-    request: &Request,
+    request: &Shared<Request>,
     count: u64,
     host: &mut Host<Session>,
 ) -> Result<Told, NoMemory>
     ensures { IfOk result (λ t. begun as_session config.now epoch number from now noted.now request.now count host.old ≡ taken_by host.new t) }
 {
-    let serial = sum(host.last, 1)?;
+    let serial = sum(host.last(), 1)?;
     let app = AppId {
         host: number,
         serial,
     };
     let event = sum(count, 1)?;
-    let own = Shared::new(alloc, request.clone_in(alloc)?)?;
-    let live = begun_live(alloc, config, epoch, app, now, noted, &own, event)?;
+    let live = begun_live(alloc, config, epoch, app, now, noted, request, event)?;
     let tag = own_tag(alloc, config, epoch, app)?;
     with_live(alloc, live, serial, host)?;
-    with_server(alloc, app, event, from, tag, &own, host)?;
-    with_trying(alloc, from, now, request, quiet(event), host)
+    with_server(alloc, app, event, from, tag, request, host)?;
+    with_trying(alloc, from, now, request.get(), quiet(event), host)
 }
 
 #[tactic(auto, unfolding(sc_hosts::specs::Taking::take_initial))]
@@ -140,14 +137,14 @@ fn take_initial(
     from: Peer,
     now: u64,
     noted: &Note,
-    request: &Request,
+    request: &Shared<Request>,
     count: u64,
     host: &mut Host<Session>,
 ) -> Result<Told, NoMemory>
     ensures { IfOk result (λ t. take_initial as_session config.now epoch number from now noted.now request.now count host.old ≡ taken_by host.new t) }
 {
-    if 4096 <= host.sessions.len() {
-        return refuse_full(alloc, config, from, request, count);
+    if 4096 <= host.live_count() {
+        return refuse_full(alloc, config, from, request.get(), count);
     }
     begun(
         alloc, config, epoch, number, from, now, noted, request, count, host,
@@ -193,7 +190,7 @@ pub fn take_begun(
     from: Peer,
     now: u64,
     noted: &Option<Note>,
-    request: &Request,
+    request: &Shared<Request>,
     count: u64,
     host: &mut Host<Session>,
 ) -> Result<Told, NoMemory>
@@ -201,10 +198,10 @@ pub fn take_begun(
 {
     let noted = match noted {
         Some(noted) => noted,
-        None => return refuse_unknown(alloc, config, from, request, count),
+        None => return refuse_unknown(alloc, config, from, request.get(), count),
     };
-    if is_never_initial(request) {
-        return refuse_unknown(alloc, config, from, request, count);
+    if is_never_initial(request.get()) {
+        return refuse_unknown(alloc, config, from, request.get(), count);
     }
     take_initial(
         alloc, config, epoch, number, from, now, noted, request, count, host,

@@ -5,7 +5,7 @@ ghost use Rattle.std.specs.Prelude.{◌≡◌, if◌then◌else◌, IfOk};
 ghost use Rattle.std.specs.List.{find};
 ghost use Rattle.std.specs.Option.{option_copied};
 ghost use Rattle.sc_state.specs.declared.queue.Queued.{Queued};
-ghost use Rattle.sc_state.specs.declared.host.Host.{Host};
+ghost use Rattle.sc_state.specs.Hosts.{Host};
 ghost use Rattle.sc_state.specs.declared.session.Session.{Session};
 ghost use Rattle.sc_hosts.specs.Messages.{own_response};
 ghost use Rattle.sc_hosts.specs.Inboxes.{quiet, queue};
@@ -14,7 +14,7 @@ ghost use Rattle.sc_hosts.specs.Transacting.{has_final, is_cancelled_by, is_acke
 ghost use Rattle.sc_hosts.specs.Words.{ok};
 ghost use Rattle.sc_inboxes.specs.TakenParts.{taken_by};
 
-use sc_inboxes::{Told, queue, quiet, replying};
+use sc_inboxes::{Told, answering, queue, quiet, replying};
 use sc_messages::own_response;
 use sc_parts::ServerItem;
 use sc_state::{Host, Peer, Queued, Server, Session};
@@ -66,7 +66,7 @@ pub fn cancelled(
 {
     let response = ok_response(alloc, server, request)?;
     let told = tell_cancelled(alloc, now, server, count, host)?;
-    replying(alloc, from, Message::Response(response), told)
+    answering(alloc, from, response, told)
 }
 
 #[tactic(auto, unfolding(sc_hosts::specs::Taking::last_again, sc_hosts::specs::Taking::again_if, sc_hosts::specs::Inboxes::quiet))]
@@ -78,13 +78,8 @@ fn last_again(alloc: Global, server: &Server, again: bool, count: u64) -> Result
     }
     match &server.last {
         Some(response) => {
-            let response = response.get().clone_in(alloc)?;
-            replying(
-                alloc,
-                server.peer,
-                Message::Response(response),
-                quiet(count),
-            )
+            let message = Message::Response(response.clone_in(alloc)?);
+            Ok(replying(server.peer, message, quiet(count)))
         }
         None => Ok(quiet(count)),
     }
@@ -126,10 +121,7 @@ pub fn cancelled_by(
 ) -> Result<Option<Shared<Server>>, NoMemory>
     ensures { IfOk result (λ server. server ≡ find (is_cancelled_by from request.now) host.now.servers) }
 {
-    copy_of(
-        alloc,
-        cancelled_server(from, request, host.servers.as_slice()),
-    )
+    copy_of(alloc, cancelled_server(alloc, from, request, host)?)
 }
 
 /// The INVITE that an ACK is for.
@@ -141,7 +133,7 @@ pub fn acked_by(
 ) -> Result<Option<Shared<Server>>, NoMemory>
     ensures { IfOk result (λ server. server ≡ find (is_acked_by from request.now) host.now.servers) }
 {
-    copy_of(alloc, acked_server(from, request, host.servers.as_slice()))
+    copy_of(alloc, acked_server(alloc, from, request, host)?)
 }
 
 /// The transaction of a request that came before.
@@ -153,22 +145,24 @@ pub fn repeated_by(
 ) -> Result<Option<Shared<Server>>, NoMemory>
     ensures { IfOk result (λ server. server ≡ find (is_repeated_by from request.now) host.now.servers) }
 {
-    copy_of(
-        alloc,
-        repeated_server(from, request, host.servers.as_slice()),
-    )
+    copy_of(alloc, repeated_server(alloc, from, request, host)?)
 }
 
 /// Whether a request belongs to a live transaction.
 #[tactic(auto, unfolding(sc_hosts::specs::Taking::claim_of, sc_hosts::specs::Taking::claim_by, sc_hosts::specs::Taking::is_claimed))]
-pub fn is_claimed(from: Peer, request: &Request, host: &Host<Session>) -> bool
-    ensures { result ≡ is_claimed (claim_of from request.now host.now) }
+pub fn is_claimed(
+    alloc: Global,
+    from: Peer,
+    request: &Request,
+    host: &Host<Session>,
+) -> Result<bool, NoMemory>
+    ensures { IfOk result (λ claimed. claimed ≡ is_claimed (claim_of from request.now host.now)) }
 {
     if is_cancel(request) {
-        return cancelled_server(from, request, host.servers.as_slice()).is_some();
+        return Ok(cancelled_server(alloc, from, request, host)?.is_some());
     }
     if is_ack(request) {
-        return acked_server(from, request, host.servers.as_slice()).is_some();
+        return Ok(acked_server(alloc, from, request, host)?.is_some());
     }
-    repeated_server(from, request, host.servers.as_slice()).is_some()
+    Ok(repeated_server(alloc, from, request, host)?.is_some())
 }

@@ -23,7 +23,7 @@ fn queue_later(
     number: u32,
     from: Peer,
     now: u64,
-    request: &Request,
+    request: &Shared<Request>,
     count: u64,
     live: &Live<Session>,
     host: &mut Host<Session>,
@@ -31,9 +31,9 @@ fn queue_later(
     ensures { IfOk result (λ t. queue_later config.now epoch number from now request.now count live.now host.old ≡ taken_by host.new t) }
 {
     if is_full(live) {
-        return refuse_full(alloc, config, from, request, count);
+        return refuse_full(alloc, config, from, request.get(), count);
     }
-    let own = Shared::new(alloc, unrouted(alloc, config, request)?)?;
+    let own = unrouted(alloc, config, request)?;
     let app = AppId {
         host: number,
         serial: live.serial,
@@ -49,7 +49,7 @@ fn queue_later(
         count,
         host,
     )?;
-    with_trying(alloc, from, now, request, told, host)
+    with_trying(alloc, from, now, request.get(), told, host)
 }
 
 #[tactic(auto, unfolding(sc_hosts::specs::Taking::later_by))]
@@ -60,7 +60,7 @@ fn later_by(
     number: u32,
     from: Peer,
     now: u64,
-    request: &Request,
+    request: &Shared<Request>,
     count: u64,
     live: Option<Shared<Live<Session>>>,
     host: &mut Host<Session>,
@@ -80,7 +80,7 @@ fn later_by(
             live.get(),
             host,
         ),
-        None => refuse_unknown(alloc, config, from, request, count),
+        None => refuse_unknown(alloc, config, from, request.get(), count),
     }
 }
 
@@ -97,7 +97,7 @@ fn named_by(
         Some(uri) => uri,
         None => return Ok(None),
     };
-    match named_live(epoch, number, uri, host) {
+    match named_live(alloc, epoch, number, uri, host)? {
         Some(live) => Ok(Some(live.clone_in(alloc)?)),
         None => Ok(None),
     }
@@ -112,13 +112,13 @@ pub fn take_later(
     number: u32,
     from: Peer,
     now: u64,
-    request: &Request,
+    request: &Shared<Request>,
     count: u64,
     host: &mut Host<Session>,
 ) -> Result<Told, NoMemory>
     ensures { IfOk result (λ t. take_later config.now epoch number from now request.now count host.old ≡ taken_by host.new t) }
 {
-    let uri = own_uri(alloc, config, request)?;
+    let uri = own_uri(alloc, config, request.get())?;
     let live = named_by(alloc, epoch, number, uri, host)?;
     later_by(
         alloc, config, epoch, number, from, now, request, count, live, host,

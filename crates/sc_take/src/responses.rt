@@ -8,13 +8,13 @@ ghost use Rattle.sc_hosts.specs.TakingResponses.{told, told_by, cancelling, with
 ghost use Rattle.sc_hosts.specs.Transacting.{client_for, with_client};
 ghost use Rattle.sc_inboxes.specs.TakenParts.{taken_by};
 
-use sc_inboxes::{Told, is_full_at, queue, quiet, replying};
+use sc_inboxes::{Told, asking, is_full_at, queue, quiet};
 use sc_messages::{ack_of, cancel_of, without_via};
 use sc_parts::{ClientItem, ClientOut};
 use sc_state::{Client, Host, Peer, Queued, Session};
 use sc_terms::Config;
 use sc_transact::{client_for, is_cancel_client, out_of_client, pass_client, with_client};
-use sc_value::{CloneIn, List, Message, NoMemory, Response, Shared};
+use sc_value::{CloneIn, List, NoMemory, Response, Shared};
 use std::alloc::Global;
 
 // A provisional response finds no room in a full inbox, and the answer to a CANCEL tells nobody
@@ -87,7 +87,7 @@ fn cancel_with(
 {
     let request = cancel_of(alloc, client.request.get())?;
     with_client(alloc, cancelling(alloc, now, client)?, host)?;
-    replying(alloc, client.peer, Message::Request(request), told)
+    asking(alloc, client.peer, request, told)
 }
 
 // An ACK to a final response other than 2xx, or a CANCEL that waited.
@@ -105,7 +105,7 @@ fn with_reply(
 {
     if out.ack {
         let request = ack_of(alloc, client.request.get(), response)?;
-        return replying(alloc, client.peer, Message::Request(request), told);
+        return asking(alloc, client.peer, request, told);
     }
     if out.cancel {
         return cancel_with(alloc, now, client, told, host);
@@ -168,7 +168,7 @@ fn found_client(
 ) -> Result<Option<Shared<Client>>, NoMemory>
     ensures { IfOk result (λ client. client ≡ client_for config.now.salt epoch from response.now host.now) }
 {
-    match client_for(config.salt.as_bytes(), epoch, from, response, host) {
+    match client_for(alloc, config.salt.as_bytes(), epoch, from, response, host)? {
         Some(client) => Ok(Some(client.clone_in(alloc)?)),
         None => Ok(None),
     }

@@ -16,7 +16,7 @@ use sc_parts::ServerItem;
 use sc_state::{Host, Note, Peer, Session};
 use sc_terms::Config;
 use sc_transact::{is_ack, is_cancel, pass_server};
-use sc_value::{Message, NoMemory, Request, tag};
+use sc_value::{Message, NoMemory, Request, Shared, tag};
 use std::alloc::Global;
 
 // A request that belongs to no transaction, and is no CANCEL.
@@ -29,13 +29,13 @@ fn take_new(
     from: Peer,
     now: u64,
     noted: &Option<Note>,
-    request: &Request,
+    request: &Shared<Request>,
     count: u64,
     host: &mut Host<Session>,
 ) -> Result<Told, NoMemory>
     ensures { IfOk result (λ t. take_new as_session config.now epoch number from now noted.now request.now count host.old ≡ taken_by host.new t) }
 {
-    if tag(&request.head.to).is_some() {
+    if tag(&request.get().head.to).is_some() {
         return take_later(
             alloc, config, epoch, number, from, now, request, count, host,
         );
@@ -54,14 +54,14 @@ fn take_unclaimed(
     from: Peer,
     now: u64,
     noted: &Option<Note>,
-    request: &Request,
+    request: &Shared<Request>,
     count: u64,
     host: &mut Host<Session>,
 ) -> Result<Told, NoMemory>
     ensures { IfOk result (λ t. take_unclaimed as_session config.now epoch number from now noted.now request.now count host.old ≡ taken_by host.new t) }
 {
-    if is_cancel(request) {
-        return refuse_unknown(alloc, config, from, request, count);
+    if is_cancel(request.get()) {
+        return refuse_unknown(alloc, config, from, request.get(), count);
     }
     take_new(
         alloc, config, epoch, number, from, now, noted, request, count, host,
@@ -77,14 +77,14 @@ fn take_cancel(
     from: Peer,
     now: u64,
     noted: &Option<Note>,
-    request: &Request,
+    request: &Shared<Request>,
     count: u64,
     host: &mut Host<Session>,
 ) -> Result<Told, NoMemory>
     ensures { IfOk result (λ t. take_claimed as_session config.now epoch number from now noted.now request.now (claim_by Cancels (find (is_cancelled_by from request.now) host.old.servers) Unclaimed) count host.old ≡ taken_by host.new t) }
 {
-    match cancelled_by(alloc, from, request, host)? {
-        Some(server) => cancelled(alloc, from, now, server.get(), request, count, host),
+    match cancelled_by(alloc, from, request.get(), host)? {
+        Some(server) => cancelled(alloc, from, now, server.get(), request.get(), count, host),
         None => take_unclaimed(
             alloc, config, epoch, number, from, now, noted, request, count, host,
         ),
@@ -100,13 +100,13 @@ fn take_ack(
     from: Peer,
     now: u64,
     noted: &Option<Note>,
-    request: &Request,
+    request: &Shared<Request>,
     count: u64,
     host: &mut Host<Session>,
 ) -> Result<Told, NoMemory>
     ensures { IfOk result (λ t. take_claimed as_session config.now epoch number from now noted.now request.now (claim_by Acks (find (is_acked_by from request.now) host.old.servers) Unclaimed) count host.old ≡ taken_by host.new t) }
 {
-    match acked_by(alloc, from, request, host)? {
+    match acked_by(alloc, from, request.get(), host)? {
         Some(server) => {
             pass_server(alloc, server.get().event, ServerItem::AckCame, host)?;
             Ok(quiet(count))
@@ -126,13 +126,13 @@ fn take_other(
     from: Peer,
     now: u64,
     noted: &Option<Note>,
-    request: &Request,
+    request: &Shared<Request>,
     count: u64,
     host: &mut Host<Session>,
 ) -> Result<Told, NoMemory>
     ensures { IfOk result (λ t. take_claimed as_session config.now epoch number from now noted.now request.now (claim_by Repeats (find (is_repeated_by from request.now) host.old.servers) Unclaimed) count host.old ≡ taken_by host.new t) }
 {
-    match repeated_by(alloc, from, request, host)? {
+    match repeated_by(alloc, from, request.get(), host)? {
         Some(server) => repeated(alloc, server.get(), count, host),
         None => take_unclaimed(
             alloc, config, epoch, number, from, now, noted, request, count, host,
@@ -149,18 +149,18 @@ fn take_request(
     from: Peer,
     now: u64,
     noted: &Option<Note>,
-    request: &Request,
+    request: &Shared<Request>,
     count: u64,
     host: &mut Host<Session>,
 ) -> Result<Told, NoMemory>
     ensures { IfOk result (λ t. take_request as_session config.now epoch number from now noted.now request.now count host.old ≡ taken_by host.new t) }
 {
-    if is_cancel(request) {
+    if is_cancel(request.get()) {
         return take_cancel(
             alloc, config, epoch, number, from, now, noted, request, count, host,
         );
     }
-    if is_ack(request) {
+    if is_ack(request.get()) {
         return take_ack(
             alloc, config, epoch, number, from, now, noted, request, count, host,
         );
@@ -192,7 +192,14 @@ pub fn takes(
             alloc, config, epoch, number, from, now, noted, request, count, host,
         ),
         Message::Response(response) => take_response(
-            alloc, config, epoch, from, now, response, count, host,
+            alloc,
+            config,
+            epoch,
+            from,
+            now,
+            response.get(),
+            count,
+            host,
         ),
     }
 }

@@ -1,6 +1,6 @@
-use sc_value::{Address, Boxed, Region, ReqId, Request, Response, SessId, Text, TimerId};
+use sc_value::{Address, Region, ReqId, Request, Response, SessId, Shared, Text, TimerId};
 
-/// What a turn handles. A message stands in a box, and is seen as the message.
+/// What a turn handles. Its message has several owners, and is seen as the message.
 #[derive(Drop)]
 pub enum Event {
     /// The request that began the application session, with what the router chose.
@@ -11,25 +11,25 @@ pub enum Event {
         subscriber: Text,
         /// The container's own top Route that the request came with.
         popped: Option<Address>,
-        request: Boxed<Request>,
+        request: Shared<Request>,
     },
     /// A later request.
     Request {
         req: ReqId,
         sess: SessId,
-        request: Boxed<Request>,
+        request: Shared<Request>,
     },
     /// A response to a request that the application sent or proxied.
     Response {
         req: ReqId,
         sess: SessId,
-        response: Boxed<Response>,
+        response: Shared<Response>,
     },
     /// A final response of one branch of a proxied request, while others are still open.
     Branch {
         req: ReqId,
         sess: SessId,
-        response: Boxed<Response>,
+        response: Shared<Response>,
     },
     /// The peer cancelled the request.
     Cancelled {

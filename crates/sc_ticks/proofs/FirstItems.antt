@@ -1,15 +1,15 @@
 -- The first item of each key that is due, in the order of the keys.
-use Rattle.std.proofs.Common.{◌≡◌, ◌≢◌, ℕ, Bool, true, false, ◌&&◌, T, List, [], ◌∷◌, ◌++◌, Some, map, refl, sym, ap, subst, ◌∙◌, arith}
+use Rattle.std.proofs.Common.{◌≡◌, ◌≢◌, ◌+◌, ◌*◌, ℕ, Bool, true, false, ◌&&◌, T, Option, None, List, [], ◌∷◌, ◌++◌, Some, map, refl, sym, ap, subst, ◌∙◌, arith}
 use Rattle.std.proofs.lemmas.Bool.{false≢true}
 use Rattle.std.proofs.lemmas.Bool.Decides.{nat_tests}
 use Rattle.std.proofs.lemmas.Cmp.{tied_itself}
-use Rattle.std.specs.Prelude.{filter, ⊤}
+use Rattle.std.specs.Prelude.{filter, nat_le, ⊤, if◌then◌else◌}
 use Rattle.std.specs.declared.cmp.Ordering.{Ordering}
 use Rattle.std.specs.declared.cmp.Ordering.TheVariants.{Less, Equal, Greater}
 use Rattle.std.specs.BTreeMap.{insert_entry}
 use Rattle.std.specs.BTreeSet.{insert_key}
 use Rattle.std.specs.FinMap.Entries.{below_all}
-use Rattle.std.specs.List.{find, filter_map}
+use Rattle.std.specs.List.{find, filter_map, flat_map}
 use Rattle.std.specs.Map.{keys_of, values_of}
 use Rattle.std.specs.Ordering.{is_lt, is_gt, match_ordering}
 use Rattle.sc_model.specs.Timers.{DueEntry, due_order, in_order, is_due}
@@ -18,7 +18,17 @@ use Rattle.sc_model.proofs.RisingKeys.{marked, rises}
 use Rattle.sc_state.specs.declared.net.Net.{Net}
 use Rattle.sc_state.specs.declared.session.Session.{Session}
 use Rattle.sc_hosts.specs.Histories.{as_session}
-use Rattle.sc_hosts.specs.Ticks.{Dated, same_entry, all_dated, due_items}
+use Rattle.sc_hosts.specs.Ticks.{DueItem, Of_session, Of_client, Of_server, Dated, dated, same_entry, is_fired, client_dated, server_dated, live_dated, host_dated, hosts_dated, all_dated, due_items}
+use Rattle.sc_hosts.specs.Transacting.{is_cancel_client, due_of_client, due_of_server}
+use Rattle.sc_value.specs.declared.ids.AppId.{AppId}
+use Rattle.sc_book.specs.Words.{is_before}
+use Rattle.sc_state.specs.declared.host.Client.{Client}
+use Rattle.sc_state.specs.declared.host.Fired.{Fired}
+use Rattle.sc_state.specs.declared.host.Live.{Live}
+use Rattle.sc_state.specs.declared.host.Server.{Server}
+use Rattle.sc_state.specs.Entries.{SessionEntry, due_of_entry, entries_of, least_due, lower}
+use Rattle.sc_state.specs.Hosts.{Host}
+use Rattle.sc_ticks.specs.Due.{host_due, hosts_due}
 use Rattle.sc_ticks.specs.Firsts.{kept_first, kept_firsts}
 
 -- ## Keys that are the same, and keys that aren't
@@ -164,11 +174,114 @@ values-found : (now : ℕ) (ds : List Dated) (es : List (DueEntry × Dated)) →
 values-found now ds [] h = refl
 values-found now ds (e ∷ es) h = rw (filter_map, h.0.0) (ap (λ l. e.1 ∷ l) (values-found now ds es h.1))
 
-pub all_kept : (now : ℕ) (net : Net Session) → values_of (kept_firsts now [] (all_dated as_session net)) ≡ due_items as_session now net
+all_kept : (now : ℕ) (net : Net Session) → values_of (kept_firsts now [] (all_dated as_session net)) ≡ due_items as_session now net
 unfolding due_items
 all_kept now net =
     let all = all_dated as_session net in
     values-found now all (kept_firsts now [] all) (firsts-kept now all) ∙ ap (filter_map (λ entry. find (λ d. same_entry d.entry entry) all)) (keys-kept now all)
+
+-- ## What isn't due plays no part
+
+-- one list after the other
+kept-joined : (now : ℕ) (kept : List (DueEntry × Dated)) (xs ys : List Dated) → kept_firsts now kept (xs ++ ys) ≡ kept_firsts now (kept_firsts now kept ys) xs
+unfolding kept_firsts
+kept-joined now kept [] ys = refl
+kept-joined now kept (x ∷ xs) ys = ap (kept_first now x) (kept-joined now kept xs ys)
+
+-- these do nothing
+abbrev Idle : ℕ → List Dated → Type 0
+Idle now ds = (kept : List (DueEntry × Dated)) → kept_firsts now kept ds ≡ kept
+
+idle-one : (now : ℕ) (app : AppId) (number : ℕ) (item : DueItem) (due : Option ℕ) → is_before (now + 1) due ≡ false → Idle now (dated app number item due)
+unfolding kept_firsts kept_first dated
+idle-one now app number item None e kept = refl
+idle-one now app number item (Some due) e kept = let late : nat_le due now ≡ false = grind (arith, nat_tests, e) in rw late refl
+
+idle-both : (now : ℕ) (xs ys : List Dated) → Idle now xs → Idle now ys → Idle now (xs ++ ys)
+idle-both now xs ys a b kept = kept-joined now kept xs ys ∙ ap (λ k. kept_firsts now k xs) (b kept) ∙ a kept
+
+-- those that may be due do what all do
+one-due : {X : Type 0} (now : ℕ) (all : X → List Dated) (may : X → Bool) (x : X) (xs : List X) (kept : List (DueEntry × Dated)) (b : Bool) → may x ≡ b → (may x ≡ false → Idle now (all x))
+    → ((kept : List (DueEntry × Dated)) → kept_firsts now kept (flat_map all (filter may xs)) ≡ kept_firsts now kept (flat_map all xs))
+    → kept_firsts now kept (flat_map all (filter may (x ∷ xs))) ≡ kept_firsts now kept (flat_map all (x ∷ xs))
+one-due now all may x xs kept true e idle later =
+    rw e (kept-joined now kept (all x) (flat_map all (filter may xs)) ∙ ap (λ k. kept_firsts now k (all x)) (later kept) ∙ sym (kept-joined now kept (all x) (flat_map all xs)))
+one-due now all may x xs kept false e idle later =
+    rw e (later kept ∙ sym (idle e (kept_firsts now kept (flat_map all xs))) ∙ sym (kept-joined now kept (all x) (flat_map all xs)))
+
+some-due : {X : Type 0} (now : ℕ) (all : X → List Dated) (may : X → Bool) → ((x : X) → may x ≡ false → Idle now (all x)) → (xs : List X) (kept : List (DueEntry × Dated))
+    → kept_firsts now kept (flat_map all (filter may xs)) ≡ kept_firsts now kept (flat_map all xs)
+some-due now all may idle [] kept = refl
+some-due now all may idle (x ∷ xs) kept = one-due now all may x xs kept (may x) refl (idle x) (some-due now all may idle xs)
+
+client-idle : (now : ℕ) (client : Client) → is_before (now + 1) (due_of_client client) ≡ false → Idle now (client_dated client)
+unfolding client_dated
+client-idle now client e = idle-one now client.app (8 * client.branch + (if is_cancel_client client then 4 else 3)) (Of_client client) (due_of_client client) e
+
+server-idle : (now : ℕ) (server : Server) → is_before (now + 1) (due_of_server server) ≡ false → Idle now (server_dated server)
+unfolding server_dated
+server-idle now server e = idle-one now server.app (8 * server.event + 5) (Of_server server) (due_of_server server) e
+
+-- of two moments neither is before another where the lower one isn't
+first-late : (past : ℕ) (a b : Option ℕ) → is_before past (lower a b) ≡ false → is_before past a ≡ false
+first-late past None b h = refl
+first-late past (Some x) None h = h
+first-late past (Some x) (Some y) h = grind (arith, nat_tests, h)
+
+second-late : (past : ℕ) (a b : Option ℕ) → is_before past (lower a b) ≡ false → is_before past b ≡ false
+second-late past None b h = h
+second-late past (Some x) None h = refl
+second-late past (Some x) (Some y) h = grind (arith, nat_tests, h)
+
+abbrev entry_of : AppId → List Fired → SessionEntry → List Dated
+entry_of app fired entry = if is_fired fired entry.due entry.number then [] else dated app entry.number (Of_session app entry.event) (Some entry.due)
+
+entry-idle : (now : ℕ) (app : AppId) (fired : List Fired) (entry : SessionEntry) (b : Bool) → is_fired fired entry.due entry.number ≡ b → is_before (now + 1) (due_of_entry fired entry) ≡ false → Idle now (entry_of app fired entry)
+unfolding kept_firsts
+entry-idle now app fired entry true e late kept = rw e refl
+entry-idle now app fired entry false e late kept =
+    let own : is_before (now + 1) (Some entry.due) ≡ false = sym (ap (λ t. is_before (now + 1) (if t then None else Some entry.due)) e) ∙ late in
+    ap (λ t. kept_firsts now kept (if t then [] else dated app entry.number (Of_session app entry.event) (Some entry.due))) e ∙ idle-one now app entry.number (Of_session app entry.event) (Some entry.due) own kept
+
+entries-idle : (now : ℕ) (app : AppId) (fired : List Fired) (entries : List SessionEntry) → is_before (now + 1) (least_due fired entries) ≡ false → Idle now (flat_map (entry_of app fired) entries)
+unfolding least_due kept_firsts
+entries-idle now app fired [] late = λ kept. refl
+entries-idle now app fired (entry ∷ entries) late =
+    idle-both now (entry_of app fired entry) (flat_map (entry_of app fired) entries)
+    (entry-idle now app fired entry (is_fired fired entry.due entry.number) refl (first-late (now + 1) (due_of_entry fired entry) (least_due fired entries) late))
+    (entries-idle now app fired entries (second-late (now + 1) (due_of_entry fired entry) (least_due fired entries) late))
+
+live-idle : (now number : ℕ) (live : Live Session) → is_before (now + 1) (least_due live.fired (entries_of live.session)) ≡ false → Idle now (live_dated as_session number live)
+unfolding live_dated as_session
+live-idle now number live late = entries-idle now (record { host = number; serial = live.serial }) live.fired (entries_of live.session) late
+
+host-due : (now number : ℕ) (host : Host Session) (kept : List (DueEntry × Dated)) → kept_firsts now kept (host_due (now + 1) number host) ≡ kept_firsts now kept (host_dated as_session number host)
+unfolding host_due host_dated
+host-due now number host kept =
+    let clients = some-due now client_dated (λ client. is_before (now + 1) (due_of_client client)) (client-idle now) host.clients in
+    let servers = some-due now server_dated (λ server. is_before (now + 1) (due_of_server server)) (server-idle now) host.servers in
+    let lives = some-due now (live_dated as_session number) (λ live. is_before (now + 1) (least_due live.fired (entries_of live.session))) (live-idle now number) host.sessions in
+    three-joined _ _ _ _ _ _ clients servers lives
+  where
+    three-joined : (a b c d e f : List Dated) → ((k : List (DueEntry × Dated)) → kept_firsts now k a ≡ kept_firsts now k b) → ((k : List (DueEntry × Dated)) → kept_firsts now k c ≡ kept_firsts now k d)
+        → ((k : List (DueEntry × Dated)) → kept_firsts now k e ≡ kept_firsts now k f) → kept_firsts now kept (a ++ c ++ e) ≡ kept_firsts now kept (b ++ d ++ f)
+    three-joined a b c d e f one two three =
+        kept-joined now kept (a ++ c) e ∙ ap (λ k. kept_firsts now k (a ++ c)) (three kept) ∙ kept-joined now (kept_firsts now kept f) a c
+        ∙ ap (λ k. kept_firsts now k a) (two (kept_firsts now kept f)) ∙ one (kept_firsts now (kept_firsts now kept f) d)
+        ∙ sym (kept-joined now (kept_firsts now kept f) b d) ∙ sym (kept-joined now kept (b ++ d) f)
+
+hosts-due : (now number : ℕ) (hosts : List (Host Session)) (kept : List (DueEntry × Dated)) → kept_firsts now kept (hosts_due (now + 1) number hosts) ≡ kept_firsts now kept (hosts_dated as_session number hosts)
+unfolding hosts_due hosts_dated
+hosts-due now number [] kept = refl
+hosts-due now number (host ∷ hosts) kept =
+    kept-joined now kept (host_due (now + 1) number host) (hosts_due (now + 1) (number + 1) hosts)
+    ∙ ap (λ k. kept_firsts now k (host_due (now + 1) number host)) (hosts-due now (number + 1) hosts kept)
+    ∙ host-due now number host (kept_firsts now kept (hosts_dated as_session (number + 1) hosts))
+    ∙ sym (kept-joined now kept (host_dated as_session number host) (hosts_dated as_session (number + 1) hosts))
+
+pub due_kept : (now past : ℕ) (net : Net Session) → past ≡ now + 1 → values_of (kept_firsts now [] (hosts_due past 0 net.hosts)) ≡ due_items as_session now net
+unfolding all_dated
+due_kept now past net is = ap (λ p. values_of (kept_firsts now [] (hosts_due p 0 net.hosts))) is ∙ ap values_of (hosts-due now 0 net.hosts []) ∙ all_kept now net
 
 -- ## From the last on
 

@@ -1,4 +1,5 @@
-pub mod DatedHosts
+pub mod DueHosts
 pub mod FirstItems
 pub mod LostClients
 pub mod Runnings
+mod MarkedHosts

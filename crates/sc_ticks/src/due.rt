@@ -1,9 +1,10 @@
-//! All that runs in a net, each with its key and what is due there.
+//! What runs in a net and may be due, each with its key and what is due there.
 
 ghost use Rattle.std.specs.Prelude.{◌≡◌, ◌++◌, if◌then◌else◌, Some, IfOk, OnOk};
 ghost use Rattle.std.specs.List.{flat_map};
 ghost use Rattle.sc_hosts.specs.Histories.{as_session};
-ghost use Rattle.sc_hosts.specs.Ticks.{dated, client_dated, server_dated, is_fired, live_dated, host_dated, hosts_dated, all_dated};
+ghost use Rattle.sc_hosts.specs.Ticks.{dated, client_dated, server_dated, is_fired, live_dated};
+ghost use Rattle.sc_ticks.specs.Due.{host_due, hosts_due};
 ghost use Rattle.sc_hosts.specs.Transacting.{is_cancel_client};
 ghost use Rattle.sc_ticks.specs.Items.{item_of, entry_dated};
 
@@ -189,38 +190,44 @@ fn put_sessions(
     Ok(())
 }
 
-#[tactic(auto, unfolding(sc_hosts::specs::Ticks::host_dated))]
+// What may be due before a moment in a host: the transactions and sessions of which something is.
+#[tactic(auto, unfolding(crate::specs::Due::host_due))]
 fn put_host(
     alloc: Global,
+    past: u64,
     number: u32,
     host: &Host<Session>,
     out: &mut List<Dated>,
 ) -> Result<(), NoMemory>
-    ensures { OnOk result (out.new ≡ out.old ++ host_dated as_session number host.now) }
+    ensures { OnOk result (out.new ≡ out.old ++ host_due past number host.now) }
 {
-    put_clients(alloc, host.clients.as_slice(), out)?;
-    put_servers(alloc, host.servers.as_slice(), out)?;
-    put_sessions(alloc, number, host.sessions.as_slice(), out)
+    put_clients(alloc, host.due_clients(alloc, past)?.as_slice(), out)?;
+    put_servers(alloc, host.due_servers(alloc, past)?.as_slice(), out)?;
+    put_sessions(alloc, number, host.due_lives(alloc, past)?.as_slice(), out)
 }
 
-#[tactic(auto, using(crate::proofs::DatedHosts::dated_next, crate::proofs::DatedHosts::dated_end))]
-fn put_hosts(alloc: Global, hosts: &[Host<Session>], out: &mut List<Dated>) -> Result<(), NoMemory>
-    ensures { OnOk result (out.new ≡ out.old ++ hosts_dated as_session 0 hosts.now) }
+#[tactic(auto, using(crate::proofs::DueHosts::due_next, crate::proofs::DueHosts::due_end))]
+fn put_hosts(
+    alloc: Global,
+    past: u64,
+    hosts: &[Host<Session>],
+    out: &mut List<Dated>,
+) -> Result<(), NoMemory>
+    ensures { OnOk result (out.new ≡ out.old ++ hosts_due past 0 hosts.now) }
 {
     let mut number: u32 = 0;
     for host in hosts {
-        put_host(alloc, number, host, out)?;
+        put_host(alloc, past, number, host, out)?;
         number = sum_u32(number, 1)?;
     }
     Ok(())
 }
 
-/// All that runs in a net.
-#[tactic(auto, unfolding(sc_hosts::specs::Ticks::all_dated))]
-pub fn all_dated(alloc: Global, net: &Net<Session>) -> Result<List<Dated>, NoMemory>
-    ensures { IfOk result (λ all. all ≡ all_dated as_session net.now) }
+/// What may be due before a moment. `NoMemory` too where a step's changes aren't settled yet.
+pub fn due_dated(alloc: Global, past: u64, net: &Net<Session>) -> Result<List<Dated>, NoMemory>
+    ensures { IfOk result (λ all. all ≡ hosts_due past 0 net.now.hosts) }
 {
     let mut all = List::new(alloc);
-    put_hosts(alloc, net.hosts.as_slice(), &mut all)?;
+    put_hosts(alloc, past, net.hosts.as_slice(), &mut all)?;
     Ok(all)
 }

@@ -6,10 +6,10 @@ ghost use Rattle.sc_hosts.specs.Histories.{as_session};
 ghost use Rattle.sc_hosts.specs.Ticks.{due_items};
 ghost use Rattle.sc_ticks.specs.Firsts.{kept_first, kept_firsts};
 
-use crate::due::{Dated, all_dated};
+use crate::due::{Dated, due_dated};
 use sc_due::DueKey;
 use sc_state::{Net, Session};
-use sc_value::NoMemory;
+use sc_value::{NoMemory, sum};
 use std::alloc::Global;
 use std::collections::BTreeMap;
 
@@ -38,7 +38,7 @@ fn keep_firsts(
 }
 
 /// What is due at a moment, by due moment, host, serial and number.
-#[tactic(auto, using(crate::proofs::FirstItems::all_kept))]
+#[tactic(auto, using(crate::proofs::FirstItems::due_kept))]
 pub fn due_items(
     alloc: Global,
     now: u64,
@@ -46,7 +46,8 @@ pub fn due_items(
 ) -> Result<BTreeMap<DueKey, Dated>, NoMemory>
     ensures { IfOk result (λ items. values items ≡ due_items as_session now net.now) }
 {
-    let mut all = all_dated(alloc, net)?;
+    let past = sum(now, 1)?;
+    let mut all = due_dated(alloc, past, net)?;
     let mut kept = BTreeMap::new(alloc);
     keep_firsts(now, &mut all.items, &mut kept)?;
     Ok(kept)

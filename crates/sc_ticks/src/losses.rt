@@ -42,7 +42,7 @@ fn put_all_clients(
     ensures { OnOk result (out.new ≡ out.old ++ flat_map (λ host. host.clients) hosts.now) }
 {
     for host in hosts {
-        put_clients(alloc, host.clients.as_slice(), out)?;
+        put_clients(alloc, host.clients(alloc)?.as_slice(), out)?;
     }
     Ok(())
 }

@@ -1,4 +1,3 @@
 pub mod BranchTexts
-pub mod Places
-pub mod ClientStanding
-pub mod ServerStanding
+pub mod ClientUses
+pub mod ServerUses

@@ -1,3 +1,2 @@
-pub mod Kept
+pub mod Ringing
 pub mod Named
-pub mod Stages

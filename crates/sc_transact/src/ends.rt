@@ -1,12 +1,12 @@
-//! The ends of a transaction, its state, and the Vias by which it is found.
+//! The ends of a transaction, and the Vias by which it is found.
 
 ghost use Rattle.std.specs.Prelude.{◌≡◌, false};
-ghost use Rattle.std.specs.Option.{option_map_or, option_copied};
-ghost use Rattle.sc_hosts.specs.Transacting.{takes_from, goes_to, is_over, is_proceeding, is_completed, top_via, branch_of, port_of, same_via, same_top};
+ghost use Rattle.std.specs.Option.{option_map_or};
+ghost use Rattle.sc_hosts.specs.Transacting.{takes_from, goes_to, top_via, port_of, same_via, same_top};
 
-use sc_parts::TxnState;
+use sc_stages::{branch_of, top_via};
 use sc_state::Peer;
-use sc_value::{Place, Via, branch, same_name, same_place};
+use sc_value::{Place, Via, same_name, same_place};
 
 /// Whether a transaction with this end takes a message from there.
 #[tactic(auto, unfolding(sc_hosts::specs::Transacting::takes_from))]
@@ -28,47 +28,6 @@ pub fn goes_to(place: Place, peer: Peer) -> bool
     match peer {
         Peer::Outside(other) => same_place(place, other),
         Peer::Inside(_) | Peer::Nowhere => false,
-    }
-}
-
-/// Whether the state is that of a transaction that is over.
-#[tactic(auto, unfolding(sc_hosts::specs::Transacting::is_over))]
-pub fn is_over(state: TxnState) -> bool
-    ensures { result ≡ is_over state }
-{
-    state == TxnState::Terminated
-}
-
-/// Whether the state is Proceeding.
-#[tactic(auto, unfolding(sc_hosts::specs::Transacting::is_proceeding))]
-pub fn is_proceeding(state: TxnState) -> bool
-    ensures { result ≡ is_proceeding state }
-{
-    state == TxnState::Proceeding
-}
-
-/// Whether the state is Completed.
-#[tactic(auto, unfolding(sc_hosts::specs::Transacting::is_completed))]
-pub fn is_completed(state: TxnState) -> bool
-    ensures { result ≡ is_completed state }
-{
-    state == TxnState::Completed
-}
-
-/// The top Via, None where there is none.
-pub fn top_via(via: &[Via]) -> Option<&Via>
-    ensures { option_copied result ≡ top_via via.now }
-{
-    via.first()
-}
-
-/// The branch of a Via, empty where it has none.
-pub fn branch_of(via: &Via) -> &[u8]
-    ensures { result.now ≡ branch_of via.now }
-{
-    match branch(via) {
-        Some(text) => text.as_bytes(),
-        None => b"",
     }
 }
 

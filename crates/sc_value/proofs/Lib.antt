@@ -1,3 +1,4 @@
 pub mod ListFacts
 pub mod OtherLaws
 pub mod PlaceLaws
+pub mod TextLaws

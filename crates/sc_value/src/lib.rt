@@ -26,6 +26,7 @@ mod places;
 mod reason;
 mod same;
 mod shared;
+mod short_text;
 mod shown_text;
 mod text;
 mod token;

@@ -1,7 +1,7 @@
 //! Messages (RFC 3261 section 7).
 
 use crate::{
-    Address, CSeq, Contact, HeaderValue, List, Others, Place, Reason, Text, Token, Uri, Via,
+    Address, CSeq, Contact, HeaderValue, List, Others, Place, Reason, Shared, Text, Token, Uri, Via,
 };
 
 /// The headers and the body of a message. Max-Forwards stands in the request, and Content-Length
@@ -40,11 +40,11 @@ pub struct Response {
     pub head: Head,
 }
 
-/// A request or a response.
+/// A request or a response. A copy is one owner more.
 #[derive(Drop)]
 pub enum Message {
-    Request(Request),
-    Response(Response),
+    Request(Shared<Request>),
+    Response(Shared<Response>),
 }
 
 /// A message with the place that it goes to.

@@ -1,21 +1,28 @@
-ghost use Rattle.std.specs.Prelude.{◌≡◌, ◌==◌, ◌++◌, [], length, IfOk, OnOk, OnErr};
+ghost use Rattle.std.specs.Prelude.{◌≡◌, ◌==◌, ◌<◌, ◌≤◌, ◌++◌, [], length, IfOk, OnOk, OnErr};
 
+use crate::short_text::{MOST_SHORT, ShortText};
 use crate::{CloneIn, NoMemory, Same};
 use std::alloc::Global;
 use std::marker::Model;
 
-/// A text of bytes, which need not be UTF-8. A contract sees its bytes.
+/// A text of bytes, which need not be UTF-8. A contract sees its bytes. At most 22 bytes stand in the value
+/// itself, so that such a text and its copies take no memory.
 #[derive(Drop)]
 pub struct Text {
-    bytes: Vec<u8>,
+    /// The bytes of a short text.
+    short: ShortText,
+    /// The bytes of a longer text, none of a short one.
+    long: Vec<u8>,
+    alloc: Global,
 }
 
 impl Model for Text {
     ghost use Rattle.std.specs.Prelude.{List, ℕ};
+    ghost use Rattle.sc_value.specs.TextBytes.{bytes_of};
 
     ghost Value = { List ℕ };
 
-    ghost view = { λ t. t.bytes.items };
+    ghost view = { λ t. bytes_of t.short t.long.items };
 }
 
 impl Text {
@@ -23,62 +30,119 @@ impl Text {
     pub fn new(alloc: Global) -> Text
         ensures { result ≡ [] }
     {
+        Text::short(alloc, &[])
+    }
+
+    // The text of at most 22 bytes.
+    fn short(alloc: Global, bytes: &[u8]) -> Text
+        requires { length bytes.now ≤ 22 }
+        ensures { result ≡ bytes.now }
+    {
         Text {
-            bytes: Vec::new(alloc),
+            short: ShortText::new(bytes),
+            long: Vec::new(alloc),
+            alloc,
         }
     }
 
-    /// The text of these bytes, moved and not copied.
-    pub fn from_vec(bytes: Vec<u8>) -> Text
+    // The text of more than 22 bytes.
+    #[tactic(auto, using(crate::proofs::TextLaws::long_is))]
+    fn long(alloc: Global, bytes: Vec<u8>) -> Text
+        requires { 22 < length bytes.items }
         ensures { result ≡ bytes.items }
     {
-        Text { bytes }
+        Text {
+            short: ShortText::new(&[]),
+            long: bytes,
+            alloc,
+        }
+    }
+
+    /// The text of these bytes, moved and not copied where they are many.
+    pub fn from_vec(alloc: Global, bytes: Vec<u8>) -> Text
+        ensures { result ≡ bytes.items }
+    {
+        if bytes.len() <= MOST_SHORT {
+            return Text::short(alloc, bytes.as_slice());
+        }
+        Text::long(alloc, bytes)
     }
 
     /// A copy of these bytes.
     pub fn from_slice(alloc: Global, bytes: &[u8]) -> Result<Text, NoMemory>
         ensures { IfOk result (λ t. t ≡ bytes.now) }
     {
-        let bytes = Vec::from_slice(alloc, bytes)?;
-        Ok(Text { bytes })
+        if bytes.len() <= MOST_SHORT {
+            return Ok(Text::short(alloc, bytes));
+        }
+        let own = Vec::from_slice(alloc, bytes)?;
+        Ok(Text::long(alloc, own))
     }
 
-    /// The bytes, moved and not copied.
-    pub fn into_vec(self) -> Vec<u8>
-        ensures { result.items ≡ self }
+    /// The bytes, moved and not copied where they are many.
+    pub fn into_vec(self) -> Result<Vec<u8>, NoMemory>
+        ensures { IfOk result (λ bytes. bytes.items ≡ self) }
     {
-        self.bytes
+        let Text { short, long, alloc } = self;
+        if long.is_empty() {
+            return Ok(Vec::from_slice(alloc, short.as_bytes())?);
+        }
+        Ok(long)
     }
 
     /// The bytes in order.
     pub fn as_bytes(&self) -> &[u8]
         ensures { result.now ≡ self.now }
     {
-        self.bytes.as_slice()
+        if self.long.is_empty() {
+            self.short.as_bytes()
+        } else {
+            self.long.as_slice()
+        }
     }
 
     /// How many bytes the text has.
     pub fn len(&self) -> usize
         ensures { result ≡ length self.now }
     {
-        self.bytes.len()
+        self.as_bytes().len()
     }
 
     /// Whether the text has no byte.
     pub fn is_empty(&self) -> bool
         ensures { result ≡ (length self.now == 0) }
     {
-        self.bytes.is_empty()
+        self.as_bytes().is_empty()
     }
 
     /// Puts bytes at the end, all of them or, for want of memory, none.
+    #[tactic(auto, using(crate::proofs::TextLaws::appended_long))]
     pub fn append(&mut self, bytes: &[u8]) -> Result<(), NoMemory>
         ensures ok { OnOk result (self.new ≡ self.old ++ bytes.now) }
         ensures err { OnErr result (self.new ≡ self.old) }
     {
-        self.bytes.extend_from_slice(bytes)?;
+        if self.long.is_empty() {
+            let own = longer(self.alloc, &self.short, bytes)?;
+            *self = own;
+            return Ok(());
+        }
+        self.long.extend_from_slice(bytes)?;
         Ok(())
     }
+}
+
+// A short text with bytes behind it.
+fn longer(alloc: Global, short: &ShortText, bytes: &[u8]) -> Result<Text, NoMemory>
+    ensures { IfOk result (λ text. text ≡ short.now ++ bytes.now) }
+{
+    let len = short.as_bytes().len();
+    if bytes.len() <= MOST_SHORT - len {
+        let own = short.with(bytes);
+        return Ok(Text::short(alloc, own.as_bytes()));
+    }
+    let mut own = Vec::from_slice(alloc, short.as_bytes())?;
+    own.extend_from_slice(bytes)?;
+    Ok(Text::from_vec(alloc, own))
 }
 
 impl CloneIn for Text {

@@ -4,7 +4,7 @@ use Rattle.sc_value.specs.declared.message.Request.{Request}
 use Rattle.sc_value.specs.declared.message.Sent.{Sent}
 use Rattle.sc_terms.specs.declared.settings.Config.{Config}
 use Rattle.sc_state.specs.declared.host.Client.{Client}
-use Rattle.sc_state.specs.declared.host.Host.{Host}
+use Rattle.sc_state.specs.Hosts.{Host}
 use Rattle.sc_state.specs.declared.host.Server.{Server}
 use Rattle.sc_state.specs.declared.net.Entry.{Entry}
 use Rattle.sc_state.specs.declared.net.Net.{Net}

@@ -1,3 +1,4 @@
 pub mod HostTaking
 pub mod Literals
 pub mod NamedHosts
+mod Answering

@@ -3,7 +3,7 @@ use Rattle.std.specs.Prelude.{ℕ, Option, None, Some, slice_get}
 use Rattle.sc_value.specs.Lists.{change_first, change_nth}
 use Rattle.sc_value.specs.declared.message.Response.{Response}
 use Rattle.sc_state.specs.declared.host.Client.{Client}
-use Rattle.sc_state.specs.declared.host.Host.{Host}
+use Rattle.sc_state.specs.Hosts.{Host}
 use Rattle.sc_state.specs.declared.host.Taken.{Taken}
 use Rattle.sc_state.specs.declared.net.Net.{Net}
 use Rattle.sc_state.specs.declared.session.Session.{Session}

@@ -1,20 +1,19 @@
 //! Responses that a session gives to send.
 
 ghost use Rattle.std.specs.Prelude.{◌≡◌, IfOk, OnOk};
-ghost use Rattle.std.specs.List.{find};
 ghost use Rattle.std.specs.Option.{option_copied};
 ghost use Rattle.sc_value.specs.declared.message.Message.{Message};
-ghost use Rattle.sc_value.specs.Lists.{change_first, change_nth};
+ghost use Rattle.sc_value.specs.Lists.{change_nth};
 ghost use Rattle.sc_model.specs.ServerTransactions.{is_sent};
 ghost use Rattle.sc_hosts.specs.Nets.{change_host, host_at, answered_server, respond_by, server_at};
-ghost use Rattle.sc_hosts.specs.Transacting.{is_server, is_invite_server};
+ghost use Rattle.sc_hosts.specs.Transacting.{is_invite_server};
 ghost use Rattle.sc_wire.specs.HostChanges.{answered_host};
 
 use crate::wire::{host_at, put};
 use sc_parts::ServerItem;
 use sc_state::{Host, Net, Server, Session};
-use sc_transact::{is_invite_server, is_sent, server_of, server_place, tidied};
-use sc_value::{AppId, Boxed, CloneIn, Message, NoMemory, Response, Shared};
+use sc_transact::{is_invite_server, is_sent};
+use sc_value::{AppId, CloneIn, Message, NoMemory, Response, Shared};
 use std::alloc::Global;
 
 #[tactic(auto, unfolding(sc_hosts::specs::Nets::answered_server))]
@@ -23,38 +22,20 @@ fn answered_server(
     code: u16,
     now: u64,
     response: &Shared<Response>,
-    server: &mut Shared<Server>,
-) -> Result<(), NoMemory>
-    ensures { OnOk result (server.new ≡ answered_server code now response.now server.old) }
+    server: &Server,
+) -> Result<Shared<Server>, NoMemory>
+    ensures { IfOk result (λ own. own ≡ answered_server code now response.now server.now) }
 {
     let last = response.clone_in(alloc)?;
-    let mut own = server.get().clone_in(alloc)?;
+    let mut own = server.clone_in(alloc)?;
     own.last = Some(last);
     own.passed
         .items
         .insert(0, ServerItem::AnswerGiven { code, moment: now })?;
-    *server = Shared::new(alloc, own)?;
-    Ok(())
+    Shared::new(alloc, own)
 }
 
-#[tactic(auto, using(sc_value::proofs::ListFacts::change_first_position, sc_value::proofs::ListFacts::change_first_none))]
-fn answer_in(
-    alloc: Global,
-    event: u64,
-    code: u16,
-    now: u64,
-    response: &Shared<Response>,
-    servers: &mut [Shared<Server>],
-) -> Result<(), NoMemory>
-    ensures { OnOk result (servers.new ≡ change_first (is_server event) (answered_server code now response.now) servers.old) }
-{
-    match server_place(event, servers) {
-        Some(at) => answered_server(alloc, code, now, response, &mut servers[at]),
-        None => Ok(()),
-    }
-}
-
-#[tactic(auto, unfolding(crate::specs::HostChanges::answered_host))]
+#[tactic(auto, using(crate::proofs::Answering::answered_none))]
 fn answered_host(
     alloc: Global,
     event: u64,
@@ -65,9 +46,11 @@ fn answered_host(
     ensures { OnOk result (host.new ≡ answered_host event now response.now host.old) }
 {
     let code = response.get().code;
-    answer_in(alloc, event, code, now, response, &mut host.servers.items)?;
-    tidied(host);
-    Ok(())
+    let own = match host.server(event) {
+        Some(server) => answered_server(alloc, code, now, response, server.get())?,
+        None => return host.tidied(alloc),
+    };
+    host.change_server(alloc, own)
 }
 
 #[tactic(auto, using(sc_value::proofs::ListFacts::change_nth_at, sc_value::proofs::ListFacts::change_nth_none))]
@@ -107,11 +90,10 @@ fn answered_at(
     )
 }
 
-fn boxed_response(alloc: Global, response: &Response) -> Result<Boxed<Message>, NoMemory>
+fn response_message(alloc: Global, response: &Shared<Response>) -> Result<Message, NoMemory>
     ensures { IfOk result (λ m. m ≡ Message.Response response.now) }
 {
-    let copy = response.clone_in(alloc)?;
-    Boxed::new(alloc, Message::Response(copy))
+    Ok(Message::Response(response.clone_in(alloc)?))
 }
 
 fn lets_go(server: &Server, response: &Response) -> bool
@@ -143,19 +125,18 @@ fn respond_by(
     if !lets_go(server.get(), response.get()) {
         return Ok(());
     }
-    let message = boxed_response(alloc, response.get())?;
+    let message = response_message(alloc, response)?;
     answered_at(alloc, number, event, response, net)?;
     put(number, server.get().peer, message, None, net)
 }
 
-fn server_in(
+fn server_copy(
     alloc: Global,
-    event: u64,
-    servers: &[Shared<Server>],
+    server: Option<&Shared<Server>>,
 ) -> Result<Option<Shared<Server>>, NoMemory>
-    ensures { IfOk result (λ server. server ≡ find (is_server event) servers.now) }
+    ensures { IfOk result (λ copy. copy ≡ option_copied server.entry) }
 {
-    match server_of(event, servers) {
+    match server {
         Some(server) => Ok(Some(server.clone_in(alloc)?)),
         None => Ok(None),
     }
@@ -170,7 +151,7 @@ fn server_at(
     ensures { IfOk result (λ server. server ≡ server_at event (option_copied host.entry)) }
 {
     match host {
-        Some(host) => server_in(alloc, event, host.servers.as_slice()),
+        Some(host) => server_copy(alloc, host.server(event)),
         None => Ok(None),
     }
 }

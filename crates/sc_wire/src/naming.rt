@@ -7,7 +7,7 @@ ghost use Rattle.sc_hosts.specs.Destinations.{destination, next_uri};
 ghost use Rattle.sc_hosts.specs.Nets.{has_named, named_from, named_host, send_named, send_later, peer_of_host, peer_of_place, acknowledge};
 
 use crate::destinations::{destination, next_uri};
-use crate::sending::{boxed_request, leave, send_to, tell_unknown};
+use crate::sending::{leave, request_message, send_to, tell_unknown};
 use crate::wire::put;
 use sc_inboxes::named_live;
 use sc_router::is_own;
@@ -17,19 +17,30 @@ use sc_value::{AppId, NoMemory, Place, Request, Shared, Uri, sum_u32};
 use std::alloc::Global;
 
 #[tactic(auto, unfolding(sc_hosts::specs::Nets::has_named))]
-fn has_named(epoch: u32, uri: &Uri, number: u32, host: &Host<Session>) -> bool
-    ensures { result ≡ has_named epoch uri.now number host.now }
+fn has_named(
+    alloc: Global,
+    epoch: u32,
+    uri: &Uri,
+    number: u32,
+    host: &Host<Session>,
+) -> Result<bool, NoMemory>
+    ensures { IfOk result (λ has. has ≡ has_named epoch uri.now number host.now) }
 {
-    named_live(epoch, number, uri, host).is_some()
+    Ok(named_live(alloc, epoch, number, uri, host)?.is_some())
 }
 
 #[tactic(auto, using(crate::proofs::NamedHosts::named_here, crate::proofs::NamedHosts::named_later, crate::proofs::NamedHosts::named_nowhere))]
-fn named_among(epoch: u32, uri: &Uri, hosts: &[Host<Session>]) -> Result<Option<u32>, NoMemory>
+fn named_among(
+    alloc: Global,
+    epoch: u32,
+    uri: &Uri,
+    hosts: &[Host<Session>],
+) -> Result<Option<u32>, NoMemory>
     ensures { IfOk result (λ number. number ≡ named_from epoch uri.now 0 hosts.now) }
 {
     let mut number: u32 = 0;
     for host in hosts {
-        if has_named(epoch, uri, number, host) {
+        if has_named(alloc, epoch, uri, number, host)? {
             return Ok(Some(number));
         }
         number = sum_u32(number, 1)?;
@@ -39,10 +50,10 @@ fn named_among(epoch: u32, uri: &Uri, hosts: &[Host<Session>]) -> Result<Option<
 
 /// The number of the first host with a live session that the URI names, None where there is none.
 #[tactic(auto, unfolding(sc_hosts::specs::Nets::named_host))]
-pub fn named_host(uri: &Uri, net: &Net<Session>) -> Result<Option<u32>, NoMemory>
+pub fn named_host(alloc: Global, uri: &Uri, net: &Net<Session>) -> Result<Option<u32>, NoMemory>
     ensures { IfOk result (λ number. number ≡ named_host uri.now net.now) }
 {
-    named_among(net.epoch, uri, net.hosts.as_slice())
+    named_among(alloc, net.epoch, uri, net.hosts.as_slice())
 }
 
 #[tactic(auto, unfolding(sc_hosts::specs::Nets::send_named))]
@@ -77,7 +88,7 @@ pub fn send_later(
 {
     let uri = next_uri(request.get());
     if is_own(alloc, config, uri)? {
-        let host = named_host(uri, net)?;
+        let host = named_host(alloc, uri, net)?;
         return send_named(alloc, config, app, branch, request, host, net);
     }
     leave(alloc, config, app, branch, request, net)
@@ -113,7 +124,7 @@ fn ack_peer(
 {
     let uri = next_uri(request);
     if is_own(alloc, config, uri)? {
-        Ok(peer_of_host(named_host(uri, net)?))
+        Ok(peer_of_host(named_host(alloc, uri, net)?))
     } else {
         Ok(peer_of_place(destination(config, request)))
     }
@@ -125,12 +136,12 @@ pub fn acknowledge(
     alloc: Global,
     config: &Config,
     app: AppId,
-    request: &Request,
+    request: &Shared<Request>,
     net: &mut Net<Session>,
 ) -> Result<(), NoMemory>
     ensures { OnOk result (net.new ≡ acknowledge config.now app request.now net.old) }
 {
-    let peer = ack_peer(alloc, config, request, net)?;
-    let message = boxed_request(alloc, request)?;
+    let peer = ack_peer(alloc, config, request.get(), net)?;
+    let message = request_message(alloc, request)?;
     put(app.host, peer, message, None, net)
 }

@@ -15,8 +15,22 @@ use sc_messages::without_via;
 use sc_parts::Choice;
 use sc_state::{Client, Net, Note, Peer, Queued, Session};
 use sc_terms::Config;
-use sc_value::{Address, AppId, Boxed, CloneIn, List, Message, NoMemory, Place, Request, Shared};
+use sc_value::{
+    Address, AppId, CloneIn, List, Message, NoMemory, Place, Request, Response, Shared,
+};
 use std::alloc::Global;
+
+fn own_answer(
+    alloc: Global,
+    config: &Config,
+    code: u16,
+    reason: &[u8],
+    request: &Request,
+) -> Result<Shared<Response>, NoMemory>
+    ensures { IfOk result (λ r. r ≡ own_response (edge_tag config.now.salt) code reason.now request.now) }
+{
+    Shared::new(alloc, edge_response(alloc, config, code, reason, request)?)
+}
 
 fn own_telling(
     alloc: Global,
@@ -28,8 +42,8 @@ fn own_telling(
 ) -> Result<Queued, NoMemory>
     ensures { IfOk result (λ e. e ≡ Queued.Response branch (without_via (own_response (edge_tag config.now.salt) code reason.now request.now))) }
 {
-    let response = edge_response(alloc, config, code, reason, request)?;
-    let response = Shared::new(alloc, without_via(alloc, &response)?)?;
+    let response = own_answer(alloc, config, code, reason, request)?;
+    let response = Shared::new(alloc, without_via(alloc, response.get())?)?;
     Ok(Queued::Response { branch, response })
 }
 
@@ -133,11 +147,10 @@ fn new_client(
 }
 
 /// A request as a message.
-pub fn boxed_request(alloc: Global, request: &Request) -> Result<Boxed<Message>, NoMemory>
+pub fn request_message(alloc: Global, request: &Shared<Request>) -> Result<Message, NoMemory>
     ensures { IfOk result (λ m. m ≡ Message.Request request.now) }
 {
-    let copy = request.clone_in(alloc)?;
-    Boxed::new(alloc, Message::Request(copy))
+    Ok(Message::Request(request.clone_in(alloc)?))
 }
 
 /// A request goes with its client transaction.
@@ -154,7 +167,7 @@ pub fn send_to(
     ensures { OnOk result (net.new ≡ send_to app branch peer noted request.now net.old) }
 {
     let client = new_client(alloc, app, branch, peer, request, net.moment)?;
-    let message = boxed_request(alloc, request.get())?;
+    let message = request_message(alloc, request)?;
     with_client_at(alloc, app.host, client, net)?;
     put(app.host, peer, message, noted, net)
 }

@@ -11,7 +11,7 @@ ghost use Rattle.sc_wire.specs.HostChanges.{with_own_client, host_after, told_af
 use sc_inboxes::{Told, queue};
 use sc_state::{Client, Entry, Host, Net, Note, Peer, Queued, Reply, Session};
 use sc_transact::with_client;
-use sc_value::{AppId, Boxed, Message, NoMemory, Sent};
+use sc_value::{AppId, Message, NoMemory, Sent};
 use std::alloc::Global;
 
 /// The host of this number, None where there is none.
@@ -26,7 +26,7 @@ pub fn host_at(number: u32, net: &Net<Session>) -> Option<&Host<Session>>
 pub fn put(
     sender: u32,
     peer: Peer,
-    message: Boxed<Message>,
+    message: Message,
     noted: Option<Note>,
     net: &mut Net<Session>,
 ) -> Result<(), NoMemory>
@@ -34,7 +34,6 @@ pub fn put(
 {
     match peer {
         Peer::Outside(place) => {
-            let message = message.into_inner();
             net.sent.push(Sent { place, message })?;
             Ok(())
         }

@@ -8,7 +8,10 @@ sipd, a SIP Servlet container (JSR 289, RFC 3261)
 usage: sipd replay CONFIG DAR SCRIPT
        sipd check CONFIG DAR
        sipd make N
+       sipd trial N
        sipd serve CONFIG DAR
+       sipd trace CONFIG DAR SCRIPT
+       sipd explain WHAT NUMBER
        sipd --help
        sipd --version
 
@@ -18,16 +21,24 @@ bytes of the message and a line feed, and at the end the line
 `end STEPS SENT LIVE`: how many steps were taken, messages sent, and
 application sessions live on.
 
+trace runs a script as replay does, and writes a picture of the run in place
+of the records: a column for each place and application, an arrow for each
+message from outside or to it, and a row for each turn and call.
+
 check reads a configuration and a routing table, and writes `ok A T`: how many
 applications and how many tuples they have. make writes a script of N calls, N
-from 1 to 1000.
+from 1 to 1000. trial runs that script with settings of its own, and writes
+`trial N steps S sent M live L`, with the counts of `end`.
 
 serve listens at the address of the configuration for SIP over TCP. Standard
 error has the line `sipd: listening A.B.C.D:PORT` once it does.
 
+explain writes what a refusal means and how to mend it: WHAT is config, dar,
+script or status, and NUMBER a kind, or the exit status.
+
 CONFIG is a TOML text with the container's settings and its applications, each
-of a kind: answer, block, forward, fork, recorder, b2b, dial, reverse, ringer.
-DAR is the table of the Default Application Router.
+of a kind: answer, block, forward, fork, recorder, b2b, dial, reverse, ringer,
+early, timed, notify. DAR is the table of the Default Application Router.
 
 The exit status, and the line on standard error:
    0                          all was read and written

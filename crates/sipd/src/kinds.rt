@@ -5,19 +5,29 @@ use sc_apps::ExtendsOnce;
 use sc_edge::FileShelf;
 use sc_kinds::BuiltIn;
 use sc_limit::output;
-use sc_replay::{Command, Status, check, replay};
+use sc_replay::{Command, Status, check, replay, trial};
 use sc_servlets::{Catalogue, Listener};
+use sc_trace::trace;
 use sc_value::{NoMemory, Text};
 use std::sync::Wait;
 use std::thread::Threads;
 
-/// Runs a command over files, standard output and sockets with all kinds, each under the name by which a
+/// What is run with all kinds.
+#[derive(Clone, Copy)]
+pub enum Job {
+    /// `trace CONFIG DAR SCRIPT`
+    Trace,
+    /// A command of the container.
+    Run(Command),
+}
+
+/// Does a job over files, standard output and sockets with all kinds, each under the name by which a
 /// configuration asks for it. Words of another form are left to `replay`, which refuses them.
 pub fn run_with_kinds<W: Threads + Wait + Sync>(
     rt: &HostRuntime,
     threads: &W,
     words: &[String],
-    command: Command,
+    job: Job,
 ) -> Result<Status, NoMemory> {
     let alloc = rt.alloc();
     let mut apps = Catalogue::new(alloc);
@@ -34,22 +44,24 @@ pub fn run_with_kinds<W: Threads + Wait + Sync>(
             Err(_) => return Err(NoMemory),
         }
     }
-    Ok(run_with(rt, threads, words, command, &apps))
+    Ok(run_with(rt, threads, words, job, &apps))
 }
 
 fn run_with<W: Threads + Wait + Sync>(
     rt: &HostRuntime,
     threads: &W,
     words: &[String],
-    command: Command,
+    job: Job,
     apps: &Catalogue,
 ) -> Status {
     let alloc = rt.alloc();
     let mut out = output(rt);
     let mut shelf = FileShelf::new(rt, alloc);
-    match command {
-        Command::Check => check(alloc, words, &mut shelf, apps, &mut out).status,
-        Command::Serve => serve_connections(rt, threads, words, &mut shelf, apps),
-        _ => replay(alloc, words, &mut shelf, apps, &mut out).status,
+    match job {
+        Job::Trace => trace(alloc, words, &mut shelf, apps, &mut out),
+        Job::Run(Command::Check) => check(alloc, words, &mut shelf, apps, &mut out).status,
+        Job::Run(Command::Trial) => trial(alloc, words, apps, &mut out).status,
+        Job::Run(Command::Serve) => serve_connections(rt, threads, words, &mut shelf, apps),
+        Job::Run(_) => replay(alloc, words, &mut shelf, apps, &mut out).status,
     }
 }

@@ -3,11 +3,13 @@
 
 mod connections;
 mod endings;
+mod explaining;
 mod help;
 mod kinds;
 
 use endings::{exit_status, write_line};
-use kinds::run_with_kinds;
+use explaining::explanation;
+use kinds::{Job, run_with_kinds};
 use sc_edge::put_all;
 use sc_limit::{Stream, fitting, output, room_of};
 use sc_replay::{Command, Status, command_of, make};
@@ -42,7 +44,21 @@ fn run<W: Threads + Wait + Sync>(rt: &HostRuntime, threads: &W, words: &[String]
     match words {
         [word] if word.as_str() == "--help" => put(rt, help::HELP),
         [word] if word.as_str() == "--version" => put(rt, help::VERSION),
+        [word, topic, number] if word.as_str() == "explain" => explain(
+            rt,
+            topic.as_str(),
+            number.as_str(),
+        ),
+        [word, _, _, _] if word.as_str() == "trace" => run_job(rt, threads, words, Job::Trace),
         _ => run_command(rt, threads, words),
+    }
+}
+
+/// Writes what a number means of a topic; `Usage` where there is no such one.
+fn explain(rt: &HostRuntime, topic: &str, number: &str) -> Status {
+    match explanation(topic, number) {
+        Some(text) => put(rt, text),
+        None => Status::Usage,
     }
 }
 
@@ -62,8 +78,18 @@ fn run_command<W: Threads + Wait + Sync>(
 ) -> Status {
     match command_of(words) {
         Command::Make => make(rt.alloc(), words, &mut output(rt)).status,
-        command => run_with_kinds(rt, threads, words, command).unwrap_or(Status::NoMemory),
+        command => run_job(rt, threads, words, Job::Run(command)),
     }
+}
+
+/// Does a job with all kinds of applications.
+fn run_job<W: Threads + Wait + Sync>(
+    rt: &HostRuntime,
+    threads: &W,
+    words: &[String],
+    job: Job,
+) -> Status {
+    run_with_kinds(rt, threads, words, job).unwrap_or(Status::NoMemory)
 }
 
 /// Writes the line on standard error that the status has, as far as there is room for it. Nobody is

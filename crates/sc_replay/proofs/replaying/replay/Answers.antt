@@ -13,7 +13,7 @@ pub returns-in-Some-clause-ends : goal.returns-in-Some-clause-ends
 returns-in-Some-clause-ends g c = λ is. rw (← c.in-Some.ensures.config, ← c.in-Some.ensures.dar, ← c.in-Some.ensures.script) c.replay_texts.ensures.ends
 
 pub returns-in-None-clause-usage : goal.returns-in-None-clause-usage
-returns-in-None-clause-usage g c = (λ usage. wrong_words _ c.in-None.ensures.replay.1, λ wrong. c.without_journal.ensures.status)
+returns-in-None-clause-usage g c = (λ usage. wrong_words _ c.in-None.ensures.replay.1, λ wrong. c.ended.ensures.status)
 
 pub returns-in-None-clause-ends : goal.returns-in-None-clause-ends
 returns-in-None-clause-ends g c = λ is. absurd (wrong_words _ c.in-None.ensures.replay.1 is)

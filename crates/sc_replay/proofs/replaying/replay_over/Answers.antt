@@ -18,5 +18,5 @@ returns-in-Ok-clause-ran g c = ran_for _ _ _ _ _ _ _ c.replay_on.result (made_se
 
 pub returns-in-Err-clause-ran : goal.returns-in-Err-clause-ran
 returns-in-Err-clause-ran g c =
-    let found = the_journal c.not_started.result.journal c.not_started.ensures.some c.not_started.ensures.journal in
+    let found = the_journal _ c.not_started.result.journal c.not_started.ensures.some c.not_started.ensures.journal in
     ran_not _ _ _ _ _ c.not_started.result c.not_started.ensures.status found.0 found.1 found.2

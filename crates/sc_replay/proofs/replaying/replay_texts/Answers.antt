@@ -12,4 +12,4 @@ returns-in-Ok-clause-ends g c =
     ends_ran _ _ _ _ _ _ _ _ _ c.replay_over.result (rw c.names.ensures at c.in-Ok.ensures.config) c.in-Ok.ensures.table (c.read_settings.ensures.same _) (Rose_after _ _ _ c.read_settings.ensures.later) c.replay_over.ensures.ran
 
 pub returns-in-Err-clause-ends : goal.returns-in-Err-clause-ends
-returns-in-Err-clause-ends g c = ends_unset _ _ _ _ _ _ _ _ c.in-Err.status _ c.without_journal.ensures.status c.without_journal.ensures.journal refl (rw c.names.ensures at c.in-Err.ensures.unset)
+returns-in-Err-clause-ends g c = ends_unset _ _ _ _ _ _ _ _ c.in-Err.status _ c.ended.ensures.status c.ended.ensures.journal refl (rw c.names.ensures at c.in-Err.ensures.unset)

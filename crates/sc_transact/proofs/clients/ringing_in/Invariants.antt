@@ -1,5 +1,5 @@
 use Rattle.std.proofs.Common.{◌≡◌, take, filter, map}
-use Rattle.sc_transact.specs.Kept.{is_ringing}
+use Rattle.sc_transact.specs.Ringing.{is_ringing}
 use Rattle.sc_transact.proofs.clients.ringing_in.Given as goal
 
 abbrev pub invariant-loop-client : goal.invariant-loop-client

@@ -1,0 +1,13 @@
+mod Basics
+mod PlaceLaws
+mod PairLaws
+mod FoundLaws
+mod PlaceSets
+mod GatherLaws
+mod FreshLaws
+mod FirstLaws
+mod CountLaws
+mod RowLaws
+mod FindLaws
+mod KeepLaws
+pub mod Uses

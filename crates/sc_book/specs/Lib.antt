@@ -1,0 +1,9 @@
+pub mod Words
+pub mod Places
+pub mod Pairs
+pub mod Found
+pub mod Gathering
+pub mod Groups
+pub mod Firsts
+pub mod Counts
+pub mod Keys

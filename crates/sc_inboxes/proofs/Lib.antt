@@ -1,0 +1,2 @@
+mod HostUses
+mod NamedLives

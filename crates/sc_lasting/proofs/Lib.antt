@@ -1,0 +1,11 @@
+pub mod Parts
+pub mod Numbers
+pub mod Held
+pub mod Direct
+pub mod Began
+pub mod Pairs
+pub mod Linked
+pub mod Gone
+pub mod Lives
+pub mod LinkChanges
+pub mod LinksMade

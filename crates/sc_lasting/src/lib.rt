@@ -1,0 +1,6 @@
+//! What lasts over the whole life of an application session, as laws.
+#![tactic(auto)]
+
+mod laws;
+
+pub use laws::{links_are_of_calls, links_are_pairs, requests_last, sessions_last};

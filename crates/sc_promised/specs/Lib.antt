@@ -1,0 +1,2 @@
+pub mod Reliable
+pub mod Refreshing

@@ -1,0 +1,5 @@
+pub mod Naming
+pub mod NamedHosts
+pub mod Claims
+pub mod Arriving
+pub mod Reaching

@@ -1,0 +1,26 @@
+ghost use Rattle.std.specs.Prelude.{◌≡◌};
+ghost use Rattle.sc_value.specs.declared.ids.AppId.{AppId};
+ghost use Rattle.sc_value.specs.declared.ids.Place.{Place};
+ghost use Rattle.sc_value.specs.declared.message.Message.TheVariants as messages;
+ghost use Rattle.sc_value.specs.declared.message.Request.{Request};
+ghost use Rattle.sc_terms.specs.declared.steps.Step.TheVariants as steps;
+ghost use Rattle.sc_parts.specs.declared.setup.Setup.{Setup};
+ghost use Rattle.sc_state.specs.declared.host.Live.{Live};
+ghost use Rattle.sc_state.specs.declared.net.Net.{Net};
+ghost use Rattle.sc_state.specs.declared.queue.Queued.TheVariants as queued;
+ghost use Rattle.sc_state.specs.declared.session.Session.{Session};
+ghost use Rattle.sc_hosts.specs.Histories.{History};
+ghost use Rattle.sc_hosts.specs.Sessions.{Form};
+ghost use Rattle.sc_hosts.specs.Steps.{stepped};
+ghost use Rattle.sc_hosts.specs.Taking.{unrouted};
+ghost use Rattle.sc_reached.specs.Reached.{IsLaterFor, IsQueuedAlone};
+
+/// A request with a To tag that no transaction takes, and whose own URI, its top Route or else its
+/// Request-URI, names a live session with room, is queued in that session as its last event, without that
+/// Route; no other session changes, and nothing is put on the wire. Serials and the count of hosts have 64
+/// bits. The contract is the law, for any net and each form in which sessions are kept, and the call does
+/// nothing.
+pub fn later_requests_reach_their_session()
+    ensures session { (form : Form Session) (setup : Setup) (from : Place) (request : Request) (net : Net Session) (app : AppId) (live : Live Session) → IsLaterFor setup from request net app live → IsQueuedAlone app live (queued.Request (unrouted setup.config request)) net (stepped form setup (steps.In from (messages.Request request)) net) }
+    ensures history { (form : Form History) (setup : Setup) (from : Place) (request : Request) (net : Net History) (app : AppId) (live : Live History) → IsLaterFor setup from request net app live → IsQueuedAlone app live (queued.Request (unrouted setup.config request)) net (stepped form setup (steps.In from (messages.Request request)) net) }
+{}

@@ -1,0 +1,20 @@
+-- The states of a transaction.
+use Rattle.std.specs.Prelude.{Bool, true, false}
+use Rattle.sc_parts.specs.declared.transactions.TxnState.{TxnState}
+use Rattle.sc_parts.specs.declared.transactions.TxnState.TheVariants as states
+
+unfoldable pub is_over : TxnState → Bool
+is_over states.Calling = false
+is_over states.Trying = false
+is_over states.Proceeding = false
+is_over states.Completed = false
+is_over states.Accepted = false
+is_over states.Terminated = true
+
+unfoldable pub is_proceeding : TxnState → Bool
+is_proceeding states.Proceeding = true
+is_proceeding state = false
+
+unfoldable pub is_completed : TxnState → Bool
+is_completed states.Completed = true
+is_completed state = false

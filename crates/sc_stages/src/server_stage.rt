@@ -1,0 +1,273 @@
+//! Server transactions (RFC 3261 section 17.2, RFC 6026 section 7.1), by what has passed them.
+
+ghost use Rattle.std.specs.Prelude.{◌≡◌, [], is_some, if◌then◌else◌, IfOk};
+ghost use Rattle.std.specs.List.{list_any};
+ghost use Rattle.sc_parts.specs.declared.transactions.TxnState.{TxnState};
+ghost use Rattle.sc_model.specs.Transactions.{is_success};
+ghost use Rattle.sc_model.specs.ServerTransactions.{server_state, server_due, is_answer, has_answer, is_final_answer, final_answer, sends_in, is_sent, repeats_in, is_sent_again};
+ghost use Rattle.sc_model.specs.TransactionTables.{answered_state, next_undecided, ends, next_server_state};
+ghost use Rattle.sc_stages.specs.Stages.{due_since, answered_begun, undecided_begun, next_server_begun, server_next, ServerStands};
+
+use crate::moments::{due_since, is_reached, is_success};
+use sc_parts::{ServerItem, TxnState};
+use sc_value::NoMemory;
+
+/// What has become of a server transaction.
+#[derive(Clone, Copy)]
+pub struct ServerStage {
+    pub state: TxnState,
+    /// The moment at which the timer that runs began.
+    pub begun: Option<u64>,
+}
+
+// After an answer of this code, where no final one was given.
+fn answered_state(invite: bool, code: u16) -> TxnState
+    ensures { result ≡ answered_state invite code }
+{
+    if code <= 199 {
+        TxnState::Proceeding
+    } else {
+        decided_state(invite, code)
+    }
+}
+
+fn decided_state(invite: bool, code: u16) -> TxnState
+    ensures { result ≡ (if invite then (if is_success code then TxnState.Accepted else TxnState.Completed) else TxnState.Terminated) }
+{
+    if !invite {
+        return TxnState::Terminated;
+    }
+    if is_success(code) {
+        TxnState::Accepted
+    } else {
+        TxnState::Completed
+    }
+}
+
+fn next_undecided(invite: bool, state: TxnState, item: ServerItem) -> TxnState
+    ensures { result ≡ next_undecided invite state item }
+{
+    match item {
+        ServerItem::AnswerGiven { code, .. } => answered_state(invite, code),
+        ServerItem::RequestAgain | ServerItem::AckCame | ServerItem::MomentCame { .. } => state,
+    }
+}
+
+fn answered_begun(invite: bool, code: u16, moment: u64) -> Option<u64>
+    ensures { result ≡ answered_begun invite code moment }
+{
+    if 199 < code && invite {
+        Some(moment)
+    } else {
+        None
+    }
+}
+
+fn undecided_begun(invite: bool, item: ServerItem) -> Option<u64>
+    ensures { result ≡ undecided_begun invite item }
+{
+    match item {
+        ServerItem::AnswerGiven { code, moment } => answered_begun(invite, code, moment),
+        ServerItem::RequestAgain | ServerItem::AckCame | ServerItem::MomentCame { .. } => None,
+    }
+}
+
+// Whether the item ends a transaction in this state.
+fn ends(stage: ServerStage, item: ServerItem) -> bool
+    ensures { result ≡ ends stage.state (due_since stage.begun) item }
+{
+    match stage.state {
+        TxnState::Completed => ends_completed(stage.begun, item),
+        TxnState::Accepted => ends_accepted(stage.begun, item),
+        TxnState::Calling | TxnState::Trying | TxnState::Proceeding | TxnState::Terminated => false,
+    }
+}
+
+fn ends_completed(begun: Option<u64>, item: ServerItem) -> bool
+    ensures { result ≡ ends TxnState.Completed (due_since begun) item }
+{
+    match item {
+        ServerItem::AckCame => true,
+        ServerItem::MomentCame { moment } => is_reached(begun, moment),
+        ServerItem::RequestAgain | ServerItem::AnswerGiven { .. } => false,
+    }
+}
+
+fn ends_accepted(begun: Option<u64>, item: ServerItem) -> bool
+    ensures { result ≡ ends TxnState.Accepted (due_since begun) item }
+{
+    match item {
+        ServerItem::MomentCame { moment } => is_reached(begun, moment),
+        ServerItem::RequestAgain | ServerItem::AckCame | ServerItem::AnswerGiven { .. } => false,
+    }
+}
+
+fn next_state(invite: bool, stage: ServerStage, item: ServerItem) -> TxnState
+    ensures { result ≡ next_server_state invite stage.state (due_since stage.begun) item }
+{
+    match stage.state {
+        TxnState::Calling | TxnState::Trying | TxnState::Proceeding => {
+            next_undecided(invite, stage.state, item)
+        }
+        TxnState::Completed | TxnState::Accepted => {
+            if ends(stage, item) {
+                TxnState::Terminated
+            } else {
+                stage.state
+            }
+        }
+        TxnState::Terminated => TxnState::Terminated,
+    }
+}
+
+fn next_begun(invite: bool, stage: ServerStage, item: ServerItem) -> Option<u64>
+    ensures { result ≡ next_server_begun invite stage.state stage.begun item }
+{
+    match stage.state {
+        TxnState::Calling | TxnState::Trying | TxnState::Proceeding => {
+            undecided_begun(invite, item)
+        }
+        TxnState::Completed | TxnState::Accepted => {
+            if ends(stage, item) { None } else { stage.begun }
+        }
+        TxnState::Terminated => stage.begun,
+    }
+}
+
+// One item more.
+#[tactic(auto, unfolding(crate::specs::Stages::server_next))]
+fn server_next(invite: bool, stage: ServerStage, item: ServerItem) -> ServerStage
+    ensures { result ≡ server_next invite stage item }
+{
+    ServerStage {
+        state: next_state(invite, stage, item),
+        begun: next_begun(invite, stage, item),
+    }
+}
+
+fn first_state(invite: bool) -> TxnState
+    ensures { result ≡ (if invite then TxnState.Proceeding else TxnState.Trying) }
+{
+    if invite {
+        TxnState::Proceeding
+    } else {
+        TxnState::Trying
+    }
+}
+
+// Before any item.
+fn first_stage(invite: bool) -> ServerStage
+    ensures { ServerStands result invite [] }
+{
+    ServerStage {
+        state: first_state(invite),
+        begun: None,
+    }
+}
+
+// All items, from the oldest on.
+fn server_stage(invite: bool, passed: &[ServerItem]) -> ServerStage
+    ensures { ServerStands result invite passed.now }
+{
+    let mut at = passed.len();
+    let mut stage = first_stage(invite);
+    while 0 < at {
+        at -= 1;
+        stage = server_next(invite, stage, passed[at]);
+    }
+    stage
+}
+
+/// The state of the transaction of an INVITE, or of another request, that these items have passed,
+/// the newest first.
+pub fn server_state(invite: bool, passed: &[ServerItem]) -> TxnState
+    ensures { result ≡ server_state invite passed.now }
+{
+    server_stage(invite, passed).state
+}
+
+/// The moment at which the timer that runs is due, None where none runs.
+pub fn server_due(invite: bool, passed: &[ServerItem]) -> Result<Option<u64>, NoMemory>
+    ensures { IfOk result (λ due. due ≡ server_due invite passed.now) }
+{
+    due_since(server_stage(invite, passed).begun)
+}
+
+#[tactic(auto, unfolding(sc_model::specs::ServerTransactions::is_answer))]
+fn is_answer(item: ServerItem) -> bool
+    ensures { result ≡ is_answer item }
+{
+    match item {
+        ServerItem::AnswerGiven { .. } => true,
+        ServerItem::RequestAgain | ServerItem::AckCame | ServerItem::MomentCame { .. } => false,
+    }
+}
+
+#[tactic(auto, unfolding(sc_model::specs::ServerTransactions::has_answer))]
+fn has_answer(passed: &[ServerItem]) -> bool
+    ensures { result ≡ has_answer passed.now }
+{
+    passed.iter().any(|item| is_answer(*item))
+}
+
+#[tactic(auto, unfolding(sc_model::specs::ServerTransactions::is_final_answer))]
+fn is_final_answer(item: ServerItem) -> bool
+    ensures { result ≡ is_final_answer [] item }
+{
+    match item {
+        ServerItem::AnswerGiven { code, .. } => 199 < code,
+        ServerItem::RequestAgain | ServerItem::AckCame | ServerItem::MomentCame { .. } => false,
+    }
+}
+
+/// Whether a final answer was given.
+#[tactic(auto, using(crate::proofs::ServerStanding::final_among))]
+pub fn has_final_answer(passed: &[ServerItem]) -> bool
+    ensures { result ≡ is_some (final_answer passed.now) }
+{
+    final_among(passed)
+}
+
+fn final_among(passed: &[ServerItem]) -> bool
+    ensures { result ≡ list_any (is_final_answer []) passed.now }
+{
+    passed.iter().any(|item| is_final_answer(*item))
+}
+
+#[tactic(auto, unfolding(sc_model::specs::ServerTransactions::sends_in))]
+fn sends_in(invite: bool, state: TxnState, code: u16) -> bool
+    ensures { result ≡ sends_in invite state code }
+{
+    match state {
+        TxnState::Calling | TxnState::Trying | TxnState::Proceeding => true,
+        TxnState::Completed => false,
+        TxnState::Accepted => is_success(code),
+        TxnState::Terminated => invite && is_success(code),
+    }
+}
+
+/// Whether an answer of this code is sent.
+#[tactic(auto, unfolding(sc_model::specs::ServerTransactions::is_sent))]
+pub fn is_sent(invite: bool, passed: &[ServerItem], code: u16) -> bool
+    ensures { result ≡ is_sent invite passed.now code }
+{
+    sends_in(invite, server_state(invite, passed), code)
+}
+
+#[tactic(auto, unfolding(sc_model::specs::ServerTransactions::repeats_in))]
+fn repeats_in(state: TxnState) -> bool
+    ensures { result ≡ repeats_in state }
+{
+    match state {
+        TxnState::Proceeding | TxnState::Completed => true,
+        TxnState::Calling | TxnState::Trying | TxnState::Accepted | TxnState::Terminated => false,
+    }
+}
+
+/// Whether the last answer is sent again where the request comes again.
+#[tactic(auto, unfolding(sc_model::specs::ServerTransactions::is_sent_again))]
+pub fn is_sent_again(invite: bool, passed: &[ServerItem]) -> bool
+    ensures { result ≡ is_sent_again invite passed.now }
+{
+    has_answer(passed) && repeats_in(server_state(invite, passed))
+}

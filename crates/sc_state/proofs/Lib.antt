@@ -1,0 +1,4 @@
+pub mod LeastDue
+pub mod AllLaws
+pub mod KeptLaws
+pub mod NumberLaws

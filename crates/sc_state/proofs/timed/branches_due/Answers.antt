@@ -1,0 +1,10 @@
+use Rattle.std.proofs.Common.{◌≡◌, [], ◌∷◌, ap, ◌∙◌}
+use Rattle.std.specs.List.{flat_map}
+use Rattle.sc_state.specs.Entries.{branch_entry, least_due}
+use Rattle.sc_state.proofs.LeastDue.{due_next}
+use Rattle.sc_state.proofs.timed.branches_due.Goals as goal
+
+pub loop-branch-preserved : goal.loop-branch-preserved
+loop-branch-preserved c =
+    due_next c.args.fired.now branch_entry c.args.branches.now c.loop-branch.branch-index _ _ _ _ c.loop-branch-test.true c.loop-branch.invariant
+    c.in_ok-branch_due.ensures c.lower-least.ensures

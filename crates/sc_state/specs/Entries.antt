@@ -1,0 +1,58 @@
+-- The entries that are due in a session.
+use Rattle.std.specs.Prelude.{ℕ, ◌+◌, ◌*◌, ◌==◌, List, [], ◌∷◌, ◌++◌, Bool, ◌&&◌, Option, None, Some, if◌then◌else◌, min}
+use Rattle.std.specs.List.{flat_map, list_any}
+use Rattle.sc_terms.specs.declared.views.TimerView.{TimerView}
+use Rattle.sc_state.specs.declared.host.Fired.{Fired}
+use Rattle.sc_state.specs.declared.proxy.Branch.{Branch}
+use Rattle.sc_state.specs.declared.queue.Queued.{Queued}
+use Rattle.sc_state.specs.declared.queue.Queued.TheVariants as queued
+use Rattle.sc_state.specs.declared.session.Session.{Session}
+
+-- an entry of a session: the number of one is 8*x + c, with c 0 for the expiry, 1 for the timer x, and 2
+-- for the timer of branch x
+pub record SessionEntry : Type 0 where
+  pub due : ℕ
+  pub number : ℕ
+  pub event : Queued
+
+unfoldable pub expiry_entry : Option ℕ → List SessionEntry
+expiry_entry None = []
+expiry_entry (Some due) = record { due = due; number = 0; event = queued.Expired } ∷ []
+
+unfoldable pub timer_entry : TimerView → SessionEntry
+timer_entry timer = record { due = timer.due; number = 8 * timer.id.0 + 1; event = queued.Timer timer.id }
+
+unfoldable pub branch_entry : Branch → List SessionEntry
+branch_entry branch = entry_at branch.due
+  where
+    entry_at : Option ℕ → List SessionEntry
+    entry_at None = []
+    entry_at (Some due) = record { due = due; number = 8 * branch.number + 2; event = queued.BranchTimer branch.number due } ∷ []
+
+-- all that runs in a session
+unfoldable pub entries_of : Session → List SessionEntry
+entries_of session =
+    expiry_entry session.view.expires
+    ++ flat_map (λ timer. timer_entry timer ∷ []) session.view.timers
+    ++ flat_map (λ proxy. flat_map branch_entry proxy.branches) session.known.proxies
+
+-- the entry has had its event
+unfoldable pub is_fired : List Fired → ℕ → ℕ → Bool
+is_fired fired due number = list_any (λ f. f.due == due && f.number == number) fired
+
+-- ## The least due moment
+
+-- of two
+abbrev pub lower : Option ℕ → Option ℕ → Option ℕ
+lower None b = b
+lower (Some a) None = Some a
+lower (Some a) (Some b) = Some (min a b)
+
+-- of an entry, where it hasn't had its event
+abbrev pub due_of_entry : List Fired → SessionEntry → Option ℕ
+due_of_entry fired entry = if is_fired fired entry.due entry.number then None else Some entry.due
+
+-- of those that haven't had their event
+unfoldable pub least_due : List Fired → List SessionEntry → Option ℕ
+least_due fired [] = None
+least_due fired (entry ∷ entries) = lower (due_of_entry fired entry) (least_due fired entries)

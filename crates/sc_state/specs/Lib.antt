@@ -1,0 +1,5 @@
+pub mod Hosts
+pub mod Standing
+pub mod Keeping
+pub mod Entries
+pub mod Groups

@@ -1,0 +1,422 @@
+-- What is due in a session is among what a tick fires.
+use Rattle.std.proofs.Common.{◌≡◌, ◌≤◌, ◌⊎◌, inl, inr, ℕ, zero, suc, ◌+◌, ◌*◌, ◌++◌, Bool, true, false, Option, None, Some, List, [], ◌∷◌, refl, sym, ap, subst, ◌∙◌, arith}
+use Rattle.std.specs.Prelude.{◌==◌, ◌&&◌, ◌||◌, cond, slice_get, map, filter, nat_le}
+use Rattle.std.specs.List.{find, list_any, filter_map, flat_map, cons_option}
+use Rattle.std.specs.BTreeSet.{insert_key}
+use Rattle.std.specs.Ordering.{match_ordering}
+use Rattle.std.specs.declared.cmp.Ordering.{Ordering}
+use Rattle.std.specs.declared.cmp.Ordering.TheVariants.{Less, Equal, Greater}
+use Rattle.std.proofs.lemmas.Bool.Decides.{nat_tests}
+use Rattle.std.proofs.lemmas.List.Folds.{list_any-append}
+use Rattle.sc_value.specs.declared.ids.AppId.{AppId}
+use Rattle.sc_terms.specs.declared.views.TimerView.{TimerView}
+use Rattle.sc_state.specs.Entries.{SessionEntry, expiry_entry, timer_entry, branch_entry, entries_of, is_fired}
+use Rattle.sc_state.specs.Hosts.{Host}
+use Rattle.sc_state.specs.declared.host.Client.{Client}
+use Rattle.sc_state.specs.declared.host.Live.{Live}
+use Rattle.sc_state.specs.declared.host.Server.{Server}
+use Rattle.sc_state.specs.declared.net.Net.{Net}
+use Rattle.sc_state.specs.declared.proxy.Branch.{Branch}
+use Rattle.sc_state.specs.declared.proxy.Proxy.{Proxy}
+use Rattle.sc_state.specs.declared.session.Session.{Session}
+use Rattle.sc_model.specs.Timers.{DueEntry, due_order, in_order, is_due}
+use Rattle.sc_model.proofs.DueLaws.{exact}
+use Rattle.sc_hosts.specs.Inboxes.{is_live}
+use Rattle.sc_hosts.specs.Nets.{host_at}
+use Rattle.sc_hosts.specs.Sessions.{Form}
+use Rattle.sc_hosts.specs.Ticks.{DueItem, Of_session, Of_client, Of_server, Dated, dated, client_dated, server_dated, live_dated, host_dated, hosts_dated, all_dated, same_entry, due_items}
+use Rattle.sc_hosts.specs.Transacting.{is_cancel_client, is_same_app, due_of_client, due_of_server}
+
+-- ## Keys
+
+pub same-is : (a b : DueEntry) → same_entry a b ≡ true → a ≡ b
+unfolding same_entry
+same-is a b e = grind (arith, nat_tests, e)
+
+same-itself : (a b : DueEntry) → a ≡ b → same_entry a b ≡ true
+unfolding same_entry
+same-itself a b e = grind (arith, nat_tests, e)
+
+pub app-is : (a b : AppId) → is_same_app a b ≡ true → a ≡ b
+app-is a b e = grind (arith, nat_tests, e)
+
+app-itself : (a : AppId) → is_same_app a a ≡ true
+app-itself a = grind (arith, nat_tests)
+
+abbrev pub key_of : AppId → SessionEntry → DueEntry
+key_of app entry = record { due = entry.due; app = app; number = entry.number }
+
+-- the item is an event of this session
+unfoldable pub is_event_of : AppId → DueItem → Bool
+is_event_of app (Of_session at event) = is_same_app at app
+is_event_of app (Of_client client) = false
+is_event_of app (Of_server server) = false
+
+abbrev pub fires_key : AppId → DueEntry → Dated → Bool
+fires_key app key d = is_event_of app d.item && same_entry d.entry key
+
+-- ## Numbers of entries
+
+-- those of sessions, and those of transactions
+IsEvent : ℕ → Type 0
+IsEvent n = (x : ℕ) × (c : ℕ) × (c ≤ 2) × (n ≡ 8 * x + c)
+
+IsOther : ℕ → Type 0
+IsOther n = (x : ℕ) × (c : ℕ) × (3 ≤ c) × (c ≤ 7) × (n ≡ 8 * x + c)
+
+never-both : (n x c y d : ℕ) → c ≤ 2 → n ≡ 8 * x + c → 3 ≤ d → d ≤ 7 → n ≡ 8 * y + d → ⊥
+never-both n x c y d low one high most two = omega (arith, low, one, high, most, two)
+
+not-both : (n : ℕ) → IsEvent n → IsOther n → ⊥
+unfolding IsEvent IsOther
+not-both n event other = never-both n event.0 event.1 other.0 other.1 event.2 event.3 other.2 other.3 other.4
+
+unfoldable All : {A : Type 0} → (A → Type 0) → List A → Type 0
+All P [] = Unit {0}
+All P (x ∷ xs) = P x × All P xs
+
+all-both : {A : Type 0} (P : A → Type 0) (xs ys : List A) → All P xs → All P ys → All P (xs ++ ys)
+unfolding All
+all-both P [] ys p q = q
+all-both P (x ∷ xs) ys p q = (p.0, all-both P xs ys p.1 q)
+
+all-flat : {A B : Type 0} (P : B → Type 0) (f : A → List B) (xs : List A) → ((x : A) → All P (f x))
+    → All P (flat_map f xs)
+unfolding All
+all-flat P f [] each = tt
+all-flat P f (x ∷ xs) each = all-both P (f x) (flat_map f xs) (each x) (all-flat P f xs each)
+
+all-found : {A : Type 0} (P : A → Type 0) (test : A → Bool) (xs : List A) (x : A) → find test xs ≡ Some x → All P xs
+    → P x
+unfolding All
+all-found P test [] x is all = cc
+all-found {A = A} P test (y ∷ xs) x is all = by (test y) is (all-found P test xs x)
+  where
+    same : (y : A) → Some y ≡ Some x → y ≡ x
+    same y is = cc
+
+    by : (b : Bool) → cond b (Some y) (find test xs) ≡ Some x → (find test xs ≡ Some x → All P xs → P x) → P x
+    by true is later = subst P (same y is) all.0
+    by false is later = later is all.1
+
+test-found : {A : Type 0} (test : A → Bool) (xs : List A) (x : A) → find test xs ≡ Some x → test x ≡ true
+test-found test [] x is = cc
+test-found {A = A} test (y ∷ xs) x is = by (test y) refl is (test-found test xs x)
+  where
+    same : (y : A) → Some y ≡ Some x → y ≡ x
+    same y is = cc
+
+    by : (b : Bool) → test y ≡ b → cond b (Some y) (find test xs) ≡ Some x → (find test xs ≡ Some x → test x ≡ true)
+        → test x ≡ true
+    by true at is later = subst (λ z. test z ≡ true) (same y is) at
+    by false at is later = later is
+
+EventNumber : SessionEntry → Type 0
+EventNumber entry = IsEvent entry.number
+
+expiry-number : (due : Option ℕ) → All EventNumber (expiry_entry due)
+unfolding All EventNumber IsEvent expiry_entry
+expiry-number None = tt
+expiry-number (Some due) = ((0, 0, omega arith, refl), tt)
+
+timer-number : (timer : TimerView) → All EventNumber (timer_entry timer ∷ [])
+unfolding All EventNumber IsEvent timer_entry
+timer-number timer = ((timer.id.0, 1, omega arith, refl), tt)
+
+branch-number : (branch : Branch) → All EventNumber (branch_entry branch)
+unfolding branch_entry All EventNumber IsEvent
+branch-number branch = by branch.due
+  where
+    by : (due : Option ℕ) → All EventNumber (branch_entry (record branch { due = due }))
+    by None = tt
+    by (Some due) = ((branch.number, 2, omega arith, refl), tt)
+
+entry-numbers : (session : Session) → All EventNumber (entries_of session)
+unfolding entries_of
+entry-numbers session =
+    all-both EventNumber (expiry_entry session.view.expires ++ flat_map (λ timer. timer_entry timer ∷ []) session.view.timers) _
+    (all-both EventNumber (expiry_entry session.view.expires) _ (expiry-number session.view.expires) (all-flat EventNumber (λ timer. timer_entry timer ∷ []) session.view.timers timer-number))
+    (all-flat EventNumber (λ (proxy : Proxy). flat_map branch_entry proxy.branches) session.known.proxies (λ proxy. all-flat EventNumber branch_entry proxy.branches branch-number))
+
+-- ## Each item is of its entry
+
+unfoldable OfEntry : DueItem → DueEntry → Type 0
+OfEntry (Of_session at event) entry = is_same_app at entry.app ≡ true
+OfEntry (Of_client client) entry = IsOther entry.number
+OfEntry (Of_server server) entry = IsOther entry.number
+
+WellMade : Dated → Type 0
+WellMade d = OfEntry d.item d.entry
+
+dated-made : (app : AppId) (number : ℕ) (item : DueItem) (due : Option ℕ)
+    → ((at : ℕ) → OfEntry item (record { due = at; app = app; number = number }))
+    → All WellMade (dated app number item due)
+unfolding dated All WellMade
+dated-made app number item None of = tt
+dated-made app number item (Some due) of = (of due, tt)
+
+client-number : (branch : ℕ) (b : Bool) → IsOther (8 * branch + cond b 4 3)
+unfolding IsOther
+client-number branch true = (branch, 4, omega arith, omega arith, refl)
+client-number branch false = (branch, 3, omega arith, omega arith, refl)
+
+client-made : (client : Client) → All WellMade (client_dated client)
+unfolding client_dated OfEntry
+client-made client = dated-made client.app _ (Of_client client) (due_of_client client) (λ at. client-number client.branch (is_cancel_client client))
+
+server-made : (server : Server) → All WellMade (server_dated server)
+unfolding server_dated OfEntry IsOther
+server-made server = dated-made server.app _ (Of_server server) (due_of_server server) (λ at. (server.event, 5, omega arith, omega arith, refl))
+
+if-all : (b : Bool) (ds es : List Dated) → All WellMade ds → All WellMade es → All WellMade (cond b ds es)
+if-all true ds es p q = p
+if-all false ds es p q = q
+
+none-made : All WellMade []
+unfolding All
+none-made = tt
+
+module _ {S : Type 0} (form : Form S) where
+  live-made : (number : ℕ) (live : Live S) → All WellMade (live_dated form number live)
+  unfolding live_dated OfEntry
+  live-made number live = all-flat WellMade _ (entries_of (form.read live.session)) (λ entry. if-all (is_fired live.fired entry.due entry.number) [] _ none-made (one entry))
+    where
+      one : (entry : SessionEntry)
+          → All WellMade (dated (record { host = number; serial = live.serial }) entry.number (Of_session (record { host = number; serial = live.serial }) entry.event) (Some entry.due))
+      one entry = dated-made (record { host = number; serial = live.serial }) entry.number _ (Some entry.due) (λ at. app-itself (record { host = number; serial = live.serial }))
+
+  host-made : (number : ℕ) (host : Host S) → All WellMade (host_dated form number host)
+  unfolding host_dated
+  host-made number host =
+      all-both WellMade (flat_map client_dated host.clients ++ flat_map server_dated host.servers) _
+      (all-both WellMade (flat_map client_dated host.clients) _ (all-flat WellMade client_dated host.clients client-made) (all-flat WellMade server_dated host.servers server-made))
+      (all-flat WellMade (live_dated form number) host.sessions (live-made number))
+
+  hosts-made : (hosts : List (Host S)) (number : ℕ) → All WellMade (hosts_dated form number hosts)
+  unfolding hosts_dated All
+  hosts-made [] number = tt
+  hosts-made (host ∷ hosts) number = all-both WellMade (host_dated form number host) _ (host-made number host) (hosts-made hosts (number + 1))
+
+-- ## An entry that runs is among all that runs
+
+or-second : (a b : Bool) → b ≡ true → (a || b) ≡ true
+or-second true b is = refl
+or-second false b is = is
+
+or-first : (a b : Bool) → a ≡ true → (a || b) ≡ true
+or-first a b is = rw is refl
+
+any-left : {A : Type 0} (test : A → Bool) (xs ys : List A) → list_any test xs ≡ true → list_any test (xs ++ ys) ≡ true
+any-left test xs ys is = list_any-append test xs ys ∙ or-first _ _ is
+
+any-right : {A : Type 0} (test : A → Bool) (xs ys : List A) → list_any test ys ≡ true → list_any test (xs ++ ys) ≡ true
+any-right test xs ys is = list_any-append test xs ys ∙ or-second (list_any test xs) _ is
+
+-- of one that is found
+any-flat : {A B : Type 0} (test : B → Bool) (f : A → List B) (which : A → Bool) (xs : List A) (x : A)
+    → find which xs ≡ Some x → list_any test (f x) ≡ true → list_any test (flat_map f xs) ≡ true
+any-flat test f which [] x is has = cc
+any-flat {A = A} test f which (y ∷ xs) x is has = by (which y) is (λ more. any-flat test f which xs x more has)
+  where
+    same : (y : A) → Some y ≡ Some x → x ≡ y
+    same y is = cc
+
+    by : (b : Bool) → cond b (Some y) (find which xs) ≡ Some x
+        → (find which xs ≡ Some x → list_any test (flat_map f xs) ≡ true) → list_any test (f y ++ flat_map f xs) ≡ true
+    by true is later = any-left test (f y) (flat_map f xs) (subst (λ z. list_any test (f z) ≡ true) (same y is) has)
+    by false is later = any-right test (f y) (flat_map f xs) (later is)
+
+-- one is in a list
+unfoldable pub IsIn : {A : Type 0} → A → List A → Type 0
+IsIn x [] = ⊥
+IsIn x (y ∷ ys) = (x ≡ y) ⊎ IsIn x ys
+
+any-in : {A B : Type 0} (test : B → Bool) (f : A → List B) (xs : List A) (x : A) → IsIn x xs
+    → list_any test (f x) ≡ true → list_any test (flat_map f xs) ≡ true
+unfolding IsIn
+any-in test f [] x is has = absurd is
+any-in test f (y ∷ xs) x (inl same) has = any-left test (f y) (flat_map f xs) (subst (λ z. list_any test (f z) ≡ true) same has)
+any-in test f (y ∷ xs) x (inr later) has = any-right test (f y) (flat_map f xs) (any-in test f xs x later has)
+
+all-in : {A : Type 0} (P : A → Type 0) (xs : List A) (x : A) → IsIn x xs → All P xs → P x
+unfolding IsIn All
+all-in P [] x is all = absurd is
+all-in P (y ∷ xs) x (inl same) all = subst P (sym same) all.0
+all-in P (y ∷ xs) x (inr later) all = all-in P xs x later all.1
+
+-- what runs under this key
+abbrev pub runs_as : DueEntry → Dated → Bool
+runs_as key d = same_entry d.entry key
+
+zero-more : (n : ℕ) → n + zero ≡ n
+zero-more n = omega arith
+
+from-none : (n : ℕ) → n ≡ 0 + n
+from-none n = omega arith
+
+one-more : (n i : ℕ) → n + suc i ≡ (n + 1) + i
+one-more n i = omega arith
+
+module _ {S : Type 0} (form : Form S) where
+  hosts-have : (key : DueEntry) (hosts : List (Host S)) (number i : ℕ) (host : Host S) → slice_get hosts i ≡ Some host
+      → list_any (runs_as key) (host_dated form (number + i) host) ≡ true
+      → list_any (runs_as key) (hosts_dated form number hosts) ≡ true
+  unfolding hosts_dated
+  hosts-have key [] number i host is has = cc
+  hosts-have key (first ∷ hosts) number zero host is has =
+      any-left (runs_as key) (host_dated form number first) _ (subst (λ (h : Host S). list_any (runs_as key) (host_dated form number h) ≡ true) (same first host is) (subst (λ (n : ℕ). list_any (runs_as key) (host_dated form n host) ≡ true) (zero-more number) has))
+    where
+      same : (first host : Host S) → Some first ≡ Some host → host ≡ first
+      same first host is = cc
+  hosts-have key (first ∷ hosts) number (suc i) host is has =
+      any-right (runs_as key) (host_dated form number first) _ (hosts-have key hosts (number + 1) i host is (subst (λ (n : ℕ). list_any (runs_as key) (host_dated form n host) ≡ true) (one-more number i) has))
+
+  host-has : (key : DueEntry) (number : ℕ) (host : Host S) (serial : ℕ) (live : Live S)
+      → find (is_live serial) host.sessions ≡ Some live → list_any (runs_as key) (live_dated form number live) ≡ true
+      → list_any (runs_as key) (host_dated form number host) ≡ true
+  unfolding host_dated
+  host-has key number host serial live is has =
+      any-right (runs_as key) (flat_map client_dated host.clients ++ flat_map server_dated host.servers) _ (any-flat (runs_as key) (live_dated form number) (is_live serial) host.sessions live is has)
+
+  live-has : (number : ℕ) (live : Live S) (entry : SessionEntry) → IsIn entry (entries_of (form.read live.session))
+      → is_fired live.fired entry.due entry.number ≡ false
+      → list_any (runs_as (key_of (record { host = number; serial = live.serial }) entry)) (live_dated form number live) ≡ true
+  unfolding live_dated dated
+  live-has number live entry is unfired =
+      any-in (runs_as (key_of (record { host = number; serial = live.serial }) entry)) _ (entries_of (form.read live.session)) entry is (rw unfired (or-first _ false (same-itself _ _ refl)))
+
+-- ## And among what is due
+
+any-map : (key : DueEntry) (now : ℕ) (ds : List Dated) → is_due now key ≡ true → list_any (runs_as key) ds ≡ true
+    → list_any (λ e. same_entry e key) (filter (is_due now) (map (λ d. d.entry) ds)) ≡ true
+any-map key now [] due has = cc
+any-map key now (d ∷ ds) due has = by (same_entry d.entry key) refl has (any-map key now ds due)
+  where
+    put : (b : Bool) → list_any (λ e. same_entry e key) (filter (is_due now) (map (λ d. d.entry) ds)) ≡ true
+        → list_any (λ e. same_entry e key) (cond b (d.entry ∷ filter (is_due now) (map (λ d. d.entry) ds)) (filter (is_due now) (map (λ d. d.entry) ds))) ≡ true
+    put true is = or-second (same_entry d.entry key) _ is
+    put false is = is
+
+    first : (b : Bool) → b ≡ true → same_entry d.entry key ≡ true
+        → list_any (λ e. same_entry e key) (cond b (d.entry ∷ filter (is_due now) (map (λ d. d.entry) ds)) (filter (is_due now) (map (λ d. d.entry) ds))) ≡ true
+    first true is at = or-first _ _ at
+    first false is at = cc
+
+    by : (b : Bool) → same_entry d.entry key ≡ b → (b || list_any (runs_as key) ds) ≡ true
+        → (list_any (runs_as key) ds ≡ true → list_any (λ e. same_entry e key) (filter (is_due now) (map (λ d. d.entry) ds)) ≡ true)
+        → list_any (λ e. same_entry e key) (filter (is_due now) (map (λ d. d.entry) (d ∷ ds))) ≡ true
+    by true at has later = first (is_due now d.entry) (ap (is_due now) (same-is d.entry key at) ∙ due) at
+    by false at has later = put (is_due now d.entry) (later has)
+
+swap : (a b c : Bool) → a ≡ b → (a || (b || c)) ≡ true → (b || c) ≡ true
+swap true b c same is = or-first b c (sym same)
+swap false b c same is = is
+
+later : (b a c d : Bool) → (a || (b || c)) ≡ true → ((a || c) ≡ true → d ≡ true) → (b || d) ≡ true
+later true a c d is next = refl
+later false true c d is next = next refl
+later false false c d is next = next is
+
+insert-has : (key k : DueEntry) (ks : List DueEntry) → (same_entry k key || list_any (λ e. same_entry e key) ks) ≡ true
+    → list_any (λ e. same_entry e key) (insert_key due_order ks k) ≡ true
+insert-has key k [] has = has
+insert-has key k (x ∷ ks) has = by (due_order k x) refl (insert-has key k ks)
+  where
+    by : (o : Ordering) → due_order k x ≡ o
+        → ((same_entry k key || list_any (λ e. same_entry e key) ks) ≡ true → list_any (λ e. same_entry e key) (insert_key due_order ks k) ≡ true)
+        → list_any (λ e. same_entry e key) (match_ordering o (k ∷ x ∷ ks) (x ∷ ks) (x ∷ insert_key due_order ks k)) ≡ true
+    by Less is more = has
+    by Equal is more = swap (same_entry k key) (same_entry x key) _ (ap (λ e. same_entry e key) (exact k x is)) has
+    by Greater is more = later (same_entry x key) (same_entry k key) (list_any (λ e. same_entry e key) ks) _ has more
+
+ordered-has : (key : DueEntry) (ks : List DueEntry) → list_any (λ e. same_entry e key) ks ≡ true
+    → list_any (λ e. same_entry e key) (in_order ks) ≡ true
+unfolding in_order
+ordered-has key [] has = has
+ordered-has key (k ∷ ks) has = insert-has key k (in_order ks) (more (same_entry k key) (list_any (λ e. same_entry e key) ks) _ has (ordered-has key ks))
+  where
+    more : (a b c : Bool) → (a || b) ≡ true → (b ≡ true → c ≡ true) → (a || c) ≡ true
+    more true b c is next = refl
+    more false b c is next = next is
+
+-- ## The item of the key is the session's
+
+found-some : {A : Type 0} (test : A → Bool) (xs : List A) → list_any test xs ≡ true → (x : A) × (find test xs ≡ Some x)
+found-some test [] has = cc
+found-some {A = A} test (y ∷ xs) has = by (test y) has (found-some test xs)
+  where
+    by : (b : Bool) → (b || list_any test xs) ≡ true → (list_any test xs ≡ true → (x : A) × (find test xs ≡ Some x))
+        → (x : A) × (cond b (Some y) (find test xs) ≡ Some x)
+    by true has later = (y, refl)
+    by false has later = later has
+
+item-is : (app : AppId) (entry : SessionEntry) (d : Dated) (item : DueItem) → IsEvent entry.number
+    → OfEntry item d.entry → d.entry ≡ key_of app entry → is_event_of app item ≡ true
+unfolding OfEntry is_event_of
+item-is app entry d (Of_session at event) number of same = subst (λ (e : DueEntry). is_same_app at e.app ≡ true) same of
+item-is app entry d (Of_client client) number of same = absurd (not-both entry.number number (subst (λ (e : DueEntry). IsOther e.number) same of))
+item-is app entry d (Of_server server) number of same = absurd (not-both entry.number number (subst (λ (e : DueEntry). IsOther e.number) same of))
+
+and-both : (a b : Bool) → a ≡ true → b ≡ true → (a && b) ≡ true
+and-both a b p q = rw (p, q) refl
+
+unfoldable-made : (d : Dated) → WellMade d → OfEntry d.item d.entry
+unfolding WellMade
+unfoldable-made d of = of
+
+event-number : (entry : SessionEntry) → EventNumber entry → IsEvent entry.number
+unfolding EventNumber
+event-number entry is = is
+
+found-fires : (app : AppId) (entry : SessionEntry) (ds : List Dated) (d : Dated) → IsEvent entry.number
+    → All WellMade ds → find (λ d. same_entry d.entry (key_of app entry)) ds ≡ Some d
+    → fires_key app (key_of app entry) d ≡ true
+found-fires app entry ds d number made is =
+    let same = test-found (runs_as (key_of app entry)) ds d is in
+    and-both (is_event_of app d.item) (same_entry d.entry (key_of app entry))
+    (item-is app entry d d.item number (unfoldable-made d (all-found WellMade (runs_as (key_of app entry)) ds d is made)) (same-is d.entry (key_of app entry) same)) same
+
+kept-fires : (app : AppId) (entry : SessionEntry) (all : List Dated) (ks : List DueEntry) → IsEvent entry.number
+    → All WellMade all → list_any (runs_as (key_of app entry)) all ≡ true
+    → list_any (λ e. same_entry e (key_of app entry)) ks ≡ true
+    → list_any (fires_key app (key_of app entry)) (filter_map (λ e. find (λ d. same_entry d.entry e) all) ks) ≡ true
+kept-fires app entry all [] number made has is = cc
+kept-fires app entry all (k ∷ ks) number made has is = by (same_entry k (key_of app entry)) refl is (kept-fires app entry all ks number made has)
+  where
+    put : (found : Option Dated)
+        → list_any (fires_key app (key_of app entry)) (filter_map (λ e. find (λ d. same_entry d.entry e) all) ks) ≡ true
+        → list_any (fires_key app (key_of app entry)) (cons_option found (filter_map (λ e. find (λ d. same_entry d.entry e) all) ks)) ≡ true
+    put None is = is
+    put (Some d) is = or-second (fires_key app (key_of app entry) d) _ is
+
+    at-key : (key : DueEntry) → key ≡ key_of app entry
+        → list_any (fires_key app (key_of app entry)) (cons_option (find (λ d. same_entry d.entry key) all) (filter_map (λ e. find (λ d. same_entry d.entry e) all) ks)) ≡ true
+    at-key key same =
+        let found = found-some (runs_as (key_of app entry)) all has in
+        rw (same, found.1) (or-first _ _ (found-fires app entry all found.0 number made found.1))
+
+    by : (b : Bool) → same_entry k (key_of app entry) ≡ b
+        → (b || list_any (λ e. same_entry e (key_of app entry)) ks) ≡ true
+        → (list_any (λ e. same_entry e (key_of app entry)) ks ≡ true → list_any (fires_key app (key_of app entry)) (filter_map (λ e. find (λ d. same_entry d.entry e) all) ks) ≡ true)
+        → list_any (fires_key app (key_of app entry)) (filter_map (λ e. find (λ d. same_entry d.entry e) all) (k ∷ ks)) ≡ true
+    by true at is later = at-key k (same-is k (key_of app entry) at)
+    by false at is later = put (find (λ d. same_entry d.entry k) all) (later is)
+
+module _ {S : Type 0} (form : Form S) where
+  -- an entry of a live session that is due, and had no event, is one of the items
+  pub due-fires : (net : Net S) (now : ℕ) (app : AppId) (host : Host S) (live : Live S) (entry : SessionEntry)
+      → host_at app.host net ≡ Some host → find (is_live app.serial) host.sessions ≡ Some live
+      → IsIn entry (entries_of (form.read live.session)) → nat_le entry.due now ≡ true
+      → is_fired live.fired entry.due entry.number ≡ false
+      → list_any (fires_key app (key_of app entry)) (due_items form now net) ≡ true
+  unfolding due_items all_dated
+  due-fires net now app host live entry at is within due unfired =
+      let named : record { host = app.host; serial = live.serial } ≡ app = ap (λ (n : ℕ). record { host = app.host; serial = n }) (serial-is live.serial app.serial (test-found (is_live app.serial) host.sessions live is)) in
+      let runs : list_any (runs_as (key_of app entry)) (live_dated form app.host live) ≡ true =
+      subst (λ (a : AppId). list_any (runs_as (key_of a entry)) (live_dated form app.host live) ≡ true) named (live-has form app.host live entry within unfired) in
+      let has : list_any (runs_as (key_of app entry)) (hosts_dated form 0 net.hosts) ≡ true = hosts-have form (key_of app entry) net.hosts 0 app.host host at (subst (λ (n : ℕ). list_any (runs_as (key_of app entry)) (host_dated form n host) ≡ true) (from-none app.host) (host-has form (key_of app entry) app.host host app.serial live is runs)) in
+      kept-fires app entry (hosts_dated form 0 net.hosts) _ (event-number entry (all-in EventNumber (entries_of (form.read live.session)) entry within (entry-numbers (form.read live.session)))) (hosts-made form net.hosts 0) has
+      (ordered-has (key_of app entry) _ (any-map (key_of app entry) now (hosts_dated form 0 net.hosts) due has))
+    where
+      serial-is : (a b : ℕ) → (a == b) ≡ true → a ≡ b
+      serial-is a b is = grind (arith, nat_tests, is)

@@ -1,0 +1,177 @@
+//! The steps that the bytes of a place make (RFC 3261 section 18.3).
+
+ghost use Rattle.sc_hosts.specs.Runs.{HasVia};
+
+use crate::labels::told_message;
+use crate::story::{Stop, Story, Told};
+use crate::streams::{Pending, clear, open_stream};
+use crate::telling::{tell_bad, tell_bytes, tell_long, tell_lost, tell_message, tell_sent};
+use sc_stream::{Heard, Stream};
+use sc_switch::{StepRefused, Switch};
+use sc_terms::Bad;
+use sc_value::{Discard, List, Message, NoMemory, Place, same_place};
+use std::alloc::Global;
+
+/// More messages than bytes may come in a line.
+const MOST_MESSAGES: u32 = 131_072;
+
+/// Bytes come from a place.
+pub fn hear_text(
+    alloc: Global,
+    place: Place,
+    text: &[u8],
+    streams: &mut List<Pending>,
+    switch: &mut Switch,
+    story: &mut Story,
+) -> Result<(), StepRefused> {
+    open_stream(alloc, place, streams)?;
+    for pending in &mut streams.items {
+        if same_place(place, pending.place) {
+            return hear_in(alloc, place, text, &mut pending.stream, switch, story);
+        }
+    }
+    Ok(())
+}
+
+fn hear_in(
+    alloc: Global,
+    place: Place,
+    text: &[u8],
+    stream: &mut Stream,
+    switch: &mut Switch,
+    story: &mut Story,
+) -> Result<(), StepRefused> {
+    stream.feed(text)?;
+    let before = story.rows.len();
+    hear_all(alloc, place, stream, switch, story)?;
+    if story.rows.len() == before {
+        tell_bytes(alloc, switch.now(), place, text.len(), story)?;
+    }
+    Ok(())
+}
+
+fn hear_all(
+    alloc: Global,
+    place: Place,
+    stream: &mut Stream,
+    switch: &mut Switch,
+    story: &mut Story,
+) -> Result<(), StepRefused> {
+    for _ in 0..MOST_MESSAGES {
+        if !hear(alloc, place, stream, switch, story)? {
+            return Ok(());
+        }
+    }
+    Ok(())
+}
+
+/// Takes the step of the next message: false where that was all that there is to hear.
+#[tactic(auto, using(sc_follow::proofs::Hearings::some_via))]
+fn hear(
+    alloc: Global,
+    place: Place,
+    stream: &mut Stream,
+    switch: &mut Switch,
+    story: &mut Story,
+) -> Result<bool, StepRefused> {
+    match stream.next() {
+        Heard::Message(message) => take_message(alloc, place, message, switch, story),
+        Heard::NotYet => Ok(false),
+        Heard::Bad(bad) => end_bad(alloc, place, bad, stream, switch, story),
+        Heard::Long => end_long(alloc, place, stream, switch, story),
+        Heard::NoMemory => Err(StepRefused::NoMemory),
+    }
+}
+
+fn take_message(
+    alloc: Global,
+    place: Place,
+    message: Message,
+    switch: &mut Switch,
+    story: &mut Story,
+) -> Result<bool, StepRefused>
+    requires via { HasVia message }
+{
+    match told_message(alloc, &message) {
+        Ok(told) => arrive(alloc, place, message, told, switch, story),
+        Err(NoMemory) => {
+            message.discard();
+            Err(StepRefused::NoMemory)
+        }
+    }
+}
+
+fn arrive(
+    alloc: Global,
+    place: Place,
+    message: Message,
+    told: Told,
+    switch: &mut Switch,
+    story: &mut Story,
+) -> Result<bool, StepRefused>
+    requires via { HasVia message }
+{
+    let before = switch.waiting();
+    switch.arrive(alloc, place, message)?;
+    let is_queued = switch.waiting() > before;
+    tell_message(alloc, switch, place, told, is_queued, story)?;
+    tell_sent(alloc, switch, Stop::Edge, story)?;
+    Ok(true)
+}
+
+/// A text is no message, and nothing behind it is heard.
+fn end_bad(
+    alloc: Global,
+    place: Place,
+    bad: Bad,
+    stream: &mut Stream,
+    switch: &mut Switch,
+    story: &mut Story,
+) -> Result<bool, StepRefused> {
+    let at = bad.at;
+    let kind = bad.kind;
+    switch.hear_bad(alloc, place, bad)?;
+    tell_bad(alloc, switch.now(), place, at, kind, story)?;
+    tell_sent(alloc, switch, Stop::Edge, story)?;
+    lose(alloc, place, stream, switch, story)?;
+    Ok(false)
+}
+
+/// A text is too long, and nothing behind it is heard.
+fn end_long(
+    alloc: Global,
+    place: Place,
+    stream: &mut Stream,
+    switch: &mut Switch,
+    story: &mut Story,
+) -> Result<bool, StepRefused> {
+    tell_long(alloc, switch.now(), place, story)?;
+    lose(alloc, place, stream, switch, story)?;
+    Ok(false)
+}
+
+/// A place is lost, and its stream.
+fn lose(
+    alloc: Global,
+    place: Place,
+    stream: &mut Stream,
+    switch: &mut Switch,
+    story: &mut Story,
+) -> Result<(), StepRefused> {
+    lose_place(alloc, place, switch, story)?;
+    clear(alloc, stream);
+    Ok(())
+}
+
+/// A place is lost.
+pub fn lose_place(
+    alloc: Global,
+    place: Place,
+    switch: &mut Switch,
+    story: &mut Story,
+) -> Result<(), StepRefused> {
+    switch.lost(alloc, place)?;
+    tell_lost(alloc, switch.now(), place, story)?;
+    tell_sent(alloc, switch, Stop::Edge, story)?;
+    Ok(())
+}

@@ -1,0 +1,4 @@
+pub mod GrowingHosts
+pub mod GrowingNets
+pub mod OtherTurns
+pub mod Steps
