@@ -1,3 +1,4 @@
+pub mod AskingLaws
 pub mod CourseLaws
 pub mod HeardLaws
 pub mod OnLaws

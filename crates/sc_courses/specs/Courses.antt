@@ -1,5 +1,5 @@
 -- How far a server came: the epochs of its journal, what each of their steps sent, and what a notice was told.
-use Rattle.std.specs.Prelude.{◌≡◌, ◌⊎◌, List, [], ◌∷◌, ◌++◌, Option, None, Some, map}
+use Rattle.std.specs.Prelude.{◌≡◌, ◌⊎◌, ℕ, List, [], ◌∷◌, ◌++◌, Option, None, Some, map}
 use Rattle.std.specs.List.{fold}
 use Rattle.sc_journal.specs.Kept.{Kept}
 use Rattle.sc_terms.specs.declared.steps.Step.{Step}
@@ -50,11 +50,13 @@ unfoldable pub TellsEpochs : Told → Told → Telling → Type 0
 TellsEpochs None now telling = now ≡ None
 TellsEpochs (Some old) now telling = ((items : List (Noted (Kept Step))) × (now ≡ Some (old ++ items)) × (told_by items ≡ telling)) ⊎ (now ≡ None)
 
--- where a server begins: its settings, what its notice was told, and its edge
+-- what a run is held against: its settings, what its notice was told and its edge where it began, and the moments
+-- that its clock has answered since
 pub record Beginning : Type 0 where
   pub setup : Setup
   pub told : Told
   pub edge : EdgeState
+  pub moments : List ℕ
 
 -- how far it came: the epochs that ended, their deeds, and those of the epoch that runs, of which so much was
 -- handed on

@@ -1,2 +1,4 @@
+pub mod Asking
 pub mod Courses
+pub mod Due
 pub mod Marks

@@ -26,7 +26,7 @@ module _ {S : Type 0} (form : Form S) (setup : Setup) (app : AppId) where
 
   stepped-stays : (step : Step) (net : Net S) → is_own app step ≡ false → NetStays app net (stepped form setup step net)
   unfolding stepped is_own
-  stepped-stays (steps.In from message) net other = arrived-walks H (NetStays app) (stay-hosts app.serial) (stay-nets app) form setup from message net
+  stepped-stays (steps.In from message) net other = arrived-walks H (NetStays app) (stay-hosts app.serial) (stay-nets app) form tt setup from message net
   stepped-stays (steps.Bad from bad) net other = bad_by-walks H (NetStays app) (stay-hosts app.serial) (stay-nets app) setup.config from bad.heads net
   stepped-stays (steps.Lost place) net other = lost-walks H (NetStays app) (stay-hosts app.serial) (stay-nets app) setup.config place net
   stepped-stays (steps.Tick now) net other = ticked-walks H (NetStays app) (stay-hosts app.serial) (stay-nets app) form setup.config now net
@@ -40,7 +40,7 @@ module _ {S : Type 0} (form : Form S) (setup : Setup) (app : AppId) where
       let unsent : Net S = record net { sent = [] } in
       let law = stay-nets {S = S} app in
       law.after net unsent _ (law.posts net net.wire []) (law.after unsent (stepped form setup step unsent) _ (stepped-stays step unsent other)
-      (delivered-walks H (NetStays app) (stay-hosts app.serial) (stay-nets app) form setup (stepped form setup step unsent)))
+      (delivered-walks H (NetStays app) (stay-hosts app.serial) (stay-nets app) form tt setup (stepped form setup step unsent)))
 
   pub first-stays : (net : Net S) (step : Step) (live : Live S) (waiting : Waiting) → is_own app step ≡ false → live_at app net ≡ Some live → slice_get live.inbox 0 ≡ Some waiting
       → StillFirst live waiting (live_at app (after_step form setup net step))

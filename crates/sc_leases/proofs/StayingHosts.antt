@@ -168,12 +168,12 @@ module _ {S : Type 0} (serial : ℕ) where
 
   -- ## All laws
 
-  pub stay-hosts : (number now : ℕ) → HostLaws {S = S} number now (HostStays serial)
+  pub stay-hosts : (number now : ℕ) → HostLaws {S = S} (λ form. Unit {0}) number now (HostStays serial)
   stay-hosts number now = record {
     same = same-stays;
     after = after-stays;
     passes = passes-stays;
-    queues = queues-stay now;
-    begins = begins-stay number now;
+    queues = λ serial event late. queues-stay now serial event;
+    begins = λ form good. begins-stay number now form;
     marks = marks-stay;
   }

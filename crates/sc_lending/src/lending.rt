@@ -1,6 +1,7 @@
 //! The turns of a round: those that are due are lent to the workers, and what they brought is taken.
 
-ghost use Rattle.std.specs.Prelude.{◌≡◌, OnOk, OnErr};
+ghost use Rattle.std.specs.Prelude.{◌≡◌, IfErr, OnOk, OnErr};
+ghost use Rattle.sc_rounds.specs.Dues.{HasDue};
 ghost use Rattle.sc_rounds.specs.Moving.{Breaks, Moves};
 
 use crate::seat::{Seat, collect_at, post_at};
@@ -30,6 +31,7 @@ pub fn work_once<R: Wait, N: Notice<Journal<Step>>>(
 ) -> Result<bool, StepRefused>
     ensures ok { OnOk result (Moves core.old core.new (N.noted notice.old) (N.noted notice.new)) }
     ensures err { OnErr result (Breaks core.old core.new (N.noted notice.old) (N.noted notice.new)) }
+    ensures due { IfErr result (λ cause. HasDue core.new.switch cause) }
 {
     match lend_turns(rt, core, seat, notice, apps) {
         Ok(lent) => match collect_turns(rt, core, seat, notice) {
@@ -50,6 +52,7 @@ fn lend_turns<R: Wait, N: Notice<Journal<Step>>>(
 ) -> Result<bool, StepRefused>
     ensures ok { OnOk result (Moves core.old core.new (N.noted notice.old) (N.noted notice.new)) }
     ensures err { OnErr result (Breaks core.old core.new (N.noted notice.old) (N.noted notice.new)) }
+    ensures due { IfErr result (λ cause. HasDue core.new.switch cause) }
 {
     let mut some = false;
     for _ in 0..MOST_TURNS {
@@ -71,6 +74,7 @@ fn lend_turn<R: Wait, N: Notice<Journal<Step>>>(
 ) -> Result<bool, StepRefused>
     ensures ok { OnOk result (Moves core.old core.new (N.noted notice.old) (N.noted notice.new)) }
     ensures err { OnErr result (Breaks core.old core.new (N.noted notice.old) (N.noted notice.new)) }
+    ensures due { IfErr result (λ cause. HasDue core.new.switch cause) }
 {
     if !core.is_turn_due() {
         return Ok(false);
@@ -94,6 +98,7 @@ fn make_turn<N: Notice<Journal<Step>>>(
 ) -> Result<bool, StepRefused>
     ensures ok { OnOk result (Moves core.old core.new (N.noted notice.old) (N.noted notice.new)) }
     ensures err { OnErr result (Breaks core.old core.new (N.noted notice.old) (N.noted notice.new)) }
+    ensures due { IfErr result (λ cause. HasDue core.new.switch cause) }
 {
     if lease.kind >= apps.kinds.len() {
         lease.discard();
@@ -115,6 +120,7 @@ fn collect_turns<R: Wait, N: Notice<Journal<Step>>>(
 ) -> Result<bool, StepRefused>
     ensures ok { OnOk result (Moves core.old core.new (N.noted notice.old) (N.noted notice.new)) }
     ensures err { OnErr result (Breaks core.old core.new (N.noted notice.old) (N.noted notice.new)) }
+    ensures due { IfErr result (λ cause. HasDue core.new.switch cause) }
 {
     let mut some = false;
     for _ in 0..MOST_TURNS {
@@ -135,6 +141,7 @@ fn collect_turn<R: Wait, N: Notice<Journal<Step>>>(
 ) -> Result<bool, StepRefused>
     ensures ok { OnOk result (Moves core.old core.new (N.noted notice.old) (N.noted notice.new)) }
     ensures err { OnErr result (Breaks core.old core.new (N.noted notice.old) (N.noted notice.new)) }
+    ensures due { IfErr result (λ cause. HasDue core.new.switch cause) }
 {
     match collect_at(rt, seat) {
         Some(done) => match core.commit(notice, done) {

@@ -156,12 +156,12 @@ module _ {S : Type 0} (serial : ℕ) where
 
   -- ## All laws
 
-  pub grow-hosts : (number now : ℕ) → HostLaws {S = S} number now (HostGrows serial)
+  pub grow-hosts : (number now : ℕ) → HostLaws {S = S} (λ form. Unit {0}) number now (HostGrows serial)
   grow-hosts number now = record {
     same = same-grows;
     after = after-grows;
     passes = passes-grows;
-    queues = queues-grow now;
-    begins = begins-grow number now;
+    queues = λ serial event late. queues-grow now serial event;
+    begins = λ form good. begins-grow number now form;
     marks = marks-grow;
   }

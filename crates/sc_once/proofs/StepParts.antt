@@ -72,7 +72,7 @@ known-gone serial (Some host) gone = gone.0
 
 module _ {S : Type 0} (form : Form S) (setup : Setup) (app : AppId) where
   delivers : (net : Net S) → NetGrows app net (delivered form setup net)
-  delivers net = delivered-walks (λ number now. HostGrows {S = S} app.serial) (NetGrows app) (grow-hosts app.serial) (grow-nets app) form setup net
+  delivers net = delivered-walks (λ number now. HostGrows {S = S} app.serial) (NetGrows app) (grow-hosts app.serial) (grow-nets app) form tt setup net
 
   obeys : (given : List Order) (net : Net S) → NetGrows app net (obeyed setup app given net)
   obeys given net = obeyed-walks (λ number now. HostGrows {S = S} app.serial) (NetGrows app) (grow-hosts app.serial) (grow-nets app) setup app given net
@@ -308,7 +308,7 @@ module _ {S : Type 0} (form : Form S) (setup : Setup) (app : AppId) where
   unfolding IsAllowed handled_by handled_in before_end stepped
   parts low net (steps.In from message) numbered within allowed =
       grown low net _ (steps.In from message) refl refl within
-      (stepping (steps.In from message) net (arrived-walks H (NetGrows app) (grow-hosts app.serial) (grow-nets app) form setup from message (record net { sent = [] })))
+      (stepping (steps.In from message) net (arrived-walks H (NetGrows app) (grow-hosts app.serial) (grow-nets app) form tt setup from message (record net { sent = [] })))
   parts low net (steps.Bad from bad) numbered within allowed =
       grown low net _ (steps.Bad from bad) refl refl within
       (stepping (steps.Bad from bad) net (bad_by-walks H (NetGrows app) (grow-hosts app.serial) (grow-nets app) setup.config from bad.heads (record net { sent = [] })))

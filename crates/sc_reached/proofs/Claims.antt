@@ -20,7 +20,7 @@ first-none [] test number place host none at = cc
 first-none (h ∷ hosts) test number zero host none at = let same : h ≡ host = cc in rw (← same) (if-none (test h) number (first_host test (number + 1) hosts) none).0
 first-none (h ∷ hosts) test number (suc place) host none at = first-none hosts test (number + 1) place host (if-none (test h) number (first_host test (number + 1) hosts) none).1 at
 
-not-claimed : (claim : Claim) → is_claimed claim ≡ false → claim ≡ Unclaimed
+pub not-claimed : (claim : Claim) → is_claimed claim ≡ false → claim ≡ Unclaimed
 unfolding is_claimed
 not-claimed (Cancels server) is = cc
 not-claimed (Acks server) is = cc

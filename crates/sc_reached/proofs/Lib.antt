@@ -3,3 +3,4 @@ pub mod NamedHosts
 pub mod Claims
 pub mod Arriving
 pub mod Reaching
+pub mod Delivering

@@ -77,7 +77,7 @@ module _ {S : Type 0} where
   unfolding queue quiet
   queue-sessions serial now event count host live is = rw is refl
 
-  queue-reply : (serial now : ℕ) (event : Queued) (count : ℕ) (host : Host S)
+  pub queue-reply : (serial now : ℕ) (event : Queued) (count : ℕ) (host : Host S)
       → (queue serial now event count host).reply ≡ None
   unfolding queue quiet
   queue-reply serial now event count host = by (is_some (live_in serial host))
@@ -124,16 +124,16 @@ module _ {S : Type 0} where
       by true sender net = refl
       by false sender net = quietly sender net taken.reply none
 
-  later-sessions : (config : Config) (epoch number : ℕ) (place : Place) (now : ℕ) (request : Request) (count : ℕ) (live : Live S) (host : Host S)
+  pub later-sessions : (config : Config) (epoch number : ℕ) (from : Peer) (now : ℕ) (request : Request) (count : ℕ) (live : Live S) (host : Host S)
       → is_full live ≡ false → live_in live.serial host ≡ Some live
-      → (queue_later config epoch number (peers.Outside place) now request count live host).host.sessions
+      → (queue_later config epoch number from now request count live host).host.sessions
       ≡ change_first (is_live live.serial) (with_event (count + 1) now (queued.Request (unrouted config request))) host.sessions
   unfolding queue_later
-  later-sessions config epoch number place now request count live host room is =
+  later-sessions config epoch number from now request count live host room is =
       let app : AppId = record { host = number; serial = live.serial } in
-      let served : Host S = with_server app (count + 1) (peers.Outside place) (own_tag config epoch app) (unrouted config request) host in
-      let same : served.sessions ≡ host.sessions = server-sessions app (count + 1) (peers.Outside place) (own_tag config epoch app) (unrouted config request) host in
-      rw room (trying-sessions (peers.Outside place) now request (queue live.serial now (queued.Request (unrouted config request)) count served)
+      let served : Host S = with_server app (count + 1) from (own_tag config epoch app) (unrouted config request) host in
+      let same : served.sessions ≡ host.sessions = server-sessions app (count + 1) from (own_tag config epoch app) (unrouted config request) host in
+      rw room (trying-sessions from now request (queue live.serial now (queued.Request (unrouted config request)) count served)
       ∙ queue-sessions live.serial now (queued.Request (unrouted config request)) count served live (ap (find (is_live live.serial)) same ∙ is)
       ∙ ap (change_first (is_live live.serial) (with_event (count + 1) now (queued.Request (unrouted config request)))) same)
 
@@ -148,7 +148,7 @@ module _ {S : Type 0} where
 
   -- ## The host with it is placed
 
-  abbrev Changes : ℕ → Queued → ℕ → Live S → Host S → Taken S → Type 0
+  abbrev pub Changes : ℕ → Queued → ℕ → Live S → Host S → Taken S → Type 0
   Changes now event count live host taken = taken.host.sessions ≡ change_first (is_live live.serial) (with_event (count + 1) now event) host.sessions
 
   placed-hosts : (number : ℕ) (taken : Taken S) (net : Net S)
@@ -161,7 +161,7 @@ module _ {S : Type 0} where
   unfolding placed Leaves
   placed-wire number taken net leaves = leaves number _
 
-  placed-here : (number now : ℕ) (event : Queued) (host : Host S) (live : Live S) (taken : Taken S) (net : Net S)
+  pub placed-here : (number now : ℕ) (event : Queued) (host : Host S) (live : Live S) (taken : Taken S) (net : Net S)
       → host_at number net ≡ Some host → find (is_live live.serial) host.sessions ≡ Some live
       → Changes now event net.count live host taken
       → live_at (record { host = number; serial = live.serial }) (placed number taken net) ≡ Some (with_event (net.count + 1) now event live)
@@ -172,7 +172,7 @@ module _ {S : Type 0} where
       ap (live_of (record { host = number; serial = live.serial })) there ∙ ap (find (is_live live.serial)) changes
       ∙ find-changed host.sessions (is_live live.serial) (with_event (net.count + 1) now event) (λ live. refl) ∙ ap (option_map (with_event (net.count + 1) now event)) is
 
-  placed-other : (other : AppId) (number now : ℕ) (event : Queued) (host : Host S) (live : Live S) (taken : Taken S) (net : Net S)
+  pub placed-other : (other : AppId) (number now : ℕ) (event : Queued) (host : Host S) (live : Live S) (taken : Taken S) (net : Net S)
       → host_at number net ≡ Some host → Changes now event net.count live host taken
       → (here same : Bool) → (other.host == number) ≡ here → (other.serial == live.serial) ≡ same
       → (here && same) ≡ false → live_at other (placed number taken net) ≡ live_at other net
@@ -195,7 +195,7 @@ module _ {S : Type 0} where
 
   -- ## From outside
 
-  at-host : (app : AppId) (live : Live S) (found : Option (Host S)) → live_of app found ≡ Some live
+  pub at-host : (app : AppId) (live : Live S) (found : Option (Host S)) → live_of app found ≡ Some live
       → (host : Host S) × (found ≡ Some host) × (find (is_live app.serial) host.sessions ≡ Some live)
   at-host app live None is = cc
   at-host app live (Some host) is = (host, refl, is)
@@ -206,7 +206,7 @@ module _ {S : Type 0} where
   host-small (first ∷ hosts) zero host small at = let same : first ≡ host = cc in rw (← same) small.0
   host-small (first ∷ hosts) (suc place) host small at = host-small hosts place host small.1 at
 
-  serial-is : (serial : ℕ) (lives : List (Live S)) (live : Live S) → find (is_live serial) lives ≡ Some live
+  pub serial-is : (serial : ℕ) (lives : List (Live S)) (live : Live S) → find (is_live serial) lives ≡ Some live
       → live.serial ≡ serial
   serial-is serial [] live is = cc
   serial-is serial (first ∷ lives) live is = by (first.serial == serial) refl is (serial-is serial lives live)
@@ -233,12 +233,12 @@ module _ {S : Type 0} where
         fresh = host-unclaimed net (peers.Outside from) request app.host host to.later.unclaimed at;
       }
 
-  with-inbox : (n now : ℕ) (event : Queued) (live : Live S)
+  pub with-inbox : (n now : ℕ) (event : Queued) (live : Live S)
       → (with_event n now event live).inbox ≡ live.inbox ++ record { number = n; event = event } ∷ []
   unfolding with_event
   with-inbox n now event live = refl
 
-  with-session : (n now : ℕ) (event : Queued) (live : Live S) → (with_event n now event live).session ≡ live.session
+  pub with-session : (n now : ℕ) (event : Queued) (live : Live S) → (with_event n now event live).session ≡ live.session
   unfolding with_event
   with-session n now event live = refl
 
@@ -252,7 +252,7 @@ module _ {S : Type 0} where
       let taken : Taken S = queue_later setup.config net.epoch app.host (peers.Outside from) net.moment request net.count live at.0 in
       let same-serial : live.serial ≡ app.serial = serial-is app.serial at.0.sessions live at.2 in
       let found : find (is_live live.serial) at.0.sessions ≡ Some live = subst (λ (n : ℕ). find (is_live n) at.0.sessions ≡ Some live) (sym same-serial) at.2 in
-      let changes = later-sessions setup.config net.epoch app.host from net.moment request net.count live at.0 to.room found in
+      let changes = later-sessions setup.config net.epoch app.host (peers.Outside from) net.moment request net.count live at.0 to.room found in
       let arrives = arrived-later form setup from request net to.later (comes-to setup from request net app live to at.0 at.1 at.2) in
       subst (λ (changed : Net S). IsQueuedAlone app live event net changed) (sym arrives) (record {
         later = with_event (net.count + 1) net.moment event live;

@@ -3,4 +3,4 @@
 
 mod laws;
 
-pub use laws::later_requests_reach_their_session;
+pub use laws::{delivered_requests_reach_their_session, later_requests_reach_their_session};

@@ -2,6 +2,8 @@ pub mod Fronts
 pub mod Movings
 pub mod Listenings
 pub mod Pendings
+pub mod Refusals
 pub mod Servings
 pub mod Steppings
+pub mod Timings
 pub mod Vias

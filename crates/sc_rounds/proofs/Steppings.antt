@@ -1,5 +1,5 @@
 -- A step of a server: the switch takes it, and what it sends is taken from the switch.
-use Rattle.std.proofs.Common.{◌≡◌, ℕ, ◌+◌, Bool, true, false, Option, None, Some, List, [], ◌∷◌, ◌++◌, refl, ap, sym, ◌∙◌, subst, append_assoc, inl, inr}
+use Rattle.std.proofs.Common.{◌≡◌, ℕ, ◌+◌, ◌≤◌, ◌<◌, Bool, true, false, Option, None, Some, List, [], ◌∷◌, ◌++◌, refl, ap, sym, ◌∙◌, subst, append_assoc, inl, inr}
 use Rattle.std.specs.Prelude.{Result, Ok, Err, OnOk, OnErr, IfOk}
 use Rattle.std.proofs.lemmas.List.{append-nil}
 use Rattle.sc_journal.specs.Kept.{Kept}
@@ -31,7 +31,10 @@ use Rattle.sc_outs.proofs.Laws.{cut_more, cut_of, puts_failed, puts_owed, puts_s
 use Rattle.sc_courses.specs.Courses.{Beginning, Course, Told}
 use Rattle.sc_courses.proofs.CourseLaws.{course_counted, course_handed, course_listed, course_next, course_step}
 use Rattle.sc_rounds.specs.declared.stepping.Core.{Core}
-use Rattle.sc_rounds.specs.Serving.{Ends, Runs, RunsOn, Same, Settles, Stands, Stopped, Took, deed, running}
+use Rattle.sc_courses.specs.Asking.{Ticked, TickedPart}
+use Rattle.sc_courses.proofs.AskingLaws.{ticked_early, ticked_part}
+use Rattle.sc_rounds.specs.Serving.{Ends, Runs, RunsOn, Same, SameAt, Settles, Stands, Stopped, Took, deed, moments_after, running, timed}
+use Rattle.sc_rounds.proofs.Timings.{IsLater, left_moment, lease_moment, runs_timed, taken_ticked, ticked_at, untaken_part}
 
 on_ok : {A E P Q : Type 0} (r : Result A E) → (P → Q) → OnOk r P → OnOk r Q
 on_ok (Ok a) f p = f p
@@ -70,7 +73,7 @@ runs-left from told old new deeds same runs =
 -- ## Where a run ends
 
 ends-of : (from : Beginning) (edge : EdgeState) (told : Told) (core : Core) (deeds : List Deed) → Stands from edge told core deeds → Ends from edge told core.switch deeds
-ends-of from edge told core deeds s = record { runs = s.runs; cut = cut_of from.edge edge deeds core.outs [] s.puts }
+ends-of from edge told core deeds s = record { runs = s.runs; cut = cut_of from.edge edge deeds core.outs [] s.puts; ticked = ticked_part from.moments deeds (net_of core.switch).moment s.ticked }
 
 pub same_ends : (from : Beginning) (edge : EdgeState) (told : Told) (core : Core) (deeds : List Deed) → Stands from edge told core deeds → Ends from edge told core.switch deeds
 same_ends = ends-of
@@ -80,49 +83,59 @@ same_ends = ends-of
 abbrev stepped-core : Core → Known → Core
 stepped-core mid switch = record mid { switch = switch }
 
-step-stands : (step : Step) (mid : Core) (switch : Known) (new : Core) (told told2 : Told) → switch ≡ with_step mid.switch step → Settles (record mid { switch = switch }) new told told2
-    → (from : Beginning) (edge : EdgeState) (deeds : List Deed) → Stands from edge told mid deeds → (sent : List Sent) × Stands from edge told2 new (deeds ++ deed step sent false ∷ [])
+step-stands : (step : Step) (mid : Core) (switch : Known) (new : Core) (told told2 : Told) → switch ≡ with_step mid.switch step → IsLater (net_of mid.switch).moment step → Settles (record mid { switch = switch }) new told told2
+    → (from : Beginning) (edge : EdgeState) (deeds : List Deed) → Stands from edge told mid deeds → (sent : List Sent) × Stands (timed step from) edge told2 new (deeds ++ deed step sent false ∷ [])
 unfolding Settles
-step-stands step mid switch new told told2 e settles from edge deeds s =
+step-stands step mid switch new told told2 e later settles from edge deeds s =
     let sent : List Sent = sends from mid.switch step in (
       sent,
-      settles from edge (deeds ++ deed step sent false ∷ [])
-          (subst (λ (known : Known). Runs from told known (deeds ++ deed step sent false ∷ [])) (sym e) (runs-step from told mid.switch deeds step false s.runs))
+      settles (timed step from) edge (deeds ++ deed step sent false ∷ [])
+          (runs_timed from (moments_after step from.moments) told switch (deeds ++ deed step sent false ∷ [])
+          (subst (λ (known : Known). Runs from told known (deeds ++ deed step sent false ∷ [])) (sym e) (runs-step from told mid.switch deeds step false s.runs)))
           (subst (λ (left : List Sent). Puts from.edge edge (deeds ++ deed step sent false ∷ []) mid.outs left)
           (sym (ap (λ (known : Known). known.left) e ∙ left-sent from mid.switch step s.runs.setup_is s.left_is))
-          (puts_step from.edge edge deeds mid.outs (deed step sent false) refl s.puts)),
+          (puts_step from.edge edge deeds mid.outs (deed step sent false) refl s.puts))
+          (taken_ticked step sent false from.moments deeds mid.switch switch e later s.ticked),
     )
 
-pub took : (step : Step) (old mid : Core) (switch : Known) (new : Core) (told told1 told2 : Told) → Same old mid told told1 → switch ≡ with_step mid.switch step → Settles (record mid { switch = switch }) new told1 told2 → Took step false old new told told2
+pub took : (step : Step) (old mid : Core) (switch : Known) (new : Core) (told told1 told2 : Told) → Same old mid told told1 → switch ≡ with_step mid.switch step → IsLater (net_of mid.switch).moment step → Settles (record mid { switch = switch }) new told1 told2 → Took step false old new told told2
 unfolding Same Took
-took step old mid switch new told told1 told2 same e settles from edge deeds s = step-stands step mid switch new told1 told2 e settles from edge deeds (same from edge deeds s)
+took step old mid switch new told told1 told2 same e later settles from edge deeds s = step-stands step mid switch new told1 told2 e later settles from edge deeds (same from edge deeds s)
 
 pub took_ok : {A E : Type 0} (r : Result A E) (step : Step) (old mid : Core) (switch : Known) (new : Core) (told told1 told2 : Told) → Same old mid told told1 → switch ≡ with_step mid.switch step
-    → OnOk r (Settles (record mid { switch = switch }) new told1 told2) → OnOk r (Took step false old new told told2)
-took_ok r step old mid switch new told told1 told2 same e = on_ok r (took step old mid switch new told told1 told2 same e)
+    → IsLater (net_of mid.switch).moment step → OnOk r (Settles (record mid { switch = switch }) new told1 told2) → OnOk r (Took step false old new told told2)
+took_ok r step old mid switch new told told1 told2 same e later = on_ok r (took step old mid switch new told told1 told2 same e later)
 
 -- the step was taken, and the run ended behind it
-pub cut_behind : (step : Step) (old mid : Core) (switch : Known) (new : Core) (told told1 told2 : Told) → Same old mid told told1 → switch ≡ with_step mid.switch step → RunsOn (record mid { switch = switch }) new told1 told2 → Stopped step false old new told told2
+pub cut_behind : (step : Step) (old mid : Core) (switch : Known) (new : Core) (told told1 told2 : Told) → Same old mid told told1 → switch ≡ with_step mid.switch step → IsLater (net_of mid.switch).moment step → RunsOn (record mid { switch = switch }) new told1 told2 → Stopped step false old new told told2
 unfolding Same Stopped RunsOn
-cut_behind step old mid switch new told told1 told2 same e on from edge deeds s =
+cut_behind step old mid switch new told told1 told2 same e later on from edge deeds s =
     let s1 : Stands from edge told1 mid deeds = same from edge deeds s in
     let sent : List Sent = sends from mid.switch step in
     inr (
       sent,
       record {
-        runs = on from (deeds ++ deed step sent false ∷ []) (subst (λ (known : Known). Runs from told1 known (deeds ++ deed step sent false ∷ [])) (sym e) (runs-step from told1 mid.switch deeds step false s1.runs));
+        runs = runs_timed from (moments_after step from.moments) told2 new.switch (deeds ++ deed step sent false ∷ [])
+            (on from (deeds ++ deed step sent false ∷ []) (subst (λ (known : Known). Runs from told1 known (deeds ++ deed step sent false ∷ [])) (sym e) (runs-step from told1 mid.switch deeds step false s1.runs)));
         cut = cut_more from.edge edge deeds (deed step sent false) (cut_of from.edge edge deeds mid.outs [] s1.puts);
+        ticked = ticked_part (moments_after step from.moments) (deeds ++ deed step sent false ∷ []) (net_of switch).moment (taken_ticked step sent false from.moments deeds mid.switch switch e later s1.ticked);
       },
     )
 
 pub took_err : {A E : Type 0} (r : Result A E) (step : Step) (old mid : Core) (switch : Known) (new : Core) (told told1 told2 : Told) → Same old mid told told1 → switch ≡ with_step mid.switch step
-    → RunsOn (record mid { switch = switch }) new told1 told2 → OnErr r (Stopped step false old new told told2)
-took_err r step old mid switch new told told1 told2 same e on = on_err r (cut_behind step old mid switch new told told1 told2 same e on)
+    → IsLater (net_of mid.switch).moment step → RunsOn (record mid { switch = switch }) new told1 told2 → OnErr r (Stopped step false old new told told2)
+took_err r step old mid switch new told told1 told2 same e later on = on_err r (cut_behind step old mid switch new told told1 told2 same e later on)
 
 -- no step was taken
 pub none_taken : (step : Step) (failed : Bool) (old mid new : Core) (told told1 : Told) → Same old mid told told1 → new.switch ≡ mid.switch → Stopped step failed old new told told1
 unfolding Same Stopped
-none_taken step failed old mid new told told1 same e from edge deeds s = inl (subst (λ (known : Known). Ends from edge told1 known deeds) (sym e) (ends-of from edge told1 mid deeds (same from edge deeds s)))
+none_taken step failed old mid new told told1 same e from edge deeds s =
+    let s1 : Stands from edge told1 mid deeds = same from edge deeds s in
+    inl (record {
+      runs = runs_timed from (moments_after step from.moments) told1 new.switch deeds (subst (λ (known : Known). Runs from told1 known deeds) (sym e) s1.runs);
+      cut = cut_of from.edge edge deeds mid.outs [] s1.puts;
+      ticked = untaken_part step from.moments deeds (net_of mid.switch).moment s1.ticked;
+    })
 
 -- ## A place that failed
 
@@ -136,7 +149,8 @@ fall-stands at mid switch outs new told told2 e lost settles from edge deeds s =
           (subst (λ (known : Known). Runs from told known (deeds ++ deed (steps.Lost at) sent true ∷ [])) (sym e) (runs-step from told mid.switch deeds (steps.Lost at) true s.runs))
           (subst (λ (left : List Sent). Puts from.edge edge (deeds ++ deed (steps.Lost at) sent true ∷ []) outs left)
           (sym (ap (λ (known : Known). known.left) e ∙ left-sent from mid.switch (steps.Lost at) s.runs.setup_is s.left_is))
-          (puts_failed from.edge edge deeds mid.outs outs at sent s.puts lost)),
+          (puts_failed from.edge edge deeds mid.outs outs at sent s.puts lost))
+          (taken_ticked (steps.Lost at) sent true from.moments deeds mid.switch switch e tt s.ticked),
     )
 
 fell : (at : Place) (old mid : Core) (switch : Known) (outs : Owing) (new : Core) (told told1 told2 : Told) → Same old mid told told1 → switch ≡ with_step mid.switch (steps.Lost at) → IsLostAt at mid.outs outs
@@ -159,6 +173,7 @@ fell-behind at old mid switch outs new told told1 told2 same e on from edge deed
       record {
         runs = on from (deeds ++ deed (steps.Lost at) sent true ∷ []) (subst (λ (known : Known). Runs from told1 known (deeds ++ deed (steps.Lost at) sent true ∷ [])) (sym e) (runs-step from told1 mid.switch deeds (steps.Lost at) true s1.runs));
         cut = cut_more from.edge edge deeds (deed (steps.Lost at) sent true) (cut_of from.edge edge deeds mid.outs [] s1.puts);
+        ticked = ticked_part from.moments (deeds ++ deed (steps.Lost at) sent true ∷ []) (net_of switch).moment (taken_ticked (steps.Lost at) sent true from.moments deeds mid.switch switch e tt s1.ticked);
       },
     )
 
@@ -177,6 +192,7 @@ fell_starved at old mid new told told1 same e from edge deeds s =
       record {
         runs = subst (λ (known : Known). Runs from told1 known (deeds ++ deed (steps.Lost at) sent true ∷ [])) (sym e) (runs-step from told1 mid.switch deeds (steps.Lost at) true s1.runs);
         cut = cut_more from.edge edge deeds (deed (steps.Lost at) sent true) (cut_of from.edge edge deeds mid.outs [] s1.puts);
+        ticked = ticked_part from.moments (deeds ++ deed (steps.Lost at) sent true ∷ []) (net_of new.switch).moment (taken_ticked (steps.Lost at) sent true from.moments deeds mid.switch new.switch e tt s1.ticked);
       },
     )
 
@@ -185,9 +201,9 @@ fell_starved at old mid new told told1 same e from edge deeds s =
 pub settled : (old new : Core) (told told2 : Told) (count : ℕ) → Notes told told2 (noted.Step count) → new.switch ≡ record old.switch { left = new.switch.left } → new.switch.left ≡ []
     → ((first now : EdgeState) (deeds : List Deed) → Puts first now deeds old.outs old.switch.left → Puts first now deeds new.outs []) → Settles old new told told2
 unfolding Settles
-settled old new told told2 count notes same all keeps from edge deeds runs puts =
+settled old new told told2 count notes same all keeps from edge deeds runs puts ticked =
     let told_runs : Runs from told2 old.switch deeds = record { setup_is = runs.setup_is; course = course_counted from told told2 old.switch.handed (running old.switch) deeds count notes runs.course } in
-    record { runs = runs-left from told2 old.switch new.switch deeds same told_runs; left_is = all; puts = keeps from.edge edge deeds puts }
+    record { runs = runs-left from told2 old.switch new.switch deeds same told_runs; left_is = all; puts = keeps from.edge edge deeds puts; ticked = ticked_at from.moments deeds (net_of old.switch).moment (net_of new.switch).moment (left_moment old.switch new.switch same) ticked }
 
 pub settled_runs : (old new : Core) (told told2 : Told) (count : ℕ) → Notes told told2 (noted.Step count) → new.switch ≡ record old.switch { left = new.switch.left } → RunsOn old new told told2
 unfolding RunsOn
@@ -222,17 +238,18 @@ runs-turned from told told2 old new deeds ended turned notes runs =
           (subst (λ net. is_idle net ≡ true) (net-same from old runs.setup_is) turned.idle) runs.course);
     })
 
+pub turned_moment : (old new : Known) (ended : Ended) → IsTurned old new ended → (net_of new).moment ≡ (net_of old).moment
+unfolding net_of chained chained_from start
+turned_moment old new ended turned = rw turned.new_is refl
+
 pub turned_same : (old new : Core) (told told2 : Told) (ended : Ended) → IsTurned old.switch new.switch ended → new.outs ≡ old.outs → Notes told told2 (noted.Epoch ended.number ended.began ended.journal) → Same old new told told2
 unfolding Same
 turned_same old new told told2 ended turned outs notes from edge deeds s = record {
   runs = runs-turned from told told2 old.switch new.switch deeds ended turned notes s.runs;
   left_is = ap (λ (known : Known). known.left) turned.new_is;
   puts = subst (λ (o : Owing). Puts from.edge edge deeds o []) (sym outs) s.puts;
+  ticked = ticked_at from.moments deeds (net_of old.switch).moment (net_of new.switch).moment (turned_moment old.switch new.switch ended turned) s.ticked;
 }
-
-pub turned_moment : (old new : Known) (ended : Ended) → IsTurned old new ended → (net_of new).moment ≡ (net_of old).moment
-unfolding net_of chained chained_from start
-turned_moment old new ended turned = rw turned.new_is refl
 
 runs-handed : (from : Beginning) (told told2 : Told) (old : Known) (deeds : List Deed) (journal : Kept Step) → journal.items ≡ old.journal → Notes told told2 (noted.Part journal) → Runs from told old deeds → Runs from told2 (handing old) deeds
 runs-handed from told told2 old deeds journal items notes runs = record {
@@ -241,12 +258,17 @@ runs-handed from told told2 old deeds journal items notes runs = record {
       (subst (λ (items2 : List Step). Course from told2 (old.handed ++ items2) (running old) deeds) items (course_handed from told told2 old.handed (running old) deeds journal notes runs.course));
 }
 
+handing-moment : (old : Known) → (net_of (handing old)).moment ≡ (net_of old).moment
+unfolding net_of
+handing-moment old = ap (λ (journal : List Step). (chained as_session old.setup old.epoch old.began journal).moment) (append-nil (whole old))
+
 pub handed_same : (old new : Core) (told told2 : Told) (journal : Kept Step) → new.switch ≡ handing old.switch → new.outs ≡ old.outs → journal.items ≡ old.switch.journal → Notes told told2 (noted.Part journal) → Same old new told told2
 unfolding Same
 handed_same old new told told2 journal e outs items notes from edge deeds s = record {
   runs = subst (λ (known : Known). Runs from told2 known deeds) (sym e) (runs-handed from told told2 old.switch deeds journal items notes s.runs);
   left_is = ap (λ (known : Known). known.left) e ∙ s.left_is;
   puts = subst (λ (o : Owing). Puts from.edge edge deeds o []) (sym outs) s.puts;
+  ticked = ticked_at from.moments deeds (net_of old.switch).moment (net_of new.switch).moment (ap (λ (known : Known). (net_of known).moment) e ∙ handing-moment old.switch) s.ticked;
 }
 
 pub listed_same : (core : Core) (told told2 : Told) (listing : Listing) → Notes told told2 (noted.List listing) → Same core core told told2
@@ -255,6 +277,7 @@ listed_same core told told2 listing notes from edge deeds s = record {
   runs = record { setup_is = s.runs.setup_is; course = course_listed from told told2 core.switch.handed (running core.switch) deeds listing notes s.runs.course };
   left_is = s.left_is;
   puts = s.puts;
+  ticked = s.ticked;
 }
 
 -- only leases changed
@@ -264,6 +287,7 @@ leased_same old new told e outs from edge deeds s = record {
   runs = subst (λ (known : Known). Runs from told known deeds) (sym e) (record { setup_is = s.runs.setup_is; course = s.runs.course });
   left_is = ap (λ (known : Known). known.left) e ∙ s.left_is;
   puts = subst (λ (o : Owing). Puts from.edge edge deeds o []) (sym outs) s.puts;
+  ticked = ticked_at from.moments deeds (net_of old.switch).moment (net_of new.switch).moment (lease_moment old.switch new.switch e) s.ticked;
 }
 
 -- nothing changed
@@ -273,6 +297,17 @@ moved_same old new told e outs from edge deeds s = record {
   runs = subst (λ (known : Known). Runs from told known deeds) (sym e) s.runs;
   left_is = ap (λ (known : Known). known.left) e ∙ s.left_is;
   puts = subst (λ (o : Owing). Puts from.edge edge deeds o []) (sym outs) s.puts;
+  ticked = ticked_at from.moments deeds (net_of old.switch).moment (net_of new.switch).moment (ap (λ (known : Known). (net_of known).moment) e) s.ticked;
+}
+
+-- the clock answered a moment that is no later one
+pub same_at : (now : ℕ) (core : Core) (told : Told) → now ≤ (net_of core.switch).moment → SameAt now core core told told
+unfolding SameAt
+same_at now core told early from edge deeds s = record {
+  runs = runs_timed from (from.moments ++ now ∷ []) told core.switch deeds s.runs;
+  left_is = s.left_is;
+  puts = s.puts;
+  ticked = ticked_early from.moments deeds (net_of core.switch).moment now early s.ticked;
 }
 
 -- ## What the switch answers

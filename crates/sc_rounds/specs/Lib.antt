@@ -1,3 +1,4 @@
+pub mod Dues
 pub mod Hearing
 pub mod Moving
 pub mod Polling

@@ -1,14 +1,16 @@
 -- Where a server stands: between two steps, within an answer of its edge, and where its run ends.
-use Rattle.std.specs.Prelude.{◌≡◌, ◌⊎◌, Bool, true, false, List, [], ◌∷◌, ◌++◌}
+use Rattle.std.specs.Prelude.{◌≡◌, ◌⊎◌, ℕ, Bool, true, false, List, [], ◌∷◌, ◌++◌}
 use Rattle.sc_tokens.specs.Bytes.{Bytes}
 use Rattle.sc_value.specs.declared.ids.Place.{Place}
 use Rattle.sc_value.specs.declared.message.Sent.{Sent}
 use Rattle.sc_terms.specs.declared.steps.Step.{Step}
+use Rattle.sc_terms.specs.declared.steps.Step.TheVariants as steps
 use Rattle.sc_edge.specs.Edges.{EdgeState}
 use Rattle.sc_hosts.specs.Runs.{Epoch}
-use Rattle.sc_switch.specs.Standing.{Known, whole}
+use Rattle.sc_switch.specs.Standing.{Known, net_of, whole}
 use Rattle.sc_outs.specs.Deeds.{Deed}
 use Rattle.sc_outs.specs.Puts.{IsCut, Puts}
+use Rattle.sc_courses.specs.Asking.{Ticked, TickedPart}
 use Rattle.sc_courses.specs.Courses.{Beginning, Course, Told}
 use Rattle.sc_courses.specs.Marks.{Hearing, HearingPart, HearsOn}
 use Rattle.sc_rounds.specs.declared.stepping.Core.{Core}
@@ -18,6 +20,22 @@ use Rattle.sc_rounds.specs.Streaming.{bytes_of}
 -- the epoch that runs, with all its steps
 abbrev pub running : Known → Epoch
 running known = record { number = known.epoch; began = known.began; journal = whole known }
+
+-- once the clock has answered these moments more
+abbrev pub since : Beginning → List ℕ → Beginning
+since from given = record from { moments = from.moments ++ given }
+
+-- the answers of the clock once a step was due: a tick is one more
+abbrev pub moments_after : Step → List ℕ → List ℕ
+moments_after (steps.In place message) moments = moments
+moments_after (steps.Bad place bad) moments = moments
+moments_after (steps.Lost place) moments = moments
+moments_after (steps.Tick now) moments = moments ++ now ∷ []
+moments_after (steps.Turn app event now calls end) moments = moments
+moments_after (steps.Withdraw app) moments = moments
+
+abbrev pub timed : Step → Beginning → Beginning
+timed step from = record from { moments = moments_after step from.moments }
 
 -- the switch has run this course
 pub record Runs (from : Beginning) (told : Told) (known : Known) (deeds : List Deed) : Type 0 where
@@ -29,11 +47,13 @@ pub record Stands (from : Beginning) (edge : EdgeState) (told : Told) (core : Co
   pub runs : Runs from told core.switch deeds
   pub left_is : core.switch.left ≡ []
   pub puts : Puts from.edge edge deeds core.outs []
+  pub ticked : Ticked from.moments deeds (net_of core.switch).moment
 
 -- where a run ends, whatever is left to be put
 pub record Ends (from : Beginning) (edge : EdgeState) (told : Told) (known : Known) (deeds : List Deed) : Type 0 where
   pub runs : Runs from told known deeds
   pub cut : IsCut from.edge edge deeds
+  pub ticked : TickedPart from.moments deeds
 
 -- ## What a step does
 
@@ -44,22 +64,26 @@ deed step sent failed = record { step = step; sent = sent; failed = failed }
 unfoldable pub Same : Core → Core → Told → Told → Type 0
 Same old new told told2 = (from : Beginning) (edge : EdgeState) (deeds : List Deed) → Stands from edge told old deeds → Stands from edge told2 new deeds
 
+-- no step was taken, and the clock answered this
+unfoldable pub SameAt : ℕ → Core → Core → Told → Told → Type 0
+SameAt now old new told told2 = (from : Beginning) (edge : EdgeState) (deeds : List Deed) → Stands from edge told old deeds → Stands (since from (now ∷ [])) edge told2 new deeds
+
 -- this step was taken
 unfoldable pub Took : Step → Bool → Core → Core → Told → Told → Type 0
 Took step failed old new told told2 =
     (from : Beginning) (edge : EdgeState) (deeds : List Deed) → Stands from edge told old deeds
-    → (sent : List Sent) × Stands from edge told2 new (deeds ++ deed step sent failed ∷ [])
+    → (sent : List Sent) × Stands (timed step from) edge told2 new (deeds ++ deed step sent failed ∷ [])
 
 -- the run ended before this step, or behind it
 unfoldable pub Stopped : Step → Bool → Core → Core → Told → Told → Type 0
 Stopped step failed old new told told2 =
     (from : Beginning) (edge : EdgeState) (deeds : List Deed) → Stands from edge told old deeds
-    → Ends from edge told2 new.switch deeds ⊎ ((sent : List Sent) × Ends from edge told2 new.switch (deeds ++ deed step sent failed ∷ []))
+    → Ends (timed step from) edge told2 new.switch deeds ⊎ ((sent : List Sent) × Ends (timed step from) edge told2 new.switch (deeds ++ deed step sent failed ∷ []))
 
 -- what the last step sent was taken from the switch
 unfoldable pub Settles : Core → Core → Told → Told → Type 0
 Settles old new told told2 =
-    (from : Beginning) (edge : EdgeState) (deeds : List Deed) → Runs from told old.switch deeds → Puts from.edge edge deeds old.outs old.switch.left → Stands from edge told2 new deeds
+    (from : Beginning) (edge : EdgeState) (deeds : List Deed) → Runs from told old.switch deeds → Puts from.edge edge deeds old.outs old.switch.left → Ticked from.moments deeds (net_of old.switch).moment → Stands from edge told2 new deeds
 
 unfoldable pub RunsOn : Core → Core → Told → Told → Type 0
 RunsOn old new told told2 = (from : Beginning) (deeds : List Deed) → Runs from told old.switch deeds → Runs from told2 new.switch deeds

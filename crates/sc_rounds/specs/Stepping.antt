@@ -1,5 +1,5 @@
 -- What became of a turn that was brought, of a moment, and of an order.
-use Rattle.std.specs.Prelude.{Bool, true, false, ℕ}
+use Rattle.std.specs.Prelude.{◌≤◌, Bool, true, false, ℕ}
 use Rattle.sc_value.specs.declared.ids.AppId.{AppId}
 use Rattle.sc_terms.specs.declared.steps.Step.TheVariants as steps
 use Rattle.sc_servlets.specs.declared.done.Done.{Done}
@@ -8,12 +8,12 @@ use Rattle.sc_switch.specs.declared.refused.Committed.TheVariants as committed
 use Rattle.sc_switch.specs.Standing.{step_of}
 use Rattle.sc_courses.specs.Courses.{Told}
 use Rattle.sc_rounds.specs.declared.stepping.Core.{Core}
-use Rattle.sc_rounds.specs.Serving.{Same, Took}
+use Rattle.sc_rounds.specs.Serving.{Same, SameAt, Took}
 
--- the moment is the step, or it is no later one
+-- the moment is the step, or it is no later one; one past 2^63 is none
 unfoldable pub Ticks : ℕ → Core → Core → Told → Told → Bool → Type 0
 Ticks now old new told told2 true = Took (steps.Tick now) false old new told told2
-Ticks now old new told told2 false = Same old new told told2
+Ticks now old new told told2 false = now ≤ 9223372036854775808 → SameAt now old new told told2
 
 -- the session was ended, or it didn't live
 unfoldable pub Withdraws : AppId → Core → Core → Told → Told → Bool → Type 0

@@ -1,12 +1,13 @@
 //! The steps that the bytes of an answer make (RFC 3261 section 18.3).
 
-ghost use Rattle.std.specs.Prelude.{◌≡◌, ◌<◌, [], length, true, false, Ok, IfOk, OnOk, OnErr};
+ghost use Rattle.std.specs.Prelude.{◌≡◌, ◌<◌, [], length, true, false, Ok, IfOk, IfErr, OnOk, OnErr};
 ghost use Rattle.sc_hosts.specs.Runs.{HasVia};
 ghost use Rattle.sc_tokens.specs.Bytes.{Bytes};
 ghost use Rattle.sc_edge.specs.Edges.{EdgeState};
 ghost use Rattle.sc_runs.specs.Following.{IsKept};
 ghost use Rattle.sc_runs.specs.Hearing.{IsBad};
 ghost use Rattle.sc_courses.specs.Courses.{Beginning};
+ghost use Rattle.sc_rounds.specs.Dues.{HasDue};
 ghost use Rattle.sc_rounds.specs.Hearing.{BrokeOff, BrokeUpto};
 ghost use Rattle.sc_rounds.specs.Serving.{Ended, Serves, ServesMore, ServesOn, Stopped, Took};
 ghost use Rattle.sc_rounds.specs.Streaming.{bytes_of};
@@ -35,6 +36,7 @@ pub fn hear_all<N: Notice<Journal<Step>>>(
 ) -> Result<(), StepRefused>
     ensures ok { (from : Beginning) (edge : EdgeState) (text : Bytes) → ServesOn from edge (N.noted notice.old) core.old streams.old at text → OnOk result (Serves from edge (N.noted notice.new) core.new streams.new) }
     ensures err { (from : Beginning) (edge : EdgeState) (text : Bytes) → ServesOn from edge (N.noted notice.old) core.old streams.old at text → OnErr result (Ended from edge (N.noted notice.new) core.new.switch) }
+    ensures due { IfErr result (λ cause. HasDue core.new.switch cause) }
 {
     while hear_one(core, streams, notice, at, broken)? {}
     Ok(())
@@ -50,6 +52,7 @@ fn hear_one<N: Notice<Journal<Step>>>(
 ) -> Result<bool, StepRefused>
     ensures on { (from : Beginning) (edge : EdgeState) (text : Bytes) → ServesOn from edge (N.noted notice.old) core.old streams.old at text → IfOk result (λ more. ServesMore from edge (N.noted notice.new) core.new streams.new at text more) }
     ensures err { (from : Beginning) (edge : EdgeState) (text : Bytes) → ServesOn from edge (N.noted notice.old) core.old streams.old at text → OnErr result (Ended from edge (N.noted notice.new) core.new.switch) }
+    ensures due { IfErr result (λ cause. HasDue core.new.switch cause) }
     ensures less { result ≡ Ok true → length (bytes_of streams.new at) < length (bytes_of streams.old at) }
 {
     match streams.next(at) {
@@ -78,6 +81,7 @@ fn take_message<N: Notice<Journal<Step>>>(
     ensures more { IfOk result (λ more. more ≡ true) }
     ensures ok { OnOk result (Took (Step.In at message) false core.old core.new (N.noted notice.old) (N.noted notice.new)) }
     ensures err { OnErr result (Stopped (Step.In at message) false core.old core.new (N.noted notice.old) (N.noted notice.new)) }
+    ensures due { IfErr result (λ cause. HasDue core.new.switch cause) }
 {
     match core.arrive(notice, at, message) {
         Ok(()) => Ok(true),
@@ -97,6 +101,7 @@ fn break_off<N: Notice<Journal<Step>>>(
     ensures kept { IsKept (bytes_of streams.old) at [] (bytes_of streams.new) }
     ensures ok { OnOk result (BrokeOff at bad core.old core.new (N.noted notice.old) (N.noted notice.new)) }
     ensures err { OnErr result (BrokeUpto at bad core.old core.new (N.noted notice.old) (N.noted notice.new)) }
+    ensures due { IfErr result (λ cause. HasDue core.new.switch cause) }
 {
     streams.drop_of(at);
     match core.hear_bad(notice, at, bad) {
@@ -119,6 +124,7 @@ fn end_long<N: Notice<Journal<Step>>>(
     ensures kept { IsKept (bytes_of streams.old) at [] (bytes_of streams.new) }
     ensures ok { OnOk result (Took (Step.Lost at) false core.old core.new (N.noted notice.old) (N.noted notice.new)) }
     ensures err { OnErr result (Stopped (Step.Lost at) false core.old core.new (N.noted notice.old) (N.noted notice.new)) }
+    ensures due { IfErr result (λ cause. HasDue core.new.switch cause) }
 {
     match lose(core, streams, notice, at) {
         Ok(()) => Ok(false),
@@ -136,6 +142,7 @@ pub fn lose<N: Notice<Journal<Step>>>(
     ensures kept { IsKept (bytes_of streams.old) at [] (bytes_of streams.new) }
     ensures ok { OnOk result (Took (Step.Lost at) false core.old core.new (N.noted notice.old) (N.noted notice.new)) }
     ensures err { OnErr result (Stopped (Step.Lost at) false core.old core.new (N.noted notice.old) (N.noted notice.new)) }
+    ensures due { IfErr result (λ cause. HasDue core.new.switch cause) }
 {
     streams.drop_of(at);
     core.lose(notice, at)

@@ -1,9 +1,10 @@
 //! What comes from the edge.
 
-ghost use Rattle.std.specs.Prelude.{length, OnOk, OnErr};
+ghost use Rattle.std.specs.Prelude.{length, IfErr, OnOk, OnErr};
 ghost use Rattle.sc_tokens.specs.Bytes.{Bytes};
 ghost use Rattle.sc_edge.specs.Edges.{EdgeState, IsWithin};
 ghost use Rattle.sc_courses.specs.Courses.{Beginning};
+ghost use Rattle.sc_rounds.specs.Dues.{HasDue};
 ghost use Rattle.sc_rounds.specs.Polling.{Comes, Polls};
 ghost use Rattle.sc_rounds.specs.Serving.{Ended, Serves, ServesOn};
 
@@ -48,6 +49,7 @@ pub fn take_got<N: Notice<Journal<Step>>>(
     requires { IsWithin got (length room.now) }
     ensures ok { (from : Beginning) (old new : EdgeState) → Serves from old (N.noted notice.old) core.old streams.old → Polls old new got room.now → OnOk result (Serves from new (N.noted notice.new) core.new streams.new) }
     ensures err { (from : Beginning) (old new : EdgeState) → Serves from old (N.noted notice.old) core.old streams.old → Polls old new got room.now → OnErr result (Ended from new (N.noted notice.new) core.new.switch) }
+    ensures due { IfErr result (λ cause. HasDue core.new.switch cause) }
 {
     match got {
         Got::Bytes(place, count) => take_bytes(core, streams, notice, place, &room[..count]),
@@ -68,6 +70,7 @@ fn take_end<N: Notice<Journal<Step>>>(
 ) -> Result<Came, StepRefused>
     ensures ok { (from : Beginning) (old new : EdgeState) → Serves from old (N.noted notice.old) core.old streams.old → Comes old new (Polled.End at) → OnOk result (Serves from new (N.noted notice.new) core.new streams.new) }
     ensures err { (from : Beginning) (old new : EdgeState) → Serves from old (N.noted notice.old) core.old streams.old → Comes old new (Polled.End at) → OnErr result (Ended from new (N.noted notice.new) core.new.switch) }
+    ensures due { IfErr result (λ cause. HasDue core.new.switch cause) }
 {
     match lose(core, streams, notice, at) {
         Ok(()) => Ok(Came::End(at)),
@@ -84,6 +87,7 @@ fn take_failure<N: Notice<Journal<Step>>>(
 ) -> Result<Came, StepRefused>
     ensures ok { (from : Beginning) (old new : EdgeState) → Serves from old (N.noted notice.old) core.old streams.old → Comes old new (Polled.Failed at) → OnOk result (Serves from new (N.noted notice.new) core.new streams.new) }
     ensures err { (from : Beginning) (old new : EdgeState) → Serves from old (N.noted notice.old) core.old streams.old → Comes old new (Polled.Failed at) → OnErr result (Ended from new (N.noted notice.new) core.new.switch) }
+    ensures due { IfErr result (λ cause. HasDue core.new.switch cause) }
 {
     match fail(core, streams, notice, at) {
         Ok(()) => Ok(Came::End(at)),
@@ -101,6 +105,7 @@ pub fn fail<N: Notice<Journal<Step>>>(
 ) -> Result<(), StepRefused>
     ensures ok { (from : Beginning) (old new : EdgeState) → Serves from old (N.noted notice.old) core.old streams.old → Comes old new (Polled.Failed at) → OnOk result (Serves from new (N.noted notice.new) core.new streams.new) }
     ensures err { (from : Beginning) (old new : EdgeState) → Serves from old (N.noted notice.old) core.old streams.old → Comes old new (Polled.Failed at) → OnErr result (Ended from new (N.noted notice.new) core.new.switch) }
+    ensures due { IfErr result (λ cause. HasDue core.new.switch cause) }
 {
     streams.drop_of(at);
     core.fail(notice, at)
@@ -116,6 +121,7 @@ fn take_bytes<N: Notice<Journal<Step>>>(
 ) -> Result<Came, StepRefused>
     ensures ok { (from : Beginning) (old new : EdgeState) → Serves from old (N.noted notice.old) core.old streams.old → Comes old new (Polled.Bytes at text.now) → OnOk result (Serves from new (N.noted notice.new) core.new streams.new) }
     ensures err { (from : Beginning) (old new : EdgeState) → Serves from old (N.noted notice.old) core.old streams.old → Comes old new (Polled.Bytes at text.now) → OnErr result (Ended from new (N.noted notice.new) core.new.switch) }
+    ensures due { IfErr result (λ cause. HasDue core.new.switch cause) }
 {
     match streams.feed(core.alloc, at, text) {
         Ok(()) => hear_bytes(core, streams, notice, at),
@@ -132,6 +138,7 @@ fn hear_bytes<N: Notice<Journal<Step>>>(
 ) -> Result<Came, StepRefused>
     ensures ok { (from : Beginning) (edge : EdgeState) (text : Bytes) → ServesOn from edge (N.noted notice.old) core.old streams.old at text → OnOk result (Serves from edge (N.noted notice.new) core.new streams.new) }
     ensures err { (from : Beginning) (edge : EdgeState) (text : Bytes) → ServesOn from edge (N.noted notice.old) core.old streams.old at text → OnErr result (Ended from edge (N.noted notice.new) core.new.switch) }
+    ensures due { IfErr result (λ cause. HasDue core.new.switch cause) }
 {
     let mut broken = false;
     match hear_all(core, streams, notice, at, &mut broken) {

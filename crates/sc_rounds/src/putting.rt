@@ -1,9 +1,10 @@
 //! Putting what is left to the places.
 
-ghost use Rattle.std.specs.Prelude.{OnOk, OnErr};
+ghost use Rattle.std.specs.Prelude.{IfErr, OnOk, OnErr};
 ghost use Rattle.sc_edge.specs.Edges.{CountsOn};
 ghost use Rattle.sc_edge.specs.EdgeCalls.{IsNoPoll};
 ghost use Rattle.sc_courses.specs.Courses.{Beginning};
+ghost use Rattle.sc_rounds.specs.Dues.{HasDue};
 ghost use Rattle.sc_rounds.specs.Serving.{Ended, Serves};
 
 use crate::polling::fail;
@@ -40,6 +41,7 @@ pub fn put_place<E: Edge, N: Notice<Journal<Step>>>(
 ) -> Result<Went, StepRefused>
     ensures ok { (from : Beginning) → Serves from (E.state edge.old) (N.noted notice.old) core.old streams.old → OnOk result (Serves from (E.state edge.new) (N.noted notice.new) core.new streams.new) }
     ensures err { (from : Beginning) → Serves from (E.state edge.old) (N.noted notice.old) core.old streams.old → OnErr result (Ended from (E.state edge.new) (N.noted notice.new) core.new.switch) }
+    ensures due { IfErr result (λ cause. HasDue core.new.switch cause) }
     ensures later { CountsOn (E.state edge.old) (E.state edge.new) }
     ensures polled { IsNoPoll (E.state edge.old) (E.state edge.new) }
 {

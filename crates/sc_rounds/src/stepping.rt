@@ -1,6 +1,6 @@
 //! The switch with what is left to be put of what it sent: each step of a server.
 
-ghost use Rattle.std.specs.Prelude.{◌≡◌, ◌≤◌, List, [], true, false, IfOk, OnOk, OnErr};
+ghost use Rattle.std.specs.Prelude.{◌≡◌, ◌≤◌, ◌<◌, ◌⊎◌, List, [], true, false, IfOk, IfErr, OnOk, OnErr};
 ghost use Rattle.sc_terms.specs.declared.steps.Step.TheVariants as steps;
 ghost use Rattle.sc_edge.specs.Edges.{EdgeState};
 ghost use Rattle.sc_hosts.specs.Runs.{HasVia};
@@ -9,6 +9,7 @@ ghost use Rattle.sc_outs.specs.Deeds.{Deed};
 ghost use Rattle.sc_outs.specs.Owing.{nothing};
 ghost use Rattle.sc_courses.specs.Courses.{Told};
 ghost use Rattle.sc_outs.specs.Puts.{Puts};
+ghost use Rattle.sc_rounds.specs.Dues.{HasDue};
 ghost use Rattle.sc_rounds.specs.Serving.{RunsOn, Same, Settles, Stopped, Took};
 ghost use Rattle.sc_rounds.specs.Stepping.{Commits, Ticks, Withdraws};
 
@@ -17,7 +18,7 @@ use sc_journal::Journal;
 use sc_outs::Outs;
 use sc_servlets::{Done, Lease};
 use sc_switch::{CommitRefused, Committed, Epoch, StepRefused, Switch};
-use sc_terms::{Bad, Step};
+use sc_terms::{Bad, End, Step};
 use sc_value::{AppId, Discard, Message, NoMemory, Place};
 use std::alloc::Global;
 
@@ -121,6 +122,7 @@ impl Core {
     fn settle<N: Notice<Journal<Step>>>(&mut self, notice: &mut N) -> Result<(), StepRefused>
         ensures ok { OnOk result (Settles self.old self.new (N.noted notice.old) (N.noted notice.new)) }
         ensures err { RunsOn self.old self.new (N.noted notice.old) (N.noted notice.new) }
+        ensures due { IfErr result (λ cause. HasDue self.new.switch cause) }
     {
         notice.step(self.steps());
         match self.drain() {
@@ -156,6 +158,7 @@ impl Core {
         requires { HasVia message }
         ensures ok { OnOk result (Took (Step.In from message) false self.old self.new (N.noted notice.old) (N.noted notice.new)) }
         ensures err { OnErr result (Stopped (Step.In from message) false self.old self.new (N.noted notice.old) (N.noted notice.new)) }
+        ensures due { IfErr result (λ cause. HasDue self.new.switch cause) }
     {
         self.make_room(notice);
         match self.switch.arrive(self.alloc, from, message) {
@@ -177,6 +180,7 @@ impl Core {
     ) -> Result<(), StepRefused>
         ensures ok { OnOk result (Took (Step.Bad from bad) false self.old self.new (N.noted notice.old) (N.noted notice.new)) }
         ensures err { OnErr result (Stopped (Step.Bad from bad) false self.old self.new (N.noted notice.old) (N.noted notice.new)) }
+        ensures due { IfErr result (λ cause. HasDue self.new.switch cause) }
     {
         self.make_room(notice);
         match self.switch.hear_bad(self.alloc, from, bad) {
@@ -197,6 +201,7 @@ impl Core {
     ) -> Result<(), StepRefused>
         ensures ok { OnOk result (Took (Step.Lost at) false self.old self.new (N.noted notice.old) (N.noted notice.new)) }
         ensures err { OnErr result (Stopped (Step.Lost at) false self.old self.new (N.noted notice.old) (N.noted notice.new)) }
+        ensures due { IfErr result (λ cause. HasDue self.new.switch cause) }
     {
         self.make_room(notice);
         match self.switch.lost(self.alloc, at) {
@@ -217,6 +222,7 @@ impl Core {
     ) -> Result<(), StepRefused>
         ensures ok { OnOk result (Took (Step.Lost at) true self.old self.new (N.noted notice.old) (N.noted notice.new)) }
         ensures err { OnErr result (Stopped (Step.Lost at) true self.old self.new (N.noted notice.old) (N.noted notice.new)) }
+        ensures due { IfErr result (λ cause. HasDue self.new.switch cause) }
     {
         self.make_room(notice);
         match self.switch.lost(self.alloc, at) {
@@ -241,6 +247,7 @@ impl Core {
     ) -> Result<bool, StepRefused>
         ensures ok { IfOk result (λ later. Ticks now self.old self.new (N.noted notice.old) (N.noted notice.new) later) }
         ensures err { OnErr result (Stopped (Step.Tick now) false self.old self.new (N.noted notice.old) (N.noted notice.new)) }
+        ensures due { IfErr result (λ cause. HasDue self.new.switch cause) }
     {
         if now <= self.switch.now() || now > 1 << 63 {
             return Ok(false);
@@ -257,10 +264,11 @@ impl Core {
         notice: &mut N,
         now: u64,
     ) -> Result<(), StepRefused>
-        requires later { (net_of self.old.switch).moment ≤ now }
+        requires later { (net_of self.old.switch).moment < now }
         requires within { now ≤ 9223372036854775808 }
         ensures ok { OnOk result (Took (Step.Tick now) false self.old self.new (N.noted notice.old) (N.noted notice.new)) }
         ensures err { OnErr result (Stopped (Step.Tick now) false self.old self.new (N.noted notice.old) (N.noted notice.new)) }
+        ensures due { IfErr result (λ cause. HasDue self.new.switch cause) }
     {
         self.make_room(notice);
         match self.switch.tick(self.alloc, now) {
@@ -281,6 +289,7 @@ impl Core {
     ) -> Result<bool, StepRefused>
         ensures ok { IfOk result (λ lived. Withdraws app self.old self.new (N.noted notice.old) (N.noted notice.new) lived) }
         ensures err { OnErr result (Stopped (Step.Withdraw app) false self.old self.new (N.noted notice.old) (N.noted notice.new)) }
+        ensures due { IfErr result (λ cause. HasDue self.new.switch cause) }
     {
         self.hand_on(notice);
         match self.switch.withdraw(self.alloc, app) {
@@ -305,6 +314,7 @@ impl Core {
     ) -> Result<Committed, StepRefused>
         ensures ok { IfOk result (λ answer. Commits done self.old self.new (N.noted notice.old) (N.noted notice.new) answer) }
         ensures err { OnErr result (Stopped (step_of done) false self.old self.new (N.noted notice.old) (N.noted notice.new)) }
+        ensures due { IfErr result (λ cause. HasDue self.new.switch cause) }
     {
         self.hand_on(notice);
         match self.switch.commit(self.alloc, done) {
@@ -315,6 +325,8 @@ impl Core {
             Ok(Committed::Gone(number)) => Ok(Committed::Gone(number)),
             Ok(Committed::Other(number)) => Ok(Committed::Other(number)),
             Err(CommitRefused { done, cause }) => {
+                let _ = self.switch.leases();
+                let cause = cause_after(done.end, cause);
                 done.discard();
                 Err(cause)
             }
@@ -340,6 +352,16 @@ impl Core {
         let listing = self.switch.listing(self.alloc)?;
         notice.list(listing);
         Ok(())
+    }
+}
+
+/// Why a turn was refused that ended so: where it starved, for want of memory.
+fn cause_after(end: End, cause: StepRefused) -> StepRefused
+    ensures { (result ≡ StepRefused.NoMemory) ⊎ ((result ≡ cause) × (end ≡ End.Starved → ⊥)) }
+{
+    match end {
+        End::Starved => StepRefused::NoMemory,
+        _ => cause,
     }
 }
 

@@ -1,7 +1,8 @@
 //! What makes steps that aren't heard: moments and orders.
 
-ghost use Rattle.std.specs.Prelude.{◌≡◌, OnOk, OnErr};
-ghost use Rattle.sc_rounds.specs.Moving.{Breaks, Moves};
+ghost use Rattle.std.specs.Prelude.{◌≡◌, IfErr, OnOk, OnErr};
+ghost use Rattle.sc_rounds.specs.Dues.{HasDue};
+ghost use Rattle.sc_rounds.specs.Moving.{Breaks, BreaksOn, Moves, MovesOn};
 
 use crate::stepping::Core;
 use sc_edge::{Clock, Notice, Order, Orders};
@@ -23,6 +24,7 @@ pub fn take_order<O: Orders, N: Notice<Journal<Step>>>(
 ) -> Result<bool, StepRefused>
     ensures ok { OnOk result (Moves core.old core.new (N.noted notice.old) (N.noted notice.new)) }
     ensures err { OnErr result (Breaks core.old core.new (N.noted notice.old) (N.noted notice.new)) }
+    ensures due { IfErr result (λ cause. HasDue core.new.switch cause) }
 {
     match orders.next() {
         Some(order) => withdraw(core, notice, order),
@@ -37,6 +39,7 @@ fn withdraw<N: Notice<Journal<Step>>>(
 ) -> Result<bool, StepRefused>
     ensures ok { OnOk result (Moves core.old core.new (N.noted notice.old) (N.noted notice.new)) }
     ensures err { OnErr result (Breaks core.old core.new (N.noted notice.old) (N.noted notice.new)) }
+    ensures due { IfErr result (λ cause. HasDue core.new.switch cause) }
 {
     if order.epoch != core.switch.epoch() {
         return Ok(false);
@@ -54,8 +57,9 @@ pub fn take_moment<T: Clock, N: Notice<Journal<Step>>>(
     notice: &mut N,
     clock: &mut T,
 ) -> Result<bool, StepRefused>
-    ensures ok { OnOk result (Moves core.old core.new (N.noted notice.old) (N.noted notice.new)) }
-    ensures err { OnErr result (Breaks core.old core.new (N.noted notice.old) (N.noted notice.new)) }
+    ensures ok { OnOk result (MovesOn core.old core.new (N.noted notice.old) (N.noted notice.new) (T.asked clock.old, T.comes clock.old) (T.asked clock.new, T.comes clock.new)) }
+    ensures err { OnErr result (BreaksOn core.old core.new (N.noted notice.old) (N.noted notice.new) (T.asked clock.old, T.comes clock.old) (T.asked clock.new, T.comes clock.new)) }
+    ensures due { IfErr result (λ cause. HasDue core.new.switch cause) }
 {
     core.tick(notice, clock.now())
 }
@@ -68,6 +72,7 @@ pub fn take_moment<T: Clock, N: Notice<Journal<Step>>>(
 pub fn list<N: Notice<Journal<Step>>>(core: &mut Core, notice: &mut N) -> Result<(), StepRefused>
     ensures ok { OnOk result (Moves core.old core.new (N.noted notice.old) (N.noted notice.new)) }
     ensures err { OnErr result (Breaks core.old core.new (N.noted notice.old) (N.noted notice.new)) }
+    ensures due { IfErr result (λ cause. HasDue core.new.switch cause) }
 {
     match core.list(notice) {
         Ok(()) => Ok(()),

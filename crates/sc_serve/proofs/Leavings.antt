@@ -1,14 +1,15 @@
 -- What a run leaves, from where its last round ended.
 use Rattle.std.specs.Prelude.{Result, Ok, Err, IfErr, OnOk, OnErr}
-use Rattle.std.proofs.Common.{◌≡◌, List, [], ◌∷◌, ◌++◌, Option, None, Some, refl, sym, ap, subst, ◌∙◌}
+use Rattle.std.proofs.Common.{◌≡◌, ℕ, List, [], ◌∷◌, ◌++◌, Option, None, Some, refl, sym, ap, subst, ◌∙◌}
 use Rattle.sc_value.specs.declared.ids.Place.{Place}
 use Rattle.sc_terms.specs.declared.steps.Step.{Step}
 use Rattle.sc_parts.specs.declared.setup.Setup.{Setup}
+use Rattle.sc_model.specs.Settings.{IsSetup}
 use Rattle.sc_journal.specs.Kept.{Kept}
 use Rattle.sc_edge.specs.Edges.{EdgeState}
 use Rattle.sc_hosts.specs.Histories.{as_session}
-use Rattle.sc_hosts.specs.Runs.{AreLawful, Epoch, IsLawful, IsLawfulFrom}
-use Rattle.sc_switch.specs.Standing.{Known, whole}
+use Rattle.sc_hosts.specs.Runs.{AreLawful, Epoch, IsLawful, IsLawfulFrom, chained, chained_from, start}
+use Rattle.sc_switch.specs.Standing.{Known, net_of, whole}
 use Rattle.sc_switch.specs.declared.ran.Ran.{Ran}
 use Rattle.sc_switch.specs.declared.ran.Status.{Status}
 use Rattle.sc_switch.specs.declared.ran.Status.TheVariants as statuses
@@ -16,26 +17,35 @@ use Rattle.sc_outs.specs.Deeds.{Deed}
 use Rattle.sc_outs.specs.Owing.{Owing, left_at, nothing}
 use Rattle.sc_outs.specs.Puts.{Puts}
 use Rattle.sc_outs.proofs.Laws.{cut_of, puts_begin, took_parts, took_whole}
+use Rattle.sc_courses.specs.Asking.{Answered, Source, Ticked, raised, ticks_taken}
+use Rattle.sc_courses.proofs.AskingLaws.{ticked_begin, ticked_part}
 use Rattle.sc_courses.specs.Courses.{AreDeeds, Beginning, Told}
+use Rattle.sc_courses.specs.Due.{IsDue}
 use Rattle.sc_courses.specs.Marks.{Hearing, HearingPart}
 use Rattle.sc_courses.proofs.CourseLaws.{course_begin, course_deeds, course_lawful}
 use Rattle.sc_courses.proofs.HeardLaws.{hearing_begin, hearing_part}
 use Rattle.sc_rounds.specs.declared.stepping.Core.{Core}
 use Rattle.sc_rounds.specs.declared.streams.Pending.{Pending}
-use Rattle.sc_rounds.specs.Serving.{Ended, Ends, Runs, Serves, running}
+use Rattle.sc_rounds.specs.Serving.{Ended, Ends, Runs, Serves, running, since}
 use Rattle.sc_rounds.specs.Streaming.{bytes_in, bytes_of}
 use Rattle.sc_serve.specs.declared.server.Server.{Server}
 use Rattle.sc_serve.specs.declared.stop.Stop.{Stop}
 use Rattle.sc_serve.specs.declared.stop.Stop.TheVariants as stops
-use Rattle.sc_serve.specs.Running.{Blames, Finishes, Halts, HasItems, IsNew, IsServed, fresh, stopped}
+use Rattle.sc_serve.specs.Running.{Blames, FinishesOn, GoesOn, HaltsOn, HasItems, IsDueAt, IsNew, IsServed, fresh, stopped}
 use Rattle.sc_serve.specs.Served.{ComesAt, Leaves, last_epoch}
 
 last-is : (ran : Ran) (known : Known) (journal : Kept Step) → ran.epoch ≡ known.epoch → ran.began ≡ known.began → journal.items ≡ known.journal → last_epoch ran known.handed journal ≡ running known
 last-is ran known journal epoch began items = rw (epoch, began, items) refl
 
+due-at : (from : Beginning) (known : Known) (ran : Ran) (journal : Kept Step) → ran.epoch ≡ known.epoch → ran.began ≡ known.began → journal.items ≡ known.journal → IsDue from.setup (running known) known.journal
+    → IsDue from.setup (last_epoch ran known.handed journal) journal.items
+due-at from known ran journal epoch began items due =
+    subst (λ (last : Epoch). IsDue from.setup last journal.items) (sym (last-is ran known journal epoch began items)) (subst (λ (kept : List Step). IsDue from.setup (running known) kept) (sym items) due)
+
 leaves-of : (from : Beginning) (now : EdgeState) (told : Told) (known : Known) (ran : Ran) (journal : Kept Step) (deeds : List Deed) → Ends from now told known deeds → HearingPart from.edge.polled now.polled deeds
-    → ran.epoch ≡ known.epoch → ran.began ≡ known.began → journal.items ≡ known.journal → IsLawful as_session known.setup known.epoch known.began (whole known) → ComesAt from.edge now deeds ran.status → Leaves from now told ran journal
-leaves-of from now told known ran journal deeds ends heard epoch began items lawful comes = record {
+    → ran.epoch ≡ known.epoch → ran.began ≡ known.began → journal.items ≡ known.journal → IsLawful as_session known.setup known.epoch known.began (whole known) → ComesAt from.edge now deeds ran.status
+    → (ran.status ≡ statuses.Done → ticks_taken deeds ≡ raised 0 from.moments) → (ran.status ≡ statuses.JournalFull → IsDue from.setup (running known) known.journal) → Leaves from now told ran journal
+leaves-of from now told known ran journal deeds ends heard epoch began items lawful comes ticked due = record {
   ended = ends.runs.course.ended;
   handed = known.handed;
   deeds = deeds;
@@ -47,6 +57,9 @@ leaves-of from now told known ran journal deeds ends heard epoch began items law
   heard = heard;
   took = took_parts from.edge now deeds ends.cut;
   comes = comes;
+  ticks = ends.ticked;
+  ticked = ticked;
+  due = λ full. due-at from known ran journal epoch began items (due full);
 }
 
 with-items : (found : Option (Kept Step)) (items : List Step) → HasItems found items → (journal : Kept Step) × (found ≡ Some journal) × (journal.items ≡ items)
@@ -56,15 +69,25 @@ with-items (Some journal) items has = (journal, refl, has)
 
 -- where the run ended within a round
 pub served_cut : (from : Beginning) (now : EdgeState) (told : Told) (known : Known) (ran : Ran) → Ended from now told known → ran.epoch ≡ known.epoch → ran.began ≡ known.began → HasItems ran.journal known.journal
-    → IsLawful as_session known.setup known.epoch known.began (whole known) → ((deeds : List Deed) → ComesAt from.edge now deeds ran.status) → IsServed from now told ran
-served_cut from now told known ran ended epoch began has lawful comes =
+    → IsLawful as_session known.setup known.epoch known.began (whole known) → ((deeds : List Deed) → ComesAt from.edge now deeds ran.status)
+    → (ran.status ≡ statuses.Done → ⊥) → (known.setup ≡ from.setup → ran.status ≡ statuses.JournalFull → IsDue from.setup (running known) known.journal) → IsServed from now told ran
+served_cut from now told known ran ended epoch began has lawful comes undone due =
     let (journal, journal_is, items) = with-items ran.journal known.journal has in
-    record { journal = journal; journal_is = journal_is; leaves = leaves-of from now told known ran journal ended.deeds ended.ends ended.hearing epoch began items lawful (comes ended.deeds) }
+    record { journal = journal; journal_is = journal_is; leaves = leaves-of from now told known ran journal ended.deeds ended.ends ended.hearing epoch began items lawful (comes ended.deeds) (λ done. absurd (undone done)) (due ended.ends.runs.setup_is) }
 
 done-comes : (from : Beginning) (now : EdgeState) (deeds : List Deed) (status : Status) (core : Core) (streams : List Pending) → status ≡ statuses.Done → Hearing from.edge.polled now.polled deeds (bytes_of streams) → Puts from.edge now deeds core.outs []
     → ((place : Place) → left_at core.outs place ≡ []) → ComesAt from.edge now deeds status
 unfolding ComesAt
 done-comes from now deeds status core streams is hearing puts none = rw is ((bytes_of streams, hearing), took_whole from.edge now deeds core.outs puts none)
+
+done-full : {P : Type 0} (status : Status) → status ≡ statuses.Done → status ≡ statuses.JournalFull → P
+done-full status done full = cc
+
+starved-done : (status : Status) → status ≡ statuses.NoMemory → status ≡ statuses.Done → ⊥
+starved-done status starved done = cc
+
+starved-full : {P : Type 0} (status : Status) → status ≡ statuses.NoMemory → status ≡ statuses.JournalFull → P
+starved-full status starved full = cc
 
 -- where it was over
 pub served_done : (from : Beginning) (now : EdgeState) (told : Told) (core : Core) (streams : List Pending) (ran : Ran) → Serves from now told core streams → ((place : Place) → left_at core.outs place ≡ []) → ran.status ≡ statuses.Done
@@ -74,17 +97,21 @@ served_done from now told core streams ran s none status epoch began has lawful 
     record {
       journal = journal;
       journal_is = journal_is;
-      leaves = leaves-of from now told core.switch ran journal s.deeds (record { runs = s.stands.runs; cut = cut_of from.edge now s.deeds core.outs [] s.stands.puts })
-          (hearing_part from.edge.polled now.polled s.deeds (bytes_of streams) s.hearing) epoch began items lawful (done-comes from now s.deeds ran.status core streams status s.hearing s.stands.puts none);
+      leaves = leaves-of from now told core.switch ran journal s.deeds (record { runs = s.stands.runs; cut = cut_of from.edge now s.deeds core.outs [] s.stands.puts; ticked = ticked_part from.moments s.deeds (net_of core.switch).moment s.stands.ticked })
+          (hearing_part from.edge.polled now.polled s.deeds (bytes_of streams) s.hearing) epoch began items lawful (done-comes from now s.deeds ran.status core streams status s.hearing s.stands.puts none) (λ done. s.stands.ticked.ticks) (done-full ran.status status);
     }
 
 -- ## The beginning
 
 abbrev pub beginning : Setup → Told → EdgeState → Beginning
-beginning setup told edge = record { setup = setup; told = told; edge = edge }
+beginning setup told edge = record { setup = setup; told = told; edge = edge; moments = [] }
 
 fresh-runs : (setup : Setup) (told : Told) (edge : EdgeState) → Runs (beginning setup told edge) told (fresh setup) []
 fresh-runs setup told edge = record { setup_is = refl; course = course_begin (beginning setup told edge) }
+
+fresh-moment : (setup : Setup) → (net_of (fresh setup)).moment ≡ 0
+unfolding net_of chained chained_from start
+fresh-moment setup = refl
 
 none-kept : (streams : List Pending) → streams ≡ [] → (place : Place) → bytes_of streams place ≡ []
 unfolding bytes_of bytes_in
@@ -97,6 +124,7 @@ begun setup told edge core streams switch outs none = record {
     runs = subst (λ (known : Known). Runs (beginning setup told edge) told known []) (sym switch) (fresh-runs setup told edge);
     left_is = ap (λ (known : Known). known.left) switch;
     puts = subst (λ (o : Owing). Puts edge edge [] o []) (sym outs) (puts_begin edge);
+    ticked = subst (λ (n : ℕ). Ticked [] [] n) (sym (ap (λ (known : Known). (net_of known).moment) switch ∙ fresh-moment setup)) ticked_begin;
   };
   hearing = hearing_begin edge.polled (bytes_of streams) (none-kept streams none);
 }
@@ -126,30 +154,37 @@ never_started setup told edge ran status epoch began has =
     served_cut (beginning setup told edge) edge told (fresh setup) ran
     (record {
       deeds = [];
-      ends = record { runs = fresh-runs setup told edge; cut = cut_of edge edge [] nothing [] (puts_begin edge) };
+      ends = record { runs = fresh-runs setup told edge; cut = cut_of edge edge [] nothing [] (puts_begin edge); ticked = ticked_part [] [] 0 ticked_begin };
       hearing = hearing_part edge.polled edge.polled [] (bytes_of []) (hearing_begin edge.polled (bytes_of []) no-bytes);
-    }) epoch began has (none-lawful setup) (starved_comes edge edge ran.status status)
+    }) epoch began has (none-lawful setup) (starved_comes edge edge ran.status status) (starved-done ran.status status) (λ same. starved-full ran.status status)
 
 -- ## A run from its beginning
 
+-- it has its journal, and these were the answers of its clock
+abbrev pub IsServedOn : Setup → Told → EdgeState → EdgeState → Told → Source ℕ → Source ℕ → Ran → Type 0
+IsServedOn setup told edge now told2 clock clock2 ran = (given : List ℕ) × Answered clock clock2 given × IsServed (record { setup = setup; told = told; edge = edge; moments = given }) now told2 ran
+
 -- the run was over
-pub done_served : (old new : Server) (e e1 : EdgeState) (t t1 : Told) (ran : Ran) → old.core.switch ≡ fresh old.core.switch.setup → old.core.outs ≡ nothing → old.streams ≡ [] → Finishes old new e e1 t t1 → ran.status ≡ statuses.Done
+pub done_served : (old new : Server) (e e1 : EdgeState) (t t1 : Told) (k k1 : Source ℕ) (ran : Ran) → old.core.switch ≡ fresh old.core.switch.setup → old.core.outs ≡ nothing → old.streams ≡ [] → FinishesOn old new e e1 t t1 k k1 → ran.status ≡ statuses.Done
     → ran.epoch ≡ new.core.switch.epoch → ran.began ≡ new.core.switch.began → HasItems ran.journal new.core.switch.journal → IsLawful as_session new.core.switch.setup new.core.switch.epoch new.core.switch.began (whole new.core.switch)
-    → IsServed (beginning old.core.switch.setup t e) e1 t1 ran
-unfolding Finishes
-done_served old new e e1 t t1 ran switch outs streams finishes status epoch began has lawful =
-    let from : Beginning = beginning old.core.switch.setup t e in
-    let (s, none) = finishes from (begun old.core.switch.setup t e old.core old.streams switch outs streams) in
-    served_done from e1 t1 new.core new.streams ran s none status epoch began has lawful
+    → IsServedOn old.core.switch.setup t e e1 t1 k k1 ran
+unfolding FinishesOn GoesOn
+done_served old new e e1 t t1 k k1 ran switch outs streams ((given, asked, goes), none) status epoch began has lawful =
+    let s : Serves (since (beginning old.core.switch.setup t e) given) e1 t1 new.core new.streams = goes (beginning old.core.switch.setup t e) (begun old.core.switch.setup t e old.core old.streams switch outs streams) in
+    (given, asked, served_done (since (beginning old.core.switch.setup t e) given) e1 t1 new.core new.streams ran s none status epoch began has lawful)
 
 -- the run couldn't go on
-pub halt_served : (old new : Server) (e e1 : EdgeState) (t t1 : Told) (ran : Ran) → old.core.switch ≡ fresh old.core.switch.setup → old.core.outs ≡ nothing → old.streams ≡ [] → Halts old new e e1 t t1 → ((deeds : List Deed) → ComesAt e e1 deeds ran.status)
+pub halt_served : (old new : Server) (e e1 : EdgeState) (t t1 : Told) (k k1 : Source ℕ) (ran : Ran) → old.core.switch ≡ fresh old.core.switch.setup → old.core.outs ≡ nothing → old.streams ≡ [] → HaltsOn old new e e1 t t1 k k1 → ((deeds : List Deed) → ComesAt e e1 deeds ran.status)
+    → (ran.status ≡ statuses.Done → ⊥) → (new.core.switch.setup ≡ old.core.switch.setup → ran.status ≡ statuses.JournalFull → IsDue old.core.switch.setup (running new.core.switch) new.core.switch.journal)
     → ran.epoch ≡ new.core.switch.epoch → ran.began ≡ new.core.switch.began → HasItems ran.journal new.core.switch.journal → IsLawful as_session new.core.switch.setup new.core.switch.epoch new.core.switch.began (whole new.core.switch)
-    → IsServed (beginning old.core.switch.setup t e) e1 t1 ran
-unfolding Halts
-halt_served old new e e1 t t1 ran switch outs streams halts comes epoch began has lawful =
-    let from : Beginning = beginning old.core.switch.setup t e in
-    served_cut from e1 t1 new.core.switch ran (halts from (begun old.core.switch.setup t e old.core old.streams switch outs streams)) epoch began has lawful comes
+    → IsServedOn old.core.switch.setup t e e1 t1 k k1 ran
+unfolding HaltsOn
+halt_served old new e e1 t t1 k k1 ran switch outs streams (given, asked, halts) comes undone due epoch began has lawful = (
+  given,
+  asked,
+  served_cut (since (beginning old.core.switch.setup t e) given) e1 t1 new.core.switch ran
+      (halts (beginning old.core.switch.setup t e) (begun old.core.switch.setup t e old.core old.streams switch outs streams)) epoch began has lawful comes undone due,
+)
 
 pub edge_comes : (first now : EdgeState) (status : Status) (cause : Stop) → status ≡ statuses.Edge → cause ≡ stops.Edge → Blames first now cause → (deeds : List Deed) → ComesAt first now deeds status
 unfolding ComesAt Blames
@@ -162,11 +197,22 @@ stop_comes first now status stops.JournalFull is blames deeds = full_comes first
 stop_comes first now status stops.Edge is blames deeds = edge_comes first now status stops.Edge is refl blames deeds
 stop_comes first now status stops.NoMemory is blames deeds = starved_comes first now status is deeds
 
-pub ran_served : {A : Type 0} (r : Result A Stop) (old new : Server) (e e1 : EdgeState) (t t1 : Told) (status : Status) (ran : Ran) → IsNew old → OnOk r (Finishes old new e e1 t t1) → OnErr r (Halts old new e e1 t t1) → IfErr r (λ cause. Blames e e1 cause)
-    → OnOk r (status ≡ statuses.Done) → IfErr r (λ cause. status ≡ stopped cause) → ran.status ≡ status
+stop-done : (status : Status) (cause : Stop) → status ≡ stopped cause → status ≡ statuses.Done → ⊥
+stop-done status stops.JournalFull is done = cc
+stop-done status stops.Edge is done = cc
+stop-done status stops.NoMemory is done = cc
+
+stop-due : (setup : Setup) (known : Known) (status : Status) (cause : Stop) → status ≡ stopped cause → IsSetup setup → IsDueAt known cause → known.setup ≡ setup → status ≡ statuses.JournalFull → IsDue setup (running known) known.journal
+unfolding IsDueAt
+stop-due setup known status stops.JournalFull is right due same full = subst (λ (set : Setup). IsDue set (running known) known.journal) same (due (subst IsSetup (sym same) right))
+stop-due setup known status stops.Edge is right due same full = cc
+stop-due setup known status stops.NoMemory is right due same full = cc
+
+pub ran_served : {A : Type 0} (r : Result A Stop) (old new : Server) (e e1 : EdgeState) (t t1 : Told) (k k1 : Source ℕ) (status : Status) (ran : Ran) → IsNew old → OnOk r (FinishesOn old new e e1 t t1 k k1) → OnErr r (HaltsOn old new e e1 t t1 k k1) → IfErr r (λ cause. Blames e e1 cause)
+    → IsSetup old.core.switch.setup → IfErr r (λ cause. IsDueAt new.core.switch cause) → OnOk r (status ≡ statuses.Done) → IfErr r (λ cause. status ≡ stopped cause) → ran.status ≡ status
     → ran.epoch ≡ new.core.switch.epoch → ran.began ≡ new.core.switch.began → HasItems ran.journal new.core.switch.journal → IsLawful as_session new.core.switch.setup new.core.switch.epoch new.core.switch.began (whole new.core.switch)
-    → IsServed (beginning old.core.switch.setup t e) e1 t1 ran
-ran_served (Ok x) old new e e1 t t1 status ran is_new finishes halts blames done stop status_is epoch began has lawful =
-    done_served old new e e1 t t1 ran is_new.switch is_new.outs is_new.streams finishes (status_is ∙ done) epoch began has lawful
-ran_served (Err cause) old new e e1 t t1 status ran is_new finishes halts blames done stop status_is epoch began has lawful =
-    halt_served old new e e1 t t1 ran is_new.switch is_new.outs is_new.streams halts (stop_comes e e1 ran.status cause (status_is ∙ stop) blames) epoch began has lawful
+    → IsServedOn old.core.switch.setup t e e1 t1 k k1 ran
+ran_served (Ok x) old new e e1 t t1 k k1 status ran is_new finishes halts blames right due done stop status_is epoch began has lawful =
+    done_served old new e e1 t t1 k k1 ran is_new.switch is_new.outs is_new.streams finishes (status_is ∙ done) epoch began has lawful
+ran_served (Err cause) old new e e1 t t1 k k1 status ran is_new finishes halts blames right due done stop status_is epoch began has lawful =
+    halt_served old new e e1 t t1 k k1 ran is_new.switch is_new.outs is_new.streams halts (stop_comes e e1 ran.status cause (status_is ∙ stop) blames) (stop-done ran.status cause (status_is ∙ stop)) (stop-due old.core.switch.setup new.core.switch ran.status cause (status_is ∙ stop) right due) epoch began has lawful

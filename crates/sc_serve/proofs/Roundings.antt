@@ -1,6 +1,7 @@
 -- What the parts of a round do, one after the other.
-use Rattle.std.proofs.Common.{◌≡◌, ◌≤◌, ℕ, List, [], refl, sym, ap, ◌∙◌, subst, inl, inr, arith}
+use Rattle.std.proofs.Common.{◌≡◌, ◌≤◌, ℕ, List, [], ◌++◌, append_assoc, refl, sym, ap, ◌∙◌, subst, inl, inr, arith}
 use Rattle.std.specs.Prelude.{◌⊎◌, Result, Ok, Err, IfErr}
+use Rattle.std.proofs.lemmas.List.{append-nil}
 use Rattle.sc_value.specs.declared.ids.Place.{Place}
 use Rattle.sc_edge.specs.Edges.{CountsOn, EdgeState, Stands}
 use Rattle.sc_edge.specs.EdgeCalls.{Answers, Ends, PollBlames}
@@ -8,21 +9,27 @@ use Rattle.sc_edge.specs.Faults.{Rose_after}
 use Rattle.sc_edge.specs.declared.edge.Got.{Got}
 use Rattle.sc_edge.specs.declared.edge.Got.TheVariants as got
 use Rattle.sc_outs.proofs.Laws.{cut_of, puts_stand}
+use Rattle.sc_courses.specs.Asking.{Source}
+use Rattle.sc_courses.proofs.AskingLaws.{answered_none, answered_then, ticked_part}
 use Rattle.sc_courses.specs.Courses.{Beginning, Told}
 use Rattle.sc_courses.specs.Marks.{Hearing}
 use Rattle.sc_courses.proofs.HeardLaws.{hearing_part}
 use Rattle.sc_rounds.specs.declared.stepping.Core.{Core}
 use Rattle.sc_rounds.specs.declared.streams.Pending.{Pending}
-use Rattle.sc_rounds.specs.Moving.{Breaks, Moves}
+use Rattle.sc_rounds.specs.Moving.{Breaks, BreaksOn, Moves, MovesOn}
 use Rattle.sc_rounds.specs.Polling.{Polls}
-use Rattle.sc_rounds.specs.Serving.{Ended, Serves}
+use Rattle.sc_rounds.specs.Serving.{Ended, Serves, since}
 use Rattle.sc_rounds.specs.Streaming.{bytes_of}
+use Rattle.sc_switch.specs.Standing.{Known, net_of}
+use Rattle.sc_switch.specs.declared.refused.StepRefused.{StepRefused}
+use Rattle.sc_switch.specs.declared.refused.StepRefused.TheVariants as refused
+use Rattle.sc_rounds.specs.Dues.{HasDue}
 use Rattle.sc_serve.specs.declared.server.Server.{Server}
 use Rattle.sc_serve.specs.declared.stop.Stop.{Stop}
 use Rattle.sc_serve.specs.declared.stop.Stop.TheVariants as stops
 use Rattle.sc_serve.specs.Closing.{Rests}
 use Rattle.sc_outs.specs.Owing.{Owing, left_at}
-use Rattle.sc_serve.specs.Running.{Blames, Finishes, Goes, Halts}
+use Rattle.sc_serve.specs.Running.{Blames, FinishesOn, Goes, GoesOn, Halts, HaltsOn, IsDueAt}
 
 -- ## Counts of faults
 
@@ -66,7 +73,7 @@ halts_then a b c e e1 e2 t t1 t2 first later from s = later from (first from s)
 ended-of : (from : Beginning) (edge : EdgeState) (told : Told) (core : Core) (streams : List Pending) → Serves from edge told core streams → Ended from edge told core.switch
 ended-of from edge told core streams s = record {
   deeds = s.deeds;
-  ends = record { runs = s.stands.runs; cut = cut_of from.edge edge s.deeds core.outs [] s.stands.puts };
+  ends = record { runs = s.stands.runs; cut = cut_of from.edge edge s.deeds core.outs [] s.stands.puts; ticked = ticked_part from.moments s.deeds (net_of core.switch).moment s.stands.ticked };
   hearing = hearing_part from.edge.polled edge.polled s.deeds (bytes_of streams) s.hearing;
 }
 
@@ -104,7 +111,7 @@ pub rests_goes : (a : Server) (old new : EdgeState) (told : Told) → Rests old 
 unfolding Goes
 rests_goes a old new told rests from s = record {
   deeds = s.deeds;
-  stands = record { runs = s.stands.runs; left_is = s.stands.left_is; puts = puts_stand from.edge old new s.deeds a.core.outs [] rests.took s.stands.puts };
+  stands = record { runs = s.stands.runs; left_is = s.stands.left_is; puts = puts_stand from.edge old new s.deeds a.core.outs [] rests.took s.stands.puts; ticked = s.stands.ticked };
   hearing = subst (λ polled. Hearing from.edge.polled polled s.deeds (bytes_of a.streams)) (sym rests.polled) s.hearing;
 }
 
@@ -127,6 +134,18 @@ no_blames edge edge2 cause (inr is) = rw is tt
 pub memory_blames : (edge edge2 : EdgeState) → Blames edge edge2 stops.NoMemory
 unfolding Blames
 memory_blames edge edge2 = tt
+
+pub edge_due : (known : Known) → IsDueAt known stops.Edge
+unfolding IsDueAt
+edge_due known = tt
+
+pub memory_due : (known : Known) → IsDueAt known stops.NoMemory
+unfolding IsDueAt
+memory_due known = tt
+
+pub full_due : (known : Known) (cause : StepRefused) (most bytes : ℕ) → cause ≡ refused.JournalFull most bytes → HasDue known cause → IsDueAt known stops.JournalFull
+unfolding HasDue IsDueAt
+full_due known cause most bytes is due = rw is at due
 
 -- ## As the code does it
 
@@ -162,15 +181,81 @@ put_then a b e e1 t t1 core streams goes core_is streams_is from s = rw (core_is
 pub close_then : (a b c : Server) (e e1 e2 : EdgeState) (t t1 : Told) → Goes a b e e1 t t1 → Rests e1 e2 → c.core ≡ b.core → c.streams ≡ b.streams → Goes a c e e2 t t1
 close_then a b c e e1 e2 t t1 first rests core streams = goes_then a b c e e1 e2 t t1 t1 first (goes_then b b c e1 e2 e2 t1 t1 t1 (rests_goes b e1 e2 t1 rests) (goes_kept b c e2 t1 core streams))
 
--- a rest changes nothing
-pub rest_goes : (a b : Server) (e e1 e2 : EdgeState) (t t1 : Told) → e2 ≡ e1 → Goes a b e e1 t t1 → Goes a b e e2 t t1
-rest_goes a b e e1 e2 t t1 same goes = rw same goes
-
 pub rest_counts : (e e1 e2 : EdgeState) → e2 ≡ e1 → CountsOn e e1 → CountsOn e e2
 rest_counts e e1 e2 same counts = rw same counts
 
+-- ## Once the clock was asked
+
+pub moves_goes_on : (a b : Server) (edge : EdgeState) (t t1 : Told) (k k1 : Source ℕ) → b.streams ≡ a.streams → MovesOn a.core b.core t t1 k k1 → GoesOn a b edge edge t t1 k k1
+unfolding MovesOn GoesOn
+moves_goes_on a b edge t t1 k k1 streams (given, asked, moves) = (given, asked, λ from s. moves from edge b.streams (subst (λ (ps : List Pending). Serves from edge t a.core ps) (sym streams) s))
+
+pub breaks_halts_on : (a b : Server) (edge : EdgeState) (t t1 : Told) (k k1 : Source ℕ) → BreaksOn a.core b.core t t1 k k1 → HaltsOn a b edge edge t t1 k k1
+unfolding BreaksOn HaltsOn
+breaks_halts_on a b edge t t1 k k1 (given, asked, breaks) = (given, asked, λ from s. breaks from edge a.streams s)
+
+serves-none : (from : Beginning) (edge : EdgeState) (told : Told) (core : Core) (streams : List Pending) → Serves from edge told core streams → Serves (since from []) edge told core streams
+serves-none from edge told core streams s = subst (λ (moments : List ℕ). Serves (record from { moments = moments }) edge told core streams) (sym (append-nil from.moments)) s
+
+pub goes_on : (a b : Server) (e e1 : EdgeState) (t t1 : Told) (k : Source ℕ) → Goes a b e e1 t t1 → GoesOn a b e e1 t t1 k k
+unfolding Goes GoesOn
+goes_on a b e e1 t t1 k goes = ([], answered_none k, λ from s. serves-none from e1 t1 b.core b.streams (goes from s))
+
+ended-none : (from : Beginning) (edge : EdgeState) (told : Told) (known : Known) → Ended from edge told known → Ended (since from []) edge told known
+ended-none from edge told known s = subst (λ (moments : List ℕ). Ended (record from { moments = moments }) edge told known) (sym (append-nil from.moments)) s
+
+pub halts_on : (a b : Server) (e e1 : EdgeState) (t t1 : Told) (k : Source ℕ) → Halts a b e e1 t t1 → HaltsOn a b e e1 t t1 k k
+unfolding Halts HaltsOn
+halts_on a b e e1 t t1 k halts = ([], answered_none k, λ from s. ended-none from e1 t1 b.core.switch (halts from s))
+
+-- before it
+pub goes_then_on : (a b c : Server) (e e1 e2 : EdgeState) (t t1 t2 : Told) (k k1 : Source ℕ) → Goes a b e e1 t t1 → GoesOn b c e1 e2 t1 t2 k k1 → GoesOn a c e e2 t t2 k k1
+unfolding Goes GoesOn
+goes_then_on a b c e e1 e2 t t1 t2 k k1 first (given, asked, later) = (given, asked, λ from s. later from (first from s))
+
+pub halts_then_on : (a b c : Server) (e e1 e2 : EdgeState) (t t1 t2 : Told) (k k1 : Source ℕ) → Goes a b e e1 t t1 → HaltsOn b c e1 e2 t1 t2 k k1 → HaltsOn a c e e2 t t2 k k1
+unfolding Goes HaltsOn
+halts_then_on a b c e e1 e2 t t1 t2 k k1 first (given, asked, later) = (given, asked, λ from s. later from (first from s))
+
+-- and behind it
+pub goes_on_goes : (a b c : Server) (e e1 e2 : EdgeState) (t t1 t2 : Told) (k k1 : Source ℕ) → GoesOn a b e e1 t t1 k k1 → Goes b c e1 e2 t1 t2 → GoesOn a c e e2 t t2 k k1
+unfolding Goes GoesOn
+goes_on_goes a b c e e1 e2 t t1 t2 k k1 (given, asked, first) later = (given, asked, λ from s. later (since from given) (first from s))
+
+pub goes_on_halts : (a b c : Server) (e e1 e2 : EdgeState) (t t1 t2 : Told) (k k1 : Source ℕ) → GoesOn a b e e1 t t1 k k1 → Halts b c e1 e2 t1 t2 → HaltsOn a c e e2 t t2 k k1
+unfolding Halts GoesOn HaltsOn
+goes_on_halts a b c e e1 e2 t t1 t2 k k1 (given, asked, first) later = (given, asked, λ from s. later (since from given) (first from s))
+
+-- one round after the other
+pub goes_on_then : (a b c : Server) (e e1 e2 : EdgeState) (t t1 t2 : Told) (k k1 k2 : Source ℕ) → GoesOn a b e e1 t t1 k k1 → GoesOn b c e1 e2 t1 t2 k1 k2 → GoesOn a c e e2 t t2 k k2
+unfolding GoesOn
+goes_on_then a b c e e1 e2 t t1 t2 k k1 k2 (xs, asked, first) (ys, asked2, later) = (
+  xs ++ ys,
+  answered_then k k1 k2 xs ys asked asked2,
+  λ from s.
+      subst (λ (moments : List ℕ). Serves (record from { moments = moments }) e2 t2 c.core c.streams) (append_assoc from.moments xs ys) (later (since from xs) (first from s)),
+)
+
+pub halts_on_then : (a b c : Server) (e e1 e2 : EdgeState) (t t1 t2 : Told) (k k1 k2 : Source ℕ) → GoesOn a b e e1 t t1 k k1 → HaltsOn b c e1 e2 t1 t2 k1 k2 → HaltsOn a c e e2 t t2 k k2
+unfolding GoesOn HaltsOn
+halts_on_then a b c e e1 e2 t t1 t2 k k1 k2 (xs, asked, first) (ys, asked2, later) = (
+  xs ++ ys,
+  answered_then k k1 k2 xs ys asked asked2,
+  λ from s.
+      subst (λ (moments : List ℕ). Ended (record from { moments = moments }) e2 t2 c.core.switch) (append_assoc from.moments xs ys) (later (since from xs) (first from s)),
+)
+
+-- it ends where it began
+pub same_halts_on : (a : Server) (e : EdgeState) (t : Told) (k : Source ℕ) → HaltsOn a a e e t t k k
+unfolding HaltsOn
+same_halts_on a e t k = ([], answered_none k, λ from s. ended-of (since from []) e t a.core a.streams (serves-none from e t a.core a.streams s))
+
+-- a rest changes nothing
+pub rest_goes_on : (a b : Server) (e e1 e2 : EdgeState) (t t1 : Told) (k k1 : Source ℕ) → e2 ≡ e1 → GoesOn a b e e1 t t1 k k1 → GoesOn a b e e2 t t1 k k1
+rest_goes_on a b e e1 e2 t t1 k k1 same goes = rw same goes
+
 -- the run is over, once the epoch was ended where that was due
-pub over : (a b c : Server) (e e1 : EdgeState) (t t1 t2 : Told) → Goes a b e e1 t t1 → c.streams ≡ b.streams → Moves b.core c.core t1 t2 → c.core.outs ≡ b.core.outs → ((place : Place) → left_at b.core.outs place ≡ []) → Finishes a c e e1 t t2
-unfolding Goes Moves Finishes
-over a b c e e1 t t1 t2 goes streams moves outs none from s =
-    (moves from e1 c.streams (subst (λ (ps : List Pending). Serves from e1 t1 b.core ps) (sym streams) (goes from s)), λ place. ap (λ (o : Owing). left_at o place) outs ∙ none place)
+pub over_on : (a b c : Server) (e e1 : EdgeState) (t t1 t2 : Told) (k k1 : Source ℕ) → GoesOn a b e e1 t t1 k k1 → c.streams ≡ b.streams → Moves b.core c.core t1 t2 → c.core.outs ≡ b.core.outs → ((place : Place) → left_at b.core.outs place ≡ []) → FinishesOn a c e e1 t t2 k k1
+unfolding FinishesOn
+over_on a b c e e1 t t1 t2 k k1 goes streams moves outs none =
+    (goes_on_goes a b c e e1 e1 t t1 t2 k k1 goes (moves_goes b c e1 t1 t2 streams moves), λ place. ap (λ (o : Owing). left_at o place) outs ∙ none place)

@@ -1,21 +1,24 @@
 -- A server between its rounds, and where they end.
-use Rattle.std.specs.Prelude.{◌≡◌, List, [], Option, None, Some}
+use Rattle.std.specs.Prelude.{◌≡◌, ℕ, List, [], Option, None, Some}
 use Rattle.sc_journal.specs.Kept.{Kept}
 use Rattle.sc_terms.specs.declared.steps.Step.{Step}
 use Rattle.sc_parts.specs.declared.setup.Setup.{Setup}
+use Rattle.sc_model.specs.Settings.{IsSetup}
 use Rattle.sc_switch.specs.Standing.{Known}
 use Rattle.sc_switch.specs.declared.ran.Ran.{Ran}
 use Rattle.sc_switch.specs.declared.ran.Status.{Status}
 use Rattle.sc_switch.specs.declared.ran.Status.TheVariants as statuses
 use Rattle.sc_edge.specs.Edges.{EdgeState}
 use Rattle.sc_edge.specs.Faults.{Rose}
+use Rattle.sc_courses.specs.Asking.{Answered, Source}
 use Rattle.sc_courses.specs.Courses.{Beginning, Told}
+use Rattle.sc_courses.specs.Due.{IsDue}
 use Rattle.sc_outs.specs.Owing.{left_at, nothing}
 use Rattle.sc_value.specs.declared.ids.Place.{Place}
 use Rattle.sc_serve.specs.declared.server.Server.{Server}
 use Rattle.sc_serve.specs.declared.stop.Stop.{Stop}
 use Rattle.sc_serve.specs.declared.stop.Stop.TheVariants as stops
-use Rattle.sc_rounds.specs.Serving.{Ended, Serves}
+use Rattle.sc_rounds.specs.Serving.{Ended, Serves, running, since}
 use Rattle.sc_serve.specs.Served.{Leaves}
 
 -- it stands between two rounds as before
@@ -32,10 +35,27 @@ Blames edge edge2 stops.JournalFull = Unit {0}
 Blames edge edge2 stops.Edge = Rose edge.faults edge2.faults
 Blames edge edge2 stops.NoMemory = Unit {0}
 
+-- for want of room a step is due there, under right settings
+unfoldable pub IsDueAt : Known → Stop → Type 0
+IsDueAt known stops.JournalFull = IsSetup known.setup → IsDue known.setup (running known) known.journal
+IsDueAt known stops.Edge = Unit {0}
+IsDueAt known stops.NoMemory = Unit {0}
+
+-- ## Once the clock was asked
+
+-- it stands between two rounds as before
+unfoldable pub GoesOn : Server → Server → EdgeState → EdgeState → Told → Told → Source ℕ → Source ℕ → Type 0
+GoesOn old new edge edge2 told told2 clock clock2 =
+    (given : List ℕ) × Answered clock clock2 given × ((from : Beginning) → Serves from edge told old.core old.streams → Serves (since from given) edge2 told2 new.core new.streams)
+
+-- the run ended
+unfoldable pub HaltsOn : Server → Server → EdgeState → EdgeState → Told → Told → Source ℕ → Source ℕ → Type 0
+HaltsOn old new edge edge2 told told2 clock clock2 =
+    (given : List ℕ) × Answered clock clock2 given × ((from : Beginning) → Serves from edge told old.core old.streams → Ended (since from given) edge2 told2 new.core.switch)
+
 -- it stands behind its last round, with nothing left to be put
-unfoldable pub Finishes : Server → Server → EdgeState → EdgeState → Told → Told → Type 0
-Finishes old new edge edge2 told told2 =
-    (from : Beginning) → Serves from edge told old.core old.streams → Serves from edge2 told2 new.core new.streams × ((place : Place) → left_at new.core.outs place ≡ [])
+unfoldable pub FinishesOn : Server → Server → EdgeState → EdgeState → Told → Told → Source ℕ → Source ℕ → Type 0
+FinishesOn old new edge edge2 told told2 clock clock2 = GoesOn old new edge edge2 told told2 clock clock2 × ((place : Place) → left_at new.core.outs place ≡ [])
 
 -- a switch that took no step
 abbrev pub fresh : Setup → Known

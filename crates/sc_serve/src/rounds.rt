@@ -2,7 +2,7 @@
 
 ghost use Rattle.std.specs.Prelude.{◌≡◌, true, IfErr, OnOk, OnErr};
 ghost use Rattle.sc_edge.specs.Edges.{CountsOn, EdgeState};
-ghost use Rattle.sc_serve.specs.Running.{Blames, Goes, Halts};
+ghost use Rattle.sc_serve.specs.Running.{Blames, Goes, GoesOn, Halts, HaltsOn, IsDueAt};
 ghost use Rattle.sc_edge.specs.declared.edge.Got.TheVariants as answers;
 
 use crate::closing::close_broken;
@@ -33,8 +33,9 @@ pub fn round<R: Wait, E: Edge, T: Clock, O: Orders, N: Notice<Journal<Step>>>(
     notice: &mut N,
     apps: &Catalogue,
 ) -> Result<bool, Stop>
-    ensures ok { OnOk result (Goes server.old server.new (E.state edge.old) (E.state edge.new) (N.noted notice.old) (N.noted notice.new)) }
-    ensures err { OnErr result (Halts server.old server.new (E.state edge.old) (E.state edge.new) (N.noted notice.old) (N.noted notice.new)) }
+    ensures ok { OnOk result (GoesOn server.old server.new (E.state edge.old) (E.state edge.new) (N.noted notice.old) (N.noted notice.new) (T.asked clock.old, T.comes clock.old) (T.asked clock.new, T.comes clock.new)) }
+    ensures err { OnErr result (HaltsOn server.old server.new (E.state edge.old) (E.state edge.new) (N.noted notice.old) (N.noted notice.new) (T.asked clock.old, T.comes clock.old) (T.asked clock.new, T.comes clock.new)) }
+    ensures due { IfErr result (λ cause. IsDueAt server.new.core.switch cause) }
     ensures later { CountsOn (E.state edge.old) (E.state edge.new) }
     ensures blames { IfErr result (λ cause. Blames (E.state edge.old) (E.state edge.new) cause) }
 {
@@ -69,6 +70,7 @@ fn poll_once<E: Edge, N: Notice<Journal<Step>>>(
 ) -> Result<bool, Stop>
     ensures ok { OnOk result (Goes server.old server.new (E.state edge.old) (E.state edge.new) (N.noted notice.old) (N.noted notice.new)) }
     ensures err { OnErr result (Halts server.old server.new (E.state edge.old) (E.state edge.new) (N.noted notice.old) (N.noted notice.new)) }
+    ensures due { IfErr result (λ cause. IsDueAt server.new.core.switch cause) }
     ensures later { CountsOn (E.state edge.old) (E.state edge.new) }
     ensures blames { IfErr result (λ cause. Blames (E.state edge.old) (E.state edge.new) cause) }
 {
@@ -114,8 +116,9 @@ fn step_once<R: Wait, T: Clock, O: Orders, N: Notice<Journal<Step>>>(
     notice: &mut N,
     apps: &Catalogue,
 ) -> Result<bool, Stop>
-    ensures ok { OnOk result ((edge : EdgeState) → Goes server.old server.new edge edge (N.noted notice.old) (N.noted notice.new)) }
-    ensures err { OnErr result ((edge : EdgeState) → Halts server.old server.new edge edge (N.noted notice.old) (N.noted notice.new)) }
+    ensures ok { OnOk result ((edge : EdgeState) → GoesOn server.old server.new edge edge (N.noted notice.old) (N.noted notice.new) (T.asked clock.old, T.comes clock.old) (T.asked clock.new, T.comes clock.new)) }
+    ensures err { OnErr result ((edge : EdgeState) → HaltsOn server.old server.new edge edge (N.noted notice.old) (N.noted notice.new) (T.asked clock.old, T.comes clock.old) (T.asked clock.new, T.comes clock.new)) }
+    ensures due { IfErr result (λ cause. IsDueAt server.new.core.switch cause) }
     ensures blames { IfErr result (λ cause. (edge : EdgeState) → Blames edge edge cause) }
 {
     match take_order(&mut server.core, notice, orders) {
@@ -139,6 +142,7 @@ fn put_once<E: Edge, N: Notice<Journal<Step>>>(
 ) -> Result<bool, Stop>
     ensures ok { OnOk result (Goes server.old server.new (E.state edge.old) (E.state edge.new) (N.noted notice.old) (N.noted notice.new)) }
     ensures err { OnErr result (Halts server.old server.new (E.state edge.old) (E.state edge.new) (N.noted notice.old) (N.noted notice.new)) }
+    ensures due { IfErr result (λ cause. IsDueAt server.new.core.switch cause) }
     ensures later { CountsOn (E.state edge.old) (E.state edge.new) }
     ensures blames { IfErr result (λ cause. Blames (E.state edge.old) (E.state edge.new) cause) }
 {
@@ -164,6 +168,7 @@ fn put_all<E: Edge, N: Notice<Journal<Step>>>(
 ) -> Result<bool, Stop>
     ensures ok { OnOk result (Goes server.old server.new (E.state edge.old) (E.state edge.new) (N.noted notice.old) (N.noted notice.new)) }
     ensures err { OnErr result (Halts server.old server.new (E.state edge.old) (E.state edge.new) (N.noted notice.old) (N.noted notice.new)) }
+    ensures due { IfErr result (λ cause. IsDueAt server.new.core.switch cause) }
     ensures later { CountsOn (E.state edge.old) (E.state edge.new) }
     ensures blames { IfErr result (λ cause. Blames (E.state edge.old) (E.state edge.new) cause) }
 {
@@ -187,6 +192,7 @@ fn put_at<E: Edge, N: Notice<Journal<Step>>>(
 ) -> Result<bool, Stop>
     ensures ok { OnOk result (Goes server.old server.new (E.state edge.old) (E.state edge.new) (N.noted notice.old) (N.noted notice.new)) }
     ensures err { OnErr result (Halts server.old server.new (E.state edge.old) (E.state edge.new) (N.noted notice.old) (N.noted notice.new)) }
+    ensures due { IfErr result (λ cause. IsDueAt server.new.core.switch cause) }
     ensures later { CountsOn (E.state edge.old) (E.state edge.new) }
     ensures blames { IfErr result (λ cause. Blames (E.state edge.old) (E.state edge.new) cause) }
 {
@@ -211,6 +217,7 @@ fn list_once<N: Notice<Journal<Step>>>(
 ) -> Result<(), Stop>
     ensures ok { OnOk result ((edge : EdgeState) → Goes server.old server.new edge edge (N.noted notice.old) (N.noted notice.new)) }
     ensures err { OnErr result ((edge : EdgeState) → Halts server.old server.new edge edge (N.noted notice.old) (N.noted notice.new)) }
+    ensures due { IfErr result (λ cause. IsDueAt server.new.core.switch cause) }
     ensures blames { IfErr result (λ cause. (edge : EdgeState) → Blames edge edge cause) }
 {
     if server.core.steps() == steps && server.core.switch.epoch() == epoch {

@@ -1,4 +1,7 @@
 ghost use Rattle.std.specs.Prelude.{◌≡◌, ◌⊎◌};
+ghost use Rattle.sc_switch.specs.Standing.{Known};
+ghost use Rattle.sc_rounds.specs.Dues.{HasDue};
+ghost use Rattle.sc_serve.specs.Running.{IsDueAt};
 
 use sc_switch::StepRefused;
 
@@ -15,7 +18,8 @@ pub enum Stop {
 
 /// The cause, where a step was refused.
 pub fn stop_of(cause: StepRefused) -> Stop
-    ensures { (result ≡ Stop.JournalFull) ⊎ (result ≡ Stop.NoMemory) }
+    ensures cause { (result ≡ Stop.JournalFull) ⊎ (result ≡ Stop.NoMemory) }
+    ensures due { (known : Known) → HasDue known cause → IsDueAt known result }
 {
     match cause {
         StepRefused::JournalFull { .. } => Stop::JournalFull,

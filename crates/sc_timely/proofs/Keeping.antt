@@ -103,7 +103,7 @@ module _ {S : Type 0} where
     queue-at other now event count host true live is =
         changed-keeps host.sessions other (with_event (count + 1) now event) (λ live. refl) (λ live. stays-on live _ _ refl refl refl) live is (serial == other) refl
 
-    queues-keep : (now other : ℕ) (event : Queued) (count : ℕ) (host : Host S)
+    pub queues-keep : (now other : ℕ) (event : Queued) (count : ℕ) (host : Host S)
         → HostKeeps serial count host (queue other now event count host).count (queue other now event count host).host
     unfolding queue
     queues-keep now other event count host = λ live is. queue-at other now event count host _ live is
@@ -116,13 +116,13 @@ module _ {S : Type 0} where
         both true = refl
         both false = refl
 
-    pub keep-hosts : (number now : ℕ) → HostLaws {S = S} number now (HostKeeps serial)
+    pub keep-hosts : (number now : ℕ) → HostLaws {S = S} (λ form. Unit {0}) number now (HostKeeps serial)
     keep-hosts number now = record {
       same = same-keeps;
       after = after-keeps;
       passes = passes-keep;
-      queues = queues-keep now;
-      begins = λ form config epoch noted request count host live is. begun-keeps host.sessions _ live is;
+      queues = λ serial event late. queues-keep now serial event;
+      begins = λ form good config epoch noted request count host live is. begun-keeps host.sessions _ live is;
       marks = marks-keep;
     }
 

@@ -22,27 +22,39 @@ use Rattle.sc_state.specs.declared.queue.Queued.{Queued}
 use Rattle.sc_grammar.specs.Written.{Bytes}
 use Rattle.sc_model.specs.Timers.{DueEntry, is_due}
 use Rattle.sc_hosts.specs.Inboxes.{is_live, live_in}
-use Rattle.sc_hosts.specs.Nets.{host_at, change_host, queue_for}
+use Rattle.sc_hosts.specs.Nets.{host_at, change_host, queue_for, queued_at}
 use Rattle.sc_hosts.specs.Runs.{after_step}
 use Rattle.sc_hosts.specs.Sessions.{Form}
 use Rattle.sc_hosts.specs.Steps.{live_at, live_of, stepped}
 use Rattle.sc_hosts.specs.Ticks.{DueItem, Of_session, Of_client, Of_server, Dated, dated, live_dated, told_at, passes, mark_fired, fires, ticked, due_items}
 use Rattle.sc_hosts.specs.Transacting.{is_cancel_client, out_of_client, pass_client}
 use Rattle.sc_walks.proofs.WalkHosts.{pass_server-walks}
-use Rattle.sc_walks.proofs.WalkNets.{if-walks, fold-walks, change_host-walks, queue_for-walks, passed-walks, delivered-walks}
+use Rattle.sc_walks.proofs.WalkNets.{if-walks, fold-walks, change_host-walks, placed-walks, passed-walks, delivered-walks}
 use Rattle.sc_once.proofs.Finding.{find-changed}
 use Rattle.sc_timely.specs.Timely.{HadEvents, IsTaken}
-use Rattle.sc_timely.proofs.Keeping.{LivesOn, HostKeeps, NetKeeps, fired-more, keep-hosts, keep-nets}
+use Rattle.sc_timely.proofs.Keeping.{LivesOn, HostKeeps, NetKeeps, fired-more, queues-keep, keep-hosts, keep-nets}
 use Rattle.sc_timely.proofs.DueItems.{IsIn, is_event_of, fires_key, key_of, same-is, app-is, due-fires}
 
 module _ {S : Type 0} (app : AppId) where
+  -- any event
+  queued-keeps : (at : AppId) (event : Queued) (found : Option (Host S)) (net : Net S) → host_at at.host net ≡ found
+      → NetKeeps app net (queued_at at event found net)
+  unfolding queued_at
+  queued-keeps at event None net is = (keep-nets app).same net
+  queued-keeps at event (Some host) net is =
+      placed-walks (λ number now. HostKeeps app.serial) (NetKeeps app) (keep-hosts app.serial) (keep-nets app) at.host _ host net is (queues-keep app.serial net.moment at.serial event net.count host)
+
+  queue-keeps : (at : AppId) (event : Queued) (net : Net S) → NetKeeps app net (queue_for at event net)
+  unfolding queue_for
+  queue-keeps at event net = queued-keeps at event _ net refl
+
   told-keeps : (config : Config) (client : Client) (reason : Bytes) (code : Option ℕ) (net : Net S)
       → NetKeeps app net (told_at config client reason code net)
   unfolding told_at
   told-keeps config client reason None net = (keep-nets app).same net
   told-keeps config client reason (Some code) net =
       if-walks (λ number now. HostKeeps app.serial) (NetKeeps app) (keep-hosts app.serial) (keep-nets app) _ net net _ ((keep-nets app).same net)
-      (queue_for-walks (λ number now. HostKeeps app.serial) (NetKeeps app) (keep-hosts app.serial) (keep-nets app) client.app _ net)
+      (queue-keeps client.app _ net)
 
   passes-keep : (config : Config) (item : ClientItem) (reason : Bytes) (net : Net S) (client : Client)
       → NetKeeps app net (passes config item reason net client)
@@ -52,9 +64,6 @@ module _ {S : Type 0} (app : AppId) where
       (keep-nets app).after net after (told_at config client reason (out_of_client client item).tell after)
       (passed-walks (λ number now. HostKeeps app.serial) (NetKeeps app) (keep-hosts app.serial) (keep-nets app) client.app client.branch (is_cancel_client client) item net)
       (told-keeps config client reason (out_of_client client item).tell after)
-
-  queue-keeps : (at : AppId) (event : Queued) (net : Net S) → NetKeeps app net (queue_for at event net)
-  queue-keeps at event net = queue_for-walks (λ number now. HostKeeps app.serial) (NetKeeps app) (keep-hosts app.serial) (keep-nets app) at event net
 
   fires-keep : (config : Config) (now : ℕ) (net : Net S) (entry : DueEntry) (item : DueItem)
       → NetKeeps app net (fires config now net entry item)
@@ -255,7 +264,7 @@ module _ {S : Type 0} where
   unfolding after_step stepped
   step-takes form setup now net app live is =
       let taken = tick-takes form setup.config now (record net { sent = [] }) app live is in
-      let rest = delivered-walks (λ number now. HostKeeps app.serial) (NetKeeps app) (keep-hosts app.serial) (keep-nets app) form setup (ticked form setup.config now (record net { sent = [] })) taken.later taken.found_is in
+      let rest = delivered-walks (λ number now. HostKeeps app.serial) (NetKeeps app) (keep-hosts app.serial) (keep-nets app) form tt setup (ticked form setup.config now (record net { sent = [] })) taken.later taken.found_is in
       let had = subst (λ (s : S). HadEvents now rest.later.fired (entries_of (form.read s))) (sym rest.same)
       (had-later now taken.later.fired rest.later.fired (entries_of (form.read taken.later.session)) rest.before taken.taken) in record {
         later = rest.later;

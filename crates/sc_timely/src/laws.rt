@@ -1,14 +1,21 @@
-ghost use Rattle.std.specs.Prelude.{◌≡◌, ℕ, Some};
+ghost use Rattle.std.specs.Prelude.{◌≡◌, ℕ, List, [], Some, false};
 ghost use Rattle.sc_value.specs.declared.ids.AppId.{AppId};
+ghost use Rattle.sc_terms.specs.declared.steps.Step.{Step};
 ghost use Rattle.sc_terms.specs.declared.steps.Step.TheVariants as steps;
 ghost use Rattle.sc_parts.specs.declared.setup.Setup.{Setup};
+ghost use Rattle.sc_parts.specs.declared.transactions.ClientItem.TheVariants as client_items;
+ghost use Rattle.sc_parts.specs.declared.transactions.ServerItem.TheVariants as server_items;
+ghost use Rattle.sc_state.specs.declared.host.Client.{Client};
 ghost use Rattle.sc_state.specs.declared.host.Live.{Live};
+ghost use Rattle.sc_state.specs.declared.host.Server.{Server};
 ghost use Rattle.sc_state.specs.declared.net.Net.{Net};
 ghost use Rattle.sc_state.specs.declared.session.Session.{Session};
+ghost use Rattle.sc_model.specs.Transactions.{is_reached};
 ghost use Rattle.sc_hosts.specs.Histories.{History};
-ghost use Rattle.sc_hosts.specs.Runs.{after_step};
+ghost use Rattle.sc_hosts.specs.Runs.{after_step, chained};
 ghost use Rattle.sc_hosts.specs.Sessions.{Form};
 ghost use Rattle.sc_hosts.specs.Steps.{live_at};
+ghost use Rattle.sc_hosts.specs.Transacting.{client_passed, due_of_client, due_of_server, server_passed};
 ghost use Rattle.sc_timely.specs.Timely.{IsTaken};
 
 /// After the step of a tick a session that lived lives on and is what it was, and each of its entries whose
@@ -18,4 +25,18 @@ ghost use Rattle.sc_timely.specs.Timely.{IsTaken};
 pub fn due_entries_are_taken()
     ensures session { (form : Form Session) (setup : Setup) (now : ℕ) (net : Net Session) (app : AppId) (live : Live Session) → live_at app net ≡ Some live → IsTaken form now app live (live_at app (after_step form setup net (steps.Tick now))) }
     ensures history { (form : Form History) (setup : Setup) (now : ℕ) (net : Net History) (app : AppId) (live : Live History) → live_at app net ≡ Some live → IsTaken form now app live (live_at app (after_step form setup net (steps.Tick now))) }
+{}
+
+/// Once a moment has come to a transaction, of a client or a server, no timer of it is due by that moment. The
+/// contract is the law, and the call does nothing.
+pub fn moments_end_timers()
+    ensures client { (client : Client) (now : ℕ) → is_reached (due_of_client (client_passed (client_items.MomentCame now) client)) now ≡ false }
+    ensures server { (server : Server) (now : ℕ) → is_reached (due_of_server (server_passed (server_items.MomentCame now) server)) now ≡ false }
+{}
+
+/// After any journal the step of a tick sends nothing outside: what is due is told to sessions, and their turns
+/// send. The contract is the law, for each form in which sessions are kept, and the call does nothing.
+pub fn ticks_send_nothing()
+    ensures session { (form : Form Session) (setup : Setup) (epoch began : ℕ) (journal : List Step) (now : ℕ) → (after_step form setup (chained form setup epoch began journal) (steps.Tick now)).sent ≡ [] }
+    ensures history { (form : Form History) (setup : Setup) (epoch began : ℕ) (journal : List Step) (now : ℕ) → (after_step form setup (chained form setup epoch began journal) (steps.Tick now)).sent ≡ [] }
 {}

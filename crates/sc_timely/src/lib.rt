@@ -3,4 +3,4 @@
 
 mod laws;
 
-pub use laws::due_entries_are_taken;
+pub use laws::{due_entries_are_taken, moments_end_timers, ticks_send_nothing};

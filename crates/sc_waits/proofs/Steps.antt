@@ -32,14 +32,14 @@ module _ {S : Type 0} (form : Form S) (setup : Setup) (app : AppId) where
   H number now = HostGrows app.serial
 
   delivers : (net : Net S) → NetGrows app net (delivered form setup net)
-  delivers net = delivered-walks H (NetGrows app) (grow-hosts app.serial) (grow-nets app) form setup net
+  delivers net = delivered-walks H (NetGrows app) (grow-hosts app.serial) (grow-nets app) form tt setup net
 
   joined : (x y z : Net S) → NetGrows app x y → NetGrows app y z → NetGrows app x z
   joined x y z p q = (grow-nets app).after x y z p q
 
   steps-before : (net : Net S) (step : Step) → IsElsewhere app step → NetGrows app net (stepped form setup step net)
   unfolding IsElsewhere stepped
-  steps-before net (steps.In from message) away = arrived-walks H (NetGrows app) (grow-hosts app.serial) (grow-nets app) form setup from message net
+  steps-before net (steps.In from message) away = arrived-walks H (NetGrows app) (grow-hosts app.serial) (grow-nets app) form tt setup from message net
   steps-before net (steps.Bad from bad) away = bad_by-walks H (NetGrows app) (grow-hosts app.serial) (grow-nets app) setup.config from bad.heads net
   steps-before net (steps.Lost place) away = lost-walks H (NetGrows app) (grow-hosts app.serial) (grow-nets app) setup.config place net
   steps-before net (steps.Tick now) away = ticked-walks H (NetGrows app) (grow-hosts app.serial) (grow-nets app) form setup.config now net

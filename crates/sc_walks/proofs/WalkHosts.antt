@@ -23,9 +23,9 @@ use Rattle.sc_hosts.specs.Sessions.{Form}
 use Rattle.sc_hosts.specs.Taking.{cancelled, last_again, again_if, repeated, Claim, Cancels, Acks, Repeats, Unclaimed, refuse, with_server, with_trying, queue_later, later_by, take_later, begun, take_initial, take_begun, take_new, take_unclaimed, take_claimed, take_request, takes}
 use Rattle.sc_hosts.specs.TakingResponses.{told, told_by, with_reply, response_for, response_to, take_response}
 use Rattle.sc_hosts.specs.Transacting.{tidied, pass_client, pass_server}
-use Rattle.sc_walks.specs.Walks.{HostLaws}
+use Rattle.sc_walks.specs.Walks.{HostLaws, IsLate}
 
-module _ {S : Type 0} (number now : ℕ) (H : ℕ → Host S → ℕ → Host S → Type 0) (law : HostLaws number now H) where
+module _ {S : Type 0} {Begins : Form S → Type 0} (number now : ℕ) (H : ℕ → Host S → ℕ → Host S → Type 0) (law : HostLaws Begins number now H) where
   -- the host took it
   abbrev Took : ℕ → Host S → Taken S → Type 0
   Took count host taken = H count host taken.count taken.host
@@ -51,9 +51,9 @@ module _ {S : Type 0} (number now : ℕ) (H : ℕ → Host S → ℕ → Host S 
   -- ## Responses
 
   told_by-walks : (tell : Option ℕ) (client : Client) (response : Response) (count : ℕ) (host : Host S) → Took count host (told_by tell now client response count host)
-  unfolding told_by told quiet
+  unfolding told_by told quiet IsLate
   told_by-walks None client response count host = law.same count host
-  told_by-walks (Some code) client response count host = if-took _ count host _ _ (law.same count host) (law.queues client.app.serial _ count host)
+  told_by-walks (Some code) client response count host = if-took _ count host _ _ (law.same count host) (law.queues client.app.serial _ tt count host)
 
   with_reply-walks : (out : ClientOut) (client : Client) (response : Response) (count : ℕ) (host : Host S) (taken : Taken S) → Took count host taken
       → Took count host (with_reply out now client response taken)
@@ -70,8 +70,8 @@ module _ {S : Type 0} (number now : ℕ) (H : ℕ → Host S → ℕ → Host S 
   -- ## CANCEL, ACK and repeated requests
 
   cancelled-walks : (from : Peer) (server : Server) (request : Request) (count : ℕ) (host : Host S) → Took count host (cancelled from now server request count host)
-  unfolding cancelled quiet
-  cancelled-walks from server request count host = if-took _ count host _ _ (law.same count host) (law.queues server.app.serial _ count host)
+  unfolding cancelled quiet IsLate
+  cancelled-walks from server request count host = if-took _ count host _ _ (law.same count host) (law.queues server.app.serial _ tt count host)
 
   last_again-walks : (server : Server) (last : Option Response) (count : ℕ) (host : Host S) (taken : Taken S) → Took count host taken → Took count host (last_again server last taken)
   unfolding last_again
@@ -103,11 +103,11 @@ module _ {S : Type 0} (number now : ℕ) (H : ℕ → Host S → ℕ → Host S 
       if-took _ count host _ taken (law.after _ _ _ _ _ _ took (law.passes taken.count taken.host taken.host.clients _)) took
 
   later_by-walks : (config : Config) (epoch : ℕ) (from : Peer) (request : Request) (count : ℕ) (live : Option (Live S)) (host : Host S) → Took count host (later_by config epoch number from now request count live host)
-  unfolding later_by queue_later
+  unfolding later_by queue_later IsLate
   later_by-walks config epoch from request count None host = refuse-walks config from 481 _ request count host
   later_by-walks config epoch from request count (Some live) host =
       if-took _ count host _ _ (refuse-walks config from 503 _ request count host)
-      (with_trying-walks from request count host _ (law.after _ _ _ _ _ _ (with_server-walks _ _ from _ _ count host) (law.queues live.serial _ count _)))
+      (with_trying-walks from request count host _ (law.after _ _ _ _ _ _ (with_server-walks _ _ from _ _ count host) (law.queues live.serial _ tt count _)))
 
   take_later-walks : (config : Config) (epoch : ℕ) (from : Peer) (request : Request) (count : ℕ) (host : Host S) → Took count host (take_later config epoch number from now request count host)
   unfolding take_later
@@ -115,46 +115,46 @@ module _ {S : Type 0} (number now : ℕ) (H : ℕ → Host S → ℕ → Host S 
 
   -- ## Requests that begin a session
 
-  begun-walks : (form : Form S) (config : Config) (epoch : ℕ) (from : Peer) (noted : Note) (request : Request) (count : ℕ) (host : Host S)
+  begun-walks : (form : Form S) (good : Begins form) (config : Config) (epoch : ℕ) (from : Peer) (noted : Note) (request : Request) (count : ℕ) (host : Host S)
       → Took count host (begun form config epoch number from now noted request count host)
   unfolding begun quiet
-  begun-walks form config epoch from noted request count host =
-      with_trying-walks from request count host _ (law.after _ _ _ _ _ _ (law.begins form config epoch noted request count host) (with_server-walks _ _ from _ request (count + 1) _))
+  begun-walks form good config epoch from noted request count host =
+      with_trying-walks from request count host _ (law.after _ _ _ _ _ _ (law.begins form good config epoch noted request count host) (with_server-walks _ _ from _ request (count + 1) _))
 
-  take_initial-walks : (form : Form S) (config : Config) (epoch : ℕ) (from : Peer) (noted : Note) (request : Request) (count : ℕ) (host : Host S)
+  take_initial-walks : (form : Form S) (good : Begins form) (config : Config) (epoch : ℕ) (from : Peer) (noted : Note) (request : Request) (count : ℕ) (host : Host S)
       → Took count host (take_initial form config epoch number from now noted request count host)
   unfolding take_initial
-  take_initial-walks form config epoch from noted request count host =
-      if-took _ count host _ _ (refuse-walks config from 503 _ request count host) (begun-walks form config epoch from noted request count host)
+  take_initial-walks form good config epoch from noted request count host =
+      if-took _ count host _ _ (refuse-walks config from 503 _ request count host) (begun-walks form good config epoch from noted request count host)
 
-  take_begun-walks : (form : Form S) (config : Config) (epoch : ℕ) (from : Peer) (noted : Option Note) (request : Request) (count : ℕ) (host : Host S)
+  take_begun-walks : (form : Form S) (good : Begins form) (config : Config) (epoch : ℕ) (from : Peer) (noted : Option Note) (request : Request) (count : ℕ) (host : Host S)
       → Took count host (take_begun form config epoch number from now noted request count host)
   unfolding take_begun
-  take_begun-walks form config epoch from None request count host = refuse-walks config from 481 _ request count host
-  take_begun-walks form config epoch from (Some noted) request count host =
-      if-took _ count host _ _ (refuse-walks config from 481 _ request count host) (take_initial-walks form config epoch from noted request count host)
+  take_begun-walks form good config epoch from None request count host = refuse-walks config from 481 _ request count host
+  take_begun-walks form good config epoch from (Some noted) request count host =
+      if-took _ count host _ _ (refuse-walks config from 481 _ request count host) (take_initial-walks form good config epoch from noted request count host)
 
   -- ## Every request
 
-  take_unclaimed-walks : (form : Form S) (config : Config) (epoch : ℕ) (from : Peer) (noted : Option Note) (request : Request) (count : ℕ) (host : Host S)
+  take_unclaimed-walks : (form : Form S) (good : Begins form) (config : Config) (epoch : ℕ) (from : Peer) (noted : Option Note) (request : Request) (count : ℕ) (host : Host S)
       → Took count host (take_unclaimed form config epoch number from now noted request count host)
   unfolding take_unclaimed take_new
-  take_unclaimed-walks form config epoch from noted request count host =
+  take_unclaimed-walks form good config epoch from noted request count host =
       if-took _ count host _ _ (refuse-walks config from 481 _ request count host)
-      (if-took _ count host _ _ (take_later-walks config epoch from request count host) (take_begun-walks form config epoch from noted request count host))
+      (if-took _ count host _ _ (take_later-walks config epoch from request count host) (take_begun-walks form good config epoch from noted request count host))
 
-  take_claimed-walks : (form : Form S) (config : Config) (epoch : ℕ) (from : Peer) (noted : Option Note) (request : Request) (claim : Claim) (count : ℕ) (host : Host S)
+  take_claimed-walks : (form : Form S) (good : Begins form) (config : Config) (epoch : ℕ) (from : Peer) (noted : Option Note) (request : Request) (claim : Claim) (count : ℕ) (host : Host S)
       → Took count host (take_claimed form config epoch number from now noted request claim count host)
   unfolding take_claimed quiet
-  take_claimed-walks form config epoch from noted request (Cancels server) count host = cancelled-walks from server request count host
-  take_claimed-walks form config epoch from noted request (Acks server) count host = pass_server-walks server.event _ count host
-  take_claimed-walks form config epoch from noted request (Repeats server) count host = repeated-walks server count host
-  take_claimed-walks form config epoch from noted request Unclaimed count host = take_unclaimed-walks form config epoch from noted request count host
+  take_claimed-walks form good config epoch from noted request (Cancels server) count host = cancelled-walks from server request count host
+  take_claimed-walks form good config epoch from noted request (Acks server) count host = pass_server-walks server.event _ count host
+  take_claimed-walks form good config epoch from noted request (Repeats server) count host = repeated-walks server count host
+  take_claimed-walks form good config epoch from noted request Unclaimed count host = take_unclaimed-walks form good config epoch from noted request count host
 
   -- ## All that a host takes
 
-  pub takes-walks : (form : Form S) (config : Config) (epoch : ℕ) (from : Peer) (noted : Option Note) (message : Message) (count : ℕ) (host : Host S)
+  pub takes-walks : (form : Form S) (good : Begins form) (config : Config) (epoch : ℕ) (from : Peer) (noted : Option Note) (message : Message) (count : ℕ) (host : Host S)
       → Took count host (takes form config epoch number from now noted message count host)
   unfolding takes take_request take_response
-  takes-walks form config epoch from noted (messages.Request request) count host = take_claimed-walks form config epoch from noted request _ count host
-  takes-walks form config epoch from noted (messages.Response response) count host = response_to-walks _ response count host
+  takes-walks form good config epoch from noted (messages.Request request) count host = take_claimed-walks form good config epoch from noted request _ count host
+  takes-walks form good config epoch from noted (messages.Response response) count host = response_to-walks _ response count host

@@ -34,7 +34,7 @@ use Rattle.sc_hosts.specs.Sessions.{Form}
 use Rattle.sc_hosts.specs.Settle.{steps, settle}
 use Rattle.sc_hosts.specs.Transacting.{tidied, pass_client, with_client}
 use Rattle.sc_walks.proofs.WalkHosts.{takes-walks, pass_client-walks}
-use Rattle.sc_walks.specs.Walks.{HostLaws, NetLaws}
+use Rattle.sc_walks.specs.Walks.{HostLaws, IsLate, NetLaws}
 
 -- a change of the item that stands there
 changed-at : {A : Type 0} (xs : List A) (place : ℕ) (change : A → A) (x : A) → slice_get xs place ≡ Some x → change_nth place change xs ≡ change_nth place (λ _. change x) xs
@@ -49,8 +49,8 @@ kept-at [] place change is = refl
 kept-at (y ∷ xs) zero change is = cc
 kept-at (y ∷ xs) (suc place) change is = ap (λ ys. y ∷ ys) (kept-at xs place change is)
 
-module _ {S : Type 0} (H : ℕ → ℕ → ℕ → Host S → ℕ → Host S → Type 0) (P : Net S → Net S → Type 0)
-    (hosts : (number now : ℕ) → HostLaws number now (H number now)) (law : NetLaws H P) where
+module _ {S : Type 0} {Begins : Form S → Type 0} (H : ℕ → ℕ → ℕ → Host S → ℕ → Host S → Type 0) (P : Net S → Net S → Type 0)
+    (hosts : (number now : ℕ) → HostLaws Begins number now (H number now)) (law : NetLaws H P) where
   -- either branch has it
   pub if-walks : (b : Bool) (net x y : Net S) → P net x → P net y → P net (cond b x y)
   if-walks true net x y p q = p
@@ -88,20 +88,20 @@ module _ {S : Type 0} (H : ℕ → ℕ → ℕ → Host S → ℕ → Host S →
   unfolding placed
   placed-walks number taken host net is took = law.after _ _ _ (law.places number taken.count host taken.host net is took) (put_reply-walks number taken.reply _)
 
-  queued_at-walks : (app : AppId) (event : Queued) (found : Option (Host S)) (net : Net S) → host_at app.host net ≡ found → P net (queued_at app event found net)
+  queued_at-walks : (app : AppId) (event : Queued) → IsLate event → (found : Option (Host S)) (net : Net S) → host_at app.host net ≡ found → P net (queued_at app event found net)
   unfolding queued_at
-  queued_at-walks app event None net is = law.same net
-  queued_at-walks app event (Some host) net is = placed-walks app.host _ host net is ((hosts app.host net.moment).queues app.serial event net.count host)
+  queued_at-walks app event late None net is = law.same net
+  queued_at-walks app event late (Some host) net is = placed-walks app.host _ host net is ((hosts app.host net.moment).queues app.serial event late net.count host)
 
-  pub queue_for-walks : (app : AppId) (event : Queued) (net : Net S) → P net (queue_for app event net)
+  pub queue_for-walks : (app : AppId) (event : Queued) → IsLate event → (net : Net S) → P net (queue_for app event net)
   unfolding queue_for
-  queue_for-walks app event net = queued_at-walks app event _ net refl
+  queue_for-walks app event late net = queued_at-walks app event late _ net refl
 
   -- ## What a session gives to send
 
   tell_own-walks : (config : Config) (app : AppId) (branch code : ℕ) (reason : Bytes) (request : Request) (net : Net S) → P net (tell_own config app branch code reason request net)
-  unfolding tell_own
-  tell_own-walks config app branch code reason request net = queue_for-walks app _ net
+  unfolding tell_own IsLate
+  tell_own-walks config app branch code reason request net = queue_for-walks app _ tt net
 
   with_client-walks : (number : ℕ) (client : Client) (net : Net S) → P net (change_host number (with_client client) net)
   with_client-walks number client net = change_host-walks number (with_client client) net (λ host. (hosts number net.moment).passes net.count host _ host.servers)
@@ -179,21 +179,21 @@ module _ {S : Type 0} (H : ℕ → ℕ → ℕ → Host S → ℕ → Host S →
 
   -- ## Deliveries
 
-  deliver_at-walks : (form : Form S) (setup : Setup) (entry : Entry) (found : Option (Host S)) (net : Net S) → host_at entry.receiver net ≡ found → P net (deliver_at form setup entry found net)
+  deliver_at-walks : (form : Form S) (good : Begins form) (setup : Setup) (entry : Entry) (found : Option (Host S)) (net : Net S) → host_at entry.receiver net ≡ found → P net (deliver_at form setup entry found net)
   unfolding deliver_at
-  deliver_at-walks form setup entry None net is = law.same net
-  deliver_at-walks form setup entry (Some host) net is =
+  deliver_at-walks form good setup entry None net is = law.same net
+  deliver_at-walks form good setup entry (Some host) net is =
       placed-walks entry.receiver _ host net is
-      (takes-walks entry.receiver net.moment (H entry.receiver net.moment) (hosts entry.receiver net.moment) form setup.config net.epoch (peers.Inside entry.sender) entry.note entry.message net.count host)
+      (takes-walks entry.receiver net.moment (H entry.receiver net.moment) (hosts entry.receiver net.moment) form good setup.config net.epoch (peers.Inside entry.sender) entry.note entry.message net.count host)
 
-  deliver_entry-walks : (form : Form S) (setup : Setup) (entry : Option Entry) (net : Net S) → P net (deliver_entry form setup entry net)
+  deliver_entry-walks : (form : Form S) (good : Begins form) (setup : Setup) (entry : Option Entry) (net : Net S) → P net (deliver_entry form setup entry net)
   unfolding deliver_entry
-  deliver_entry-walks form setup None net = law.same net
-  deliver_entry-walks form setup (Some entry) net = law.after _ _ _ (law.posts net _ net.sent) (deliver_at-walks form setup entry _ _ refl)
+  deliver_entry-walks form good setup None net = law.same net
+  deliver_entry-walks form good setup (Some entry) net = law.after _ _ _ (law.posts net _ net.sent) (deliver_at-walks form good setup entry _ _ refl)
 
-  deliver_first-walks : (form : Form S) (setup : Setup) (net : Net S) → P net (deliver_first form setup net)
+  deliver_first-walks : (form : Form S) (good : Begins form) (setup : Setup) (net : Net S) → P net (deliver_first form setup net)
   unfolding deliver_first
-  deliver_first-walks form setup net = deliver_entry-walks form setup _ net
+  deliver_first-walks form good setup net = deliver_entry-walks form good setup _ net
 
   steps-walk : (k : ℕ) (busy : Net S → Bool) (step : Net S → Net S) → ((net : Net S) → P net (step net)) → (net : Net S) (b : Bool) → busy net ≡ b → P net (steps busy step k net)
   unfolding steps
@@ -201,6 +201,6 @@ module _ {S : Type 0} (H : ℕ → ℕ → ℕ → Host S → ℕ → Host S →
   steps-walk (suc k) busy step keeps net true is = rw (is, steps) (law.after _ _ _ (keeps net) (steps-walk k busy step keeps (step net) (busy (step net)) refl))
   steps-walk (suc k) busy step keeps net false is = rw (is, steps) (law.same net)
 
-  pub delivered-walks : (form : Form S) (setup : Setup) (net : Net S) → P net (delivered form setup net)
+  pub delivered-walks : (form : Form S) (good : Begins form) (setup : Setup) (net : Net S) → P net (delivered form setup net)
   unfolding delivered settle
-  delivered-walks form setup net = steps-walk (weight net) is_busy (deliver_first form setup) (deliver_first-walks form setup) net (is_busy net) refl
+  delivered-walks form good setup net = steps-walk (weight net) is_busy (deliver_first form setup) (deliver_first-walks form good setup) net (is_busy net) refl

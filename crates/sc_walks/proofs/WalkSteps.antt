@@ -1,5 +1,6 @@
 -- What comes from outside, a lost place and a tick keep each relation of nets with the laws.
-use Rattle.std.proofs.Common.{◌≡◌, ℕ, Option, None, Some, refl}
+use Rattle.std.proofs.Common.{◌≡◌, ℕ, Option, None, Some, List, [], ◌∷◌, refl}
+use Rattle.std.specs.List.{fold}
 use Rattle.sc_value.specs.declared.ids.AppId.{AppId}
 use Rattle.sc_value.specs.declared.ids.Place.{Place}
 use Rattle.sc_value.specs.declared.message.Message.{Message}
@@ -29,70 +30,71 @@ use Rattle.sc_hosts.specs.Nets.{host_at}
 use Rattle.sc_hosts.specs.Routes.{unrouted_initial, popped_route}
 use Rattle.sc_hosts.specs.Sessions.{Form}
 use Rattle.sc_hosts.specs.Steps.{with_ready}
-use Rattle.sc_hosts.specs.Ticks.{told_at, passes, clients_to, lost, DueItem, Of_session, Of_client, Of_server, mark_fired, fires, due_items, ticked}
+use Rattle.sc_hosts.specs.Ticks.{told_at, passes, clients_to, lost, Dated, DueItem, Of_session, Of_client, Of_server, mark_fired, fires, due_items, ticked}
 use Rattle.sc_hosts.specs.Words.{unavailable}
 use Rattle.sc_walks.proofs.WalkHosts.{takes-walks, pass_server-walks}
 use Rattle.sc_walks.proofs.WalkNets.{if-walks, fold-walks, change_host-walks, put-walks, placed-walks, queue_for-walks, passed-walks}
-use Rattle.sc_walks.specs.Walks.{HostLaws, NetLaws}
+use Rattle.sc_walks.specs.Walks.{HostLaws, IsLate, NetLaws}
+use Rattle.sc_walks.proofs.Late.{IsLateItem, AreLate, due-late}
 
-module _ {S : Type 0} (H : ℕ → ℕ → ℕ → Host S → ℕ → Host S → Type 0) (P : Net S → Net S → Type 0)
-    (hosts : (number now : ℕ) → HostLaws number now (H number now)) (law : NetLaws H P) where
+module _ {S : Type 0} {Begins : Form S → Type 0} (H : ℕ → ℕ → ℕ → Host S → ℕ → Host S → Type 0) (P : Net S → Net S → Type 0)
+    (hosts : (number now : ℕ) → HostLaws Begins number now (H number now)) (law : NetLaws H P) where
   -- ## A message or a text comes from outside
 
-  host_takes-walks : (form : Form S) (setup : Setup) (from : Place) (noted : Option Note) (message : Message) (number : ℕ) (found : Option (Host S)) (net : Net S) → host_at number net ≡ found
+  host_takes-walks : (form : Form S) (good : Begins form) (setup : Setup) (from : Place) (noted : Option Note) (message : Message) (number : ℕ) (found : Option (Host S)) (net : Net S) → host_at number net ≡ found
       → P net (host_takes form setup from noted message number found net)
   unfolding host_takes
-  host_takes-walks form setup from noted message number None net is = law.same net
-  host_takes-walks form setup from noted message number (Some host) net is =
-      placed-walks H P hosts law number _ host net is (takes-walks number net.moment (H number net.moment) (hosts number net.moment) form setup.config net.epoch (peers.Outside from) noted message net.count host)
+  host_takes-walks form good setup from noted message number None net is = law.same net
+  host_takes-walks form good setup from noted message number (Some host) net is =
+      placed-walks H P hosts law number _ host net is (takes-walks number net.moment (H number net.moment) (hosts number net.moment) form good setup.config net.epoch (peers.Outside from) noted message net.count host)
 
-  taken_at-walks : (form : Form S) (setup : Setup) (from : Place) (noted : Option Note) (message : Message) (number : ℕ) (net : Net S) → P net (taken_at form setup from noted message number net)
+  taken_at-walks : (form : Form S) (good : Begins form) (setup : Setup) (from : Place) (noted : Option Note) (message : Message) (number : ℕ) (net : Net S) → P net (taken_at form setup from noted message number net)
   unfolding taken_at
-  taken_at-walks form setup from noted message number net = host_takes-walks form setup from noted message number _ net refl
+  taken_at-walks form good setup from noted message number net = host_takes-walks form good setup from noted message number _ net refl
 
   edge_answer-walks : (config : Config) (from : Place) (code : ℕ) (reason : Bytes) (request : Request) (net : Net S) → P net (edge_answer config from code reason request net)
   unfolding edge_answer
   edge_answer-walks config from code reason request net = if-walks H P hosts law _ net net _ (law.same net) (put-walks H P hosts law 0 (peers.Outside from) _ None net)
 
-  begins_by-walks : (form : Form S) (setup : Setup) (from : Place) (request : Request) (popped : Option Address) (choice : Choice) (net : Net S) → P net (begins_by form setup from request popped choice net)
+  begins_by-walks : (form : Form S) (good : Begins form) (setup : Setup) (from : Place) (request : Request) (popped : Option Address) (choice : Choice) (net : Net S) → P net (begins_by form setup from request popped choice net)
   unfolding begins_by
-  begins_by-walks form setup from request popped (choices.App host order region subscriber route) net = taken_at-walks form setup from _ _ host net
-  begins_by-walks form setup from request popped (choices.Send routes) net = edge_answer-walks setup.config from 404 _ request net
-  begins_by-walks form setup from request popped choices.Onward net = edge_answer-walks setup.config from 404 _ request net
-  begins_by-walks form setup from request popped choices.NotFound net = edge_answer-walks setup.config from 404 _ request net
+  begins_by-walks form good setup from request popped (choices.App host order region subscriber route) net = taken_at-walks form good setup from _ _ host net
+  begins_by-walks form good setup from request popped (choices.Send routes) net = edge_answer-walks setup.config from 404 _ request net
+  begins_by-walks form good setup from request popped choices.Onward net = edge_answer-walks setup.config from 404 _ request net
+  begins_by-walks form good setup from request popped choices.NotFound net = edge_answer-walks setup.config from 404 _ request net
 
-  initial_arrives-walks : (form : Form S) (setup : Setup) (from : Place) (request : Request) (net : Net S) → P net (initial_arrives form setup from request net)
+  initial_arrives-walks : (form : Form S) (good : Begins form) (setup : Setup) (from : Place) (request : Request) (net : Net S) → P net (initial_arrives form setup from request net)
   unfolding initial_arrives
-  initial_arrives-walks form setup from request net =
+  initial_arrives-walks form good setup from request net =
       if-walks H P hosts law _ net net _ (law.same net)
       (if-walks H P hosts law _ net _ _ (edge_answer-walks setup.config from 481 _ request net)
-      (begins_by-walks form setup from (unrouted_initial setup.config request) (popped_route setup.config request) _ net))
+      (begins_by-walks form good setup from (unrouted_initial setup.config request) (popped_route setup.config request) _ net))
 
-  later_at-walks : (form : Form S) (setup : Setup) (from : Place) (request : Request) (number : Option ℕ) (net : Net S) → P net (later_at form setup from request number net)
+  later_at-walks : (form : Form S) (good : Begins form) (setup : Setup) (from : Place) (request : Request) (number : Option ℕ) (net : Net S) → P net (later_at form setup from request number net)
   unfolding later_at
-  later_at-walks form setup from request None net = edge_answer-walks setup.config from 481 _ request net
-  later_at-walks form setup from request (Some number) net = taken_at-walks form setup from None _ number net
+  later_at-walks form good setup from request None net = edge_answer-walks setup.config from 481 _ request net
+  later_at-walks form good setup from request (Some number) net = taken_at-walks form good setup from None _ number net
 
-  unclaimed-walks : (form : Form S) (setup : Setup) (from : Place) (request : Request) (net : Net S) → P net (unclaimed form setup from request net)
+  unclaimed-walks : (form : Form S) (good : Begins form) (setup : Setup) (from : Place) (request : Request) (net : Net S) → P net (unclaimed form setup from request net)
   unfolding unclaimed later_arrives
-  unclaimed-walks form setup from request net =
+  unclaimed-walks form good setup from request net =
       if-walks H P hosts law _ net _ _ (edge_answer-walks setup.config from 481 _ request net)
-      (if-walks H P hosts law _ net _ _ (later_at-walks form setup from request _ net) (initial_arrives-walks form setup from request net))
+      (if-walks H P hosts law _ net _ _ (later_at-walks form good setup from request _ net) (initial_arrives-walks form good setup from request net))
 
-  request_by-walks : (form : Form S) (setup : Setup) (from : Place) (request : Request) (number : Option ℕ) (net : Net S) → P net (request_by form setup from request number net)
+  request_by-walks : (form : Form S) (good : Begins form) (setup : Setup) (from : Place) (request : Request) (number : Option ℕ) (net : Net S) → P net (request_by form setup from request number net)
   unfolding request_by
-  request_by-walks form setup from request None net = unclaimed-walks form setup from request net
-  request_by-walks form setup from request (Some number) net = taken_at-walks form setup from None _ number net
+  request_by-walks form good setup from request None net = unclaimed-walks form good setup from request net
+  request_by-walks form good setup from request (Some number) net = taken_at-walks form good setup from None _ number net
 
-  response_by-walks : (form : Form S) (setup : Setup) (from : Place) (response : Response) (number : Option ℕ) (net : Net S) → P net (response_by form setup from response number net)
+  response_by-walks : (form : Form S) (good : Begins form) (setup : Setup) (from : Place) (response : Response) (number : Option ℕ) (net : Net S) → P net (response_by form setup from response number net)
   unfolding response_by
-  response_by-walks form setup from response None net = law.same net
-  response_by-walks form setup from response (Some number) net = taken_at-walks form setup from None _ number net
+  response_by-walks form good setup from response None net = law.same net
+  response_by-walks form good setup from response (Some number) net = taken_at-walks form good setup from None _ number net
 
-  pub arrived-walks : (form : Form S) (setup : Setup) (from : Place) (message : Message) (net : Net S) → P net (arrived form setup from message net)
+  pub arrived-walks : (form : Form S) (good : Begins form) (setup : Setup) (from : Place) (message : Message) (net : Net S) → P net (arrived form setup from message net)
   unfolding arrived
-  arrived-walks form setup from (messages.Request request) net = request_by-walks form setup from request _ net
-  arrived-walks form setup from (messages.Response response) net = response_by-walks form setup from response _ net
+  arrived-walks form good setup from (messages.Request request) net = request_by-walks form good setup from request _ net
+  arrived-walks form good setup from (messages.Response response) net = response_by-walks form good setup from response _ net
 
   pub bad_by-walks : (config : Config) (from : Place) (heads : Option Answerable) (net : Net S) → P net (bad_by config from heads net)
   unfolding bad_by
@@ -102,9 +104,9 @@ module _ {S : Type 0} (H : ℕ → ℕ → ℕ → Host S → ℕ → Host S →
   -- ## A place is lost, and time passes
 
   told_at-walks : (config : Config) (client : Client) (reason : Bytes) (code : Option ℕ) (net : Net S) → P net (told_at config client reason code net)
-  unfolding told_at
+  unfolding told_at IsLate
   told_at-walks config client reason None net = law.same net
-  told_at-walks config client reason (Some code) net = if-walks H P hosts law _ net net _ (law.same net) (queue_for-walks H P hosts law client.app _ net)
+  told_at-walks config client reason (Some code) net = if-walks H P hosts law _ net net _ (law.same net) (queue_for-walks H P hosts law client.app _ tt net)
 
   passes-walks : (config : Config) (item : ClientItem) (reason : Bytes) (net : Net S) (client : Client) → P net (passes config item reason net client)
   unfolding passes
@@ -114,23 +116,29 @@ module _ {S : Type 0} (H : ℕ → ℕ → ℕ → Host S → ℕ → Host S →
   unfolding lost
   lost-walks config place net = fold-walks H P hosts law (clients_to place net) (passes config client_items.PlaceLost unavailable) (passes-walks config client_items.PlaceLost unavailable) net
 
-  fires-walks : (config : Config) (now : ℕ) (net : Net S) (entry : DueEntry) (item : DueItem) → P net (fires config now net entry item)
-  unfolding fires
-  fires-walks config now net entry (Of_session app event) =
-      law.after _ _ _ (change_host-walks H P hosts law app.host (mark_fired entry) net (λ host. (hosts app.host net.moment).marks entry net.count host)) (queue_for-walks H P hosts law app event _)
-  fires-walks config now net entry (Of_client client) = passes-walks config (client_items.MomentCame now) _ net client
-  fires-walks config now net entry (Of_server server) =
+  fires-walks : (config : Config) (now : ℕ) (net : Net S) (entry : DueEntry) (item : DueItem) → IsLateItem item → P net (fires config now net entry item)
+  unfolding fires IsLateItem
+  fires-walks config now net entry (Of_session app event) late =
+      law.after _ _ _ (change_host-walks H P hosts law app.host (mark_fired entry) net (λ host. (hosts app.host net.moment).marks entry net.count host)) (queue_for-walks H P hosts law app event late _)
+  fires-walks config now net entry (Of_client client) late = passes-walks config (client_items.MomentCame now) _ net client
+  fires-walks config now net entry (Of_server server) late =
       change_host-walks H P hosts law server.app.host _ net (λ host. pass_server-walks server.app.host net.moment (H server.app.host net.moment) (hosts server.app.host net.moment) server.event _ net.count host)
+
+  all-fire : (config : Config) (now : ℕ) (ds : List Dated) → AreLate ds → (net : Net S)
+      → P net (fold (λ net d. fires config now net d.entry d.item) net ds)
+  unfolding AreLate
+  all-fire config now [] late net = law.same net
+  all-fire config now (d ∷ ds) late net = law.after _ _ _ (fires-walks config now net d.entry d.item late.0) (all-fire config now ds late.1 (fires config now net d.entry d.item))
 
   pub ticked-walks : (form : Form S) (config : Config) (now : ℕ) (net : Net S) → P net (ticked form config now net)
   unfolding ticked
   ticked-walks form config now net =
       law.after _ _ _ (law.ticks net now)
-      (fold-walks H P hosts law (due_items form now net) (λ net d. fires config now net d.entry d.item) (λ net d. fires-walks config now net d.entry d.item) (record net { moment = now }))
+      (all-fire config now (due_items form now net) (due-late form now net) (record net { moment = now }))
 
   -- ## After a turn
 
   pub with_ready-walks : (app : AppId) (done : Outcome) (live : Option (Live S)) (net : Net S) → P net (with_ready app done live net)
-  unfolding with_ready
+  unfolding with_ready IsLate
   with_ready-walks app done None net = law.same net
-  with_ready-walks app done (Some live) net = if-walks H P hosts law _ net _ net (queue_for-walks H P hosts law app queued.Ready net) (law.same net)
+  with_ready-walks app done (Some live) net = if-walks H P hosts law _ net _ net (queue_for-walks H P hosts law app queued.Ready tt net) (law.same net)

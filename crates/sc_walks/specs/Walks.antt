@@ -10,6 +10,7 @@ use Rattle.sc_state.specs.declared.net.Entry.{Entry}
 use Rattle.sc_state.specs.declared.net.Net.{Net}
 use Rattle.sc_state.specs.declared.net.Note.{Note}
 use Rattle.sc_state.specs.declared.queue.Queued.{Queued}
+use Rattle.sc_state.specs.declared.queue.Queued.TheVariants as queued
 use Rattle.sc_model.specs.Timers.{DueEntry}
 use Rattle.sc_hosts.specs.Inboxes.{queue}
 use Rattle.sc_hosts.specs.Nets.{host_at, change_host}
@@ -17,13 +18,19 @@ use Rattle.sc_hosts.specs.Sessions.{Form}
 use Rattle.sc_hosts.specs.Taking.{begun_live}
 use Rattle.sc_hosts.specs.Ticks.{mark_fired}
 
--- at the host of this number at this moment: the count of events and the host before, and both after
-pub record HostLaws {S : Type 0} (number now : ℕ) (H : ℕ → Host S → ℕ → Host S → Type 0) : Type 0 where
+-- any event but the first of a session
+unfoldable pub IsLate : Queued → Type 0
+IsLate (queued.Initial region subscriber popped request) = ⊥
+IsLate event = Unit {0}
+
+-- at the host of this number at this moment: the count of events and the host before, and both after, where sessions begin in
+-- such forms
+pub record HostLaws {S : Type 0} (Begins : Form S → Type 0) (number now : ℕ) (H : ℕ → Host S → ℕ → Host S → Type 0) : Type 0 where
   pub same : (count : ℕ) (host : Host S) → H count host count host
   pub after : (c d e : ℕ) (x y z : Host S) → H c x d y → H d y e z → H c x e z
   pub passes : (count : ℕ) (host : Host S) (clients : List Client) (servers : List Server) → H count host count (record host { clients = clients; servers = servers })
-  pub queues : (serial : ℕ) (event : Queued) (count : ℕ) (host : Host S) → H count host (queue serial now event count host).count (queue serial now event count host).host
-  pub begins : (form : Form S) (config : Config) (epoch : ℕ) (noted : Note) (request : Request) (count : ℕ) (host : Host S)
+  pub queues : (serial : ℕ) (event : Queued) → IsLate event → (count : ℕ) (host : Host S) → H count host (queue serial now event count host).count (queue serial now event count host).host
+  pub begins : (form : Form S) → Begins form → (config : Config) (epoch : ℕ) (noted : Note) (request : Request) (count : ℕ) (host : Host S)
       → H count host (count + 1) (record host {
         sessions = host.sessions ++ begun_live form config epoch (record { host = number; serial = host.last + 1 }) now noted request (count + 1) ∷ [];
         last = host.last + 1;

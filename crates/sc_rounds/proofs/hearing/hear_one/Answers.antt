@@ -1,4 +1,5 @@
 use Rattle.sc_rounds.specs.Serving.{ServesMore}
+use Rattle.sc_rounds.proofs.Refusals.{memory_due}
 use Rattle.sc_rounds.proofs.Listenings.{bad_err, bad_on, long_err, long_on, message_err, message_on, on_ended, on_open, some_via}
 use Rattle.sc_rounds.proofs.hearing.hear_one.Goals as goal
 
@@ -35,3 +36,6 @@ returns-in-Long-clause-err g c from edge text s =
 
 pub returns-in-NoMemory-clause-err : goal.returns-in-NoMemory-clause-err
 returns-in-NoMemory-clause-err g c from edge text s = on_ended from edge (g.N.Notice.noted c.args.notice.now) _ _ _ text s
+
+pub returns-in-NoMemory-clause-due : goal.returns-in-NoMemory-clause-due
+returns-in-NoMemory-clause-due g c = memory_due _

@@ -1,3 +1,4 @@
+use Rattle.sc_rounds.proofs.Refusals.{memory_due}
 use Rattle.sc_rounds.proofs.Listenings.{on_start}
 use Rattle.sc_rounds.proofs.Servings.{comes_ended}
 use Rattle.sc_rounds.proofs.polling.take_bytes.Goals as goal
@@ -12,3 +13,6 @@ returns-in-Ok-clause-err g c from old new s comes =
 
 pub returns-in-Err-clause-err : goal.returns-in-Err-clause-err
 returns-in-Err-clause-err g c from old new s comes = comes_ended from old new (g.N.Notice.noted c.args.notice.now) _ _ _ s comes
+
+pub returns-in-Err-clause-due : goal.returns-in-Err-clause-due
+returns-in-Err-clause-due g c = memory_due _

@@ -9,4 +9,4 @@ pub returns-in-Some-clause-unserved : goal.returns-in-Some-clause-unserved
 returns-in-Some-clause-unserved g c = err_asked c.begin_named.result _ (string_bytes c.in-Some.config.now) (string_bytes c.in-Some.dar.now) _ _ _ _ c.in-Some.ensures c.begin_named.ensures.unserved
 
 pub returns-in-None-clause-unserved : goal.returns-in-None-clause-unserved
-returns-in-None-clause-unserved g c edge told = words_wrong _ _ _ _ _ edge told c.without_journal.result c.in-None.ensures c.without_journal.ensures.status c.without_journal.ensures.journal
+returns-in-None-clause-unserved g c edge told clock = words_wrong _ _ _ _ _ edge told clock c.without_journal.result c.in-None.ensures c.without_journal.ensures.status c.without_journal.ensures.journal

@@ -12,4 +12,7 @@ pub returns-in-Err-clause-err : goal.returns-in-Err-clause-err
 returns-in-Err-clause-err g c edge = breaks_halts _ _ edge _ _ c.in-Err.ensures.err
 
 pub returns-in-Err-clause-blames : goal.returns-in-Err-clause-blames
-returns-in-Err-clause-blames g c edge = no_blames edge edge _ c.stop_of.ensures
+returns-in-Err-clause-blames g c edge = no_blames edge edge _ c.stop_of.ensures.cause
+
+pub returns-in-Err-clause-due : goal.returns-in-Err-clause-due
+returns-in-Err-clause-due g c = c.stop_of.ensures.due _ c.in-Err.ensures.due

@@ -1,4 +1,4 @@
-use Rattle.sc_serve.proofs.Roundings.{fault_blames, goes_halts, memory_blames, no_blames, poll_goes, poll_halts, poll_then, polls_of}
+use Rattle.sc_serve.proofs.Roundings.{edge_due, fault_blames, goes_halts, memory_blames, memory_due, no_blames, poll_goes, poll_halts, poll_then, polls_of}
 use Rattle.sc_serve.proofs.rounds.poll_once.Goals as goal
 
 pub returns-then-is_fault-clause-err : goal.returns-then-is_fault-clause-err
@@ -20,4 +20,13 @@ pub returns-in-Err-clause-err : goal.returns-in-Err-clause-err
 returns-in-Err-clause-err g c = poll_halts _ _ _ _ _ _ _ _ c.in-Err.ensures.err (polls_of _ _ _ _ c.poll-got.ensures.stands c.poll-got.ensures.told c.poll-got.ensures.ended)
 
 pub returns-in-Err-clause-blames : goal.returns-in-Err-clause-blames
-returns-in-Err-clause-blames g c = no_blames _ _ _ c.stop_of.ensures
+returns-in-Err-clause-blames g c = no_blames _ _ _ c.stop_of.ensures.cause
+
+pub returns-then-is_fault-clause-due : goal.returns-then-is_fault-clause-due
+returns-then-is_fault-clause-due g c = edge_due _
+
+pub returns-in-Err-note-clause-due : goal.returns-in-Err-note-clause-due
+returns-in-Err-note-clause-due g c = memory_due _
+
+pub returns-in-Err-clause-due : goal.returns-in-Err-clause-due
+returns-in-Err-clause-due g c = c.stop_of.ensures.due _ c.in-Err.ensures.due

@@ -1,4 +1,4 @@
-use Rattle.sc_serve.proofs.Roundings.{goes_halts, goes_same, memory_blames, no_blames, put_halts, put_then}
+use Rattle.sc_serve.proofs.Roundings.{goes_halts, goes_same, memory_blames, memory_due, no_blames, put_halts, put_then}
 use Rattle.sc_serve.proofs.rounds.put_at.Goals as goal
 
 pub returns-in-Ok-note_put-clause-ok : goal.returns-in-Ok-note_put-clause-ok
@@ -14,7 +14,13 @@ pub returns-in-Err-clause-err : goal.returns-in-Err-clause-err
 returns-in-Err-clause-err g c = put_halts _ _ _ _ _ _ c.in-Err.ensures.err
 
 pub returns-in-Err-clause-blames : goal.returns-in-Err-clause-blames
-returns-in-Err-clause-blames g c = no_blames _ _ _ c.stop_of.ensures
+returns-in-Err-clause-blames g c = no_blames _ _ _ c.stop_of.ensures.cause
 
 pub returns-in-None-clause-ok : goal.returns-in-None-clause-ok
 returns-in-None-clause-ok g c = goes_same _ _ _
+
+pub returns-in-Err-note_put-clause-due : goal.returns-in-Err-note_put-clause-due
+returns-in-Err-note_put-clause-due g c = memory_due _
+
+pub returns-in-Err-clause-due : goal.returns-in-Err-clause-due
+returns-in-Err-clause-due g c = c.stop_of.ensures.due _ c.in-Err.ensures.due

@@ -1,14 +1,16 @@
 use Rattle.std.proofs.Common.{refl}
 use Rattle.sc_rounds.specs.Stepping.{Commits}
+use Rattle.sc_rounds.proofs.Timings.{turn_later}
+use Rattle.sc_rounds.proofs.Refusals.{turn_due}
 use Rattle.sc_rounds.proofs.Steppings.{cut_behind, gone, leased_same, moved_same, none_taken, other, same_then, taken, took}
 use Rattle.sc_rounds.proofs.stepping.Core.commit.Goals as goal
 
 pub returns-in-Ok-clause-ok : goal.returns-in-Ok-clause-ok
 unfolding Commits
-returns-in-Ok-clause-ok g c = took _ _ _ _ _ _ _ _ c.hand_on.ensures.same (taken _ _ c.args.done _ c.in-Ok-Taken.field-0-is c.in-Ok-Taken.ensures.ok) c.in-Ok.ensures.ok
+returns-in-Ok-clause-ok g c = took _ _ _ _ _ _ _ _ c.hand_on.ensures.same (taken _ _ c.args.done _ c.in-Ok-Taken.field-0-is c.in-Ok-Taken.ensures.ok) (turn_later _ c.args.done) c.in-Ok.ensures.ok
 
 pub returns-in-Err-settle-clause-err : goal.returns-in-Err-settle-clause-err
-returns-in-Err-settle-clause-err g c = cut_behind _ _ _ _ _ _ _ _ c.hand_on.ensures.same (taken _ _ c.args.done _ c.in-Ok-Taken.field-0-is c.in-Ok-Taken.ensures.ok) c.in-Err-settle.ensures.err
+returns-in-Err-settle-clause-err g c = cut_behind _ _ _ _ _ _ _ _ c.hand_on.ensures.same (taken _ _ c.args.done _ c.in-Ok-Taken.field-0-is c.in-Ok-Taken.ensures.ok) (turn_later _ c.args.done) c.in-Err-settle.ensures.err
 
 pub returns-in-Ok-Gone-clause-ok : goal.returns-in-Ok-Gone-clause-ok
 unfolding Commits
@@ -20,3 +22,6 @@ returns-in-Ok-Other-clause-ok g c = same_then _ _ _ _ _ _ c.hand_on.ensures.same
 
 pub returns-in-Err-clause-err : goal.returns-in-Err-clause-err
 returns-in-Err-clause-err g c = none_taken _ _ _ _ _ _ _ c.hand_on.ensures.same c.in-Err.ensures.err
+
+pub returns-in-Err-clause-due : goal.returns-in-Err-clause-due
+returns-in-Err-clause-due g c = turn_due _ _ c.args.done _ _ _ c.in-Err.ensures.err c.leases.ensures.kept c.in-Err.ensures.back c.in-Err.ensures.refused c.cause_after-cause.ensures

@@ -1,3 +1,4 @@
+use Rattle.sc_rounds.proofs.Refusals.{loss_due, memory_due}
 use Rattle.sc_rounds.proofs.Steppings.{fell_err, fell_ok, fell_starved, none_taken}
 use Rattle.sc_rounds.proofs.stepping.Core.fail.Goals as goal
 
@@ -12,3 +13,9 @@ returns-in-Err-lose-clause-err g c = fell_starved _ _ _ _ _ _ c.make_room.ensure
 
 pub returns-in-Err-clause-err : goal.returns-in-Err-clause-err
 returns-in-Err-clause-err g c = none_taken _ _ _ _ _ _ _ c.make_room.ensures.same c.in-Err.ensures.err
+
+pub returns-in-Err-lose-clause-due : goal.returns-in-Err-lose-clause-due
+returns-in-Err-lose-clause-due g c = memory_due _
+
+pub returns-in-Err-clause-due : goal.returns-in-Err-clause-due
+returns-in-Err-clause-due g c = loss_due _ _ c.args.at _ c.in-Err.ensures.err c.in-Err.ensures.refused

@@ -1,3 +1,4 @@
+use Rattle.sc_rounds.proofs.Refusals.{memory_due}
 use Rattle.sc_rounds.proofs.Steppings.{settled, settled_runs}
 use Rattle.sc_rounds.proofs.stepping.Core.settle.Goals as goal
 
@@ -9,3 +10,6 @@ returns-in-Ok-clause-err g c = settled_runs _ _ _ _ _ c.step.ensures c.drain.ens
 
 pub returns-in-Err-clause-err : goal.returns-in-Err-clause-err
 returns-in-Err-clause-err g c = settled_runs _ _ _ _ _ c.step.ensures c.drain.ensures.same
+
+pub returns-in-Err-clause-due : goal.returns-in-Err-clause-due
+returns-in-Err-clause-due g c = memory_due _
