@@ -37,11 +37,11 @@ use Rattle.sc_hosts.specs.Sessions.{Turn}
 use Rattle.sc_hosts.specs.ViewChanges.{linked, with_own_session}
 use Rattle.sc_hosts.specs.Working.{proxies, proxies_first, event_of}
 use Rattle.sc_walked.specs.SessionWalks.{Each, Brings, IsSameRequest, IsSameProxy, SessionLaws, with_legs, sent_kept}
-use Rattle.sc_walked.proofs.WalkParts.{each-first, same-request, same-proxy}
+use Rattle.sc_walked.proofs.WalkParts.{each-first, same-proxy}
 use Rattle.sc_walked.proofs.WalkShown.{targets-same}
 use Rattle.sc_lasting.specs.Lasting.{All, IsOf, Proxies, Numbered, IsLife}
 use Rattle.sc_lasting.proofs.Parts.{all-append, all-filter, all-found, all-insert, all-map, all-each, unlinked-only, removed-only, received_kept, received-holds}
-use Rattle.sc_lasting.proofs.Numbers.{numbers-law, proxied-same, proxies-kept}
+use Rattle.sc_lasting.proofs.Numbers.{numbers-law, proxies-kept}
 use Rattle.sc_lasting.proofs.Held.{lives-hold}
 
 -- what is kept under the number of a request that came and began a SipSession is that request
@@ -72,7 +72,7 @@ not-false : (b : Bool) → not b ≡ false → b ≡ true
 not-false true is = refl
 not-false false is = cc
 
-proxied-first : (play : Play) (request : RequestView) (count : ℕ) (how : ProxyOptions)
+pub proxied-first : (play : Play) (request : RequestView) (count : ℕ) (how : ProxyOptions)
     → proxy_refusal play (Some request) count how ≡ None → (request.received ≡ true) × (request.initial ≡ true)
 unfolding proxy_refusal
 proxied-first play request count how is =
@@ -235,13 +235,13 @@ all-proxies began req uris how known is all =
     (first-proxies began req uris how (kept_of known req) known is all)
 
 -- the request that is proxied came and began its SipSession
-proxied-is : (play : Play) (req : ReqId) (uris : List Uri) (how : ProxyOptions) (request : Option RequestView)
+pub proxied-is : (play : Play) (req : ReqId) (uris : List Uri) (how : ProxyOptions) (request : Option RequestView)
     → refusal play (calls.ProxyTo req uris how) ≡ None → request_in play.view req ≡ request
     → proxy_refusal play request (length uris) how ≡ None
 unfolding refusal own_refusal
 proxied-is play req uris how request is found = subst (λ (r : Option RequestView). proxy_refusal play r (length uris) how ≡ None) found (or-right _ _ (or-right _ _ is))
 
-none-proxied : (play : Play) (count : ℕ) (how : ProxyOptions) → proxy_refusal play None count how ≡ None → ⊥
+pub none-proxied : (play : Play) (count : ℕ) (how : ProxyOptions) → proxy_refusal play None count how ≡ None → ⊥
 unfolding proxy_refusal
 none-proxied play count how is = cc
 
@@ -253,10 +253,26 @@ kept-began began view known req r k found has received initial all =
     all-found (Keeps began r) (λ kept. same_request kept.id req) known.kept k has (all-found (λ (r : RequestView). All (Keeps began r) known.kept) (is_request req) view.requests r found all) received initial
     (same-number k.id.0 req.0 (test-found (λ kept. same_request kept.id req) known.kept k has) ∙ sym (same-number r.id.0 req.0 (test-found (is_request req) view.requests r found)))
 
+-- the request came as it did
+record IsAsCame (before after : RequestView) : Type 0 where
+  id : after.id ≡ before.id
+  received : after.received ≡ before.received
+  initial : after.initial ≡ before.initial
+
+proxied-came : (count : ℕ) (r : RequestView) → IsAsCame r (proxied_request count r)
+unfolding proxied_request
+proxied-came count r = record { id = refl; received = refl; initial = refl }
+
+keeps-came : (began : Request) (r q : RequestView) (kept : Kept) → IsAsCame r q → Keeps began r kept → Keeps began q kept
+unfolding Keeps
+keeps-came began r q kept same keeps = λ received initial is. keeps (sym same.received ∙ received) (sym same.initial ∙ initial) (is ∙ ap (λ (id : ReqId). id.0) same.id)
+
 turns-requests : (began : Request) (view : View) (known : Known) (r : RequestView) (count : ℕ) → Kepts began view known
     → Kepts began (proxied (Some r) count view) known
 unfolding proxied
-turns-requests began view known r count all = renewed began known.kept view.requests _ (each-first IsSameRequest view.requests (is_request r.id) (proxied_request count) same-request (proxied-same count)) all
+turns-requests began view known r count all =
+    all-each (λ (r : RequestView). All (Keeps began r) known.kept) IsAsCame view.requests _ (λ r q one. all-map (Keeps began r) (Keeps began q) known.kept (λ k. keeps-came began r q k one))
+    (each-first IsAsCame view.requests (is_request r.id) (proxied_request count) (λ r. record { id = refl; received = refl; initial = refl }) (proxied-came count)) all
 
 turns-began : (began : Request) (event : Queued) (play : Play) (known : Known) (req : ReqId) (uris : List Uri) (how : ProxyOptions) (request : Option RequestView)
     → refusal play (calls.ProxyTo req uris how) ≡ None → request_in play.view req ≡ request

@@ -51,7 +51,7 @@ lives-relate (turn ∷ later) earlier Good Does Q config history same trans laws
     (lives-relate later earlier Good Does Q config history same trans laws life.2)
     (after_turn-walks Does Q config turn (session_after config history (later ++ earlier)) (laws turn.waiting.event life.0) life.1)
 
-any-since : (later earlier : List Turn) (config : Config) (history : History)
+pub any-since : (later earlier : List Turn) (config : Config) (history : History)
     → IsSince (λ event. Unit {0}) (λ call. Unit {0}) config history earlier later
 unfolding IsSince
 any-since [] earlier config history = tt

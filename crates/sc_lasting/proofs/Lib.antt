@@ -9,3 +9,5 @@ pub mod Gone
 pub mod Lives
 pub mod LinkChanges
 pub mod LinksMade
+pub mod Onward
+pub mod Proxied

@@ -23,7 +23,7 @@ use Rattle.sc_hosts.specs.PreparingRequests.{request_view}
 use Rattle.sc_hosts.specs.ViewChanges.{linked, with_own_session}
 use Rattle.sc_hosts.specs.Working.{proxies, proxies_first}
 use Rattle.sc_walked.specs.SessionWalks.{Each, IsSameRequest, IsShownAgain, SessionLaws, with_legs}
-use Rattle.sc_walked.proofs.WalkParts.{each-first, same-request}
+use Rattle.sc_walked.proofs.WalkParts.{each-first}
 use Rattle.sc_walked.proofs.WalkEnds.{life-keeps}
 use Rattle.sc_lasting.specs.Lasting.{All, Numbered}
 use Rattle.sc_lasting.proofs.Parts.{all-append, all-filter, all-found, all-insert, all-map, all-each, unlinked-only, removed-only, received-holds}
@@ -81,17 +81,20 @@ pub proxies-kept : (req : ReqId) (uris : List Uri) (how : ProxyOptions) (known :
 unfolding proxies
 proxies-kept req uris how known = if-kept _ _ _ known.kept refl (first-kept req uris how _ known)
 
-pub proxied-same : (count : ℕ) (r : RequestView) → IsSameRequest r (proxied_request count r)
+proxied-id : (count : ℕ) (r : RequestView) → (proxied_request count r).id ≡ r.id
 unfolding proxied_request
-proxied-same count r = record { id = refl; sess = refl; method = refl; received = refl; initial = refl }
+proxied-id count r = refl
 
 turns-ok : (view : View) (known after : Known) (request : Option RequestView) (count : ℕ) → after.kept ≡ known.kept
     → Numbered (record { view = view; known = known })
     → Numbered (record { view = proxied request count view; known = after })
 unfolding proxied
 turns-ok view known after None count same ok = still view view known after refl refl same ok
-turns-ok view known after (Some request) count same ok =
-    (rw (same) ok.0, renewed view.next_request view.requests _ (each-first IsSameRequest view.requests (is_request request.id) (proxied_request count) same-request (proxied-same count)) ok.1)
+turns-ok view known after (Some request) count same ok = (
+  rw (same) ok.0,
+  all-each (λ (r : RequestView). r.id.0 < view.next_request) (λ (r q : RequestView). q.id ≡ r.id) view.requests _ (λ r q is less. rw is less)
+      (each-first (λ (r q : RequestView). q.id ≡ r.id) view.requests (is_request request.id) (proxied_request count) (λ r. refl) (proxied-id count)) ok.1,
+)
 
 begins-ok : (x : Session) → Numbered x
     → Numbered (record { view = with_own_session x.view; known = record x.known { legs = x.known.legs ++ new_leg None ∷ [] } })

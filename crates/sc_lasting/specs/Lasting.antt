@@ -1,11 +1,13 @@
 -- What lasts over the whole life of an application session.
-use Rattle.std.specs.Prelude.{◌≡◌, ◌<◌, ◌==◌, List, [], ◌∷◌, ◌++◌, Bool, true, false, ◌&&◌, ◌||◌, Some, is_some}
+use Rattle.std.specs.Prelude.{◌≡◌, ◌≤◌, ◌<◌, ◌==◌, ℕ, List, [], ◌∷◌, ◌++◌, Bool, true, false, ◌&&◌, ◌||◌, Some, is_some}
 use Rattle.sc_value.specs.declared.ids.SessId.{SessId}
 use Rattle.sc_value.specs.declared.message.Request.{Request}
 use Rattle.sc_terms.specs.declared.calls.Call.{Call}
 use Rattle.sc_terms.specs.declared.calls.Call.TheVariants as calls
 use Rattle.sc_terms.specs.declared.views.RequestView.{RequestView}
 use Rattle.sc_terms.specs.declared.views.SessionView.{SessionView}
+use Rattle.sc_terms.specs.declared.views.State.{State}
+use Rattle.sc_terms.specs.declared.views.State.TheVariants.{Initial, Early, Confirmed, Terminated}
 use Rattle.sc_terms.specs.declared.views.View.{View}
 use Rattle.sc_state.specs.declared.proxy.Proxy.{Proxy}
 use Rattle.sc_state.specs.declared.queue.Queued.{Queued}
@@ -17,8 +19,8 @@ use Rattle.sc_hosts.specs.Effects.{begun}
 use Rattle.sc_hosts.specs.Histories.{History, session_after}
 use Rattle.sc_hosts.specs.Preparing.{prepared}
 use Rattle.sc_hosts.specs.Sessions.{Turn}
-use Rattle.sc_walked.specs.SessionWalks.{AreDone}
-use Rattle.sc_hosts.specs.Looking.{is_gone_in, is_proxy, partner, same_session}
+use Rattle.sc_walked.specs.SessionWalks.{AreDone, HasGoneOn}
+use Rattle.sc_hosts.specs.Looking.{is_confirmed, is_gone_in, is_proxy, is_terminated, is_uac, partner, same_session}
 
 unfoldable pub All : {A : Type 0} → (A → Type 0) → List A → Type 0
 All P [] = Unit {0}
@@ -42,10 +44,37 @@ pub record IsSteady (before after : SessionView) : Type 0 where
   pub held : IsHeld before after
   pub role : after.role ≡ before.role
 
+-- how far a SipSession has come
+unfoldable pub stage : State → ℕ
+stage Initial = 0
+stage Early = 1
+stage Confirmed = 2
+stage Terminated = 3
+
+-- the state went onward: one that is TERMINATED is so for ever, a CONFIRMED one is that until it is TERMINATED, and one that
+-- isn't a UAC's never goes back
+pub record IsOnward (before after : SessionView) : Type 0 where
+  pub ended : is_terminated before.state ≡ true → is_terminated after.state ≡ true
+  pub confirmed : is_confirmed before.state ≡ true → (is_confirmed after.state || is_terminated after.state) ≡ true
+  pub onward : is_uac before.role ≡ false → stage before.state ≤ stage after.state
+  pub role : is_uac before.role ≡ false → is_uac after.role ≡ false
+
 unfoldable pub Continues : (SessionView → SessionView → Type 0) → List SessionView → List SessionView → Type 0
 Continues Same [] after = Unit {0}
 Continues Same (session ∷ before) [] = ⊥
 Continues Same (session ∷ before) (next ∷ after) = Same session next × Continues Same before after
+
+-- the same request is proxied, with the same options, and it has gone on
+pub record IsCarriedOn (before after : Proxy) : Type 0 where
+  pub req : after.req ≡ before.req
+  pub request : after.request ≡ before.request
+  pub options : after.options ≡ before.options
+  pub on : HasGoneOn before after
+
+unfoldable pub GoOn : List Proxy → List Proxy → Type 0
+GoOn [] after = Unit {0}
+GoOn (proxy ∷ before) [] = ⊥
+GoOn (proxy ∷ before) (next ∷ after) = IsCarriedOn proxy next × GoOn before after
 
 -- a call that doesn't proxy
 unfoldable pub Directly : Call → Type 0

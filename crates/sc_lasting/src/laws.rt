@@ -11,7 +11,7 @@ ghost use Rattle.sc_hosts.specs.Looking.{is_gone_in, partner};
 ghost use Rattle.sc_hosts.specs.Runs.{chained};
 ghost use Rattle.sc_hosts.specs.Sessions.{Turn};
 ghost use Rattle.sc_hosts.specs.Steps.{live_at};
-ghost use Rattle.sc_lasting.specs.Lasting.{All, ArePaired, AreDirect, Continues, Directly, IsHeld, IsLife, IsOf, IsSince, IsSteady, LeavesApart, LeavesLinked, Numbered, Proxies};
+ghost use Rattle.sc_lasting.specs.Lasting.{All, ArePaired, AreDirect, Continues, Directly, GoOn, IsHeld, IsLife, IsOf, IsOnward, IsSince, IsSteady, LeavesApart, LeavesLinked, Numbered, Proxies};
 
 /// In every history of an application session a SipSession that is linked is there, and is linked to
 /// another that is linked to it; so each is in one pair at most, and one that is gone has no link. It is
@@ -46,4 +46,18 @@ pub fn requests_last()
     ensures numbers { (config : Config) (history : History) → Numbered (session_of config history) }
     ensures direct { (config : Config) (history : History) (turns : List Turn) → IsLife (λ event. Unit {0}) Directly config history turns → AreDirect (session_after config history turns) }
     ensures began { (config : Config) (history : History) (turns : List Turn) → IsLife (IsOf history.request) (λ call. Unit {0}) config history turns → All (Proxies history.request) (session_after config history turns).known.proxies }
+{}
+
+/// After more turns, whatever they were, a SipSession whose state was TERMINATED has it still, and one that was
+/// CONFIRMED is that or TERMINATED. The state of one that isn't a UAC's never goes back, so that of a UAC's alone
+/// can, and from EARLY to INITIAL alone. The contract is the law, and the call does nothing.
+pub fn states_move_on()
+    ensures { (config : Config) (history : History) (later earlier : List Turn) → Continues IsOnward (session_after config history earlier).view.sessions (session_after config history (later ++ earlier)).view.sessions }
+{}
+
+/// After more turns, whatever they were, a request that was proxied is, with the same options: it has the targets
+/// that it had, in order, and maybe more behind them; where its search had ended it is so, and the final response that
+/// was forwarded first is the one that was. The contract is the law, and the call does nothing.
+pub fn proxies_go_on()
+    ensures { (config : Config) (history : History) (later earlier : List Turn) → GoOn (session_after config history earlier).known.proxies (session_after config history (later ++ earlier)).known.proxies }
 {}

@@ -3,4 +3,7 @@
 
 mod laws;
 
-pub use laws::{links_are_of_calls, links_are_pairs, requests_last, sessions_last};
+pub use laws::{
+    links_are_of_calls, links_are_pairs, proxies_go_on, requests_last, sessions_last,
+    states_move_on,
+};

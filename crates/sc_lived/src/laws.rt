@@ -9,7 +9,7 @@ ghost use Rattle.sc_hosts.specs.Histories.{History, as_history, as_session, sess
 ghost use Rattle.sc_hosts.specs.Looking.{is_gone_in, partner};
 ghost use Rattle.sc_hosts.specs.Runs.{IsLawful, chained};
 ghost use Rattle.sc_hosts.specs.Steps.{live_at};
-ghost use Rattle.sc_lasting.specs.Lasting.{All, AreDirect, Continues, Directly, IsHeld, IsSteady, LeavesApart, LeavesLinked, Proxies};
+ghost use Rattle.sc_lasting.specs.Lasting.{All, AreDirect, Continues, Directly, GoOn, IsHeld, IsOnward, IsSteady, LeavesApart, LeavesLinked, Proxies};
 ghost use Rattle.sc_lived.specs.Lived.{AreAccepted, HasLived, HasMore, IsLived, IsMoreOf, told};
 
 /// After a lawful journal the history of each live session is a life of it: its turns are those that the
@@ -59,4 +59,20 @@ pub fn live_links_are_of_calls()
     ensures made_session { (setup : Setup) (epoch began : ℕ) (before later : List Step) (app : AppId) (a b : SessId) (first live : Live Session) → IsLawful as_session setup epoch began (before ++ later) → live_at app (chained as_session setup epoch began before) ≡ Some first → live_at app (chained as_session setup epoch began (before ++ later)) ≡ Some live → AreAccepted (LeavesApart a b) (told app later) → is_gone_in first.session.view a ≡ false → is_gone_in first.session.view b ≡ false → partner live.session.view a ≡ Some b → partner first.session.view a ≡ Some b }
     ensures kept_history { (setup : Setup) (epoch began : ℕ) (before later : List Step) (app : AppId) (a b : SessId) (first live : Live History) → IsLawful (as_history setup.config) setup epoch began (before ++ later) → live_at app (chained (as_history setup.config) setup epoch began before) ≡ Some first → live_at app (chained (as_history setup.config) setup epoch began (before ++ later)) ≡ Some live → AreAccepted (LeavesLinked a b) (told app later) → partner (session_of setup.config first.session).view a ≡ Some b → is_gone_in (session_of setup.config live.session).view a ≡ false → is_gone_in (session_of setup.config live.session).view b ≡ false → partner (session_of setup.config live.session).view a ≡ Some b }
     ensures kept_session { (setup : Setup) (epoch began : ℕ) (before later : List Step) (app : AppId) (a b : SessId) (first live : Live Session) → IsLawful as_session setup epoch began (before ++ later) → live_at app (chained as_session setup epoch began before) ≡ Some first → live_at app (chained as_session setup epoch began (before ++ later)) ≡ Some live → AreAccepted (LeavesLinked a b) (told app later) → partner first.session.view a ≡ Some b → is_gone_in live.session.view a ≡ false → is_gone_in live.session.view b ≡ false → partner live.session.view a ≡ Some b }
+{}
+
+/// While an application session lives, the state of each of its SipSessions moves on: one that was TERMINATED is,
+/// one that was CONFIRMED is that or TERMINATED, and that of one that isn't a UAC's never goes back. The contract is
+/// the law, for each form in which sessions are kept, and the call does nothing.
+pub fn live_states_move_on()
+    ensures history { (setup : Setup) (epoch began : ℕ) (before later : List Step) (app : AppId) (first live : Live History) → IsLawful (as_history setup.config) setup epoch began (before ++ later) → live_at app (chained (as_history setup.config) setup epoch began before) ≡ Some first → live_at app (chained (as_history setup.config) setup epoch began (before ++ later)) ≡ Some live → Continues IsOnward (session_of setup.config first.session).view.sessions (session_of setup.config live.session).view.sessions }
+    ensures session { (setup : Setup) (epoch began : ℕ) (before later : List Step) (app : AppId) (first live : Live Session) → IsLawful as_session setup epoch began (before ++ later) → live_at app (chained as_session setup epoch began before) ≡ Some first → live_at app (chained as_session setup epoch began (before ++ later)) ≡ Some live → Continues IsOnward first.session.view.sessions live.session.view.sessions }
+{}
+
+/// While an application session lives, a request that it proxied goes on: it has the targets that it had, in order,
+/// and maybe more behind them; where its search had ended it is so, and the final response that was forwarded first
+/// is the one that was. The contract is the law, for each form in which sessions are kept, and the call does nothing.
+pub fn live_proxies_go_on()
+    ensures history { (setup : Setup) (epoch began : ℕ) (before later : List Step) (app : AppId) (first live : Live History) → IsLawful (as_history setup.config) setup epoch began (before ++ later) → live_at app (chained (as_history setup.config) setup epoch began before) ≡ Some first → live_at app (chained (as_history setup.config) setup epoch began (before ++ later)) ≡ Some live → GoOn (session_of setup.config first.session).known.proxies (session_of setup.config live.session).known.proxies }
+    ensures session { (setup : Setup) (epoch began : ℕ) (before later : List Step) (app : AppId) (first live : Live Session) → IsLawful as_session setup epoch began (before ++ later) → live_at app (chained as_session setup epoch began before) ≡ Some first → live_at app (chained as_session setup epoch began (before ++ later)) ≡ Some live → GoOn first.session.known.proxies live.session.known.proxies }
 {}

@@ -85,7 +85,8 @@ began_with run app = slice_get (filter_map (λ moment. first_server app moment.a
 -- ## Whether it proxied that request
 
 unfoldable pub options_of : Call → CallAnswer → Option ProxyOptions
-options_of (calls.ProxyTo req uris how) answers.Fine = Some how
+options_of (calls.ProxyTo req uris how) (answers.Refused refusal) = None
+options_of (calls.ProxyTo req uris how) answer = Some how
 options_of call answer = None
 
 unfoldable pub options_in : AppId → Step → List ProxyOptions

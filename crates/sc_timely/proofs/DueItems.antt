@@ -1,5 +1,5 @@
 -- What is due in a session is among what a tick fires.
-use Rattle.std.proofs.Common.{◌≡◌, ◌≤◌, ◌⊎◌, inl, inr, ℕ, zero, suc, ◌+◌, ◌*◌, ◌++◌, Bool, true, false, Option, None, Some, List, [], ◌∷◌, refl, sym, ap, subst, ◌∙◌, arith}
+use Rattle.std.proofs.Common.{◌≡◌, ◌≤◌, inl, inr, ℕ, zero, suc, ◌+◌, ◌*◌, ◌++◌, Bool, true, false, Option, None, Some, List, [], ◌∷◌, refl, sym, ap, subst, ◌∙◌, arith}
 use Rattle.std.specs.Prelude.{◌==◌, ◌&&◌, ◌||◌, cond, slice_get, map, filter, nat_le}
 use Rattle.std.specs.List.{find, list_any, filter_map, flat_map, cons_option}
 use Rattle.std.specs.BTreeSet.{insert_key}
@@ -26,6 +26,7 @@ use Rattle.sc_hosts.specs.Nets.{host_at}
 use Rattle.sc_hosts.specs.Sessions.{Form}
 use Rattle.sc_hosts.specs.Ticks.{DueItem, Of_session, Of_client, Of_server, Dated, dated, client_dated, server_dated, live_dated, host_dated, hosts_dated, all_dated, same_entry, due_items}
 use Rattle.sc_hosts.specs.Transacting.{is_cancel_client, is_same_app, due_of_client, due_of_server}
+use Rattle.sc_keyed.specs.Keyed.{IsIn}
 
 -- ## Keys
 
@@ -33,7 +34,7 @@ pub same-is : (a b : DueEntry) → same_entry a b ≡ true → a ≡ b
 unfolding same_entry
 same-is a b e = grind (arith, nat_tests, e)
 
-same-itself : (a b : DueEntry) → a ≡ b → same_entry a b ≡ true
+pub same-itself : (a b : DueEntry) → a ≡ b → same_entry a b ≡ true
 unfolding same_entry
 same-itself a b e = grind (arith, nat_tests, e)
 
@@ -58,24 +59,24 @@ fires_key app key d = is_event_of app d.item && same_entry d.entry key
 -- ## Numbers of entries
 
 -- those of sessions, and those of transactions
-IsEvent : ℕ → Type 0
+pub IsEvent : ℕ → Type 0
 IsEvent n = (x : ℕ) × (c : ℕ) × (c ≤ 2) × (n ≡ 8 * x + c)
 
-IsOther : ℕ → Type 0
+pub IsOther : ℕ → Type 0
 IsOther n = (x : ℕ) × (c : ℕ) × (3 ≤ c) × (c ≤ 7) × (n ≡ 8 * x + c)
 
-never-both : (n x c y d : ℕ) → c ≤ 2 → n ≡ 8 * x + c → 3 ≤ d → d ≤ 7 → n ≡ 8 * y + d → ⊥
+pub never-both : (n x c y d : ℕ) → c ≤ 2 → n ≡ 8 * x + c → 3 ≤ d → d ≤ 7 → n ≡ 8 * y + d → ⊥
 never-both n x c y d low one high most two = omega (arith, low, one, high, most, two)
 
-not-both : (n : ℕ) → IsEvent n → IsOther n → ⊥
+pub not-both : (n : ℕ) → IsEvent n → IsOther n → ⊥
 unfolding IsEvent IsOther
 not-both n event other = never-both n event.0 event.1 other.0 other.1 event.2 event.3 other.2 other.3 other.4
 
-unfoldable All : {A : Type 0} → (A → Type 0) → List A → Type 0
+unfoldable pub All : {A : Type 0} → (A → Type 0) → List A → Type 0
 All P [] = Unit {0}
 All P (x ∷ xs) = P x × All P xs
 
-all-both : {A : Type 0} (P : A → Type 0) (xs ys : List A) → All P xs → All P ys → All P (xs ++ ys)
+pub all-both : {A : Type 0} (P : A → Type 0) (xs ys : List A) → All P xs → All P ys → All P (xs ++ ys)
 unfolding All
 all-both P [] ys p q = q
 all-both P (x ∷ xs) ys p q = (p.0, all-both P xs ys p.1 q)
@@ -86,7 +87,14 @@ unfolding All
 all-flat P f [] each = tt
 all-flat P f (x ∷ xs) each = all-both P (f x) (flat_map f xs) (each x) (all-flat P f xs each)
 
-all-found : {A : Type 0} (P : A → Type 0) (test : A → Bool) (xs : List A) (x : A) → find test xs ≡ Some x → All P xs
+-- of those that have it already
+all-flat-of : {A B : Type 0} (Q : A → Type 0) (P : B → Type 0) (f : A → List B) (xs : List A) → ((x : A) → Q x → All P (f x))
+    → All Q xs → All P (flat_map f xs)
+unfolding All
+all-flat-of Q P f [] each all = tt
+all-flat-of Q P f (x ∷ xs) each all = all-both P (f x) (flat_map f xs) (each x all.0) (all-flat-of Q P f xs each all.1)
+
+pub all-found : {A : Type 0} (P : A → Type 0) (test : A → Bool) (xs : List A) (x : A) → find test xs ≡ Some x → All P xs
     → P x
 unfolding All
 all-found P test [] x is all = cc
@@ -99,7 +107,7 @@ all-found {A = A} P test (y ∷ xs) x is all = by (test y) is (all-found P test 
     by true is later = subst P (same y is) all.0
     by false is later = later is all.1
 
-test-found : {A : Type 0} (test : A → Bool) (xs : List A) (x : A) → find test xs ≡ Some x → test x ≡ true
+pub test-found : {A : Type 0} (test : A → Bool) (xs : List A) (x : A) → find test xs ≡ Some x → test x ≡ true
 test-found test [] x is = cc
 test-found {A = A} test (y ∷ xs) x is = by (test y) refl is (test-found test xs x)
   where
@@ -113,6 +121,10 @@ test-found {A = A} test (y ∷ xs) x is = by (test y) refl is (test-found test x
 
 EventNumber : SessionEntry → Type 0
 EventNumber entry = IsEvent entry.number
+
+event-number : (entry : SessionEntry) → EventNumber entry → IsEvent entry.number
+unfolding EventNumber
+event-number entry is = is
 
 expiry-number : (due : Option ℕ) → All EventNumber (expiry_entry due)
 unfolding All EventNumber IsEvent expiry_entry
@@ -140,12 +152,12 @@ entry-numbers session =
 
 -- ## Each item is of its entry
 
-unfoldable OfEntry : DueItem → DueEntry → Type 0
-OfEntry (Of_session at event) entry = is_same_app at entry.app ≡ true
-OfEntry (Of_client client) entry = IsOther entry.number
-OfEntry (Of_server server) entry = IsOther entry.number
+unfoldable pub OfEntry : DueItem → DueEntry → Type 0
+OfEntry (Of_session at event) entry = (is_same_app at entry.app ≡ true) × IsEvent entry.number
+OfEntry (Of_client client) entry = (entry.app ≡ client.app) × (entry.number ≡ 8 * client.branch + cond (is_cancel_client client) 4 3)
+OfEntry (Of_server server) entry = (entry.app ≡ server.app) × (entry.number ≡ 8 * server.event + 5)
 
-WellMade : Dated → Type 0
+pub WellMade : Dated → Type 0
 WellMade d = OfEntry d.item d.entry
 
 dated-made : (app : AppId) (number : ℕ) (item : DueItem) (due : Option ℕ)
@@ -155,18 +167,22 @@ unfolding dated All WellMade
 dated-made app number item None of = tt
 dated-made app number item (Some due) of = (of due, tt)
 
-client-number : (branch : ℕ) (b : Bool) → IsOther (8 * branch + cond b 4 3)
+pub client-number : (branch : ℕ) (b : Bool) → IsOther (8 * branch + cond b 4 3)
 unfolding IsOther
 client-number branch true = (branch, 4, omega arith, omega arith, refl)
 client-number branch false = (branch, 3, omega arith, omega arith, refl)
 
+pub server-number : (event : ℕ) → IsOther (8 * event + 5)
+unfolding IsOther
+server-number event = (event, 5, omega arith, omega arith, refl)
+
 client-made : (client : Client) → All WellMade (client_dated client)
 unfolding client_dated OfEntry
-client-made client = dated-made client.app _ (Of_client client) (due_of_client client) (λ at. client-number client.branch (is_cancel_client client))
+client-made client = dated-made client.app _ (Of_client client) (due_of_client client) (λ at. (refl, refl))
 
 server-made : (server : Server) → All WellMade (server_dated server)
-unfolding server_dated OfEntry IsOther
-server-made server = dated-made server.app _ (Of_server server) (due_of_server server) (λ at. (server.event, 5, omega arith, omega arith, refl))
+unfolding server_dated OfEntry
+server-made server = dated-made server.app _ (Of_server server) (due_of_server server) (λ at. (refl, refl))
 
 if-all : (b : Bool) (ds es : List Dated) → All WellMade ds → All WellMade es → All WellMade (cond b ds es)
 if-all true ds es p q = p
@@ -179,11 +195,12 @@ none-made = tt
 module _ {S : Type 0} (form : Form S) where
   live-made : (number : ℕ) (live : Live S) → All WellMade (live_dated form number live)
   unfolding live_dated OfEntry
-  live-made number live = all-flat WellMade _ (entries_of (form.read live.session)) (λ entry. if-all (is_fired live.fired entry.due entry.number) [] _ none-made (one entry))
+  live-made number live =
+      all-flat-of EventNumber WellMade _ (entries_of (form.read live.session)) (λ entry event. if-all (is_fired live.fired entry.due entry.number) [] _ none-made (one entry event)) (entry-numbers (form.read live.session))
     where
-      one : (entry : SessionEntry)
+      one : (entry : SessionEntry) → EventNumber entry
           → All WellMade (dated (record { host = number; serial = live.serial }) entry.number (Of_session (record { host = number; serial = live.serial }) entry.event) (Some entry.due))
-      one entry = dated-made (record { host = number; serial = live.serial }) entry.number _ (Some entry.due) (λ at. app-itself (record { host = number; serial = live.serial }))
+      one entry event = dated-made (record { host = number; serial = live.serial }) entry.number _ (Some entry.due) (λ at. (app-itself (record { host = number; serial = live.serial }), event-number entry event))
 
   host-made : (number : ℕ) (host : Host S) → All WellMade (host_dated form number host)
   unfolding host_dated
@@ -192,24 +209,24 @@ module _ {S : Type 0} (form : Form S) where
       (all-both WellMade (flat_map client_dated host.clients) _ (all-flat WellMade client_dated host.clients client-made) (all-flat WellMade server_dated host.servers server-made))
       (all-flat WellMade (live_dated form number) host.sessions (live-made number))
 
-  hosts-made : (hosts : List (Host S)) (number : ℕ) → All WellMade (hosts_dated form number hosts)
+  pub hosts-made : (hosts : List (Host S)) (number : ℕ) → All WellMade (hosts_dated form number hosts)
   unfolding hosts_dated All
   hosts-made [] number = tt
   hosts-made (host ∷ hosts) number = all-both WellMade (host_dated form number host) _ (host-made number host) (hosts-made hosts (number + 1))
 
 -- ## An entry that runs is among all that runs
 
-or-second : (a b : Bool) → b ≡ true → (a || b) ≡ true
+pub or-second : (a b : Bool) → b ≡ true → (a || b) ≡ true
 or-second true b is = refl
 or-second false b is = is
 
-or-first : (a b : Bool) → a ≡ true → (a || b) ≡ true
+pub or-first : (a b : Bool) → a ≡ true → (a || b) ≡ true
 or-first a b is = rw is refl
 
-any-left : {A : Type 0} (test : A → Bool) (xs ys : List A) → list_any test xs ≡ true → list_any test (xs ++ ys) ≡ true
+pub any-left : {A : Type 0} (test : A → Bool) (xs ys : List A) → list_any test xs ≡ true → list_any test (xs ++ ys) ≡ true
 any-left test xs ys is = list_any-append test xs ys ∙ or-first _ _ is
 
-any-right : {A : Type 0} (test : A → Bool) (xs ys : List A) → list_any test ys ≡ true → list_any test (xs ++ ys) ≡ true
+pub any-right : {A : Type 0} (test : A → Bool) (xs ys : List A) → list_any test ys ≡ true → list_any test (xs ++ ys) ≡ true
 any-right test xs ys is = list_any-append test xs ys ∙ or-second (list_any test xs) _ is
 
 -- of one that is found
@@ -226,12 +243,7 @@ any-flat {A = A} test f which (y ∷ xs) x is has = by (which y) is (λ more. an
     by true is later = any-left test (f y) (flat_map f xs) (subst (λ z. list_any test (f z) ≡ true) (same y is) has)
     by false is later = any-right test (f y) (flat_map f xs) (later is)
 
--- one is in a list
-unfoldable pub IsIn : {A : Type 0} → A → List A → Type 0
-IsIn x [] = ⊥
-IsIn x (y ∷ ys) = (x ≡ y) ⊎ IsIn x ys
-
-any-in : {A B : Type 0} (test : B → Bool) (f : A → List B) (xs : List A) (x : A) → IsIn x xs
+pub any-in : {A B : Type 0} (test : B → Bool) (f : A → List B) (xs : List A) (x : A) → IsIn x xs
     → list_any test (f x) ≡ true → list_any test (flat_map f xs) ≡ true
 unfolding IsIn
 any-in test f [] x is has = absurd is
@@ -248,17 +260,17 @@ all-in P (y ∷ xs) x (inr later) all = all-in P xs x later all.1
 abbrev pub runs_as : DueEntry → Dated → Bool
 runs_as key d = same_entry d.entry key
 
-zero-more : (n : ℕ) → n + zero ≡ n
+pub zero-more : (n : ℕ) → n + zero ≡ n
 zero-more n = omega arith
 
-from-none : (n : ℕ) → n ≡ 0 + n
+pub from-none : (n : ℕ) → n ≡ 0 + n
 from-none n = omega arith
 
-one-more : (n i : ℕ) → n + suc i ≡ (n + 1) + i
+pub one-more : (n i : ℕ) → n + suc i ≡ (n + 1) + i
 one-more n i = omega arith
 
 module _ {S : Type 0} (form : Form S) where
-  hosts-have : (key : DueEntry) (hosts : List (Host S)) (number i : ℕ) (host : Host S) → slice_get hosts i ≡ Some host
+  pub hosts-have : (key : DueEntry) (hosts : List (Host S)) (number i : ℕ) (host : Host S) → slice_get hosts i ≡ Some host
       → list_any (runs_as key) (host_dated form (number + i) host) ≡ true
       → list_any (runs_as key) (hosts_dated form number hosts) ≡ true
   unfolding hosts_dated
@@ -287,7 +299,7 @@ module _ {S : Type 0} (form : Form S) where
 
 -- ## And among what is due
 
-any-map : (key : DueEntry) (now : ℕ) (ds : List Dated) → is_due now key ≡ true → list_any (runs_as key) ds ≡ true
+pub any-map : (key : DueEntry) (now : ℕ) (ds : List Dated) → is_due now key ≡ true → list_any (runs_as key) ds ≡ true
     → list_any (λ e. same_entry e key) (filter (is_due now) (map (λ d. d.entry) ds)) ≡ true
 any-map key now [] due has = cc
 any-map key now (d ∷ ds) due has = by (same_entry d.entry key) refl has (any-map key now ds due)
@@ -329,7 +341,7 @@ insert-has key k (x ∷ ks) has = by (due_order k x) refl (insert-has key k ks)
     by Equal is more = swap (same_entry k key) (same_entry x key) _ (ap (λ e. same_entry e key) (exact k x is)) has
     by Greater is more = later (same_entry x key) (same_entry k key) (list_any (λ e. same_entry e key) ks) _ has more
 
-ordered-has : (key : DueEntry) (ks : List DueEntry) → list_any (λ e. same_entry e key) ks ≡ true
+pub ordered-has : (key : DueEntry) (ks : List DueEntry) → list_any (λ e. same_entry e key) ks ≡ true
     → list_any (λ e. same_entry e key) (in_order ks) ≡ true
 unfolding in_order
 ordered-has key [] has = has
@@ -353,20 +365,18 @@ found-some {A = A} test (y ∷ xs) has = by (test y) has (found-some test xs)
 item-is : (app : AppId) (entry : SessionEntry) (d : Dated) (item : DueItem) → IsEvent entry.number
     → OfEntry item d.entry → d.entry ≡ key_of app entry → is_event_of app item ≡ true
 unfolding OfEntry is_event_of
-item-is app entry d (Of_session at event) number of same = subst (λ (e : DueEntry). is_same_app at e.app ≡ true) same of
-item-is app entry d (Of_client client) number of same = absurd (not-both entry.number number (subst (λ (e : DueEntry). IsOther e.number) same of))
-item-is app entry d (Of_server server) number of same = absurd (not-both entry.number number (subst (λ (e : DueEntry). IsOther e.number) same of))
+item-is app entry d (Of_session at event) number of same = subst (λ (e : DueEntry). is_same_app at e.app ≡ true) same of.0
+item-is app entry d (Of_client client) number of same =
+    absurd (not-both entry.number number (subst IsOther (sym of.1 ∙ ap (λ (e : DueEntry). e.number) same) (client-number client.branch (is_cancel_client client))))
+item-is app entry d (Of_server server) number of same =
+    absurd (not-both entry.number number (subst IsOther (sym of.1 ∙ ap (λ (e : DueEntry). e.number) same) (server-number server.event)))
 
 and-both : (a b : Bool) → a ≡ true → b ≡ true → (a && b) ≡ true
 and-both a b p q = rw (p, q) refl
 
-unfoldable-made : (d : Dated) → WellMade d → OfEntry d.item d.entry
+pub made-of : (d : Dated) → WellMade d → OfEntry d.item d.entry
 unfolding WellMade
-unfoldable-made d of = of
-
-event-number : (entry : SessionEntry) → EventNumber entry → IsEvent entry.number
-unfolding EventNumber
-event-number entry is = is
+made-of d of = of
 
 found-fires : (app : AppId) (entry : SessionEntry) (ds : List Dated) (d : Dated) → IsEvent entry.number
     → All WellMade ds → find (λ d. same_entry d.entry (key_of app entry)) ds ≡ Some d
@@ -374,32 +384,29 @@ found-fires : (app : AppId) (entry : SessionEntry) (ds : List Dated) (d : Dated)
 found-fires app entry ds d number made is =
     let same = test-found (runs_as (key_of app entry)) ds d is in
     and-both (is_event_of app d.item) (same_entry d.entry (key_of app entry))
-    (item-is app entry d d.item number (unfoldable-made d (all-found WellMade (runs_as (key_of app entry)) ds d is made)) (same-is d.entry (key_of app entry) same)) same
+    (item-is app entry d d.item number (made-of d (all-found WellMade (runs_as (key_of app entry)) ds d is made)) (same-is d.entry (key_of app entry) same)) same
 
-kept-fires : (app : AppId) (entry : SessionEntry) (all : List Dated) (ks : List DueEntry) → IsEvent entry.number
-    → All WellMade all → list_any (runs_as (key_of app entry)) all ≡ true
-    → list_any (λ e. same_entry e (key_of app entry)) ks ≡ true
-    → list_any (fires_key app (key_of app entry)) (filter_map (λ e. find (λ d. same_entry d.entry e) all) ks) ≡ true
-kept-fires app entry all [] number made has is = cc
-kept-fires app entry all (k ∷ ks) number made has is = by (same_entry k (key_of app entry)) refl is (kept-fires app entry all ks number made has)
+-- what is found under a key is among the items
+pub kept-has : (key : DueEntry) (test : Dated → Bool) (all : List Dated) (ks : List DueEntry)
+    → ((d : Dated) → find (runs_as key) all ≡ Some d → test d ≡ true) → list_any (runs_as key) all ≡ true
+    → list_any (λ e. same_entry e key) ks ≡ true
+    → list_any test (filter_map (λ e. find (λ d. same_entry d.entry e) all) ks) ≡ true
+kept-has key test all [] passes has is = cc
+kept-has key test all (k ∷ ks) passes has is = by (same_entry k key) refl is (kept-has key test all ks passes has)
   where
-    put : (found : Option Dated)
-        → list_any (fires_key app (key_of app entry)) (filter_map (λ e. find (λ d. same_entry d.entry e) all) ks) ≡ true
-        → list_any (fires_key app (key_of app entry)) (cons_option found (filter_map (λ e. find (λ d. same_entry d.entry e) all) ks)) ≡ true
+    put : (found : Option Dated) → list_any test (filter_map (λ e. find (λ d. same_entry d.entry e) all) ks) ≡ true
+        → list_any test (cons_option found (filter_map (λ e. find (λ d. same_entry d.entry e) all) ks)) ≡ true
     put None is = is
-    put (Some d) is = or-second (fires_key app (key_of app entry) d) _ is
+    put (Some d) is = or-second (test d) _ is
 
-    at-key : (key : DueEntry) → key ≡ key_of app entry
-        → list_any (fires_key app (key_of app entry)) (cons_option (find (λ d. same_entry d.entry key) all) (filter_map (λ e. find (λ d. same_entry d.entry e) all) ks)) ≡ true
-    at-key key same =
-        let found = found-some (runs_as (key_of app entry)) all has in
-        rw (same, found.1) (or-first _ _ (found-fires app entry all found.0 number made found.1))
+    at-key : (k : DueEntry) → k ≡ key
+        → list_any test (cons_option (find (λ d. same_entry d.entry k) all) (filter_map (λ e. find (λ d. same_entry d.entry e) all) ks)) ≡ true
+    at-key k same = let found = found-some (runs_as key) all has in rw (same, found.1) (or-first _ _ (passes found.0 found.1))
 
-    by : (b : Bool) → same_entry k (key_of app entry) ≡ b
-        → (b || list_any (λ e. same_entry e (key_of app entry)) ks) ≡ true
-        → (list_any (λ e. same_entry e (key_of app entry)) ks ≡ true → list_any (fires_key app (key_of app entry)) (filter_map (λ e. find (λ d. same_entry d.entry e) all) ks) ≡ true)
-        → list_any (fires_key app (key_of app entry)) (filter_map (λ e. find (λ d. same_entry d.entry e) all) (k ∷ ks)) ≡ true
-    by true at is later = at-key k (same-is k (key_of app entry) at)
+    by : (b : Bool) → same_entry k key ≡ b → (b || list_any (λ e. same_entry e key) ks) ≡ true
+        → (list_any (λ e. same_entry e key) ks ≡ true → list_any test (filter_map (λ e. find (λ d. same_entry d.entry e) all) ks) ≡ true)
+        → list_any test (filter_map (λ e. find (λ d. same_entry d.entry e) all) (k ∷ ks)) ≡ true
+    by true at is later = at-key k (same-is k key at)
     by false at is later = put (find (λ d. same_entry d.entry k) all) (later is)
 
 module _ {S : Type 0} (form : Form S) where
@@ -415,7 +422,8 @@ module _ {S : Type 0} (form : Form S) where
       let runs : list_any (runs_as (key_of app entry)) (live_dated form app.host live) ≡ true =
       subst (λ (a : AppId). list_any (runs_as (key_of a entry)) (live_dated form app.host live) ≡ true) named (live-has form app.host live entry within unfired) in
       let has : list_any (runs_as (key_of app entry)) (hosts_dated form 0 net.hosts) ≡ true = hosts-have form (key_of app entry) net.hosts 0 app.host host at (subst (λ (n : ℕ). list_any (runs_as (key_of app entry)) (host_dated form n host) ≡ true) (from-none app.host) (host-has form (key_of app entry) app.host host app.serial live is runs)) in
-      kept-fires app entry (hosts_dated form 0 net.hosts) _ (event-number entry (all-in EventNumber (entries_of (form.read live.session)) entry within (entry-numbers (form.read live.session)))) (hosts-made form net.hosts 0) has
+      let number : IsEvent entry.number = event-number entry (all-in EventNumber (entries_of (form.read live.session)) entry within (entry-numbers (form.read live.session))) in
+      kept-has (key_of app entry) (fires_key app (key_of app entry)) (hosts_dated form 0 net.hosts) _ (λ d found. found-fires app entry (hosts_dated form 0 net.hosts) d number (hosts-made form net.hosts 0) found) has
       (ordered-has (key_of app entry) _ (any-map (key_of app entry) now (hosts_dated form 0 net.hosts) due has))
     where
       serial-is : (a b : ℕ) → (a == b) ≡ true → a ≡ b

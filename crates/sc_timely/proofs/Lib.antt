@@ -3,3 +3,8 @@ pub mod DueItems
 pub mod Taken
 pub mod Transactions
 pub mod Silence
+pub mod Pending
+pub mod NoneComes
+pub mod NothingDue
+pub mod NoneLeft
+pub mod Once

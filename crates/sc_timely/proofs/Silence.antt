@@ -25,9 +25,9 @@ use Rattle.sc_hosts.specs.Ticks.{Dated, DueItem, Of_client, Of_server, Of_sessio
 use Rattle.sc_hosts.proofs.Deliveries.{none-delivered, wire-ends-empty}
 
 -- nothing is put on the wire, and nothing is sent
-record AreSilent {S : Type 0} (net changed : Net S) : Type 0 where
-  wire : changed.wire ≡ net.wire
-  sent : changed.sent ≡ net.sent
+pub record AreSilent {S : Type 0} (net changed : Net S) : Type 0 where
+  pub wire : changed.wire ≡ net.wire
+  pub sent : changed.sent ≡ net.sent
 
 idle-start : (S : Type 0) (setup : Setup) (epoch began : ℕ) → is_busy (start {S = S} setup epoch began) ≡ false
 unfolding start is_busy
@@ -94,12 +94,12 @@ module _ {S : Type 0} where
   all-silent config now [] net = silently net
   all-silent config now (d ∷ ds) net = silent-then _ _ _ (fires-silent config now net d.entry d.item) (all-silent config now ds (fires config now net d.entry d.item))
 
-  ticked-silent : (form : Form S) (config : Config) (now : ℕ) (net : Net S) → AreSilent net (ticked form config now net)
+  pub ticked-silent : (form : Form S) (config : Config) (now : ℕ) (net : Net S) → AreSilent net (ticked form config now net)
   unfolding ticked
   ticked-silent form config now net =
       let all = all-silent config now (due_items form now net) (record net { moment = now }) in record { wire = all.wire; sent = all.sent }
 
-  idle-of : (net changed : Net S) → changed.wire ≡ net.wire → is_busy net ≡ false → is_busy changed ≡ false
+  pub idle-of : (net changed : Net S) → changed.wire ≡ net.wire → is_busy net ≡ false → is_busy changed ≡ false
   unfolding is_busy
   idle-of net changed same idle = rw same idle
 
@@ -116,8 +116,12 @@ module _ {S : Type 0} where
   idle-from form setup [] net idle = idle
   idle-from form setup (step ∷ later) net idle = idle-from form setup later (after_step form setup net step) (wire-ends-empty form setup (stepped form setup step (record net { sent = [] })))
 
+  pub idle-chained : (form : Form S) (setup : Setup) (epoch began : ℕ) (journal : List Step)
+      → is_busy (chained form setup epoch began journal) ≡ false
+  unfolding chained
+  idle-chained form setup epoch began journal = idle-from form setup journal (start setup epoch began) (idle-start S setup epoch began)
+
   pub ticks-send-nothing : (form : Form S) (setup : Setup) (epoch began : ℕ) (journal : List Step) (now : ℕ)
       → (after_step form setup (chained form setup epoch began journal) (steps.Tick now)).sent ≡ []
-  unfolding chained
   ticks-send-nothing form setup epoch began journal now =
-      tick-sends form setup now (chained_from form setup (start setup epoch began) journal) (idle-from form setup journal (start setup epoch began) (idle-start S setup epoch began))
+      tick-sends form setup now (chained form setup epoch began journal) (idle-chained form setup epoch began journal)

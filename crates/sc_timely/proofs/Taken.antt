@@ -31,9 +31,10 @@ use Rattle.sc_hosts.specs.Transacting.{is_cancel_client, out_of_client, pass_cli
 use Rattle.sc_walks.proofs.WalkHosts.{pass_server-walks}
 use Rattle.sc_walks.proofs.WalkNets.{if-walks, fold-walks, change_host-walks, placed-walks, passed-walks, delivered-walks}
 use Rattle.sc_once.proofs.Finding.{find-changed}
+use Rattle.sc_keyed.specs.Keyed.{IsIn}
 use Rattle.sc_timely.specs.Timely.{HadEvents, IsTaken}
 use Rattle.sc_timely.proofs.Keeping.{LivesOn, HostKeeps, NetKeeps, fired-more, queues-keep, keep-hosts, keep-nets}
-use Rattle.sc_timely.proofs.DueItems.{IsIn, is_event_of, fires_key, key_of, same-is, app-is, due-fires}
+use Rattle.sc_timely.proofs.DueItems.{is_event_of, fires_key, key_of, same-is, app-is, due-fires}
 
 module _ {S : Type 0} (app : AppId) where
   -- any event

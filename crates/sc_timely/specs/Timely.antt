@@ -1,5 +1,5 @@
--- What was due in a session as time passed has had its event.
-use Rattle.std.specs.Prelude.{◌≡◌, ℕ, List, [], ◌∷◌, true, false, Option, Some, nat_le}
+-- What was due as time passed has had its event.
+use Rattle.std.specs.Prelude.{◌≡◌, ℕ, List, [], ◌∷◌, Bool, true, false, Option, Some, nat_le}
 use Rattle.std.specs.List.{list_any}
 use Rattle.sc_value.specs.declared.ids.AppId.{AppId}
 use Rattle.sc_state.specs.Entries.{SessionEntry, entries_of, is_fired}
@@ -7,7 +7,7 @@ use Rattle.sc_state.specs.declared.host.Fired.{Fired}
 use Rattle.sc_state.specs.declared.host.Live.{Live}
 use Rattle.sc_model.specs.Timers.{is_due}
 use Rattle.sc_hosts.specs.Sessions.{Form}
-use Rattle.sc_hosts.specs.Ticks.{live_dated}
+use Rattle.sc_hosts.specs.Ticks.{Dated, live_dated, same_entry}
 
 -- each of these entries whose moment has come has had its event
 unfoldable pub HadEvents : ℕ → List Fired → List SessionEntry → Type 0
@@ -24,3 +24,7 @@ pub record IsTaken {S : Type 0} (form : Form S) (now : ℕ) (app : AppId) (live 
   pub before : (due number : ℕ) → is_fired live.fired due number ≡ true → is_fired later.fired due number ≡ true
   pub taken : HadEvents now later.fired (entries_of (form.read later.session))
   pub left : list_any (λ d. is_due now d.entry) (live_dated form app.host later) ≡ false
+
+-- two items of one entry
+abbrev pub are_one : Dated → Dated → Bool
+are_one a b = same_entry a.entry b.entry

@@ -3,4 +3,7 @@
 
 mod laws;
 
-pub use laws::{due_entries_are_taken, moments_end_timers, ticks_send_nothing};
+pub use laws::{
+    due_entries_are_taken, due_items_are_once, moments_end_timers, nothing_is_due,
+    ticks_send_nothing,
+};

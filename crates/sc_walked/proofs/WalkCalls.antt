@@ -42,7 +42,7 @@ use Rattle.sc_hosts.specs.Preparing.{kept_of}
 use Rattle.sc_hosts.specs.Refusals.{refusal, awaits_ack}
 use Rattle.sc_hosts.specs.ViewChanges.{tidy, invalidated, settled_request, settled_requests}
 use Rattle.sc_hosts.specs.Working.{starts, keeps_sent, sends_initial, sends_later, sends_in, sends_written, sends, ack_with, acknowledges, cancels, invalidates, does, does_by, worked, worked_all}
-use Rattle.sc_walked.proofs.WalkParts.{each-first, each-map, if-is, same-request, session-walks, leg-walks, proxy-walks, tidy-walks, answered-walks}
+use Rattle.sc_walked.proofs.WalkParts.{each-first, each-map, follow-same, if-is, same-request, session-walks, leg-walks, proxy-walks, tidy-walks, answered-walks}
 use Rattle.sc_walked.proofs.WalkShown.{stopped-same}
 use Rattle.sc_walked.specs.SessionWalks.{AreDone, IsSameRequest, IsSameLeg, SessionLaws, with_legs, after_sent}
 
@@ -52,12 +52,12 @@ session_at working = record { view = working.play.view; known = working.known }
 
 without-same : (sess : SessId) (r : RequestView) → IsSameRequest r (without_session sess r)
 unfolding without_session
-without-same sess r = record { id = refl; sess = refl; method = refl; received = refl; initial = refl }
+without-same sess r = record { id = refl; sess = refl; method = refl; received = refl; initial = refl; proxied = refl }
 
 settled-same : (sess : SessId) (code : ℕ) (r : RequestView) → IsSameRequest r (settled_request sess code r)
 unfolding settled_request
 settled-same sess code r =
-    if-is (IsSameRequest r) _ (record r { answered = Some code }) r (record { id = refl; sess = refl; method = refl; received = refl; initial = refl }) (same-request r)
+    if-is (IsSameRequest r) _ (record r { answered = Some code }) r (record { id = refl; sess = refl; method = refl; received = refl; initial = refl; proxied = refl }) (same-request r)
 
 dialog-leg : (request : Request) (leg : Leg) → IsSameLeg leg (in_dialog (By_self (messages.Request request)) leg)
 unfolding in_dialog
@@ -120,7 +120,7 @@ module _ (event : Queued) (Does : Call → Type 0) (Q : Session → Session → 
   unfolding flagged
   flagged-walks x targets.Application flag = law.flags x flag
   flagged-walks x (targets.Session sess) flag =
-      session-walks event Does Q law x sess (λ s. record s { ready_flag = flag }) (λ s. record { id = refl; role = refl; call_id = refl; own_tag = refl; linked = refl; gone = refl })
+      session-walks event Does Q law x sess (λ s. record s { ready_flag = flag }) (λ s. record { id = refl; role = refl; call_id = refl; own_tag = refl; linked = refl; gone = refl; state = follow-same s.role s.state })
 
   invalidates-walks : (config : Config) (sess : SessId) (working : Working)
       → Q (session_at working) (record { view = invalidated sess working.play.view; known = (invalidates config sess working).known })

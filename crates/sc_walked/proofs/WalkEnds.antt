@@ -1,5 +1,5 @@
 -- The end of a turn keeps each relation with the laws; and so a whole turn does.
-use Rattle.std.proofs.Common.{◌≡◌, ℕ, ◌++◌, Bool, true, false, Option, None, Some, List, [], ◌∷◌, refl}
+use Rattle.std.proofs.Common.{◌≡◌, ℕ, ◌++◌, Bool, true, false, Option, None, Some, List, [], ◌∷◌, refl, sym}
 use Rattle.std.specs.Prelude.{cond, ◌&&◌, ◌||◌, ◌==◌, not, map, drop, is_some, is_none, option_and_then}
 use Rattle.std.specs.List.{fold}
 use Rattle.sc_tokens.specs.Names.{same_bytes}
@@ -49,8 +49,8 @@ use Rattle.sc_hosts.specs.Sessions.{Turn}
 use Rattle.sc_hosts.specs.ViewChanges.{answered, answered_in, is_owed}
 use Rattle.sc_hosts.specs.Working.{next_branch, worked_all}
 use Rattle.sc_hosts.specs.Words.{too_many_hops}
-use Rattle.sc_walked.proofs.WalkParts.{if-is, moved, same-proxy, session-walks, sessions-walk, proxy-walks, tidy-walks, answered_in-walks, answered-walks, if-walks, if-view, fold-walks}
-use Rattle.sc_walked.proofs.WalkShown.{prepared-walks}
+use Rattle.sc_walked.proofs.WalkParts.{follow-ended, follow-initial, follow-same, if-is, moved, same-proxy, stays-on, session-walks, sessions-walk, proxy-walks, tidy-walks, answered_in-walks, answered-walks, if-walks, if-view, fold-walks}
+use Rattle.sc_walked.proofs.WalkShown.{append-none, prepared-walks}
 use Rattle.sc_walked.proofs.WalkCalls.{session_at, answering-known, worked_all-walks}
 use Rattle.sc_walked.specs.SessionWalks.{AreDone, IsMoved, IsSameProxy, SessionLaws}
 
@@ -58,28 +58,48 @@ over-moved : (known : Known) (req : ReqId) (original : SessId) (s : SessionView)
     → IsMoved s (closed_session known req original s)
 unfolding closed_session in_state
 over-moved known req original s =
-    if-is (IsMoved s) (is_over known req original s) (record s { state = Terminated }) s (record { id = refl; role = refl; call_id = refl; own_tag = refl; linked = refl; gone = refl }) (moved s)
+    if-is (IsMoved s) (is_over known req original s) (record s { state = Terminated }) s
+    (record { id = refl; role = refl; call_id = refl; own_tag = refl; linked = refl; gone = refl; state = follow-ended s.role s.state }) (moved s)
 
 on-moved : (proxy : Proxy) (response : Response) (s : SessionView) → IsMoved s (moved_on proxy response s)
 unfolding moved_on in_state
-on-moved proxy response s = if-is (IsMoved s) (is_some proxy.options) _ s (record { id = refl; role = refl; call_id = refl; own_tag = refl; linked = refl; gone = refl }) (moved s)
+on-moved proxy response s =
+    if-is (IsMoved s) (is_some proxy.options) _ s
+    (record { id = refl; role = refl; call_id = refl; own_tag = refl; linked = refl; gone = refl; state = follow-initial s.role proxy.request.method _ s.state response.code }) (moved s)
 
 tag-moved : (tag : _) (s : SessionView) → IsMoved s (subscribed_tag tag s)
 unfolding subscribed_tag
-tag-moved tag s = if-is (IsMoved s) (is_none s.peer_tag) (record s { peer_tag = tag }) s (record { id = refl; role = refl; call_id = refl; own_tag = refl; linked = refl; gone = refl }) (moved s)
+tag-moved tag s = if-is (IsMoved s) (is_none s.peer_tag) (record s { peer_tag = tag }) s
+    (record { id = refl; role = refl; call_id = refl; own_tag = refl; linked = refl; gone = refl; state = follow-same s.role s.state }) (moved s)
+
+unforwarded : (f : Option ℕ) (code : ℕ) → f ≡ None → is_some f ≡ true → Some code ≡ f
+unforwarded None code none is = cc
+unforwarded (Some n) code none is = cc
+
+forwarded-by : (code : ℕ) (proxy : Proxy) (final : Bool) (f : Option ℕ) → proxy.forwarded ≡ f
+    → IsSameProxy proxy (cond (final && is_none f) (record proxy { forwarded = Some code }) proxy)
+forwarded-by code proxy true None none = record {
+  req = refl;
+  sess = refl;
+  event = refl;
+  request = refl;
+  options = refl;
+  on = record { more = []; tried = sym (append-none proxy.tried); settled = λ is. is; forwarded = λ is. unforwarded proxy.forwarded code none is };
+}
+forwarded-by code proxy true (Some n) at = same-proxy proxy
+forwarded-by code proxy false f at = same-proxy proxy
 
 forwarded-same : (code : ℕ) (proxy : Proxy) → IsSameProxy proxy (with_forwarded code proxy)
 unfolding with_forwarded
-forwarded-same code proxy =
-    if-is (IsSameProxy proxy) (is_final code && is_none proxy.forwarded) (record proxy { forwarded = Some code }) proxy (record { req = refl; sess = refl; event = refl; request = refl; options = refl }) (same-proxy proxy)
+forwarded-same code proxy = forwarded-by code proxy (is_final code) proxy.forwarded refl
 
 rested-same : (proxy : Proxy) → IsSameProxy proxy (rested proxy)
 unfolding rested
-rested-same proxy = record { req = refl; sess = refl; event = refl; request = refl; options = refl }
+rested-same proxy = record { req = refl; sess = refl; event = refl; request = refl; options = refl; on = stays-on proxy (rested proxy) refl refl refl }
 
 module _ (event : Queued) (Does : Call → Type 0) (Q : Session → Session → Type 0) (law : SessionLaws event Does Q) where
   -- between two moments of a turn
-  abbrev Goes : Working → Working → Type 0
+  abbrev pub Goes : Working → Working → Type 0
   Goes x y = Q (session_at x) (session_at y)
 
   goes : (x y z : Working) → Goes x y → Goes y z → Goes x z
@@ -103,7 +123,7 @@ module _ (event : Queued) (Does : Call → Type 0) (Q : Session → Session → 
   unfolding without_left
   left-walks x draft = if-view event Does Q law draft.initial x (removed draft.sess x.view) x.view (law.removes x draft.sess) (law.same x)
 
-  drafts_ended-goes : (working : Working) → Goes working (drafts_ended working)
+  pub drafts_ended-goes : (working : Working) → Goes working (drafts_ended working)
   unfolding drafts_ended
   drafts_ended-goes working =
       let x : Session = session_at working in
@@ -124,7 +144,7 @@ module _ (event : Queued) (Does : Call → Type 0) (Q : Session → Session → 
       if-goes (is_owed request && not request.proxied) working after working
       (with-known (session_at working) _ _ (answering-known config (Some request) (bare_answer 500 server_error) working) (answered-walks event Does Q law (session_at working) (Some request) 500)) (stays working)
 
-  faulted-goes : (config : Config) (req : Option ReqId) (end : End) (working : Working)
+  pub faulted-goes : (config : Config) (req : Option ReqId) (end : End) (working : Working)
       → Goes working (faulted config req end working)
   unfolding faulted
   faulted-goes config req ends.Fine working = stays working
@@ -140,7 +160,7 @@ module _ (event : Queued) (Does : Call → Type 0) (Q : Session → Session → 
       let x : Session = session_at working in
       let y : Session = record x { view = drawn x.view } in
       let change : Proxy → Proxy = λ p. record p { branches = p.branches ++ new_branch proxy (next_branch working) working.play.view.now ∷ []; targets = drop 1 p.targets } in
-      law.after x y _ (law.counts x) (proxy-walks event Does Q law y proxy.req change (λ p. record { req = refl; sess = refl; event = refl; request = refl; options = refl }))
+      law.after x y _ (law.counts x) (proxy-walks event Does Q law y proxy.req change (λ p. record { req = refl; sess = refl; event = refl; request = refl; options = refl; on = stays-on p (change p) refl refl refl }))
 
   subscribed-walks : (proxy : Proxy) (sess : SessId) (response : Response) (x : Session)
       → Q x (record x { view = with_subscribed proxy sess response x.view })
@@ -214,7 +234,7 @@ module _ (event : Queued) (Does : Call → Type 0) (Q : Session → Session → 
   unfolding acts
   acts-goes config working proxy = if-goes (is_invalid working.known proxy.sess) working working (acted config proxy working) (stays working) (acted-goes config proxy working)
 
-  all_act-goes : (config : Config) (working : Working) → Goes working (all_act config working)
+  pub all_act-goes : (config : Config) (working : Working) → Goes working (all_act config working)
   unfolding all_act
   all_act-goes config working = fold-goes working.known.proxies (acts config) (acts-goes config) working
 

@@ -1,5 +1,5 @@
 -- What a turn shows keeps each relation with the laws.
-use Rattle.std.proofs.Common.{◌≡◌, ℕ, ◌+◌, ◌++◌, Bool, true, false, Option, None, Some, List, [], ◌∷◌, refl, ◌∙◌, ap}
+use Rattle.std.proofs.Common.{◌≡◌, ℕ, ◌+◌, ◌++◌, Bool, true, false, Option, None, Some, List, [], ◌∷◌, refl, sym, ◌∙◌, ap}
 use Rattle.std.specs.Prelude.{cond, ◌&&◌, not, is_none, is_some, length, map}
 use Rattle.std.specs.List.{find}
 use Rattle.std.specs.Option.{option_map_or}
@@ -45,14 +45,14 @@ use Rattle.sc_hosts.specs.PreparingResponses.{is_sent_on, noted_final, shown_aga
 use Rattle.sc_hosts.specs.Preparing.{kept_of, proxy_of, terminated, cancelled_proxy, cancelled_request, prepared_cancel, fired, prepared_timer, has_expired, prepared_expiry, timed_out, prepared_branch_timer, prepared_for, prepared}
 use Rattle.sc_hosts.specs.ViewChanges.{tidy, answered_in, with_answer as with_final}
 use Rattle.sc_hosts.specs.Words.{request_timeout}
-use Rattle.sc_walked.proofs.WalkParts.{each-same, if-is, moved, answer-same, same-request, same-leg, same-proxy, session-walks, sessions-walk, request-walks, leg-walks, proxy-walks, tidy-walks, answered_in-walks, answered-walks, if-walks}
-use Rattle.sc_walked.specs.SessionWalks.{Each, IsMoved, IsSameRequest, IsSameLeg, IsSameProxy, IsShownAgain, Brings, SessionLaws}
+use Rattle.sc_walked.proofs.WalkParts.{each-same, follow-ended, follow-same, if-is, moved, answer-same, same-request, same-leg, same-proxy, stays-on, session-walks, sessions-walk, request-walks, leg-walks, proxy-walks, tidy-walks, answered_in-walks, answered-walks, if-walks}
+use Rattle.sc_walked.specs.SessionWalks.{Each, IsMoved, IsSameRequest, IsSameLeg, IsSameProxy, HasGoneOn, IsShownAgain, Brings, SessionLaws}
 
 -- ## What a message makes of a SipSession, a request and a proxy leaves what it is
 
 state-moved : (s : SessionView) → IsMoved s (in_state Terminated s)
 unfolding in_state
-state-moved s = record { id = refl; role = refl; call_id = refl; own_tag = refl; linked = refl; gone = refl }
+state-moved s = record { id = refl; role = refl; call_id = refl; own_tag = refl; linked = refl; gone = refl; state = follow-ended s.role s.state }
 
 overtaken-moved : (known : Known) (req : ReqId) (sess : SessId) (s : SessionView)
     → IsMoved s (overtaken_session known req sess s)
@@ -74,7 +74,7 @@ overtaken_legs-same known req sess (session ∷ sessions) (leg ∷ legs) =
 
 success-same : (sess : SessId) (response : Response) (r : RequestView) → IsSameRequest r (with_success sess response r)
 unfolding with_success
-success-same sess response r = if-is (IsSameRequest r) _ _ r (record { id = refl; sess = refl; method = refl; received = refl; initial = refl }) (same-request r)
+success-same sess response r = if-is (IsSameRequest r) _ _ r (record { id = refl; sess = refl; method = refl; received = refl; initial = refl; proxied = refl }) (same-request r)
 
 pub request-leg : (request : Request) (leg : Leg) → IsSameLeg leg (with_request request leg)
 unfolding with_request in_dialog
@@ -91,30 +91,58 @@ answer-leg : (request : Request) (response : Response) (leg : Leg) → IsSameLeg
 unfolding with_answer
 answer-leg request response leg = answered-leg request (as_answer request response) leg
 
+pub append-none : {A : Type 0} (xs : List A) → xs ++ [] ≡ xs
+append-none [] = refl
+append-none (x ∷ xs) = ap (λ ys. x ∷ ys) (append-none xs)
+
+append-assoc : {A : Type 0} (xs ys zs : List A) → (xs ++ ys) ++ zs ≡ xs ++ (ys ++ zs)
+append-assoc [] ys zs = refl
+append-assoc (x ∷ xs) ys zs = ap (λ more. x ∷ more) (append-assoc xs ys zs)
+
+-- a proxied request goes on and on
+pub gone-then : (x y z : Proxy) → HasGoneOn x y → HasGoneOn y z → HasGoneOn x z
+gone-then x y z p q = record {
+  more = p.more ++ q.more;
+  tried = q.tried ∙ ap (λ us. us ++ q.more) p.tried ∙ append-assoc x.tried p.more q.more;
+  settled = λ is. q.settled (p.settled is);
+  forwarded = λ is. q.forwarded (ap (λ f. is_some f) (p.forwarded is) ∙ is) ∙ p.forwarded is;
+}
+
 pub stopped-same : (proxy : Proxy) → IsSameProxy proxy (stopped proxy)
 unfolding stopped
-stopped-same proxy = record { req = refl; sess = refl; event = refl; request = refl; options = refl }
+stopped-same proxy = record {
+  req = refl;
+  sess = refl;
+  event = refl;
+  request = refl;
+  options = refl;
+  on = record { more = []; tried = sym (append-none proxy.tried); settled = λ is. refl; forwarded = λ is. refl };
+}
 
 then-same : (x y z : Proxy) → IsSameProxy x y → IsSameProxy y z → IsSameProxy x z
-then-same x y z p q = record { req = q.req ∙ p.req; sess = q.sess ∙ p.sess; event = q.event ∙ p.event; request = q.request ∙ p.request; options = q.options ∙ p.options }
+then-same x y z p q = record { req = q.req ∙ p.req; sess = q.sess ∙ p.sess; event = q.event ∙ p.event; request = q.request ∙ p.request; options = q.options ∙ p.options; on = gone-then x y z p.on q.on }
 
 candidate-same : (response : Response) (proxy : Proxy) → IsSameProxy proxy (with_candidate response proxy)
 unfolding with_candidate
 candidate-same response proxy =
-    if-is (IsSameProxy proxy) _ proxy (record proxy { candidates = proxy.candidates ++ response ∷ [] }) (same-proxy proxy) (record { req = refl; sess = refl; event = refl; request = refl; options = refl })
+    if-is (IsSameProxy proxy) _ proxy (record proxy { candidates = proxy.candidates ++ response ∷ [] }) (same-proxy proxy)
+    (record { req = refl; sess = refl; event = refl; request = refl; options = refl; on = stays-on proxy (record proxy { candidates = proxy.candidates ++ response ∷ [] }) refl refl refl })
 
 ended-branch-same : (number code : ℕ) (proxy : Proxy) → IsSameProxy proxy (ended_branch number code proxy)
 unfolding ended_branch
-ended-branch-same number code proxy = record { req = refl; sess = refl; event = refl; request = refl; options = refl }
+ended-branch-same number code proxy =
+    record { req = refl; sess = refl; event = refl; request = refl; options = refl; on = stays-on proxy (ended_branch number code proxy) refl refl refl }
 
 pub targets-same : (uris : List Uri) (proxy : Proxy) → IsSameProxy proxy (with_targets uris proxy)
 unfolding with_targets
-targets-same uris proxy = record { req = refl; sess = refl; event = refl; request = refl; options = refl }
+targets-same uris proxy =
+    record { req = refl; sess = refl; event = refl; request = refl; options = refl; on = record { more = uris; tried = refl; settled = λ is. is; forwarded = λ is. refl } }
 
 passing-same : (sess : SessId) (response : Response) (proxy : Proxy)
     → IsSameProxy proxy (passing_on sess response proxy)
 unfolding passing_on
-passing-same sess response proxy = record { req = refl; sess = refl; event = refl; request = refl; options = refl }
+passing-same sess response proxy =
+    record { req = refl; sess = refl; event = refl; request = refl; options = refl; on = stays-on proxy (passing_on sess response proxy) refl refl refl }
 
 ended_by-same : (number : ℕ) (sess : SessId) (response : Response) (proxy : Proxy)
     → IsSameProxy proxy (ended_by number sess response proxy)
@@ -136,11 +164,13 @@ heard-same number sess response now proxy =
     if-is (IsSameProxy proxy) (not (option_map_or is_open (branch_in proxy number) false)) (after_end sess response proxy) (cond (is_final response.code) (ended_by number sess response proxy) (passing_on sess response (rung number now proxy)))
     (if-is (IsSameProxy proxy) (is_success response.code) (passing_on sess response (stopped proxy)) proxy (then-same proxy (stopped proxy) (passing_on sess response (stopped proxy)) (stopped-same proxy) (passing-same sess response (stopped proxy))) (same-proxy proxy))
     (if-is (IsSameProxy proxy) (is_final response.code) (ended_by number sess response proxy) (passing_on sess response (rung number now proxy)) (ended_by-same number sess response proxy)
-    (then-same proxy (rung number now proxy) (passing_on sess response (rung number now proxy)) (record { req = refl; sess = refl; event = refl; request = refl; options = refl }) (passing-same sess response (rung number now proxy))))
+    (then-same proxy (rung number now proxy) (passing_on sess response (rung number now proxy))
+    (record { req = refl; sess = refl; event = refl; request = refl; options = refl; on = stays-on proxy (rung number now proxy) refl refl refl }) (passing-same sess response (rung number now proxy))))
 
 cancel-same : (branch : ℕ) (proxy : Proxy) → IsSameProxy proxy (to_cancel branch proxy)
 unfolding to_cancel
-cancel-same branch proxy = record { req = refl; sess = refl; event = refl; request = refl; options = refl }
+cancel-same branch proxy =
+    record { req = refl; sess = refl; event = refl; request = refl; options = refl; on = stays-on proxy (to_cancel branch proxy) refl refl refl }
 
 brings-initial : (event : Queued) (region : Region) (subscriber : Bytes) (popped : Option Address) (request : Request) (x : Session)
     → event ≡ queued.Initial region subscriber popped request → Brings event x FIRST_SESSION true false request
@@ -211,7 +241,7 @@ module _ (event : Queued) (Does : Call → Type 0) (Q : Session → Session → 
   unfolding handled_in
   handled_in-walks x req sess original came (In at) is = law.same x
   handled_in-walks x req sess original came (Takes tag) is =
-      session-walks event Does Q law x original.id (λ s. record s { peer_tag = Some tag }) (λ s. record { id = refl; role = refl; call_id = refl; own_tag = refl; linked = refl; gone = refl })
+      session-walks event Does Q law x original.id (λ s. record s { peer_tag = Some tag }) (λ s. record { id = refl; role = refl; call_id = refl; own_tag = refl; linked = refl; gone = refl; state = follow-same s.role s.state })
   handled_in-walks x req sess original came (Derives tag) is = law.derives x req sess original came tag is
 
   if-pair : (b : Bool) (x : Session) (y z : SessId × Session) → Q x y.1 → Q x z.1 → Q x (cond b y z).1
@@ -298,7 +328,7 @@ module _ (event : Queued) (Does : Call → Type 0) (Q : Session → Session → 
   shown_again-is : (known now : Known) (test : Kept → Bool) (kept : Kept) (code : ℕ) → now.kept ≡ known.kept
       → find test known.kept ≡ Some kept → IsShownAgain now (shown_again known kept code)
   unfolding shown_again
-  shown_again-is known now test kept code same found = record { test = test; kept = kept; found = ap (find test) same ∙ found; id = refl; sess = refl; received = refl }
+  shown_again-is known now test kept code same found = record { test = test; kept = kept; found = ap (find test) same ∙ found; id = refl; sess = refl; received = refl; proxied = refl }
 
   prepared_own-walks : (x : Session) (test : Kept → Bool) (kept : Kept) (response : Response) (found : Option RequestView)
       → find test x.known.kept ≡ Some kept → Shows x (prepared_own x kept response found)
@@ -318,7 +348,7 @@ module _ (event : Queued) (Does : Call → Type 0) (Q : Session → Session → 
       let two : Session = record one { known = change_leg sess (with_answer proxy.request response) one.known } in
       let three : Session = record two { known = change_proxy proxy.req (heard branch sess response y.view.now) two.known } in
       let all = law.after x y three p
-      (law.after y one three (request-walks event Does Q law y proxy.req (λ r. record r { branches = r.branches + length (added_targets proxy response) }) (λ r. record { id = refl; sess = refl; method = refl; received = refl; initial = refl }))
+      (law.after y one three (request-walks event Does Q law y proxy.req (λ r. record r { branches = r.branches + length (added_targets proxy response) }) (λ r. record { id = refl; sess = refl; method = refl; received = refl; initial = refl; proxied = refl }))
       (law.after one two three (leg-walks event Does Q law one sess (with_answer proxy.request response) (answer-leg proxy.request response))
       (proxy-walks event Does Q law two proxy.req (heard branch sess response y.view.now) (heard-same branch sess response y.view.now)))) in
       if-shown _ x _ _ (showing_in-walks x three sess _ None [] all) (silent-walks x three [] all)

@@ -1,6 +1,6 @@
 -- Relations of what an application session was and what it is, which every change that a turn makes of
 -- it keeps.
-use Rattle.std.specs.Prelude.{◌≡◌, ℕ, ◌+◌, List, [], ◌∷◌, ◌++◌, Bool, true, false, Option, None, Some, length, filter}
+use Rattle.std.specs.Prelude.{◌≡◌, ℕ, ◌+◌, List, [], ◌∷◌, ◌++◌, Bool, true, false, Option, None, Some, is_some, length, filter}
 use Rattle.std.specs.List.{find}
 use Rattle.sc_value.specs.declared.ids.ReqId.{ReqId}
 use Rattle.sc_value.specs.declared.ids.SessId.{SessId}
@@ -11,7 +11,10 @@ use Rattle.sc_terms.specs.declared.calls.Call.TheVariants as calls
 use Rattle.sc_terms.specs.declared.calls.CallRecord.{CallRecord}
 use Rattle.sc_terms.specs.declared.calls.ProxyOptions.{ProxyOptions}
 use Rattle.sc_terms.specs.declared.views.RequestView.{RequestView}
+use Rattle.sc_terms.specs.declared.views.Role.{Role}
 use Rattle.sc_terms.specs.declared.views.SessionView.{SessionView}
+use Rattle.sc_terms.specs.declared.views.State.{State}
+use Rattle.sc_terms.specs.declared.views.State.TheVariants.{Initial, Early, Confirmed, Terminated}
 use Rattle.sc_terms.specs.declared.views.TimerView.{TimerView}
 use Rattle.sc_terms.specs.declared.views.View.{View}
 use Rattle.sc_value.specs.declared.parts.Field.{Field}
@@ -30,7 +33,7 @@ use Rattle.sc_hosts.specs.Acting.{sent_proxy}
 use Rattle.sc_hosts.specs.DerivedSessions.{derived_session, derived_leg}
 use Rattle.sc_hosts.specs.Effects.{after_listed, created_leg, proxied, sent_view}
 use Rattle.sc_hosts.specs.Legs.{FIRST_SESSION, leg_of, new_leg}
-use Rattle.sc_hosts.specs.Looking.{request_in, session_in, removed, unlinked}
+use Rattle.sc_hosts.specs.Looking.{is_uac, request_in, session_in, removed, unlinked}
 use Rattle.sc_hosts.specs.Preparing.{kept_of}
 use Rattle.sc_hosts.specs.PreparingRequests.{numbered, received}
 use Rattle.sc_hosts.specs.PreparingResponses.{with_request_again}
@@ -47,7 +50,24 @@ Each Same [] (y ∷ ys) = ⊥
 Each Same (x ∷ xs) [] = ⊥
 Each Same (x ∷ xs) (y ∷ ys) = Same x y × Each Same xs ys
 
--- another state, another tag of the peer, another flag, and nothing else
+-- a state that a SipSession of this role can have after this one (JSR 289 section 6.2.1): it goes onward, but that a UAC's
+-- begins again where its request failed
+unfoldable pub may_follow : Role → State → State → Bool
+may_follow role Initial next = true
+may_follow role Early Initial = is_uac role
+may_follow role Early Early = true
+may_follow role Early Confirmed = true
+may_follow role Early Terminated = true
+may_follow role Confirmed Initial = false
+may_follow role Confirmed Early = false
+may_follow role Confirmed Confirmed = true
+may_follow role Confirmed Terminated = true
+may_follow role Terminated Initial = false
+may_follow role Terminated Early = false
+may_follow role Terminated Confirmed = false
+may_follow role Terminated Terminated = true
+
+-- a state that may follow, another tag of the peer, another flag, and nothing else
 pub record IsMoved (before after : SessionView) : Type 0 where
   pub id : after.id ≡ before.id
   pub role : after.role ≡ before.role
@@ -55,18 +75,28 @@ pub record IsMoved (before after : SessionView) : Type 0 where
   pub own_tag : after.own_tag ≡ before.own_tag
   pub linked : after.linked ≡ before.linked
   pub gone : after.gone ≡ before.gone
+  pub state : may_follow before.role before.state after.state ≡ true
 
--- the request as it came or went, whatever came of it
+-- the request as it came or went, proxied or not, whatever came of it
 pub record IsSameRequest (before after : RequestView) : Type 0 where
   pub id : after.id ≡ before.id
   pub sess : after.sess ≡ before.sess
   pub method : after.method ≡ before.method
   pub received : after.received ≡ before.received
   pub initial : after.initial ≡ before.initial
+  pub proxied : after.proxied ≡ before.proxied
 
 -- what a leg has of the request that began it
 pub record IsSameLeg (before after : Leg) : Type 0 where
   pub caller : after.caller ≡ before.caller
+
+-- a proxied request has gone on: it has the targets that it had, and maybe more; where the search has ended it stays so; and
+-- the final response that was forwarded first is that
+pub record HasGoneOn (before after : Proxy) : Type 0 where
+  pub more : List Uri
+  pub tried : after.tried ≡ before.tried ++ more
+  pub settled : before.settled ≡ true → after.settled ≡ true
+  pub forwarded : is_some before.forwarded ≡ true → after.forwarded ≡ before.forwarded
 
 -- the same request is proxied, with the same options
 pub record IsSameProxy (before after : Proxy) : Type 0 where
@@ -75,6 +105,7 @@ pub record IsSameProxy (before after : Proxy) : Type 0 where
   pub event : after.event ≡ before.event
   pub request : after.request ≡ before.request
   pub options : after.options ≡ before.options
+  pub on : HasGoneOn before after
 
 -- ## How a request comes
 
@@ -94,6 +125,7 @@ pub record IsShownAgain (known : Known) (request : RequestView) : Type 0 where
   pub id : request.id ≡ kept.id
   pub sess : request.sess ≡ kept.sess
   pub received : request.received ≡ false
+  pub proxied : request.proxied ≡ false
 
 -- each call of a list that is accepted at its place is one of these
 unfoldable pub AreDone : (Call → Type 0) → Play → List CallRecord → Type 0

@@ -1,0 +1,9 @@
+pub mod Taken
+pub mod Carried
+pub mod Turned
+pub mod ShortCalls
+pub mod ShortEnds
+pub mod InTurn
+pub mod Given
+pub mod OneTurn
+pub mod OwnBranch

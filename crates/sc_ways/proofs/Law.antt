@@ -1,0 +1,126 @@
+-- The law of paths.
+use Rattle.std.proofs.Common.{◌≡◌, ℕ, ◌+◌, ◌++◌, true, Option, None, Some, List, [], ◌∷◌, refl, sym, ap, subst}
+use Rattle.std.proofs.lemmas.List.{reverse-append}
+use Rattle.std.specs.Prelude.{◌==◌, cond, is_some, length, not, reverse}
+use Rattle.std.specs.List.{filter_map, flat_map}
+use Rattle.std.specs.Option.{option_map_or}
+use Rattle.sc_value.specs.declared.ids.AppId.{AppId}
+use Rattle.sc_value.specs.declared.message.Head.{Head}
+use Rattle.sc_terms.specs.declared.calls.ProxyOptions.{ProxyOptions}
+use Rattle.sc_terms.specs.declared.steps.Step.{Step}
+use Rattle.sc_parts.specs.declared.setup.Setup.{Setup}
+use Rattle.sc_state.specs.declared.host.Server.{Server}
+use Rattle.sc_model.specs.Names.{IsOf64}
+use Rattle.sc_hosts.specs.Histories.{as_session}
+use Rattle.sc_hosts.specs.Runs.{IsLawful, chained, start}
+use Rattle.sc_lasting.specs.Lasting.{All, AreDirect, Directly}
+use Rattle.sc_lasting.proofs.Direct.{nothing-proxied}
+use Rattle.sc_lasting.proofs.Parts.{all-append, all-filter}
+use Rattle.sc_lived.proofs.Since.{session-holds}
+use Rattle.sc_paths.specs.LaterRequests.{Occurrence, carries, visits}
+use Rattle.sc_paths.specs.Moments.{Moment, given_in, moments, moments_from, proxied_with}
+use Rattle.sc_paths.specs.Pieces.{Dialog, Direction, From_caller, From_callee, IsPiece, Piece, ahead, along, answer_by, answers_of, end_of, heads_at_end, is_made, listed, received, recorders, sessions_of}
+use Rattle.sc_ways.specs.Ways.{AreInitial, AreSmallNames, HasOwnBranch, IsApart, IsPrefix, TakesNoProxy}
+use Rattle.sc_ways.proofs.Directs.{accepted-before, direct-takes}
+use Rattle.sc_ways.proofs.Prefix.{run-follows}
+use Rattle.sc_ways.proofs.Runs.{run-each, run-fine}
+
+-- ## Names of those ahead
+
+all-both : {A : Type 0} (P : A → Type 0) (xs ys : List A) → All P xs → All P ys → All P (xs ++ ys)
+unfolding All
+all-both P [] ys p q = q
+all-both P (x ∷ xs) ys p q = (p.0, all-both P xs ys p.1 q)
+
+front : {A : Type 0} (P : A → Type 0) (xs ys : List A) → All P (xs ++ ys) → All P xs
+unfolding All
+front P [] ys all = tt
+front P (x ∷ xs) ys all = (all.0, front P xs ys all.1)
+
+back : {A : Type 0} (P : A → Type 0) (xs ys : List A) → All P (xs ++ ys) → All P ys
+unfolding All
+back P [] ys all = all
+back P (x ∷ xs) ys all = back P xs ys all.1
+
+all-reverse : {A : Type 0} (P : A → Type 0) (xs : List A) → All P xs → All P (reverse xs)
+unfolding All
+all-reverse P [] all = tt
+all-reverse P (x ∷ xs) all = rw (reverse-append (x ∷ []) xs) (all-append P (reverse xs) x (all-reverse P xs all.1) all.0)
+
+all-ahead : (P : AppId → Type 0) (run : List Moment) (direction : Direction) (piece : Piece) → All P (sessions_of piece) → All P (ahead run direction piece)
+unfolding sessions_of ahead along end_of recorders
+all-ahead P run From_caller piece all =
+    all-both P _ (listed piece.callee) (all-filter P _ piece.proxies (back P (listed piece.caller) piece.proxies (front P (listed piece.caller ++ piece.proxies) (listed piece.callee) all)))
+    (back P (listed piece.caller ++ piece.proxies) (listed piece.callee) all)
+all-ahead P run From_callee piece all =
+    let first = front P (listed piece.caller ++ piece.proxies) (listed piece.callee) all in
+    all-both P _ (listed piece.caller) (all-reverse P _ (all-filter P _ piece.proxies (back P (listed piece.caller) piece.proxies first))) (front P (listed piece.caller) piece.proxies first)
+
+-- ## The end of the way
+
+no-heads : (heads : List Head) → heads ≡ [] → not (length heads == 0) ≡ true → ⊥
+no-heads heads is some = by heads is some
+  where
+    by : (heads : List Head) → heads ≡ [] → not (length heads == 0) ≡ true → ⊥
+    by [] is some = cc
+    by (head ∷ heads) is some = cc
+
+-- the session that answered it proxied nothing
+none-proxied : (found : Option ProxyOptions) (server : Option Server) (answers : Server → List Head) → not (length (option_map_or (λ (s : Server). cond (is_some found) [] (answers s)) server []) == 0) ≡ true → found ≡ None
+none-proxied None server answers some = refl
+none-proxied (Some how) None answers some = cc
+none-proxied (Some how) (Some server) answers some = cc
+
+at-callee : (heads : AppId → List Head) (found : Option AppId) (rest : List Head) (app : AppId) → found ≡ Some app → not (length (option_map_or heads found rest) == 0) ≡ true
+    → not (length (heads app) == 0) ≡ true
+at-callee heads None rest app is made = cc
+at-callee heads (Some a) rest app is made = subst (λ (x : AppId). not (length (heads x) == 0) ≡ true) (same a app is) made
+  where
+    same : (a b : AppId) → Some a ≡ Some b → a ≡ b
+    same a b is = cc
+
+answered-end : (setup : Setup) (run : List Moment) (dialog : Dialog) (piece : Piece) (app : AppId) → piece.callee ≡ Some app → is_made setup run dialog piece ≡ true → proxied_with run app ≡ None
+unfolding is_made heads_at_end answers_of
+answered-end setup run dialog piece app callee made =
+    none-proxied (proxied_with run app) (received run piece app) (λ server. flat_map (λ moment. filter_map (answer_by dialog server) (given_in setup moment)) run)
+    (at-callee (λ app. option_map_or (answers_of setup run dialog app) (received run piece app) []) piece.callee _ app callee made)
+
+module _ (setup : Setup) (epoch began : ℕ) (journal : List Step) (lawful : IsLawful as_session setup epoch began journal) (dialog : Dialog) (piece : Piece) where
+  abbrev Run : List Moment
+  Run = moments setup epoch began journal
+
+  -- who answered it takes no later request as a proxy
+  callee-ends : (app : AppId) → proxied_with Run app ≡ None → All (TakesNoProxy dialog.call_id app) Run
+  unfolding moments
+  callee-ends app none =
+      run-each setup epoch began journal lawful (TakesNoProxy dialog.call_id app)
+      (λ before step later is allowed. direct-takes dialog.call_id app _
+      (λ live lives. session-holds setup app Directly AreDirect (nothing-proxied setup.config) epoch began before live allowed lives
+      (accepted-before setup (start setup epoch began) before (step ∷ later) app (subst (λ (steps : List Step). proxied_with (moments_from setup (start setup epoch began) steps) app ≡ None) (sym is) none))))
+
+  -- who sent it first, where it proxied nothing, doesn't either
+  caller-ends : (app : AppId) (found : Option ProxyOptions) → proxied_with Run app ≡ found → (is_some (proxied_with Run app) ≡ true → All (TakesNoProxy dialog.call_id app) Run)
+      → All (TakesNoProxy dialog.call_id app) Run
+  caller-ends app None is apart = callee-ends app is
+  caller-ends app (Some how) is apart = apart (ap (λ (found : Option ProxyOptions). is_some found) is)
+
+  ends : (direction : Direction) → is_made setup Run dialog piece ≡ true → IsApart Run dialog piece → (app : AppId) → end_of direction piece ≡ Some app → All (TakesNoProxy dialog.call_id app) Run
+  unfolding end_of
+  ends From_caller made apart app is = callee-ends app (answered-end setup Run dialog piece app is made)
+  ends From_callee made apart app is = caller-ends app (proxied_with Run app) refl (apart app is)
+
+  run-prefix : (direction : Direction) (occurrence : Occurrence) → IsPiece setup epoch Run dialog piece → IsApart Run dialog piece → AreSmallNames setup epoch (chained as_session setup epoch began journal) piece → AreInitial setup Run → HasOwnBranch setup Run occurrence
+      → carries setup Run dialog direction piece occurrence ≡ true → IsPrefix (visits setup Run occurrence) (ahead Run direction piece)
+  unfolding moments
+  run-prefix direction occurrence is apart small initial own carried =
+      run-follows setup epoch small.within (start setup epoch began) journal dialog direction piece occurrence own carried (run-fine setup epoch began journal lawful small.hosts small.events initial)
+      (ends direction is.made apart) (all-ahead (λ (app : AppId). IsOf64 epoch app 0) Run direction piece small.sessions)
+
+-- what it visits is a beginning of those that stayed
+pub prefix : (setup : Setup) (epoch began : ℕ) (journal : List Step) (dialog : Dialog) (direction : Direction) (piece : Piece) (occurrence : Occurrence) → IsLawful as_session setup epoch began journal
+    → IsPiece setup epoch (moments setup epoch began journal) dialog piece → IsApart (moments setup epoch began journal) dialog piece
+    → AreSmallNames setup epoch (chained as_session setup epoch began journal) piece → AreInitial setup (moments setup epoch began journal) → HasOwnBranch setup (moments setup epoch began journal) occurrence
+    → carries setup (moments setup epoch began journal) dialog direction piece occurrence ≡ true
+    → IsPrefix (visits setup (moments setup epoch began journal) occurrence) (ahead (moments setup epoch began journal) direction piece)
+prefix setup epoch began journal dialog direction piece occurrence lawful is apart small initial own carried =
+    run-prefix setup epoch began journal lawful dialog piece direction occurrence is apart small initial own carried

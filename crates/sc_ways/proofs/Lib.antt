@@ -1,0 +1,13 @@
+pub mod Epochs
+pub mod Waits
+pub mod Popping
+pub mod Got
+pub mod OneHop
+pub mod Follows
+pub mod Outside
+pub mod Runs
+pub mod Directs
+pub mod Prefix
+pub mod Law
+pub mod Sending
+pub mod Counts

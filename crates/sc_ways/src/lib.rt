@@ -1,0 +1,6 @@
+//! Which application sessions a later request of a dialog visits, as laws.
+#![tactic(auto)]
+
+mod laws;
+
+pub use laws::later_requests_keep_to_the_way;
