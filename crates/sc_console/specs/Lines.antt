@@ -1,0 +1,27 @@
+-- What a line of the console asks for: `list`, or `drop H S` with decimals as in scripts.
+use Rattle.std.specs.Prelude.{ℕ, ◌^◌, Option, None, Some, codes, if◌then◌else◌}
+use Rattle.sc_tokens.specs.Bytes.{Bytes}
+use Rattle.sc_tokens.specs.Cuts.{before, after}
+use Rattle.sc_tokens.specs.Names.{same_bytes}
+use Rattle.sc_script.specs.ScriptTexts.{decimal_upto, MOST_COUNT}
+use Rattle.sc_console.specs.declared.asked.Asked.{Asked}
+use Rattle.sc_console.specs.declared.asked.Asked.TheVariants as asks
+
+-- the session of this host and serial, where both are numbers of their ranges
+unfoldable pub named : Option ℕ → Option ℕ → Asked
+named (Some host) (Some serial) = asks.Drop (record { host = host; serial = serial })
+named host serial = asks.Nothing
+
+unfoldable pub session_of : Bytes → Option Bytes → Asked
+session_of host None = asks.Nothing
+session_of host (Some serial) = named (decimal_upto 4294967295 host) (decimal_upto MOST_COUNT serial)
+
+-- `H S`
+unfoldable pub session_in : Option Bytes → Asked
+session_in None = asks.Nothing
+session_in (Some text) = session_of (before 32 text) (after 32 text)
+
+unfoldable pub asked_of : Bytes → Asked
+asked_of line =
+    if same_bytes line (codes "list") then asks.List
+    else (if same_bytes (before 32 line) (codes "drop") then session_in (after 32 line) else asks.Nothing)

@@ -1,0 +1,2 @@
+pub mod DeskRules
+pub mod Desks
