@@ -2,10 +2,9 @@
 
 ghost use Rattle.sc_hosts.specs.Runs.{HasVia};
 
-use crate::labels::told_message;
-use crate::story::{Stop, Story, Told};
 use crate::streams::{Pending, clear, open_stream};
 use crate::telling::{tell_bad, tell_bytes, tell_long, tell_lost, tell_message, tell_sent};
+use sc_ladder::{Stop, Story, Told, told_message};
 use sc_stream::{Heard, Stream};
 use sc_switch::{StepRefused, Switch};
 use sc_terms::Bad;

@@ -1,10 +1,10 @@
 //! The steps of the lines of a script.
 
 use crate::hearing::{hear_text, lose_place};
-use crate::story::{Stop, Story};
 use crate::streams::{Pending, empty_stream};
 use crate::telling::{tell_sent, tell_tick, tell_withdrawn};
 use crate::turns::{take_turn_of, take_turns};
+use sc_ladder::{Stop, Story};
 use sc_servlets::Catalogue;
 use sc_switch::{StepRefused, Switch};
 use sc_terms::Line;

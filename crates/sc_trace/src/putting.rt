@@ -1,14 +1,14 @@
 //! Putting the picture of a run.
 
-use crate::columns::{Column, columns_of};
-use crate::drawing::{header, line_of};
-use crate::story::{Mark, Row, Story};
 use crate::telling::write_living;
 use sc_edge::{Sink, put_all};
+use sc_ladder::{
+    Form, Pen, Picture, Row, Story, beginning, ending, pen_after, picture_of, row_text,
+};
 use sc_replay::Status;
 use sc_script::write_end;
 use sc_switch::Switch;
-use sc_value::{List, NoMemory, Text};
+use sc_value::{NoMemory, Text};
 use std::alloc::Global;
 
 /// Why the picture isn't whole.
@@ -32,38 +32,37 @@ pub fn status_of(cause: Unput) -> Status {
     }
 }
 
-/// Puts the picture of all rows.
-pub fn put_rows<K: Sink>(alloc: Global, story: &Story, out: &mut K) -> Result<(), Unput> {
-    if story.rows.is_empty() {
-        return Ok(());
-    }
-    let columns = columns_of(alloc, story.names.as_slice(), story.rows.as_slice())?;
-    put_text(&header(alloc, columns.as_slice())?, out)?;
-    put_lines(alloc, columns.as_slice(), story.rows.as_slice(), out)
+/// Puts the picture of a story in this form, with the lines of `closing` below it.
+pub fn put_story<K: Sink>(
+    alloc: Global,
+    form: Form,
+    story: &Story,
+    closing: &Text,
+    out: &mut K,
+) -> Result<(), Unput> {
+    let picture = picture_of(alloc, form, story, closing.as_bytes())?;
+    put_text(&beginning(alloc, &picture)?, out)?;
+    put_rows(alloc, &picture, story.rows.as_slice(), out)?;
+    put_text(&ending(alloc, &picture, closing.as_bytes())?, out)
 }
 
-fn put_lines<K: Sink>(
+fn put_rows<K: Sink>(
     alloc: Global,
-    columns: &[Column],
+    picture: &Picture,
     rows: &[Row],
     out: &mut K,
 ) -> Result<(), Unput> {
-    let mut last = None;
-    for row in rows {
-        let line = line_of(alloc, columns, last, row)?;
-        put_text(&line, out)?;
-        last = Some(row.moment);
+    let mut pen = Pen::new();
+    for at in 0..rows.len() {
+        let text = row_text(alloc, picture, pen, &rows[at..])?;
+        put_text(&text, out)?;
+        pen = pen_after(pen, &rows[at]);
     }
     Ok(())
 }
 
-/// Puts the sessions that live, and the last line of `replay`.
-pub fn put_end<K: Sink>(
-    alloc: Global,
-    switch: &Switch,
-    story: &Story,
-    out: &mut K,
-) -> Result<(), Unput> {
+/// The lines below the picture: the sessions that live, and the last line of `replay`.
+pub fn closing_of(alloc: Global, switch: &Switch, story: &Story) -> Result<Text, NoMemory> {
     let listing = switch.listing(alloc)?;
     let mut text = Text::new(alloc);
     write_living(&listing.live, story.names.as_slice(), &mut text)?;
@@ -74,7 +73,7 @@ pub fn put_end<K: Sink>(
         switch.live(),
         &mut text,
     )?;
-    put_text(&text, out)
+    Ok(text)
 }
 
 fn put_text<K: Sink>(text: &Text, out: &mut K) -> Result<(), Unput> {

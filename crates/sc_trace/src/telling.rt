@@ -1,10 +1,9 @@
 //! The rows of what a step did.
 
-use crate::calls::write_record;
-use crate::events::{told_event, write_event};
-use crate::labels::write_message;
-use crate::places::{write_place, write_session};
-use crate::story::{Mark, Row, Stop, Story, Told, add_coming, add_row, show_to};
+use sc_ladder::{
+    Mark, Row, Stop, Story, Told, add_coming, add_row, show_to, told_event, write_event,
+    write_message, write_place, write_record, write_session,
+};
 use sc_servlets::Done;
 use sc_switch::Switch;
 use sc_terms::{CallRecord, End};
@@ -124,19 +123,20 @@ pub fn tell_turn(alloc: Global, now: u64, done: &Done, story: &mut Story) -> Res
         text.append(b": fault")?;
     }
     add_row(now, Mark::Turn(Stop::App(app.host)), text, story)?;
-    tell_calls(alloc, now, done.calls.as_slice(), story)
+    tell_calls(alloc, now, app.host, done.calls.as_slice(), story)
 }
 
 fn tell_calls(
     alloc: Global,
     now: u64,
+    host: u32,
     calls: &[CallRecord],
     story: &mut Story,
 ) -> Result<(), NoMemory> {
     for call in calls {
         let mut text = Text::from_slice(alloc, b"  ")?;
         write_record(call, &mut text)?;
-        add_row(now, Mark::Blank, text, story)?;
+        add_row(now, Mark::Call(Stop::App(host)), text, story)?;
     }
     Ok(())
 }

@@ -5,10 +5,10 @@ ghost use Rattle.sc_servlets.specs.Stated.{both_charters};
 ghost use Rattle.sc_model.specs.Settings.{IsSetup};
 
 use crate::lines::follow;
-use crate::putting::{put_end, put_rows, status_of};
+use crate::putting::{closing_of, put_story, status_of};
 use crate::reading::read_script;
-use crate::story::Story;
 use sc_edge::{Shelf, Sink};
+use sc_ladder::{Form, Story};
 use sc_replay::{Settings, Status, read_settings};
 use sc_servlets::Catalogue;
 use sc_switch::{StepRefused, Switch};
@@ -17,8 +17,9 @@ use sc_value::{CloneIn, List, NoMemory, Text};
 use std::alloc::Global;
 
 /// Runs a script as `replay` does, and puts what happened as a ladder diagram in place of the records. The
-/// words are `trace CONFIG DAR SCRIPT`. The status is that of `replay` for the same words behind the first:
-/// the same order of reading, the same refusals. At `JournalFull` the picture is put without the last line.
+/// words are `trace CONFIG DAR SCRIPT`, or `trace --svg CONFIG DAR SCRIPT` for a drawing. The status is that
+/// of `replay` for the last three words: the same order of reading, the same refusals. At `JournalFull` the
+/// picture is put without the last lines.
 pub fn trace<F: Shelf, K: Sink>(
     alloc: Global,
     words: &[String],
@@ -26,17 +27,19 @@ pub fn trace<F: Shelf, K: Sink>(
     apps: &Catalogue,
     out: &mut K,
 ) -> Status {
-    let [word, config, dar, script] = words else {
-        return Status::Usage;
-    };
-    if word.as_str() != "trace" {
-        return Status::Usage;
+    match words {
+        [word, config, dar, script] if word.as_str() == "trace" => {
+            trace_texts(alloc, Form::Text, config, dar, script, shelf, apps, out)
+        }
+        [word, flag, config, dar, script] if word.as_str() == "trace" && flag.as_str() == "--svg" =>
+            { trace_texts(alloc, Form::Svg, config, dar, script, shelf, apps, out) }
+        _ => Status::Usage,
     }
-    trace_texts(alloc, config, dar, script, shelf, apps, out)
 }
 
 fn trace_texts<F: Shelf, K: Sink>(
     alloc: Global,
+    form: Form,
     config: &String,
     dar: &String,
     script: &String,
@@ -45,7 +48,7 @@ fn trace_texts<F: Shelf, K: Sink>(
     out: &mut K,
 ) -> Status {
     match read_settings(alloc, config, dar, shelf, apps.names()) {
-        Ok(settings) => trace_over(alloc, settings, script, shelf, apps, out),
+        Ok(settings) => trace_over(alloc, form, settings, script, shelf, apps, out),
         Err(status) => status,
     }
 }
@@ -53,6 +56,7 @@ fn trace_texts<F: Shelf, K: Sink>(
 /// Runs the script of this name with these settings.
 fn trace_over<F: Shelf, K: Sink>(
     alloc: Global,
+    form: Form,
     settings: Settings,
     script: &String,
     shelf: &mut F,
@@ -64,7 +68,7 @@ fn trace_over<F: Shelf, K: Sink>(
     let names = names_of(alloc, settings.config.app.as_slice());
     let Settings { config, dar } = settings;
     match Switch::new(alloc, config, dar, apps) {
-        Ok(switch) => trace_named(alloc, switch, names, script, shelf, apps, out),
+        Ok(switch) => trace_named(alloc, form, switch, names, script, shelf, apps, out),
         Err(NoMemory) => {
             let _ = names;
             Status::NoMemory
@@ -83,6 +87,7 @@ fn names_of(alloc: Global, apps: &[AppEntry]) -> Result<List<Text>, NoMemory> {
 
 fn trace_named<F: Shelf, K: Sink>(
     alloc: Global,
+    form: Form,
     mut switch: Switch,
     names: Result<List<Text>, NoMemory>,
     script: &String,
@@ -91,7 +96,7 @@ fn trace_named<F: Shelf, K: Sink>(
     out: &mut K,
 ) -> Status {
     match names {
-        Ok(names) => trace_on(alloc, &mut switch, names, script, shelf, apps, out),
+        Ok(names) => trace_on(alloc, form, &mut switch, names, script, shelf, apps, out),
         Err(NoMemory) => Status::NoMemory,
     }
 }
@@ -99,6 +104,7 @@ fn trace_named<F: Shelf, K: Sink>(
 /// Runs the script of this name on a switch that took no step.
 fn trace_on<F: Shelf, K: Sink>(
     alloc: Global,
+    form: Form,
     switch: &mut Switch,
     names: List<Text>,
     script: &String,
@@ -113,7 +119,7 @@ fn trace_on<F: Shelf, K: Sink>(
                 rows: List::new(alloc),
                 sent: 0,
             };
-            trace_lines(alloc, switch, lines.as_slice(), &mut story, apps, out)
+            trace_lines(alloc, form, switch, lines.as_slice(), &mut story, apps, out)
         }
         Err(status) => status,
     }
@@ -121,6 +127,7 @@ fn trace_on<F: Shelf, K: Sink>(
 
 fn trace_lines<K: Sink>(
     alloc: Global,
+    form: Form,
     switch: &mut Switch,
     lines: &[Line],
     story: &mut Story,
@@ -128,29 +135,41 @@ fn trace_lines<K: Sink>(
     out: &mut K,
 ) -> Status {
     match follow(alloc, apps, lines, switch, story) {
-        Ok(()) => put_whole(alloc, switch, story, out),
-        Err(StepRefused::JournalFull { .. }) => put_cut(alloc, story, out),
+        Ok(()) => put_whole(alloc, form, switch, story, out),
+        Err(StepRefused::JournalFull { .. }) => put_cut(alloc, form, story, out),
         Err(StepRefused::NoMemory) => Status::NoMemory,
     }
 }
 
-fn put_whole<K: Sink>(alloc: Global, switch: &Switch, story: &Story, out: &mut K) -> Status {
-    match put_rows(alloc, story, out) {
-        Ok(()) => put_last(alloc, switch, story, out),
-        Err(cause) => status_of(cause),
+fn put_whole<K: Sink>(
+    alloc: Global,
+    form: Form,
+    switch: &Switch,
+    story: &Story,
+    out: &mut K,
+) -> Status {
+    match closing_of(alloc, switch, story) {
+        Ok(closing) => put_closed(alloc, form, story, &closing, out),
+        Err(NoMemory) => Status::NoMemory,
     }
 }
 
-fn put_last<K: Sink>(alloc: Global, switch: &Switch, story: &Story, out: &mut K) -> Status {
-    match put_end(alloc, switch, story, out) {
+fn put_closed<K: Sink>(
+    alloc: Global,
+    form: Form,
+    story: &Story,
+    closing: &Text,
+    out: &mut K,
+) -> Status {
+    match put_story(alloc, form, story, closing, out) {
         Ok(()) => Status::Done,
         Err(cause) => status_of(cause),
     }
 }
 
 /// Puts the picture of a run that found no room in the journal.
-fn put_cut<K: Sink>(alloc: Global, story: &Story, out: &mut K) -> Status {
-    match put_rows(alloc, story, out) {
+fn put_cut<K: Sink>(alloc: Global, form: Form, story: &Story, out: &mut K) -> Status {
+    match put_story(alloc, form, story, &Text::new(alloc), out) {
         Ok(()) => Status::JournalFull,
         Err(cause) => cut_status(status_of(cause)),
     }

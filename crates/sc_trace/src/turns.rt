@@ -1,7 +1,7 @@
 //! The turns of a run.
 
-use crate::story::{Stop, Story};
 use crate::telling::{tell_idle, tell_sent, tell_shown, tell_turn};
+use sc_ladder::{Stop, Story};
 use sc_servlets::{Catalogue, Done, Lease};
 use sc_switch::{CommitRefused, StepRefused, Switch};
 use sc_terms::End;

@@ -1,24 +1,86 @@
 //! The command `serve` over sockets.
 
-use sc_edge::{FileShelf, ListOrders, NoNotice, OpenGate};
+use crate::operating::operate;
+use sc_console::Operator;
+use sc_desk::{Desk, DeskOrders};
+use sc_edge::{FileShelf, Notice, OpenGate, Orders};
+use sc_journal::Journal;
 use sc_limit::{Stream, fitting, room_of};
 use sc_replay::Status;
 use sc_serve::{listening_at, serve};
 use sc_servlets::Catalogue;
 use sc_sockets::{MioEdge, WallClock};
-use sc_value::{List, NoMemory, Text, write_u64};
+use sc_terms::Step;
+use sc_value::{NoMemory, Text, write_u64};
+use sc_watch::{Watch, WatchNotice};
 use std::io::Write;
-use std::sync::Wait;
-use std::thread::Threads;
+use std::sync::{Arc, Wait};
+use std::thread::{self, Threads};
 
-/// Serves the connections of the address that the settings name. Standard error has a line once it listens. Where
-/// the system's clock can't be read, or the address can't be listened at, the status is `Edge`.
-/// `threads` is the runtime as that by which a call may begin threads and wait for ever.
-pub fn serve_connections<W: Threads + Wait + Sync>(
+/// So many orders wait at most until a server takes them.
+const ROOM: usize = 64;
+
+/// Serves the connections of the address that the settings name, and answers the lines of standard input beside it.
+/// Standard error has a line once it listens. Where the system's clock can't be read, or the address can't be
+/// listened at, the status is `Edge`. `threads` is the runtime as that by which a call may begin threads and wait
+/// for ever.
+pub fn serve_connections<W: Threads + Wait + Copy + Send + Sync + 'static>(
     rt: &HostRuntime,
     threads: &W,
     words: &[String],
     shelf: &mut FileShelf<HostRuntime>,
+    apps: &Catalogue,
+) -> Status {
+    serve_watched(rt, threads, words, shelf, apps).unwrap_or(Status::NoMemory)
+}
+
+/// Serves with an order desk, and with a watch that the console reads.
+fn serve_watched<W: Threads + Wait + Copy + Send + Sync + 'static>(
+    rt: &HostRuntime,
+    threads: &W,
+    words: &[String],
+    shelf: &mut FileShelf<HostRuntime>,
+    apps: &Catalogue,
+) -> Result<Status, NoMemory> {
+    let alloc = rt.alloc();
+    let (desk, mut taker) = Desk::new(alloc, ROOM)?;
+    let poster = desk.split(&mut taker)?;
+    let desk = Arc::new(alloc, desk)?;
+    let theirs = Arc::try_clone(&desk)?;
+    let (watch, mut readings) = Watch::new(threads, alloc, 1)?;
+    let operator = readings
+        .items
+        .pop()
+        .map(|reading| Operator::new(theirs, poster, reading));
+    let mut orders = DeskOrders::new(threads, &*desk, taker);
+    let mut notice = WatchNotice::new(threads, watch);
+    let status = serve_edge(
+        rt,
+        threads,
+        words,
+        shelf,
+        operator,
+        &mut orders,
+        &mut notice,
+        apps,
+    );
+    notice.into_watch().end(threads);
+    Ok(status)
+}
+
+/// Serves the connections of the address that the settings name. The console begins once it listens.
+fn serve_edge<
+    W: Threads + Wait + Copy + Send + Sync + 'static,
+    O: Orders,
+    N: Notice<Journal<Step>>,
+>(
+    rt: &HostRuntime,
+    threads: &W,
+    words: &[String],
+    shelf: &mut FileShelf<HostRuntime>,
+    operator: Option<Operator>,
+    orders: &mut O,
+    notice: &mut N,
     apps: &Catalogue,
 ) -> Status {
     let alloc = rt.alloc();
@@ -32,26 +94,32 @@ pub fn serve_connections<W: Threads + Wait + Sync>(
         }
         None => MioEdge::deaf(rt, alloc),
     };
-    tell_listening(rt, &edge);
-    let mut orders = ListOrders::new(List::new(alloc));
-    let mut notice = NoNotice;
+    if tell_listening(rt, &edge) {
+        begin_console(rt, threads, operator);
+    }
     serve(
-        threads,
-        alloc,
-        words,
-        shelf,
-        &mut edge,
-        &OpenGate,
-        &mut clock,
-        &mut orders,
-        &mut notice,
-        apps,
+        threads, alloc, words, shelf, &mut edge, &OpenGate, &mut clock, orders, notice, apps,
     )
     .status
 }
 
-/// Writes the line that says where the program listens, as far as there is room for it on standard error.
-fn tell_listening(rt: &HostRuntime, edge: &MioEdge<HostRuntime>) {
+/// Begins the thread of the console, which isn't waited for: it ends with standard input, or with the program. Where
+/// no thread can be made there is no console.
+fn begin_console<W: Threads + Wait + Copy + Send + 'static>(
+    rt: &HostRuntime,
+    threads: &W,
+    operator: Option<Operator>,
+) {
+    if let Some(mut operator) = operator {
+        let host = *rt;
+        let wait = *threads;
+        let _ = thread::spawn(threads, move || operate(&host, &wait, &mut operator));
+    }
+}
+
+/// Writes the line that says where the program listens, as far as there is room for it on standard error. Whether it
+/// listens.
+fn tell_listening(rt: &HostRuntime, edge: &MioEdge<HostRuntime>) -> bool {
     if let Ok(at) = edge.local_address() {
         let ip = at.0;
         let mut line = Text::new(rt.alloc());
@@ -59,7 +127,9 @@ fn tell_listening(rt: &HostRuntime, edge: &MioEdge<HostRuntime>) {
             let room = room_of(rt, Stream::Errors);
             let _ = rt.stderr().write_all(fitting(room, line.as_bytes()));
         }
+        return true;
     }
+    false
 }
 
 /// Appends `sipd: listening A.B.C.D:PORT` and a line feed.

@@ -6,11 +6,11 @@ pub const HELP: &str = "\
 sipd, a SIP Servlet container (JSR 289, RFC 3261)
 
 usage: sipd replay CONFIG DAR SCRIPT
-       sipd check CONFIG DAR
+       sipd check [-v] CONFIG DAR
        sipd make N
        sipd trial N
        sipd serve CONFIG DAR
-       sipd trace CONFIG DAR SCRIPT
+       sipd trace [--svg] CONFIG DAR SCRIPT
        sipd explain WHAT NUMBER
        sipd --help
        sipd --version
@@ -23,12 +23,16 @@ application sessions live on.
 
 trace runs a script as replay does, and writes a picture of the run in place
 of the records: a column for each place and application, an arrow for each
-message from outside or to it, and a row for each turn and call.
+message from outside or to it, and a row for each turn and call. With --svg the
+picture is an SVG file for a browser.
 
 check reads a configuration and a routing table, and writes `ok A T`: how many
-applications and how many tuples they have. make writes a script of N calls, N
-from 1 to 1000. trial runs that script with settings of its own, and writes
-`trial N steps S sent M live L`, with the counts of `end`.
+applications and how many tuples they have. With -v a line `warning: ..` follows
+for each thing that is accepted and can't work, as a fork without a target.
+
+make writes a script of N calls, N from 1 to 1000. trial runs that script with
+settings of its own, and writes `trial N steps S sent M live L`, with the counts
+of `end`.
 
 serve listens at the address of the configuration for SIP over TCP. Standard
 error has the line `sipd: listening A.B.C.D:PORT` once it does.

@@ -1,6 +1,7 @@
 //! The kinds of applications that the program has.
 
 use crate::connections::serve_connections;
+use crate::warning::check_and_warn;
 use sc_apps::ExtendsOnce;
 use sc_edge::FileShelf;
 use sc_kinds::BuiltIn;
@@ -15,15 +16,17 @@ use std::thread::Threads;
 /// What is run with all kinds.
 #[derive(Clone, Copy)]
 pub enum Job {
-    /// `trace CONFIG DAR SCRIPT`
+    /// `trace`, of either form.
     Trace,
+    /// `check -v`.
+    Warn,
     /// A command of the container.
     Run(Command),
 }
 
 /// Does a job over files, standard output and sockets with all kinds, each under the name by which a
 /// configuration asks for it. Words of another form are left to `replay`, which refuses them.
-pub fn run_with_kinds<W: Threads + Wait + Sync>(
+pub fn run_with_kinds<W: Threads + Wait + Copy + Send + Sync + 'static>(
     rt: &HostRuntime,
     threads: &W,
     words: &[String],
@@ -47,7 +50,7 @@ pub fn run_with_kinds<W: Threads + Wait + Sync>(
     Ok(run_with(rt, threads, words, job, &apps))
 }
 
-fn run_with<W: Threads + Wait + Sync>(
+fn run_with<W: Threads + Wait + Copy + Send + Sync + 'static>(
     rt: &HostRuntime,
     threads: &W,
     words: &[String],
@@ -59,6 +62,7 @@ fn run_with<W: Threads + Wait + Sync>(
     let mut shelf = FileShelf::new(rt, alloc);
     match job {
         Job::Trace => trace(alloc, words, &mut shelf, apps, &mut out),
+        Job::Warn => check_and_warn(alloc, words, &mut shelf, apps, &mut out),
         Job::Run(Command::Check) => check(alloc, words, &mut shelf, apps, &mut out).status,
         Job::Run(Command::Trial) => trial(alloc, words, apps, &mut out).status,
         Job::Run(Command::Serve) => serve_connections(rt, threads, words, &mut shelf, apps),

@@ -6,6 +6,8 @@ mod endings;
 mod explaining;
 mod help;
 mod kinds;
+mod operating;
+mod warning;
 
 use endings::{exit_status, write_line};
 use explaining::explanation;
@@ -40,7 +42,11 @@ fn words_of(rt: &HostRuntime) -> io::Result<Vec<String>> {
 }
 
 /// Does what the words ask for.
-fn run<W: Threads + Wait + Sync>(rt: &HostRuntime, threads: &W, words: &[String]) -> Status {
+fn run<W: Threads + Wait + Copy + Send + Sync + 'static>(
+    rt: &HostRuntime,
+    threads: &W,
+    words: &[String],
+) -> Status {
     match words {
         [word] if word.as_str() == "--help" => put(rt, help::HELP),
         [word] if word.as_str() == "--version" => put(rt, help::VERSION),
@@ -49,7 +55,10 @@ fn run<W: Threads + Wait + Sync>(rt: &HostRuntime, threads: &W, words: &[String]
             topic.as_str(),
             number.as_str(),
         ),
-        [word, _, _, _] if word.as_str() == "trace" => run_job(rt, threads, words, Job::Trace),
+        [word, ..] if word.as_str() == "trace" => run_job(rt, threads, words, Job::Trace),
+        [word, flag, _, _] if word.as_str() == "check" && flag.as_str() == "-v" => {
+            run_job(rt, threads, words, Job::Warn)
+        }
         _ => run_command(rt, threads, words),
     }
 }
@@ -71,7 +80,7 @@ fn put(rt: &HostRuntime, text: &str) -> Status {
 }
 
 /// Runs the command that the words are.
-fn run_command<W: Threads + Wait + Sync>(
+fn run_command<W: Threads + Wait + Copy + Send + Sync + 'static>(
     rt: &HostRuntime,
     threads: &W,
     words: &[String],
@@ -83,7 +92,7 @@ fn run_command<W: Threads + Wait + Sync>(
 }
 
 /// Does a job with all kinds of applications.
-fn run_job<W: Threads + Wait + Sync>(
+fn run_job<W: Threads + Wait + Copy + Send + Sync + 'static>(
     rt: &HostRuntime,
     threads: &W,
     words: &[String],

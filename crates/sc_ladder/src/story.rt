@@ -20,6 +20,8 @@ pub enum Mark {
     Arrow { from: Stop, to: Stop },
     /// A turn.
     Turn(Stop),
+    /// A call of the turn above.
+    Call(Stop),
     /// An end from outside.
     Cut(Stop),
 }

@@ -1,6 +1,6 @@
-//! The lines of a picture.
+//! The lines of a picture in text.
 
-use crate::columns::{Column, column_of, place_of, width};
+use crate::columns::{Column, Spot, column_of, place_of, width};
 use crate::places::write_place;
 use crate::story::{Mark, Row, Stop};
 use sc_value::{NoMemory, Place, Text, write_u64};
@@ -24,7 +24,7 @@ enum Drawn {
 pub fn header(alloc: Global, columns: &[Column]) -> Result<Text, NoMemory> {
     let mut line = Text::from_slice(alloc, b"     ms")?;
     for column in columns {
-        pad(column.at, &mut line)?;
+        pad(column.spot.at, &mut line)?;
         append_plain(column.name.as_bytes(), &mut line)?;
     }
     ended(alloc, &line)
@@ -41,9 +41,14 @@ pub fn line_of(
     write_moment(alloc, last, row.moment, &mut line)?;
     draw(columns, row.mark, &mut line)?;
     line.append(b"  ")?;
-    write_missing(row.mark, columns, &mut line)?;
-    append_plain(row.text.as_bytes(), &mut line)?;
+    write_label(row, columns, &mut line)?;
     ended(alloc, &line)
+}
+
+/// Appends what a row says: the outside place that isn't drawn, and the row's text.
+pub fn write_label(row: &Row, columns: &[Column], line: &mut Text) -> Result<(), NoMemory> {
+    write_missing(row.mark, columns, line)?;
+    append_plain(row.text.as_bytes(), line)
 }
 
 /// Appends the moment where it is another than that of the row before.
@@ -81,7 +86,7 @@ fn draw(columns: &[Column], mark: Mark, line: &mut Text) -> Result<(), NoMemory>
 
 fn drawn_of(mark: Mark, columns: &[Column]) -> Drawn {
     match mark {
-        Mark::Blank => Drawn::Nothing,
+        Mark::Blank | Mark::Call(_) => Drawn::Nothing,
         Mark::Turn(stop) => sign_at(column_of(stop, columns), b'*'),
         Mark::Cut(stop) => sign_at(column_of(stop, columns), b'x'),
         Mark::Arrow { from, to } => arrow_of(
@@ -91,16 +96,19 @@ fn drawn_of(mark: Mark, columns: &[Column]) -> Drawn {
     }
 }
 
-fn sign_at(at: Option<usize>, sign: u8) -> Drawn {
-    match at {
-        Some(at) => Drawn::Sign { at, sign },
+fn sign_at(spot: Option<Spot>, sign: u8) -> Drawn {
+    match spot {
+        Some(spot) => Drawn::Sign { at: spot.at, sign },
         None => Drawn::Nothing,
     }
 }
 
-fn arrow_of(from: Option<usize>, to: Option<usize>) -> Drawn {
+fn arrow_of(from: Option<Spot>, to: Option<Spot>) -> Drawn {
     match (from, to) {
-        (Some(from), Some(to)) => Drawn::Arrow { from, to },
+        (Some(from), Some(to)) => Drawn::Arrow {
+            from: from.at,
+            to: to.at,
+        },
         _ => Drawn::Nothing,
     }
 }
@@ -145,7 +153,7 @@ fn to_left(from: usize, to: usize, at: usize) -> Option<u8> {
 /// The line of a column, or a space.
 fn line_at(columns: &[Column], at: usize) -> u8 {
     for column in columns {
-        if column.at == at {
+        if column.spot.at == at {
             return b'|';
         }
     }
@@ -182,7 +190,7 @@ fn write_end(
 }
 
 /// Appends bytes, with `?` for each that isn't a printable character of ASCII.
-fn append_plain(bytes: &[u8], line: &mut Text) -> Result<(), NoMemory> {
+pub fn append_plain(bytes: &[u8], line: &mut Text) -> Result<(), NoMemory> {
     for byte in bytes {
         line.append(&[plain(*byte)])?;
     }

@@ -15,13 +15,21 @@ const MOST_LEFT: usize = 4;
 /// The column at which the first line of the picture stands.
 const FIRST: usize = 9;
 
+/// Where the line of a column stands.
+#[derive(Clone, Copy, Debug, PartialEq, Eq)]
+pub struct Spot {
+    /// In a text: how many bytes stand before it.
+    pub at: usize,
+    /// In an SVG: how many columns stand before it.
+    pub lane: usize,
+}
+
 /// A column.
 #[derive(Drop)]
 pub struct Column {
     pub stop: Stop,
     pub name: Text,
-    /// Where its line stands, from 0.
-    pub at: usize,
+    pub spot: Spot,
 }
 
 /// The columns that the rows ask for. `names` are the names of the applications.
@@ -127,14 +135,18 @@ fn add_column(stop: Stop, name: Text, columns: &mut List<Column>) -> Result<(), 
     if at > MOST_WIDTH {
         return Ok(());
     }
-    columns.push(Column { stop, name, at })?;
+    let spot = Spot {
+        at,
+        lane: columns.len(),
+    };
+    columns.push(Column { stop, name, spot })?;
     Ok(())
 }
 
 /// Where the next column begins.
 fn end_of(columns: &[Column]) -> usize {
     match columns.last() {
-        Some(column) => column.at.saturating_add(width_of(column.name.len())),
+        Some(column) => column.spot.at.saturating_add(width_of(column.name.len())),
         None => FIRST,
     }
 }
@@ -147,30 +159,30 @@ fn width_of(length: usize) -> usize {
 /// How wide the picture is.
 pub fn width(columns: &[Column]) -> usize {
     match columns.last() {
-        Some(column) => column.at.saturating_add(1),
+        Some(column) => column.spot.at.saturating_add(1),
         None => FIRST,
     }
 }
 
 /// Where the column of an end of an arrow stands, the other end being there too; None where it has none.
-pub fn place_of(stop: Stop, other: Stop, columns: &[Column]) -> Option<usize> {
+pub fn place_of(stop: Stop, other: Stop, columns: &[Column]) -> Option<Spot> {
     match column_of(stop, columns) {
-        Some(at) => Some(at),
+        Some(spot) => Some(spot),
         None => edge_of(stop, other, columns),
     }
 }
 
 /// Where the column of exactly this end stands.
-pub fn column_of(stop: Stop, columns: &[Column]) -> Option<usize> {
+pub fn column_of(stop: Stop, columns: &[Column]) -> Option<Spot> {
     for column in columns {
         if column.stop == stop {
-            return Some(column.at);
+            return Some(column.spot);
         }
     }
     None
 }
 
-fn edge_of(stop: Stop, other: Stop, columns: &[Column]) -> Option<usize> {
+fn edge_of(stop: Stop, other: Stop, columns: &[Column]) -> Option<Spot> {
     match stop {
         Stop::Edge => inner_next_to(other, columns),
         _ => None,
@@ -178,27 +190,27 @@ fn edge_of(stop: Stop, other: Stop, columns: &[Column]) -> Option<usize> {
 }
 
 /// The application's column that is next to an outside place.
-fn inner_next_to(other: Stop, columns: &[Column]) -> Option<usize> {
+fn inner_next_to(other: Stop, columns: &[Column]) -> Option<Spot> {
     match other {
         Stop::Outside(Place::To(_, _)) => last_app(columns),
         _ => first_app(columns),
     }
 }
 
-fn first_app(columns: &[Column]) -> Option<usize> {
+fn first_app(columns: &[Column]) -> Option<Spot> {
     for column in columns {
         if let Stop::App(_) = column.stop {
-            return Some(column.at);
+            return Some(column.spot);
         }
     }
     None
 }
 
-fn last_app(columns: &[Column]) -> Option<usize> {
+fn last_app(columns: &[Column]) -> Option<Spot> {
     let mut last = None;
     for column in columns {
         if let Stop::App(_) = column.stop {
-            last = Some(column.at);
+            last = Some(column.spot);
         }
     }
     last
