@@ -1,4 +1,4 @@
--- What a proxied request does, in parts by the values that they take.
+-- What a proxied request does, in parts by the values that they take (RFC 3261 section 16).
 use Rattle.std.specs.Prelude.{ℕ, ◌+◌, [], ◌∷◌, ◌++◌, Some, drop}
 use Rattle.sc_value.specs.declared.ids.Directive.TheVariants.{Continue}
 use Rattle.sc_value.specs.declared.message.Request.{Request}
@@ -22,6 +22,7 @@ branched branch proxy = record proxy { branches = proxy.branches ++ branch ∷ [
 unfoldable pub sent_to : Config → View → Proxy → Uri → ℕ → Request
 sent_to config view proxy uri branch = on_branch config view branch (proxied_request config view (records_route proxy) uri proxy.request)
 
+-- the branch is to get a CANCEL
 unfoldable pub cancel_order : ℕ → Order
 cancel_order branch = orders.Cancel branch
 

@@ -47,6 +47,7 @@ uris_of text = option_to_list (readable text)
 unfoldable pub dial_to : Uri → Option Uri → Script
 dial_to from to = where_some to (λ to. Make (calls.CreateRequest (dial_ask from to)) (with_number (λ draft. only (calls.Send draft))))
 
+-- the same, where there is the first of them
 unfoldable pub dial_from : Option Uri → Option Uri → Script
 dial_from from to = where_some from (λ from. dial_to from to)
 

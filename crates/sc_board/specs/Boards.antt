@@ -14,9 +14,11 @@ use Rattle.sc_board.specs.declared.jobs.JobView.{JobView}
 use Rattle.sc_board.specs.declared.pass.BoardPass.{BoardPass}
 use Rattle.sc_board.specs.declared.results.ResultView.{ResultView}
 
+-- what a pass knows of the queue of jobs
 abbrev pub jobs_of : BoardPass → JobView
 jobs_of pass = view pass.jobs
 
+-- what a pass knows of the queue of results
 abbrev pub results_of : BoardPass → ResultView
 results_of pass = view pass.results
 
@@ -46,6 +48,7 @@ MayWork board kinds pass = IsOf board pass × ((jobs_of pass).kinds ≤ kinds)
 abbrev pub MayMake : Board → (Lease → Type 0) → BoardPass → Type 0
 MayMake board may pass = IsOf board pass × ((lease : Lease) → lease.kind < (jobs_of pass).kinds → may lease)
 
+-- the leases of which these results were made
 abbrev pub leases_of : List Done → List Lease
 leases_of results = map (λ (done : Done). done.lease) results
 

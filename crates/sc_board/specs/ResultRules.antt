@@ -6,25 +6,32 @@ use lib.ListN.{get_elem?}
 use Rattle.sc_servlets.specs.declared.done.Done.{Done}
 use Rattle.sc_board.specs.declared.results.ResultView.{ResultView}
 
+-- the pass that collects weighs one, each other nothing
 abbrev pub collects_weight : Bool → ℕ
 collects_weight first = cond first 1 0
 
+-- the list isn't empty
 abbrev pub has_some : List Done → Bool
 has_some [] = false
 has_some (done ∷ later) = true
 
+-- the view of the pass that collects, as the board is made: it has all 1,024 parts
 abbrev pub first_result_view : ResultView
 first_result_view = record { first = true; parts = 1024; brought = []; collected = []; mixed = false }
 
+-- the view of a pass as it is split off: it has one part
 abbrev pub new_result_view : ResultView
 new_result_view = record { first = false; parts = 1; brought = []; collected = []; mixed = false }
 
+-- the view of a pass that was joined to another one: it has no part
 abbrev pub spent_result_view : ResultView
 spent_result_view = record { first = false; parts = 0; brought = []; collected = []; mixed = false }
 
+-- a pass after one was split off from it, which takes one of its parts
 abbrev pub result_view_left : ResultView → ResultView
 result_view_left v = record v { parts = v.parts - 1 }
 
+-- a pass after another one was joined to it; it is mixed where that one had brought something
 abbrev pub joined_result_view : ResultView → ResultView → ResultView
 joined_result_view v w = record {
   first = v.first || w.first;
@@ -34,9 +41,11 @@ joined_result_view v w = record {
   mixed = v.mixed || (w.mixed || has_some w.brought);
 }
 
+-- a pass after it brought this result
 abbrev pub after_bring : ResultView → Done → ResultView
 after_bring v done = record v { brought = v.brought ++ done ∷ [] }
 
+-- a pass after it collected this result
 abbrev pub after_collect : ResultView → Done → ResultView
 after_collect v done = record v { collected = v.collected ++ done ∷ [] }
 
@@ -60,6 +69,7 @@ pub record AreInOrder (items : List Done) (views : List ResultView) : Type 0 whe
   pub first_has : (port : ℕ) (v : ResultView) → get_elem? views port ≡ some v → v.first ≡ true → v.collected ≡ collected
   pub in_order : (port : ℕ) (v : ResultView) → get_elem? views port ≡ some v → 0 < v.parts → v.mixed ≡ false → brought_by port who (collected ++ items) ≡ v.brought
 
+-- what holds of each pass: one that doesn't collect has collected nothing
 pub record IsResultView (v : ResultView) : Type 0 where
   pub plain : v.first ≡ false → v.collected ≡ []
   pub spent : v.parts ≡ 0 → v ≡ spent_result_view

@@ -5,6 +5,7 @@ use Rattle.std.specs.Map.{values_of}
 use Rattle.sc_book.specs.declared.counts.Counts.{Counts}
 use Rattle.sc_book.specs.Places.{Placed}
 
+-- the counts are those of these items, and of their weights
 pub record AreCounts {T : Type 0} (weight : T → ℕ) (es : Placed T) (counts : Counts) : Type 0 where
   pub items : counts.items ≡ length (values_of es)
   pub total : counts.total ≡ sum_by weight (values_of es)

@@ -15,14 +15,17 @@ numbers_of due first group_of x = record { due = due x; first = first x; groups 
 
 -- ## One item
 
+-- the due moment of an item, where there is an item and it has one
 abbrev pub due_of : Option Numbers → Option ℕ
 due_of None = None
 due_of (Some numbers) = numbers.due
 
+-- the number by which an item is ordered, where there is one
 abbrev pub first_of : Option Numbers → Option ℕ
 first_of None = None
 first_of (Some numbers) = numbers.first
 
+-- the two numbers under which an item is found
 abbrev pub groups_of : Option Numbers → Option (ℕ × ℕ)
 groups_of None = None
 groups_of (Some numbers) = Some numbers.groups

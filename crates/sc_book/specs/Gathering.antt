@@ -37,6 +37,7 @@ with_all ks ps = fold (insert_key nat_cmp) ks ps
 abbrev pub with_place : List ℕ → ℕ × ℕ → List ℕ
 with_place ks pair = insert_key nat_cmp ks pair.1
 
+-- with the places of all these pairs, in order
 abbrev pub with_places : List ℕ → List (ℕ × ℕ) → List ℕ
 with_places ks pairs = fold with_place ks pairs
 
@@ -54,6 +55,7 @@ pairs_up low pairs = keys_between pair_cmp (Included (low, 0)) Unbounded pairs
 
 -- ## Which items
 
+-- which items are asked for: all, those of a group, or those that are due before a moment
 abbrev pub is_wanted : {T : Type 0} → (T → Option ℕ) → (T → ℕ × ℕ) → Wanted → T → Bool
 is_wanted due group_of wanted.All = λ _. true
 is_wanted due group_of (wanted.Of group) = belongs group_of group

@@ -14,6 +14,7 @@ abbrev pub IsFresh : {T : Type 0} → (T → ℕ × ℕ) → Placed T → ℕ �
 IsFresh group_of es p None pairs = ⊤
 IsFresh group_of es p (Some x) pairs = (v : ℕ) → belongs group_of v x ≡ true → (passes_at (belongs group_of v) es p || has_pair pairs v p) ≡ true
 
+-- so it is for each change
 unfoldable pub AreFresh : {T : Type 0} → (T → ℕ × ℕ) → Placed T → List (ℕ × Option T) → Pairs → Type 0
 AreFresh group_of es [] pairs = ⊤
 AreFresh group_of es (c ∷ cs) pairs = IsFresh group_of es c.0 c.1 pairs × AreFresh group_of es cs pairs

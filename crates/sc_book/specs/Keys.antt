@@ -12,6 +12,7 @@ unfoldable pub AreBelow : {T : Type 0} → ℕ → Placed T → Type 0
 AreBelow next [] = ⊤
 AreBelow next (e ∷ es) = (e.0 < next) × AreBelow next es
 
+-- the items stand at the places of their keys, all below the next one
 pub record AreRows {T : Type 0} (key : T → ℕ) (es : Placed T) (next : ℕ) : Type 0 where
   pub keyed : AreKeyed key es
   pub below : AreBelow next es

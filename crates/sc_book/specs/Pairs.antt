@@ -7,6 +7,7 @@ use Rattle.std.specs.Ordering.{nat_cmp, ordering_then}
 use Rattle.std.specs.BTreeMap.{is_at}
 use Rattle.sc_book.specs.Words.{in_groups}
 
+-- a number, and the place of an item that has it
 abbrev pub Pairs : Type 0
 Pairs = List (ℕ × ℕ)
 

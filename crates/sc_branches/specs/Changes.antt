@@ -1,4 +1,4 @@
--- Changes of one branch, and the parts of what a final response does.
+-- Changes of one branch, and the parts of what a final response does (RFC 3261 section 16.7).
 use Rattle.std.specs.Prelude.{ℕ, [], ◌∷◌, ◌++◌, Bool, true, ◌&&◌, Option, None, if◌then◌else◌}
 use Rattle.sc_value.specs.declared.ids.SessId.{SessId}
 use Rattle.sc_value.specs.declared.message.Response.{Response}
@@ -33,5 +33,6 @@ ending sess response proxy =
 unfoldable pub is_cancelled : Branch → Bool
 is_cancelled branch = is_open branch && branch.cancelled
 
+-- the number of a branch
 abbrev pub number_of : Branch → ℕ
 number_of branch = branch.number

@@ -1,4 +1,4 @@
--- The target that a Contact gives, and whether a text was tried.
+-- The target that a Contact gives, and whether a text was tried (RFC 3261 section 16.5).
 use Rattle.std.specs.Prelude.{List, [], ◌∷◌, ◌++◌, Bool, Option, option_and_then, option_to_list, if◌then◌else◌}
 use Rattle.sc_value.specs.declared.parts.Contact.{Contact}
 use Rattle.sc_value.specs.declared.parts.Uri.{Uri}

@@ -17,25 +17,31 @@ use Rattle.sc_config.specs.KeyValues.{listen_in, text_in, number_in, flag_in, is
 abbrev pub Fault : Type 0
 Fault = ℕ × Bytes
 
--- the kinds of refusals, by number
+-- the kinds of refusals, by number: the text isn't UTF-8, or isn't TOML
 abbrev pub SYNTAX : ℕ
 SYNTAX = 1
 
+-- a key isn't there that has to be
 abbrev pub MISSING : ℕ
 MISSING = 2
 
+-- a key has a value that it can't have
 abbrev pub RANGE : ℕ
 RANGE = 3
 
+-- two applications have one name
 abbrev pub DOUBLE_NAME : ℕ
 DOUBLE_NAME = 4
 
+-- an application is of a kind that the catalogue lacks
 abbrev pub UNKNOWN_KIND : ℕ
 UNKNOWN_KIND = 5
 
+-- the text has more than 65,536 bytes
 abbrev pub LONG : ℕ
 LONG = 6
 
+-- a key isn't one of those that are read
 abbrev pub UNKNOWN_KEY : ℕ
 UNKNOWN_KEY = 7
 
@@ -50,12 +56,14 @@ fault_if holds kind key = if holds then Some (kind, key) else None
 
 -- ## Keys that aren't known
 
+-- the key is one of the container's
 unfoldable pub is_top_key : Bytes → Bool
 is_top_key key =
     same_bytes key (codes "listen") || same_bytes key (codes "domain") || same_bytes key (codes "salt") || same_bytes key (codes "workers")
     || same_bytes key (codes "stop_after") || same_bytes key (codes "journal_steps") || same_bytes key (codes "journal_bytes")
     || same_bytes key (codes "epoch_steps") || same_bytes key (codes "journal_parts") || same_bytes key (codes "hosts") || same_bytes key (codes "app")
 
+-- the key is one of an application's
 unfoldable pub is_app_key : Bytes → Bool
 is_app_key key =
     same_bytes key (codes "name") || same_bytes key (codes "kind") || same_bytes key (codes "params") || same_bytes key (codes "expires")
@@ -72,6 +80,7 @@ wrong_key kind wrong table = option_map (λ key. (kind, key)) (first_key (is_wro
 
 -- ## Keys that are missing, or out of range
 
+-- the key isn't there
 unfoldable pub missing : Bytes → Members → Option Fault
 missing key table = fault_if (is_none (get_member key table)) MISSING key
 
@@ -79,6 +88,7 @@ missing key table = fault_if (is_none (get_member key table)) MISSING key
 abbrev pub wrong_if : Bool → Bytes → Option Fault
 wrong_if holds key = fault_if holds RANGE key
 
+-- `listen` is no address and port
 unfoldable pub wrong_listen : Members → Option Fault
 wrong_listen top = wrong_if (is_none (listen_in (get_member (codes "listen") top))) (codes "listen")
 
@@ -94,6 +104,7 @@ wrong_number low high key table = wrong_if (is_none (number_in low high low (get
 unfoldable pub wrong_flag : Bytes → Members → Option Fault
 wrong_flag key table = wrong_if (is_none (flag_in (get_member key table))) key
 
+-- the first of the container's numbers that is out of its range
 unfoldable pub wrong_numbers : Members → Option Fault
 wrong_numbers top = first_fault (
     wrong_number 1 32 (codes "workers") top
@@ -108,6 +119,7 @@ unfoldable pub wrong_host_in : Option Members → Option Fault
 wrong_host_in None = Some (RANGE, codes "hosts")
 wrong_host_in (Some hosts) = wrong_key RANGE Host hosts
 
+-- the fault of `hosts`, where it is there
 unfoldable pub wrong_hosts : Option Data → Option Fault
 wrong_hosts None = None
 wrong_hosts (Some value) = wrong_host_in (as_table value)
@@ -120,12 +132,15 @@ apps_in top = option_map_or elements (get_member (codes "app") top) []
 abbrev pub are_some_tables : List Data → Bool
 are_some_tables values = are_few values && list_all (λ value. is_some (as_table value)) values
 
+-- `app` isn't an array of 1 to 64 tables
 unfoldable pub wrong_apps : Members → Option Fault
 wrong_apps top = wrong_if (not (are_some_tables (apps_in top))) (codes "app")
 
+-- `params` is no array of texts
 unfoldable pub wrong_params : Members → Option Fault
 wrong_params table = wrong_if (not (is_params (get_member (codes "params") table))) (codes "params")
 
+-- `expires` is no number of minutes that a session can have
 unfoldable pub wrong_expires : Members → Option Fault
 wrong_expires table = wrong_if (is_none (expires_in (get_member (codes "expires") table))) (codes "expires")
 
@@ -135,6 +150,7 @@ is_any text = true
 
 -- ## What is looked for in an application, in all of them, and before them
 
+-- the first fault of an application that this check looks for
 unfoldable pub app_fault : Check → Members → Option Fault
 app_fault UnknownKeys table = wrong_key UNKNOWN_KEY AppKey table
 app_fault Missing table = first_fault (missing (codes "name") table ∷ missing (codes "kind") table ∷ [])
@@ -145,9 +161,11 @@ app_fault Range table =
 abbrev pub item_fault : Check → Data → Option Fault
 item_fault check value = option_and_then (app_fault check) (as_table value)
 
+-- the first of all applications, in their order
 unfoldable pub apps_fault : Check → Members → Option Fault
 apps_fault check top = first_given (item_fault check) (apps_in top)
 
+-- the first fault of the container's own keys that this check looks for
 unfoldable pub top_fault : Check → Members → Option Fault
 top_fault UnknownKeys top = wrong_key UNKNOWN_KEY TopKey top
 top_fault Missing top = first_fault (missing (codes "listen") top ∷ missing (codes "domain") top ∷ missing (codes "salt") top ∷ missing (codes "app") top ∷ [])
@@ -161,6 +179,7 @@ top_fault Range top = first_fault (
     ∷ wrong_apps top
     ∷ [])
 
+-- the first of both: the container's own keys come before those of applications
 unfoldable pub table_fault : Check → Members → Option Fault
 table_fault check top = first_fault (top_fault check top ∷ apps_fault check top ∷ [])
 
@@ -175,6 +194,7 @@ unfoldable pub doubled : List Bytes → List Bytes → Option Bytes
 doubled earlier [] = None
 doubled earlier (name ∷ rest) = if list_any (λ other. same_bytes other name) earlier then Some name else doubled (earlier ++ name ∷ []) rest
 
+-- the first name that an earlier application has
 unfoldable pub double_name : List Data → Option Fault
 double_name apps = option_map (λ name. (DOUBLE_NAME, name)) (doubled [] (map (app_text (codes "name")) apps))
 

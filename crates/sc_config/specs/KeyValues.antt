@@ -80,6 +80,7 @@ unfoldable pub flag_in : Option Data → Option Bool
 flag_in None = Some false
 flag_in (Some value) = as_bool value
 
+-- the minutes, where they are in the range of an expiry
 unfoldable pub expiry_of : ℤ → Option ℤ
 expiry_of minutes = if is_expiry minutes then Some minutes else None
 
@@ -90,9 +91,11 @@ expires_in (Some value) = option_and_then expiry_of (as_integer value)
 
 -- ## The keys of the container
 
+-- the address and port of `listen`, where its text is such
 unfoldable pub listen_in : Option Data → Option (Bytes × ℕ)
 listen_in value = option_and_then listen_text (option_and_then as_str value)
 
+-- the text of a key, where it is one and passes the test
 abbrev pub text_in : (Bytes → Bool) → Option Data → Option Bytes
 text_in test value = text_if test (option_and_then as_str value)
 

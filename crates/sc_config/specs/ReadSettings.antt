@@ -32,6 +32,7 @@ kind_place kinds name = unwrap_or (position (λ kind. same_bytes kind name) kind
 unfoldable pub app_value : Bytes → Data → Option Data
 app_value key app = option_and_then (get_member key) (as_table app)
 
+-- the entry of an application; its kind is a place in the catalogue
 unfoldable pub app_entry : List Bytes → Data → AppEntry
 app_entry kinds app = record {
   name = app_text (codes "name") app;
@@ -42,6 +43,7 @@ app_entry kinds app = record {
 
 -- ## The hosts
 
+-- a name with its IPv4 address
 unfoldable pub host_entry : Bytes → Data → HostEntry
 host_entry name value = record { name = name; ip = unwrap_or (host_ip value) (0 ∷ 0 ∷ 0 ∷ 0 ∷ []) }
 
@@ -60,9 +62,11 @@ hosts_in value = option_map_or host_entries (option_and_then as_table value) []
 unfoldable pub number_at : ℕ → ℕ → ℕ → Bytes → Members → ℕ
 number_at low high standard key top = unwrap_or (number_in low high standard (get_member key top)) standard
 
+-- the text of one of the container's keys
 unfoldable pub top_text : Bytes → Members → Bytes
 top_text key top = unwrap_or (option_and_then as_str (get_member key top)) []
 
+-- the settings of a document without fault, with standard values for what is absent
 unfoldable pub config_of : List Bytes → Members → Config
 config_of kinds top = record {
   listen = unwrap_or (listen_in (get_member (codes "listen") top)) (0 ∷ 0 ∷ 0 ∷ 0 ∷ [], 5060);

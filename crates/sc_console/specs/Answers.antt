@@ -9,6 +9,7 @@ use Rattle.sc_edge.specs.declared.listing.Listing.{Listing}
 unfoldable pub app_text : AppId → Bytes
 app_text app = codes "app " ++ decimal app.host ++ codes " " ++ decimal app.serial ++ 10 ∷ []
 
+-- a line for each session that lives
 unfoldable pub apps_text : List AppId → Bytes
 apps_text apps = flat_map app_text apps
 
@@ -16,5 +17,6 @@ apps_text apps = flat_map app_text apps
 unfoldable pub counts_text : Listing → Bytes
 counts_text listing = codes "list " ++ decimal listing.epoch ++ codes " " ++ decimal listing.steps ++ codes " " ++ decimal (length listing.live) ++ codes " " ++ decimal listing.waiting ++ 10 ∷ []
 
+-- a listing as it is written: the counts, then the sessions
 unfoldable pub list_text : Listing → Bytes
 list_text listing = counts_text listing ++ apps_text listing.live

@@ -16,12 +16,15 @@ use Rattle.sc_console.specs.declared.asked.Asked.TheVariants as asks
 use Rattle.sc_console.specs.declared.answer.Console.{Console}
 use Rattle.sc_console.specs.declared.answer.Console.TheVariants as consoles
 
+-- the answer where a withdrawal was ordered
 abbrev pub posted_text : Bytes
 posted_text = codes "posted" ++ 10 ∷ []
 
+-- the answer where the desk is full
 abbrev pub full_text : Bytes
 full_text = codes "full" ++ 10 ∷ []
 
+-- the answer to a line that asks for nothing known
 abbrev pub unknown_text : Bytes
 unknown_text = codes "?" ++ 10 ∷ []
 
@@ -39,6 +42,7 @@ pub record At : Type 0 where
 abbrev pub Writes : Note → Note → Bytes → Bytes → Type 0
 Writes old new out out2 = (listing : Listing) × Gave listing old new × (out2 ≡ out ++ list_text listing)
 
+-- a listing was written, and no order was posted
 abbrev pub Lists : At → At → Type 0
 Lists old new = Writes old.floor new.floor old.out new.out × (new.view ≡ old.view)
 

@@ -12,6 +12,7 @@ unfoldable pub named : Option ℕ → Option ℕ → Asked
 named (Some host) (Some serial) = asks.Drop (record { host = host; serial = serial })
 named host serial = asks.Nothing
 
+-- by the texts of host and serial: decimals up to 2^32 - 1 and up to the greatest count
 unfoldable pub session_of : Bytes → Option Bytes → Asked
 session_of host None = asks.Nothing
 session_of host (Some serial) = named (decimal_upto 4294967295 host) (decimal_upto MOST_COUNT serial)
@@ -21,6 +22,7 @@ unfoldable pub session_in : Option Bytes → Asked
 session_in None = asks.Nothing
 session_in (Some text) = session_of (before 32 text) (after 32 text)
 
+-- what a line, without its end, asks for
 unfoldable pub asked_of : Bytes → Asked
 asked_of line =
     if same_bytes line (codes "list") then asks.List

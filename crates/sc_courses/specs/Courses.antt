@@ -36,12 +36,14 @@ pub record Telling : Type 0 where
   pub ended : List Epoch
   pub handed : List Step
 
+-- what was told, with one item more; a step and a listing tell nothing of epochs
 unfoldable pub with_item : Telling → Noted (Kept Step) → Telling
 with_item telling (noted.Step count) = telling
 with_item telling (noted.Part journal) = record telling { handed = telling.handed ++ journal.items }
 with_item telling (noted.Epoch number began journal) = record { ended = telling.ended ++ record { number = number; began = began; journal = telling.handed ++ journal.items } ∷ []; handed = [] }
 with_item telling (noted.List listing) = telling
 
+-- what these items tell, from the first epoch on
 unfoldable pub told_by : List (Noted (Kept Step)) → Telling
 told_by items = fold with_item (record { ended = []; handed = [] }) items
 

@@ -1,4 +1,5 @@
--- The steps that were heard, each with whether it is the loss of a place that failed.
+-- The steps that were heard (RFC 3261 section 18.3), each with whether it is the loss of a place
+-- that failed.
 use Rattle.std.specs.Prelude.{◌≡◌, ◌⊎◌, Bool, true, false, Option, None, Some, List, [], ◌∷◌, ◌++◌, map, filter}
 use Rattle.sc_tokens.specs.Bytes.{Bytes}
 use Rattle.sc_value.specs.declared.ids.Place.{Place}
@@ -17,6 +18,7 @@ pub record Mark : Type 0 where
   pub step : Step
   pub failed : Bool
 
+-- the answer says that the place failed
 unfoldable pub is_failure : Polled → Bool
 is_failure (answers.Bytes place text) = false
 is_failure (answers.End place) = false
@@ -42,6 +44,7 @@ HeardUpto kept (answer ∷ later) taken =
     ((made : List Step) × (taken ≡ marks answer made) × MakesPart kept answer made)
     ⊎ ((made : List Step) × (rest : List Mark) × (mid : Streams) × (taken ≡ marks answer made ++ rest) × Makes kept answer made mid × HeardUpto mid later rest)
 
+-- the step is one that comes from a place: a message, a text that is none, a loss
 unfoldable pub is_heard : Step → Bool
 is_heard (steps.In from message) = true
 is_heard (steps.Bad from bad) = true
@@ -50,9 +53,11 @@ is_heard (steps.Tick now) = false
 is_heard (steps.Turn app event now calls end) = false
 is_heard (steps.Withdraw app) = false
 
+-- what is marked of a deed
 abbrev pub mark_of : Deed → Mark
 mark_of deed = record { step = deed.step; failed = deed.failed }
 
+-- the deed's step comes from a place
 abbrev pub heard_by : Deed → Bool
 heard_by deed = is_heard deed.step
 

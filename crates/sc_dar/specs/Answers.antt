@@ -1,4 +1,4 @@
--- What a reader answers.
+-- What a reader of a routing table's text answers (JSR 289 appendix C).
 use Rattle.std.specs.Prelude.{◌≡◌, ℕ, Result, Ok, Err, ⊤}
 use Rattle.sc_dar.specs.Tables.{Fault}
 use Rattle.sc_dar.specs.declared.refused.DarRefused.{DarRefused}

@@ -1,4 +1,5 @@
--- The lines of a routing table's text. A backslash at the end of a line joins the next one to it.
+-- The lines of a routing table's text (JSR 289 appendix C). A backslash at the end of a line joins
+-- the next one to it.
 use Rattle.std.specs.Prelude.{ℕ, Bool, true, false, List, [], ◌∷◌, ◌++◌, ◌||◌, ◌==◌, ◌+◌, ◌-◌, length, take, slice_get, if◌then◌else◌}
 use Rattle.std.specs.List.{list_all}
 use Rattle.std.specs.Option.{option_map_or}
@@ -20,6 +21,7 @@ is_blank_text text = list_all is_blank text
 unfoldable pub ends : ℕ → Bytes → Bool
 ends sign text = option_map_or (λ b. b == sign) (slice_get text (length text - 1)) false
 
+-- the text without its last byte
 unfoldable pub without_last : Bytes → Bytes
 without_last text = take (length text - 1) text
 
@@ -33,6 +35,7 @@ ended [] = []
 ended (last ∷ []) = if length last == 0 then [] else last ∷ []
 ended (line ∷ next ∷ more) = without_cr line ∷ ended (next ∷ more)
 
+-- the rows of a text: what stands between its LFs, without a CR at an end
 unfoldable pub rows : Bytes → List Bytes
 rows text = ended (pieces 10 text)
 

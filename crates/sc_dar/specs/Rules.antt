@@ -1,4 +1,4 @@
--- What a routing table keeps, for applications of these names.
+-- What a routing table keeps, for applications of these names (JSR 289 appendix C).
 use Rattle.std.specs.Prelude.{ℕ, ◌^◌, ◌≡◌, ◌<◌, ◌≤◌, false, List, [], ◌∷◌, Some, ⊤, length, get_or}
 use Rattle.std.specs.List.{All}
 use Rattle.sc_terms.specs.declared.settings.Dar.{Dar}
@@ -28,6 +28,7 @@ pub record IsTuple (apps : List Bytes) (tuple : Tuple) : Type 0 where
   pub route : route_of (route_text tuple.route) ≡ Some tuple.route
   pub route_plain : IsPlain (route_text tuple.route)
 
+-- each tuple is such
 unfoldable pub AreTuples : List Bytes → List Tuple → Type 0
 AreTuples apps [] = ⊤
 AreTuples apps (tuple ∷ more) = IsTuple apps tuple × AreTuples apps more

@@ -16,12 +16,15 @@ pub record Fault : Type 0 where
   pub line : ℕ
   pub kind : ℕ
 
+-- a line has no method, or no `:` or `=` behind it
 abbrev pub NO_SEPARATOR : ℕ
 NO_SEPARATOR = 1
 
+-- the text has more than 65,536 bytes
 abbrev pub LONG : ℕ
 LONG = 8
 
+-- a method has a list already
 abbrev pub DOUBLE_METHOD : ℕ
 DOUBLE_METHOD = 10
 
@@ -58,6 +61,7 @@ unfoldable pub judged : List Bytes → ℕ → List MethodList → List Line →
 judged apps number lists [] = Ok lists
 judged apps number lists (line ∷ more) = then_line number (list_of apps lists line.text) (λ found. judged apps (number + line.height) (lists ++ option_to_list found) more)
 
+-- the table of these lists, or the fault
 unfoldable pub table_with : Result (List MethodList) Fault → Result Dar Fault
 table_with (Ok lists) = Ok (record { lists = lists })
 table_with (Err fault) = Err fault

@@ -20,24 +20,31 @@ use Rattle.sc_dar.specs.Lines.{drop_blanks, is_blank_text}
 
 -- ## Kinds of refusals
 
+-- a tuple isn't six texts in quotes between brackets, or something stands behind it
 abbrev pub BAD_TUPLE : ℕ
 BAD_TUPLE = 2
 
+-- the third text is no region
 abbrev pub BAD_REGION : ℕ
 BAD_REGION = 3
 
+-- the fifth text is no modifier
 abbrev pub BAD_MODIFIER : ℕ
 BAD_MODIFIER = 4
 
+-- the sixth text isn't the tuple's place in its list, from 0
 abbrev pub BAD_ORDER : ℕ
 BAD_ORDER = 5
 
+-- the first text names no application
 abbrev pub UNKNOWN_APPLICATION : ℕ
 UNKNOWN_APPLICATION = 6
 
+-- the fourth text is neither empty nor a `sip:` URI
 abbrev pub BAD_ROUTE : ℕ
 BAD_ROUTE = 7
 
+-- the tuple is the 65th of its method
 abbrev pub TOO_MANY : ℕ
 TOO_MANY = 9
 
@@ -116,6 +123,7 @@ unquoted t =
 
 -- ## What they say
 
+-- the region that a text names, with case (JSR 289 section 15.8)
 unfoldable pub region_of : Bytes → Option Region
 region_of text =
     if same_bytes text (codes "ORIGINATING") then Some Originating
@@ -123,6 +131,7 @@ region_of text =
     else (if same_bytes text (codes "NEUTRAL") then Some Neutral
     else None))
 
+-- the modifier that a text names, with case (JSR 289 section 15.6)
 unfoldable pub modifier_of : Bytes → Option Modifier
 modifier_of text =
     if same_bytes text (codes "ROUTE") then Some Route

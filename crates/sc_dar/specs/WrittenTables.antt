@@ -1,4 +1,4 @@
--- A routing table as text: a line a method, its tuples with `, ` between them.
+-- A routing table as text: a line a method, its tuples with `, ` between them (JSR 289 appendix C).
 use Rattle.std.specs.Prelude.{ℕ, List, [], ◌∷◌, ◌++◌, ◌+◌, ◌==◌, if◌then◌else◌, Option, Some, None, codes, decimal, slice_get, unwrap_or}
 use Rattle.std.specs.List.{flat_map}
 use Rattle.sc_value.specs.declared.ids.Region.{Region}
@@ -12,11 +12,13 @@ use Rattle.sc_terms.specs.declared.settings.Tuple.{Tuple}
 use Rattle.sc_grammar.specs.Written.{uri_text}
 use Rattle.sc_tokens.specs.Bytes.{Bytes}
 
+-- the name of a region
 unfoldable pub region_text : Region → Bytes
 region_text Originating = codes "ORIGINATING"
 region_text Terminating = codes "TERMINATING"
 region_text Neutral = codes "NEUTRAL"
 
+-- the name of a modifier
 unfoldable pub modifier_text : Modifier → Bytes
 modifier_text Route = codes "ROUTE"
 modifier_text RouteBack = codes "ROUTE_BACK"
@@ -31,6 +33,7 @@ route_text (Some address) = uri_text address.uri
 unfoldable pub between : Bytes
 between = codes "\", \""
 
+-- the name of the application at this place
 unfoldable pub app_text : List Bytes → ℕ → Bytes
 app_text apps app = unwrap_or (slice_get apps app) []
 
@@ -59,5 +62,6 @@ tuples_text apps order (tuple ∷ more) = lead order ++ tuple_text apps order tu
 unfoldable pub list_text : List Bytes → MethodList → Bytes
 list_text apps list = list.method ++ codes ": " ++ tuples_text apps 0 list.tuples ++ 10 ∷ []
 
+-- the whole table as text
 unfoldable pub dar_text : Dar → List Bytes → Bytes
 dar_text dar apps = flat_map (list_text apps) dar.lists

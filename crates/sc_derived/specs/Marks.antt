@@ -6,6 +6,7 @@ use Rattle.sc_state.specs.declared.session.Leg.{Leg}
 unfoldable pub marked_leg : Bool → Leg → Leg
 marked_leg mark leg = if mark then record leg { overtaken = true } else leg
 
+-- the legs, each marked as its SipSession is
 unfoldable pub marked : List Bool → List Leg → List Leg
 marked [] legs = legs
 marked (mark ∷ marks) [] = []

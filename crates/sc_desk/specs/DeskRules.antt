@@ -12,9 +12,11 @@ use Rattle.sc_desk.specs.declared.desk_queue.Ended.{Ended}
 unfoldable pub orders_by : ℕ → List Posted → List Order
 orders_by number all = map (λ (p : Posted). p.order) (filter (λ (p : Posted). nat_eq p.by number) all)
 
+-- the view of the taker's pass, as the desk is made
 abbrev pub first_view : DeskView
 first_view = record { first = true; posts = false; number = 0; made = 0; posted = []; taken = []; ended = [] }
 
+-- the view of a poster's pass as it is split off, with its number
 abbrev pub poster_view : ℕ → DeskView
 poster_view number = record { first = false; posts = true; number = number; made = 0; posted = []; taken = []; ended = [] }
 
@@ -22,15 +24,19 @@ poster_view number = record { first = false; posts = true; number = number; made
 abbrev pub spent_view : DeskView
 spent_view = record { first = false; posts = false; number = 0; made = 0; posted = []; taken = []; ended = [] }
 
+-- the taker after one poster more was split off
 abbrev pub one_made : DeskView → DeskView
 one_made v = record v { made = v.made + 1 }
 
+-- the taker after a poster's pass was joined to it: what that posted is remembered
 abbrev pub joined_view : DeskView → DeskView → DeskView
 joined_view v w = record v { ended = v.ended ++ record { number = w.number; orders = w.posted } ∷ [] }
 
+-- a poster after it posted this order
 abbrev pub after_post : DeskView → Order → DeskView
 after_post v order = record v { posted = v.posted ++ order ∷ [] }
 
+-- the taker after it took this order
 abbrev pub after_take : DeskView → Posted → DeskView
 after_take v posted = record v { taken = v.taken ++ posted ∷ [] }
 
@@ -76,6 +82,7 @@ pub record IsPoster (made : ℕ) (all : List Posted) (ended : List Ended) (v : D
   pub below : v.number < made
   pub apart : AllByRecursion (λ (e : Ended). e.number ≢ v.number) ended
 
+-- a poster that has ended: all that it posted was taken or waits
 pub record IsEnded (made : ℕ) (all : List Posted) (e : Ended) : Type 0 where
   pub whole : IsWhole all e
   pub below : e.number < made

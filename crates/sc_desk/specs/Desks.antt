@@ -5,6 +5,7 @@ use Rattle.sc_desk.specs.declared.desk.Desk.{Desk}
 use Rattle.sc_desk.specs.declared.desk_pass.DeskPass.{DeskPass}
 use Rattle.sc_desk.specs.declared.desk_queue.DeskView.{DeskView}
 
+-- what a pass knows of the desk's queue
 abbrev pub view_of : DeskPass → DeskView
 view_of pass = view pass.queue
 

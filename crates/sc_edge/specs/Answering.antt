@@ -8,6 +8,7 @@ abbrev pub tail_of : {A : Type 0} → List A → List A
 tail_of [] = []
 tail_of (item ∷ items) = items
 
+-- a clock that answers moments of a list, in milliseconds, and then the last one for ever
 pub record ClockState : Type 0 where
   -- the moments that are still to come
   pub left : List ℕ
@@ -25,6 +26,7 @@ moment_at (moment ∷ left) last (suc n) = moment_at left moment n
 abbrev pub after_now : ClockState → ClockState
 after_now clock = record { left = tail_of clock.left; last = moment_at clock.left clock.last 0; asked = one_more clock.asked }
 
+-- orders of a list, one answer a call, and then none for ever
 pub record OrdersState : Type 0 where
   -- what is still to come, an order or none at each call
   pub left : List (Option Order)

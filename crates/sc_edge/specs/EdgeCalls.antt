@@ -22,6 +22,7 @@ abbrev pub Answers : EdgeState → EdgeState → Got → List ℕ → Type 0
 Answers old new answer room =
     (old.is_closed ≡ false → Appends old.polled new.polled (polled_of answer room)) × (old.is_closed ≡ true → new.polled ≡ old.polled)
 
+-- the answer says that nothing comes any more
 abbrev pub is_end : Got → Bool
 is_end (got.Bytes place count) = false
 is_end (got.End place) = false

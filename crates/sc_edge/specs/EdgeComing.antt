@@ -10,6 +10,7 @@ use Rattle.sc_edge.specs.declared.edge.Got.TheVariants as got
 use Rattle.sc_edge.specs.declared.edge.Polled.{Polled}
 use Rattle.sc_edge.specs.declared.edge.Polled.TheVariants as polled
 
+-- what an edge in memory was made to answer, and what of it was answered
 pub record ComingState : Type 0 where
   -- what is still to come, in order
   pub left : List Polled
@@ -70,6 +71,7 @@ after_item room polled.Closed items = items
 after_item room polled.NotYet items = items
 after_item room polled.Fault items = items
 
+-- what is left of a list after an answer of its first item
 abbrev pub rest_of : ℕ → List Polled → List Polled
 rest_of room [] = []
 rest_of room (item ∷ items) = after_item room item items
@@ -131,6 +133,7 @@ weight polled.Closed = 1
 weight polled.NotYet = 1
 weight polled.Fault = 1
 
+-- how many answers a list gives at most
 abbrev pub weights : List Polled → ℕ
 weights items = sum_by weight items
 

@@ -17,6 +17,7 @@ use Rattle.sc_edge.specs.declared.mem_places.Known.{Known}
 use Rattle.sc_edge.specs.declared.mem_puts.Share.{Share}
 use Rattle.sc_edge.specs.declared.mem_puts.Share.TheVariants as share
 
+-- an edge in memory: what it was made to answer and to take, and what became of that
 pub record MemoryState : Type 0 where
   -- what is to come, and what came
   pub coming : ComingState
@@ -79,6 +80,7 @@ faults_after faults got.Fault = risen faults
 abbrev pub next_got : MemoryState → ℕ → Got
 next_got edge room = got_of (next_answer edge.places edge.coming room)
 
+-- the edge after a poll with so much room
 abbrev pub after_poll : MemoryState → ℕ → MemoryState
 after_poll edge room = record edge {
   coming = after_answer edge.places edge.coming room;
@@ -108,11 +110,13 @@ next_put edge to len =
     if is_listed edge.failing (one_more edge.puts) || (known_at edge.places to).is_barred then put.Failed
     else put_share (share_at edge.shares edge.puts) (edge.taken.room - length edge.taken.kept) len
 
+-- the places after a put there of a piece of this length
 abbrev pub places_put : PlacesState → Known → Put → ℕ → PlacesState
 places_put places known (put.Wrote count) len = with_known places (served known count len)
 places_put places known put.NotYet len = places
 places_put places known put.Failed len = with_known places (failed known)
 
+-- what places took after a put there of these bytes
 abbrev pub taken_put : TakenState → Place → List ℕ → Put → TakenState
 taken_put taken to bytes (put.Wrote count) = record taken { kept = taken.kept ++ tagged to (take count bytes) }
 taken_put taken to bytes put.NotYet = taken
@@ -124,11 +128,13 @@ coming_put coming to (put.Wrote count) = coming
 coming_put coming to put.NotYet = coming
 coming_put coming to put.Failed = if nat_lt 0 coming.spare then failed_put coming to else coming
 
+-- what came is still told after a put: a failed one needs room
 abbrev pub tells_put : Bool → ComingState → Put → Bool
 tells_put tells coming (put.Wrote count) = tells
 tells_put tells coming put.NotYet = tells
 tells_put tells coming put.Failed = tells && nat_lt 0 coming.spare
 
+-- the edge after a put of these bytes
 abbrev pub after_put : MemoryState → Place → List ℕ → MemoryState
 after_put edge to bytes = record edge {
   coming = coming_put edge.coming to (next_put edge to (length bytes));
@@ -147,6 +153,7 @@ abbrev pub closes_after : Option (List Closing) → ℕ → Closing → Option (
 closes_after None room closing = None
 closes_after (Some closes) room closing = if nat_lt (length closes) room then Some (closes ++ closing ∷ []) else None
 
+-- the edge after a close of this place; how often it was polled is noted with it
 abbrev pub after_close : MemoryState → Place → MemoryState
 after_close edge at = record edge {
   places = with_known edge.places (shut (known_at edge.places at));

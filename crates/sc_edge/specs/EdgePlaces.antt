@@ -10,6 +10,7 @@ use Rattle.sc_edge.specs.declared.edge.Polled.{Polled}
 use Rattle.sc_edge.specs.declared.edge.Polled.TheVariants as polled
 use Rattle.sc_edge.specs.declared.mem_places.Known.{Known}
 
+-- what is known of places, a peer's connections and addresses
 pub record PlacesState : Type 0 where
   -- what it knows, one item for each place
   pub known : List Known
@@ -32,6 +33,7 @@ unknown places place = record {
   faults = places.others;
 }
 
+-- what was found of a place, else what holds of one that isn't known
 abbrev pub known_or : PlacesState → Place → Option Known → Known
 known_or places place None = unknown places place
 known_or places place (Some known) = known
@@ -52,6 +54,7 @@ missed places new = record places { others = new.faults }
 abbrev pub changed : PlacesState → Known → PlacesState
 changed places new = record places { known = change_first (is_of new.place) (λ _. new) places.known }
 
+-- the places after this was noted of one, which was found or wasn't
 abbrev pub stored : PlacesState → Known → Option Known → PlacesState
 stored places new (Some old) = changed places new
 stored places new None = if nat_lt (length places.known) places.room then grown places new else missed places new

@@ -5,6 +5,7 @@ use Rattle.sc_value.specs.declared.ids.Place.{Place}
 use Rattle.sc_value.specs.Places.{same_place}
 use Rattle.sc_edge.specs.declared.mem_taken.Kept.{Kept}
 
+-- the bytes of all places, in the order in which they were taken
 pub record TakenState : Type 0 where
   pub kept : List Kept
   -- how many bytes it keeps at most

@@ -1,4 +1,5 @@
--- What an edge tells and counts, and what each of its calls does to that.
+-- What an edge, the connections of the container (RFC 3261 section 18), tells and counts, and what
+-- each of its calls does to that.
 use Rattle.std.specs.Prelude.{◌≡◌, ℕ, ◌<◌, ◌≤◌, Bool, true, false, Option, List, take}
 use Rattle.sc_value.specs.declared.ids.Place.{Place}
 use Rattle.sc_value.specs.declared.ids.Place.TheVariants.{Back, To}
@@ -8,6 +9,7 @@ use Rattle.sc_edge.specs.declared.edge.Got.TheVariants as got
 use Rattle.sc_edge.specs.declared.edge.Polled.{Polled}
 use Rattle.sc_edge.specs.declared.edge.Polled.TheVariants as polled
 
+-- an edge as its callers see it: the outside's connections, by place
 pub record EdgeState : Type 0 where
   -- how often it was polled
   pub polls : ℕ

@@ -1,4 +1,4 @@
--- Counts that stay at their greatest value, and calls that are to fail.
+-- Counts that stay at their greatest value, 2^64 - 1, and calls that are to fail.
 use Rattle.std.specs.Prelude.{◌≡◌, ℕ, ◌+◌, ◌-◌, ◌^◌, ◌<◌, ◌≤◌, ◌⊎◌, min, List, Bool, if◌then◌else◌}
 use Rattle.std.proofs.Common.{inl, inr, arith}
 use Rattle.std.specs.List.{list_any}
@@ -13,6 +13,7 @@ pub Rose_after : (a b c : ℕ) → a ≤ b → Rose b c → Rose a c
 Rose_after a b c later (inl rose) = inl (omega arith)
 Rose_after a b c later (inr most) = inr most
 
+-- a count that stands at its greatest value
 most_or_more : (a c : ℕ) → a ≤ 18446744073709551615 → 18446744073709551615 ≤ c → Rose a c
 most_or_more a c low high = grind arith
 

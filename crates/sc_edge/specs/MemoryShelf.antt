@@ -7,6 +7,7 @@ use Rattle.std.specs.Option.{option_map}
 use Rattle.sc_edge.specs.Faults.{is_listed, one_more}
 use Rattle.sc_edge.specs.declared.mem_shelf.Item.{Item}
 
+-- a shelf that holds items in memory, to be read by their names
 pub record ShelfState : Type 0 where
   -- what it holds; of two items of one name the first counts
   pub items : List Item

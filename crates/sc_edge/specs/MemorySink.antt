@@ -3,6 +3,7 @@ use Rattle.std.specs.Prelude.{ℕ, ◌-◌, min, List, ◌++◌, length, Bool, �
 use Rattle.std.specs.Bool.{nat_lt, nat_le}
 use Rattle.sc_edge.specs.Faults.{is_listed, one_more}
 
+-- a sink that keeps its bytes in memory, up to its room
 pub record SinkState : Type 0 where
   -- the bytes that it took
   pub kept : List ℕ

@@ -13,10 +13,12 @@ Takes (Some old) new bytes = new ≡ Some (old ++ bytes)
 abbrev pub TakesPart : Option (List ℕ) → Option (List ℕ) → List ℕ → Type 0
 TakesPart old new bytes = (count : ℕ) × Takes old new (take count bytes)
 
+-- where nothing happened, no bytes were taken
 pub Takes_none : (a : Option (List ℕ)) → Takes a a []
 Takes_none None = refl
 Takes_none (Some old) = ap (λ (bytes : List ℕ). Some bytes) (sym (append-nil old))
 
+-- bytes, and then more, where what was taken is told
 some_then : (old x y : List ℕ) (c : Option (List ℕ)) → Takes (Some (old ++ x)) c y → Takes (Some old) c (x ++ y)
 some_then old x y c second = second ∙ ap (λ (bytes : List ℕ). Some bytes) (append_assoc old x y)
 
@@ -38,6 +40,7 @@ pub TakesPart_then : (a b c : Option (List ℕ)) (x y : List ℕ) → Takes a b 
 TakesPart_then a b c x y first (count, second) =
     (length x + count, subst (λ (bytes : List ℕ). Takes a c bytes) (sym (take-append-add x y count)) (Takes_then a b c x (take count y) first second))
 
+-- so many bytes of a front, as bytes of the whole
 front_take : (count : ℕ) (x y : List ℕ) → take count x ≡ take (min count (length x)) (x ++ y)
 front_take count x y =
     let within : min count (length x) ≤ length x = omega arith in

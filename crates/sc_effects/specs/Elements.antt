@@ -13,9 +13,11 @@ use Rattle.sc_hosts.specs.Effects.{proxied_request, proxying}
 unfoldable pub as_gone : SessionView → SessionView
 as_gone session = record session { gone = true }
 
+-- the SipSession goes away by itself once ready, or doesn't
 unfoldable pub with_flag : Bool → SessionView → SessionView
 with_flag flag session = record session { ready_flag = flag }
 
+-- the attribute with another value
 unfoldable pub with_value : Bytes → Field → Field
 with_value value field = record field { value = value }
 

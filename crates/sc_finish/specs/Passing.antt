@@ -1,4 +1,5 @@
--- What the container answers by itself, and a later request that is passed on, in parts.
+-- What the container answers by itself, and a later request that is passed on, in parts (RFC 3261
+-- section 16.6).
 use Rattle.std.specs.Prelude.{ℕ, [], ◌∷◌, ◌++◌, Some}
 use Rattle.sc_value.specs.declared.message.Request.{Request}
 use Rattle.sc_terms.specs.declared.settings.Config.{Config}

@@ -1,4 +1,4 @@
--- What goes away at the end of a turn, one thing at a time.
+-- What goes away at the end of a turn, one thing at a time (JSR 289 section 6.2.4).
 use Rattle.std.specs.Prelude.{◌-◌, List, Bool, not, ◌&&◌, slice_get}
 use Rattle.sc_value.specs.declared.ids.SessId.{SessId}
 use Rattle.sc_tokens.specs.Names.{same_bytes}
@@ -16,9 +16,11 @@ use Rattle.sc_model.specs.SessionStates.{ack}
 unfoldable pub goes : Known → View → SessionView → Bool
 goes known view session = session.ready_flag && not session.gone && is_session_ready known view session
 
+-- the number of a SipSession
 abbrev pub id_of : SessionView → SessId
 id_of session = session.id
 
+-- the view without this SipSession
 abbrev pub without : View → SessId → View
 without view sess = removed sess view
 

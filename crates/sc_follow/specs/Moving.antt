@@ -57,10 +57,13 @@ pub record CameTo (P : List Step → Type 0) (old new : Known) (made : List Step
   pub came : Came old new made
   pub good : P made
 
+-- where the journal was full, a step is due that it has no room for, and with it the steps have the
+-- property
 unfoldable pub HasDue : (List Step → Type 0) → Known → List Step → StepRefused → Type 0
 HasDue P new made refused.NoMemory = Unit {0}
 HasDue P new made (refused.JournalFull steps bytes) = (step : Step) × IsDue new step × P (made ++ step ∷ [])
 
+-- not all was done: it came so far, for this cause
 unfoldable pub IsCut : (List Step → Type 0) → Known → Known → StepRefused → Type 0
 IsCut P old new cause = (made : List Step) × CameTo P old new made × HasDue P new made cause
 

@@ -1,4 +1,4 @@
--- What is kept of the places' streams, and what their bytes make.
+-- What is kept of the places' streams, and what their bytes make (RFC 3261 section 18.3).
 use Rattle.std.specs.Prelude.{◌≡◌, ◌⊎◌, ◌<◌, ℕ, Bool, true, false, List, [], ◌∷◌, Option, None, Some, drop, length}
 use Rattle.std.specs.List.{find}
 use Rattle.sc_value.specs.declared.ids.AppId.{AppId}
@@ -18,9 +18,11 @@ use Rattle.sc_switch.specs.Standing.{Known}
 use Rattle.sc_follow.specs.declared.streams.Pending.{Pending}
 use Rattle.sc_follow.specs.Moving.{IsDone, TookStep}
 
+-- what is kept is of this place
 abbrev pub is_at : Place → Pending → Bool
 is_at place pending = same_place place pending.place
 
+-- what is kept, nothing where nothing was
 unfoldable pub bytes_in : Option Pending → Bytes
 bytes_in None = []
 bytes_in (Some pending) = pending.stream
@@ -29,6 +31,7 @@ bytes_in (Some pending) = pending.stream
 unfoldable pub bytes_of : List Pending → Place → Bytes
 bytes_of streams place = bytes_in (find (is_at place) streams)
 
+-- other bytes are kept of the place
 unfoldable pub with_stream : Bytes → Pending → Pending
 with_stream bytes pending = record pending { stream = bytes }
 

@@ -15,12 +15,15 @@ use Rattle.sc_hosts.specs.Sessions.{Form, Turn}
 unfoldable pub map_live : {S T : Type 0} → (S → T) → Live S → Live T
 map_live change live = record { serial = live.serial; session = change live.session; inbox = live.inbox; since = live.since; fired = live.fired }
 
+-- each session of a host is changed, and nothing else
 unfoldable pub map_host : {S T : Type 0} → (S → T) → Host S → Host T
 map_host change host = record { clients = host.clients; servers = host.servers; sessions = map (map_live change) host.sessions; last = host.last }
 
+-- the same of a host that took a message
 unfoldable pub map_taken : {S T : Type 0} → (S → T) → Taken S → Taken T
 map_taken change taken = record { host = map_host change taken.host; reply = taken.reply; count = taken.count }
 
+-- the same of all hosts of a net
 unfoldable pub map_net : {S T : Type 0} → (S → T) → Net S → Net T
 map_net change net =
     record { hosts = map (map_host change) net.hosts; wire = net.wire; epoch = net.epoch; moment = net.moment; count = net.count; sent = net.sent }

@@ -20,12 +20,15 @@ use Rattle.sc_value.specs.declared.message.Response.{Response}
 use Rattle.sc_value.specs.declared.message.Message.{Message}
 use Rattle.sc_value.specs.declared.message.Message.TheVariants as messages
 
+-- a text as its bytes, each 0 to 255
 abbrev pub Bytes : Type 0
 Bytes = List ℕ
 
+-- the end of a line
 unfoldable pub crlf : Bytes
 crlf = 13 ∷ 10 ∷ []
 
+-- the version of SIP (RFC 3261 section 7.1)
 unfoldable pub version : Bytes
 version = codes "SIP/2.0"
 
@@ -40,6 +43,7 @@ signed_text sign (Some text) = sign ∷ text
 unfoldable pub param_text : Param → Bytes
 param_text param = 59 ∷ (param.name ++ signed_text 61 param.value)
 
+-- each parameter behind its semicolon
 unfoldable pub params_text : List Param → Bytes
 params_text params = flat_map param_text params
 
@@ -48,17 +52,21 @@ unfoldable pub ended_text : Option Bytes → ℕ → Bytes
 ended_text None sign = []
 ended_text (Some text) sign = text ++ sign ∷ []
 
+-- `:port`, or nothing
 unfoldable pub port_text : Option ℕ → Bytes
 port_text None = []
 port_text (Some port) = 58 ∷ decimal port
 
+-- the scheme of a SIP URI with its colon
 unfoldable pub scheme : Bytes
 scheme = codes "sip:"
 
+-- `sip:user@host:port;params?headers`
 unfoldable pub sip_uri_text : SipUri → Bytes
 sip_uri_text uri =
     scheme ++ ended_text uri.user 64 ++ uri.host ++ port_text uri.port ++ params_text uri.params ++ signed_text 63 uri.headers
 
+-- a URI; one of another scheme stands as it came
 unfoldable pub uri_text : Uri → Bytes
 uri_text (Sip uri) = sip_uri_text uri
 uri_text (Other text) = text
@@ -68,6 +76,7 @@ unfoldable pub address_text : Address → Bytes
 address_text address =
     ended_text address.display 32 ++ 60 ∷ [] ++ uri_text address.uri ++ 62 ∷ [] ++ params_text address.params
 
+-- `*`, or an address
 unfoldable pub contact_text : Contact → Bytes
 contact_text Star = 42 ∷ []
 contact_text (At address) = address_text address
@@ -79,6 +88,7 @@ unfoldable pub via_text : Via → Bytes
 via_text via =
     version ++ 47 ∷ [] ++ via.transport ++ 32 ∷ [] ++ (via.host ++ port_text via.port ++ params_text via.params)
 
+-- `number method`
 unfoldable pub cseq_text : CSeq → Bytes
 cseq_text cseq = decimal cseq.number ++ 32 ∷ [] ++ cseq.method
 
@@ -86,18 +96,23 @@ cseq_text cseq = decimal cseq.number ++ 32 ∷ [] ++ cseq.method
 unfoldable pub line : Bytes → Bytes → Bytes
 line name value = name ++ 58 ∷ 32 ∷ [] ++ value ++ crlf
 
+-- the line of one Via
 unfoldable pub via_line : Via → Bytes
 via_line via = line via_name (via_text via)
 
+-- the line of one Route
 unfoldable pub route_line : Address → Bytes
 route_line address = line route_name (address_text address)
 
+-- the line of one Record-Route
 unfoldable pub record_route_line : Address → Bytes
 record_route_line address = line record_route_name (address_text address)
 
+-- the line of one Contact
 unfoldable pub contact_line : Contact → Bytes
 contact_line contact = line contact_name (contact_text contact)
 
+-- the line of a header without structure
 unfoldable pub field_line : Field → Bytes
 field_line field = line field.name field.value
 

@@ -1,4 +1,4 @@
--- What a reader of a header's value answers.
+-- What a reader of a header's value answers (RFC 3261 section 20).
 use Rattle.std.specs.Prelude.{◌≡◌, Option, Some, None, Result, Ok, Err, ⊤}
 use Rattle.sc_uri_text.specs.declared.refused.UriRefused.{UriRefused}
 use Rattle.sc_uri_text.specs.declared.refused.UriRefused.TheVariants as uri
@@ -15,6 +15,7 @@ abbrev pub GivesAs : {X Y : Type 0} → (X → Y) → Result X Unread → Option
 GivesAs view (Ok x) read = read ≡ Some (view x)
 GivesAs view (Err unread) read = Fails unread read
 
+-- the value exactly as it is read, or else the fault
 abbrev pub Gives : {X : Type 0} → Result X Unread → Option X → Type 0
 Gives result read = GivesAs (λ x. x) result read
 

@@ -1,4 +1,4 @@
--- The first part of a text that is cut at its separators.
+-- The first part of a text that is cut at its separators (RFC 3261 section 7.3.1).
 use Rattle.std.specs.Prelude.{ℕ, List, [], ◌∷◌, ◌+◌, Option, Some, None, if◌then◌else◌}
 use Rattle.sc_syntax.specs.declared.scan.Scan.{Scan}
 use Rattle.sc_tokens.specs.Bytes.{Bytes}

@@ -25,6 +25,7 @@ is_called name field = same_name field.name name
 unfoldable pub is_listing : Bytes → Field → Bool
 is_listing option field = (same_name field.name supported_word || same_name field.name require_word) && list_any (same_name option) (items_of field.value)
 
+-- there are three words, as a RAck has them (RFC 3262 section 7.2)
 unfoldable pub is_three : List Bytes → Bool
 is_three [] = false
 is_three (a ∷ []) = false

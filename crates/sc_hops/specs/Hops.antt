@@ -1,4 +1,5 @@
--- Of the later requests that a step queues: which request on its way each of them was, and where it is queued.
+-- Of the later requests that a step queues: which request on its way each of them was, and where it
+-- is queued (RFC 3261 sections 12.2.1.1, 16.6 and 16.12).
 use Rattle.std.specs.Prelude.{◌≡◌, ◌≤◌, ◌<◌, ℕ, zero, suc, List, [], ◌∷◌, true, false, Option, None, Some, is_some, length, slice_get}
 use Rattle.sc_value.specs.declared.ids.AppId.{AppId}
 use Rattle.sc_value.specs.declared.ids.SessId.{SessId}
@@ -83,6 +84,7 @@ unfoldable pub IsOnWay : (Request → Type 0) → Message → Type 0
 IsOnWay Way (messages.Request request) = Way request
 IsOnWay Way (messages.Response response) = Unit {0}
 
+-- the reply is such, where there is one
 unfoldable pub IsReplied : (Request → Type 0) → Option Reply → Type 0
 IsReplied Way None = Unit {0}
 IsReplied Way (Some reply) = IsOnWay Way reply.message
@@ -111,6 +113,7 @@ IsShort (orders.Send branch request) = ◌≡◌ {A = ℕ} (length request.head.
 IsShort (orders.Acknowledge request) = ◌≡◌ {A = ℕ} (length request.head.via) 1
 IsShort order = Unit {0}
 
+-- so it is for each order
 unfoldable pub AreShort : List Order → Type 0
 AreShort [] = Unit {0}
 AreShort (order ∷ given) = IsShort order × AreShort given

@@ -43,6 +43,7 @@ use Rattle.sc_hosts.specs.Giving.{answering, giving}
 use Rattle.sc_hosts.specs.Working.{next_branch, event_of}
 use Rattle.sc_hosts.specs.Words.{too_many_hops}
 
+-- the turn with another view
 abbrev pub in_view : View → Working → Working
 in_view view working = record working { play = record working.play { view = view } }
 
@@ -52,20 +53,25 @@ drawn view = record view { counter = view.counter + 1 }
 
 -- ## Drafts that were left
 
+-- the view without a draft that was left unsent; the SipSession that an initial one made goes with
+-- it
 unfoldable pub without_left : View → Draft → View
 without_left view draft = if draft.initial then removed draft.sess view else view
 
+-- the turn without the drafts that the application left unsent
 unfoldable pub drafts_ended : Working → Working
 drafts_ended working = in_view (tidy (fold without_left working.play.view working.play.drafts)) working
 
 -- ## A fault: the event's request is answered 500 where it was left without an answer
 
+-- 500 to this request, where the application neither answered nor proxied it
 unfoldable pub fault_at : Config → Option RequestView → Working → Working
 fault_at config None working = working
 fault_at config (Some request) working =
     if is_owed request && not request.proxied
     then in_view (answered (Some request) 500 working.play.view) (answering config (Some request) (bare_answer 500 server_error) working) else working
 
+-- what follows from how the turn ended: only a fault of the application has an answer
 unfoldable pub faulted : Config → Option ReqId → End → Working → Working
 faulted config req ends.Fine working = working
 faulted config req ends.Fault working = fault_at config (option_and_then (request_in working.play.view) req) working
@@ -73,6 +79,7 @@ faulted config req ends.Starved working = working
 
 -- ## Proxies act
 
+-- a change of the proxy of this request
 abbrev pub in_proxy : ReqId → (Proxy → Proxy) → Working → Working
 in_proxy req change working = record working { known = change_proxy req change working.known }
 
@@ -95,6 +102,8 @@ moved_on proxy response session =
     if is_some proxy.options
     then in_state (after_initial session.role proxy.request.method (is_some (tag_of response.head.to)) session.state response.code) session else session
 
+-- the view after a response that was forwarded in a SipSession, by whether it shows the request
+-- still
 unfoldable pub forwarded_view : Proxy → SessId → Option RequestView → Response → View → View
 forwarded_view proxy sess None response view = change_session sess (moved_on proxy response) view
 forwarded_view proxy sess (Some request) response view = tidy (answered_in sess request (is_some (tag_of response.head.to)) response.code view)
@@ -103,6 +112,7 @@ forwarded_view proxy sess (Some request) response view = tidy (answered_in sess 
 unfoldable pub subscribed_tag : Option Bytes → SessionView → SessionView
 subscribed_tag tag session = if is_none session.peer_tag then record session { peer_tag = tag } else session
 
+-- the view with that tag, where the response is the 2xx to an initial SUBSCRIBE
 unfoldable pub with_subscribed : Proxy → SessId → Response → View → View
 with_subscribed proxy sess response view =
     if is_some proxy.options && same_bytes proxy.request.method subscribe && is_success response.code
@@ -115,33 +125,42 @@ forwards proxy sess response working =
     (in_view (forwarded_view proxy sess (request_in working.play.view proxy.req) response (with_subscribed proxy sess response working.play.view))
     (giving (orders.Respond proxy.event response ∷ []) working))
 
+-- what waits is forwarded as it came, where it can go still (RFC 3261 section 16.7, step 5)
 unfoldable pub passes : Proxy → Option Passing → Working → Working
 passes proxy None working = working
 passes proxy (Some passing) working = if can_pass proxy passing.response then forwards proxy passing.sess passing.response working else working
 
+-- the best response goes in the first SipSession of the request
 unfoldable pub forwards_best : Proxy → Option Response → Working → Working
 forwards_best proxy None working = working
 forwards_best proxy (Some response) working = forwards proxy proxy.sess response working
 
+-- the best response is forwarded once it can go (RFC 3261 section 16.7, step 6)
 unfoldable pub chooses : Proxy → Working → Working
 chooses proxy working = if can_choose proxy then forwards_best proxy (best_response proxy.candidates) working else working
 
--- once no branch is open and no target left, early dialogs end
+-- a SipSession of the request without a confirmed dialog: an early one, or a derived one that is
+-- INITIAL
 unfoldable pub is_over : Known → ReqId → SessId → SessionView → Bool
 is_over known req original session =
     is_of known req session && (is_early session.state || (is_initial_state session.state && not (same_session session.id original)))
 
+-- such a SipSession ended
 unfoldable pub closed_session : Known → ReqId → SessId → SessionView → SessionView
 closed_session known req original session = if is_over known req original session then in_state Terminated session else session
 
+-- once the search of an initial request is exhausted, its SipSessions without a confirmed dialog
+-- end
 unfoldable pub closes : Proxy → Working → Working
 closes proxy working =
     if is_exhausted proxy && is_some proxy.options
     then in_view (record working.play.view { sessions = map (closed_session working.known proxy.req proxy.sess) working.play.view.sessions }) working else working
 
+-- the branch as the turn leaves it: a CANCEL that it was to get has been given out
 unfoldable pub rested_branch : Branch → Branch
 rested_branch branch = record branch { cancelled = false }
 
+-- the proxy between turns: nothing waits to be forwarded, to be cancelled or to be looked at
 unfoldable pub rested : Proxy → Proxy
 rested proxy = record proxy { branches = map rested_branch proxy.branches; passing = None; heard_final = false }
 
@@ -149,6 +168,7 @@ rested proxy = record proxy { branches = map rested_branch proxy.branches; passi
 unfoldable pub proxy_now : Proxy → Working → Proxy
 proxy_now proxy working = unwrap_or (proxy_of working.known proxy.req) proxy
 
+-- the CANCELs of the branches that are to be cancelled (RFC 3261 section 16.10)
 unfoldable pub sends_cancels : Proxy → Working → Working
 sends_cancels proxy working = giving (map (λ branch. orders.Cancel branch) (cancelled_now (proxy_now proxy working))) working
 
@@ -170,6 +190,7 @@ all_act config working = fold (acts config) working working.known.proxies
 
 -- ## A later request on a proxied dialog is passed on
 
+-- 483 to a later request that may go no further (RFC 3261 section 16.3)
 unfoldable pub hops_spent : Config → RequestView → Working → Working
 hops_spent config request working =
     if is_owed request
@@ -180,6 +201,8 @@ unfoldable pub sent_proxy : Kept → ℕ → Proxy
 sent_proxy kept branch =
     record (new_proxy kept.id kept.sess (event_of kept.way) kept.request None) { branches = record { number = branch; ended = None; cancelled = false; due = None } ∷ [] }
 
+-- a later request goes on along its dialog, on a branch of its own; an ACK without transaction (RFC
+-- 3261 section 16.6)
 unfoldable pub passed_on : Config → Kept → Working → Working
 passed_on config kept working =
     let sent : Request = on_branch config working.play.view (next_branch working) (passed_request kept.request) in
@@ -188,20 +211,24 @@ passed_on config kept working =
     else giving (orders.Send (next_branch working) sent ∷ [])
     (record working { known = record working.known { proxies = working.known.proxies ++ sent_proxy kept (next_branch working) ∷ [] } }))
 
+-- a later request of a proxied dialog is passed on, unless the application ended its SipSession
 unfoldable pub passed_later : Config → RequestView → Option Kept → Working → Working
 passed_later config request None working = working
 passed_later config request (Some kept) working =
     if request.initial || not request.proxied || is_invalid working.known request.sess then working
     else (if request.hops == 0 then hops_spent config request working else passed_on config kept working)
 
+-- the same for a request that the view shows
 unfoldable pub passed_request_of : Config → Option RequestView → Working → Working
 passed_request_of config None working = working
 passed_request_of config (Some request) working = passed_later config request (kept_of working.known request.id) working
 
+-- the event is a later request
 unfoldable pub is_request_event : Queued → Bool
 is_request_event (queued.Request request) = true
 is_request_event event = false
 
+-- where the turn's event is a later request, it is passed on after the calls
 unfoldable pub passes_later : Config → Queued → Option ReqId → Working → Working
 passes_later config event req working =
     if is_request_event event then passed_request_of config (option_and_then (request_in working.play.view) req) working else working

@@ -1,4 +1,5 @@
--- A message or a text comes from outside.
+-- A message or a text comes from outside: which host takes it, by its transactions, by an own URI,
+-- or by the router's choice (RFC 3261 sections 8.2, 9.2, 12.2.2, 16.4 and 17, JSR 289 section 15).
 use Rattle.std.specs.Prelude.{ℕ, ◌+◌, List, [], ◌∷◌, Bool, Option, None, Some, is_some, option_and_then, if◌then◌else◌}
 use Rattle.sc_value.specs.declared.ids.Place.{Place}
 use Rattle.sc_value.specs.declared.message.Message.{Message}
@@ -43,6 +44,7 @@ host_takes form setup from noted message number None net = net
 host_takes form setup from noted message number (Some host) net =
     placed number (takes form setup.config net.epoch number (peers.Outside from) net.moment noted message net.count host) net
 
+-- the host of this number takes it
 unfoldable pub taken_at : {S : Type 0} → Form S → Setup → Place → Option Note → Message → ℕ → Net S → Net S
 taken_at form setup from noted message number net = host_takes form setup from noted message number (host_at number net) net
 
@@ -60,6 +62,7 @@ begins_by form setup from request popped (choices.Send routes) net = edge_answer
 begins_by form setup from request popped choices.Onward net = edge_answer setup.config from 404 not_found request net
 begins_by form setup from request popped choices.NotFound net = edge_answer setup.config from 404 not_found request net
 
+-- a request without To tag; an ACK is dropped, and BYE, PRACK and UPDATE begin nothing
 unfoldable pub initial_arrives : {S : Type 0} → Form S → Setup → Place → Request → Net S → Net S
 initial_arrives form setup from request net =
     if same_bytes (method_of request) ack then net
@@ -67,6 +70,7 @@ initial_arrives form setup from request net =
     else begins_by form setup from (unrouted_initial setup.config request) (popped_route setup.config request)
     (choice_of setup.config setup.dar (unrouted_initial setup.config request) (position_of setup.config request).region (position_of setup.config request).directive (position_of setup.config request).state) net)
 
+-- a request with a To tag, at the host whose session it names; 481 where there is none
 unfoldable pub later_at : {S : Type 0} → Form S → Setup → Place → Request → Option ℕ → Net S → Net S
 later_at form setup from request None net = edge_answer setup.config from 481 does_not_exist request net
 later_at form setup from request (Some number) net = taken_at form setup from None (messages.Request request) number net
@@ -76,6 +80,7 @@ unfoldable pub later_arrives : {S : Type 0} → Form S → Setup → Place → R
 later_arrives form setup from request net =
     later_at form setup from request (option_and_then (λ uri. named_host uri net) (own_uri setup.config request)) net
 
+-- a request that belongs to no transaction; a CANCEL gets 481 (RFC 3261 section 9.2)
 unfoldable pub unclaimed : {S : Type 0} → Form S → Setup → Place → Request → Net S → Net S
 unclaimed form setup from request net =
     if same_bytes (method_of request) cancel then edge_answer setup.config from 481 does_not_exist request net
@@ -87,10 +92,12 @@ unfoldable pub request_by : {S : Type 0} → Form S → Setup → Place → Requ
 request_by form setup from request None net = unclaimed form setup from request net
 request_by form setup from request (Some number) net = taken_at form setup from None (messages.Request request) number net
 
+-- a response, at the host whose client transaction it belongs to; others are dropped
 unfoldable pub response_by : {S : Type 0} → Form S → Setup → Place → Response → Option ℕ → Net S → Net S
 response_by form setup from response None net = net
 response_by form setup from response (Some number) net = taken_at form setup from None (messages.Response response) number net
 
+-- what a message that comes from outside makes of the net
 unfoldable pub arrived : {S : Type 0} → Form S → Setup → Place → Message → Net S → Net S
 arrived form setup from (messages.Request request) net =
     request_by form setup from request (first_host (λ host. is_claimed (claim_of (peers.Outside from) request host)) 0 net.hosts) net
@@ -99,6 +106,7 @@ arrived form setup from (messages.Response response) net =
 
 -- ## A text that is no message: 400 where it can be answered (RFC 3261 section 21.4.1)
 
+-- the answer to a text; none to an ACK, and none where the headers of an answer can't be read
 unfoldable pub bad_by : {S : Type 0} → Config → Place → Option Answerable → Net S → Net S
 bad_by config from None net = net
 bad_by config from (Some heads) net =

@@ -23,6 +23,7 @@ use Rattle.sc_hosts.specs.RefusalParts.{MOST_BRANCHES}
 
 -- ## Tests
 
+-- the branch of this number
 abbrev pub is_branch : ℕ → Branch → Bool
 is_branch number branch = branch.number == number
 
@@ -30,28 +31,36 @@ is_branch number branch = branch.number == number
 abbrev pub is_open : Branch → Bool
 is_open branch = is_none branch.ended
 
+-- some branch waits for its final response
 abbrev pub has_open : Proxy → Bool
 has_open proxy = list_any is_open proxy.branches
 
+-- the branch of this number, if there is one
 abbrev pub branch_in : Proxy → ℕ → Option Branch
 branch_in proxy number = find (is_branch number) proxy.branches
 
+-- the request was forwarded on this branch
 abbrev pub has_branch : ℕ → Proxy → Bool
 has_branch number proxy = list_any (is_branch number) proxy.branches
 
+-- the proxied request is an INVITE
 abbrev pub is_invite : Proxy → Bool
 is_invite proxy = same_bytes proxy.request.method invite
 
--- the options of a later request: nothing is followed, and no timer runs
+-- 3xx are followed (RFC 3261 section 16.5); not for a later request, which has no options
 unfoldable pub recurses : Proxy → Bool
 recurses proxy = option_map_or (λ (o : ProxyOptions). o.recurse) proxy.options false
 
+-- the application is told of responses (JSR 289 section 10.2.2)
 unfoldable pub is_supervised : Proxy → Bool
 is_supervised proxy = option_map_or (λ (o : ProxyOptions). o.supervised) proxy.options true
 
+-- the application stays on the path of later requests (JSR 289 section 10, RFC 3261 section 16.6,
+-- step 4)
 unfoldable pub records_route : Proxy → Bool
 records_route proxy = option_map_or (λ (o : ProxyOptions). o.record_route) proxy.options true
 
+-- all targets are tried at once, and not one after the other
 unfoldable pub is_parallel : Proxy → Bool
 is_parallel proxy = option_map_or (λ (o : ProxyOptions). o.parallel) proxy.options true
 
@@ -74,6 +83,7 @@ ends_search code = is_success code || is_global code
 
 -- ## Recursion (RFC 3261 section 16.5)
 
+-- the URI where its scheme is `sip`; others aren't followed
 unfoldable pub sip_uri : Uri → Option Uri
 sip_uri (Sip uri) = Some (Sip uri)
 sip_uri (Other text) = None
@@ -82,6 +92,7 @@ sip_uri (Other text) = None
 unfoldable pub contacts_of : Response → List Uri
 contacts_of response = filter_map (λ contact. option_and_then sip_uri (contact_uri contact)) response.head.contact
 
+-- a URI of the same written text is among them
 unfoldable pub was_tried : List Uri → Uri → Bool
 was_tried tried uri = list_any (λ t. same_bytes (uri_text t) (uri_text uri)) tried
 
@@ -98,6 +109,7 @@ added_targets proxy response =
 
 -- ## What a response makes of it
 
+-- a change of the branch of this number
 abbrev pub change_branch : ℕ → (Branch → Branch) → Proxy → Proxy
 change_branch number change proxy = record proxy { branches = change_first (is_branch number) change proxy.branches }
 
@@ -113,9 +125,11 @@ stopped proxy = record proxy { targets = []; settled = true; branches = map canc
 unfoldable pub rung : ℕ → ℕ → Proxy → Proxy
 rung number now proxy = change_branch number (λ branch. record branch { due = branch_due proxy now }) proxy
 
+-- the branch with the code of its final response; its timer runs no more
 unfoldable pub with_end : ℕ → Branch → Branch
 with_end code branch = record branch { ended = Some code; cancelled = false; due = None }
 
+-- the proxy with this branch ended, and that noted for this turn
 unfoldable pub ended_branch : ℕ → ℕ → Proxy → Proxy
 ended_branch number code proxy = record (change_branch number (with_end code) proxy) { heard_final = true }
 
@@ -125,13 +139,15 @@ with_candidate response proxy =
     if is_success response.code || not (length (added_targets proxy response) == 0) then proxy
     else record proxy { candidates = proxy.candidates ++ response ∷ [] }
 
+-- the proxy with these targets more, which wait
 unfoldable pub with_targets : List Uri → Proxy → Proxy
 with_targets uris proxy = record proxy { tried = proxy.tried ++ uris; targets = proxy.targets ++ uris }
 
+-- the response is to be forwarded at the end of the turn, in this SipSession
 unfoldable pub passing_on : SessId → Response → Proxy → Proxy
 passing_on sess response proxy = record proxy { passing = Some (record { sess = sess; response = response }) }
 
--- the first final response of a branch
+-- what the first final response of a branch makes of the proxy (RFC 3261 section 16.7)
 unfoldable pub ended_by : ℕ → SessId → Response → Proxy → Proxy
 ended_by number sess response proxy =
     let ended = with_targets (added_targets proxy response) (with_candidate response (ended_branch number response.code proxy)) in
@@ -179,6 +195,7 @@ to_cancel number proxy = change_branch number (λ branch. record branch { cancel
 
 -- ## How a request becomes proxied
 
+-- a request as it becomes proxied, without targets yet
 unfoldable pub new_proxy : ReqId → SessId → ℕ → Request → Option ProxyOptions → Proxy
 new_proxy req sess event request how = record {
   req = req;
@@ -196,6 +213,7 @@ new_proxy req sess event request how = record {
   heard_final = false;
 }
 
+-- a branch as it is begun at this moment
 unfoldable pub new_branch : Proxy → ℕ → ℕ → Branch
 new_branch proxy number now = record { number = number; ended = None; cancelled = false; due = branch_due proxy now }
 
@@ -219,5 +237,6 @@ unfoldable pub cancelled_now : Proxy → List ℕ
 cancelled_now proxy =
     if is_invite proxy then map (λ branch. branch.number) (filter (λ branch. is_open branch && branch.cancelled) proxy.branches) else []
 
+-- the search has ended in this turn: no branch is open and no target left
 unfoldable pub is_exhausted : Proxy → Bool
 is_exhausted proxy = proxy.heard_final && not (has_open proxy) && length proxy.targets == 0

@@ -31,9 +31,11 @@ use Rattle.sc_model.specs.BestResponses.{server_error}
 
 -- ## answer
 
+-- 200 to a later request; nothing to an ACK
 unfoldable pub reply_ok : ReqId → Request → Script
 reply_ok req request = if same_bytes request.method ack then Done else only (reply req 200 ok)
 
+-- `answer`: 200 to every request
 unfoldable pub answer_script : Event → Script
 answer_script (events.Initial req sess region subscriber popped request) = only (reply req 200 ok)
 answer_script (events.Request req sess request) = reply_ok req request
@@ -45,9 +47,11 @@ answer_script event = Done
 unfoldable pub proxy_options : Bool → ProxyOptions
 proxy_options record_route = record { parallel = true; recurse = true; supervised = true; record_route = record_route; timeout = 181 }
 
+-- 483 where the request may go no further
 unfoldable pub without_hops : ReqId → CallAnswer → Script
 without_hops req answer = if is_no_hops answer then only (reply req 483 too_many_hops) else Done
 
+-- the request is proxied to these targets
 unfoldable pub proxy_script : ReqId → List Uri → Bool → Script
 proxy_script req targets record_route = Make (calls.ProxyTo req targets (proxy_options record_route)) (without_hops req)
 
@@ -57,21 +61,26 @@ forward_script record_route view (events.Initial req sess region subscriber popp
     proxy_script req (unwrap_or (uri_param view 0) request.uri ∷ []) record_route
 forward_script record_route view event = Done
 
+-- the user part of a `sip` URI
 unfoldable pub user_of : Uri → Option Bytes
 user_of (Sip uri) = uri.user
 user_of (Other text) = None
 
+-- the user in From is one of the application's parameters, byte for byte
 unfoldable pub is_blocked : View → Request → Bool
 is_blocked view request = option_map_or (λ user. list_any (same_bytes user) view.params) (user_of request.head.from.uri) false
 
+-- `block`: 403 to the users of its parameters; others are proxied, and it leaves their path
 unfoldable pub block_script : View → Event → Script
 block_script view (events.Initial req sess region subscriber popped request) =
     if is_blocked view request then only (reply req 403 forbidden) else proxy_script req (request.uri ∷ []) false
 block_script view event = Done
 
+-- 500 where there is no target, 483 where the request may go no further
 unfoldable pub without_targets : ReqId → CallAnswer → Script
 without_targets req answer = if is_bad_text answer then only (reply req 500 server_error) else without_hops req answer
 
+-- `fork`: the request is proxied to all URIs of the parameters at once
 unfoldable pub fork_script : View → Event → Script
 fork_script view (events.Initial req sess region subscriber popped request) =
     Make (calls.ProxyTo req (filter_map readable view.params) (proxy_options true)) (without_targets req)
@@ -83,6 +92,7 @@ fork_script view event = Done
 unfoldable pub leg_failed : ReqId → CallAnswer → Script
 leg_failed req answer = if is_no_hops answer then only (reply req 483 too_many_hops) else only (reply req 500 server_error)
 
+-- 500 on the first leg where the second one couldn't be sent
 unfoldable pub leg_sent : ReqId → CallAnswer → Script
 leg_sent req answer = if is_refused answer then only (reply req 500 server_error) else Done
 
@@ -103,6 +113,7 @@ sent_on req request other =
     (with_number (λ draft. Make (calls.Send draft)
     (with_number (λ n. only (calls.SetAttribute (served_name n) (decimal req.0))))))
 
+-- a later request of one leg, on the other one; an ACK acknowledges the 2xx there
 unfoldable pub other_leg : ReqId → Request → SessId → Script
 other_leg req request other = if same_bytes request.method ack then only (calls.Ack other request.head.body) else sent_on req request other
 
@@ -121,6 +132,8 @@ is_initial view req = option_map_or (λ request. request.initial) (request_in vi
 unfoldable pub sent_initial : View → SessId → Option RequestView
 sent_initial view sess = find (λ request. request.initial && not request.received && request.sess.0 == sess.0) view.requests
 
+-- a back-to-back user agent with these calls before its second leg is sent: what comes on a leg
+-- goes on to the other one
 unfoldable pub leg_script : (ReqId → ℕ → Script → Script) → View → Event → Script
 leg_script before view (events.Initial req sess region subscriber popped request) = Make (calls.B2bCreate req None) (leg_made req (before req))
 leg_script before view (events.Request req sess request) = where_some (partner view sess) (other_leg req request)
@@ -134,6 +147,7 @@ leg_script before view (events.Timer id info) = Done
 leg_script before view events.Expired = Done
 leg_script before view events.Ready = Done
 
+-- `b2b`: the second leg goes on along the router's list
 unfoldable pub b2b_script : View → Event → Script
 b2b_script view event = leg_script (λ req draft script. script) view event
 
@@ -143,9 +157,11 @@ reverse_script view event = leg_script (λ req draft script. then_make (calls.Se
 
 -- ## dial
 
+-- the address of a URI, without display name and parameters
 unfoldable pub plain_address : Uri → Address
 plain_address uri = record { display = None; uri = uri; params = [] }
 
+-- an OPTIONS of one's own, from one URI to the other, for which the router begins anew
 unfoldable pub dial_ask : Uri → Uri → Ask
 dial_ask from to = record {
   method = options;
@@ -159,6 +175,7 @@ dial_ask from to = record {
   origin = None;
 }
 
+-- `dial`: 200, and an OPTIONS from the first URI of the parameters to the second
 unfoldable pub dial_script : View → Event → Script
 dial_script view (events.Initial req sess region subscriber popped request) =
     then_make (reply req 200 ok)
@@ -168,6 +185,7 @@ dial_script view event = Done
 
 -- ## ringer
 
+-- the parameter by which `ringer` drops the call
 unfoldable pub drop_word : Bytes
 drop_word = codes "drop"
 
@@ -175,12 +193,15 @@ drop_word = codes "drop"
 unfoldable pub ringing_time : View → ℕ
 ringing_time view = unwrap_or (option_and_then small_number (param_at view 0)) 1000
 
+-- the second parameter says that the call is dropped instead of answered
 unfoldable pub drops : View → Bool
 drops view = option_map_or (same_bytes drop_word) (param_at view 1) false
 
+-- 180, and a timer that names the request
 unfoldable pub ring : View → ReqId → Script
 ring view req = then_make (reply req 180 ringing) (only (calls.StartTimer (ringing_time view) Once (decimal req.0)))
 
+-- `ringer`: an INVITE rings for a time and is answered 200 then, or dropped with its session
 unfoldable pub ringer_script : View → Event → Script
 ringer_script view (events.Initial req sess region subscriber popped request) = if same_bytes request.method invite then ring view req else only (reply req 200 ok)
 ringer_script view (events.Request req sess request) = reply_ok req request
@@ -194,9 +215,11 @@ ringer_script view events.Ready = Done
 
 -- ## The listener
 
+-- the attribute that says that the expiry was moved once
 unfoldable pub extended_name : Bytes
 extended_name = codes "ext"
 
+-- its value
 unfoldable pub extended_value : Bytes
 extended_value = codes "1"
 

@@ -25,10 +25,11 @@ use Rattle.sc_hosts.specs.Legs.{first_got, leg_of, new_leg, same_tag}
 
 -- ## The SipSession of a response to an initial INVITE: derived SipSessions (JSR 289 section 6.2.3)
 
--- the SipSessions of the request
+-- the SipSession is one of the request: its first one, or one derived for another To tag
 unfoldable pub is_of : Known → ReqId → SessionView → Bool
 is_of known req session = option_map_or (λ leg. option_map_or (same_request req) leg.first false) (leg_of known session.id) false
 
+-- the SipSessions of the request, in order
 unfoldable pub sessions_of : Session → ReqId → List SessionView
 sessions_of session req = filter (is_of session.known req) session.view.sessions
 
@@ -44,6 +45,8 @@ pub data Handling : Type 0 where
   -- in a SipSession of its own
   Derives : Bytes → Handling
 
+-- by the tag: where a SipSession has it, else in the original while that has none, else in a
+-- derived one, as long as the view has room for it and the application didn't end the original
 unfoldable pub handling_of : Session → SessionView → Bytes → Option SessionView → Handling
 handling_of session original tag (Some claimer) = In claimer.id
 handling_of session original tag None =
@@ -51,10 +54,12 @@ handling_of session original tag None =
     else (if nat_lt (session_count session.view) MOST_SESSIONS && not (option_map_or (λ leg. leg.invalidated) (leg_of session.known original.id) false)
     then Derives tag else In original.id)
 
+-- the same, where a response may have no To tag: it is one in the original
 unfoldable pub handling_by : Session → ReqId → SessionView → Option Bytes → Handling
 handling_by session req original None = In original.id
 handling_by session req original (Some tag) = handling_of session original tag (find (claims session.known tag) (sessions_of session req))
 
+-- in the original, which takes the tag where it has none
 unfoldable pub takes_tag : SessionView → Option Bytes → Handling
 takes_tag original None = In original.id
 takes_tag original (Some tag) = if is_none original.peer_tag then Takes tag else In original.id
@@ -70,6 +75,7 @@ handling session req original request response =
     if same_bytes request.method invite && makes_dialog response.code then handling_by session req original (tag_of response.head.to)
     else (if is_subscribed original request response then takes_tag original (tag_of response.head.to) else In original.id)
 
+-- the SipSession derived for this tag: as the original, INITIAL, unlinked and not gone
 unfoldable pub derived_session : View → SessionView → Bytes → SessionView
 derived_session view original tag = record original {
   id = record { 0 = length view.sessions + 1 };
@@ -85,6 +91,7 @@ unfoldable pub derived_got : Option Request → List Got
 derived_got None = []
 derived_got (Some came) = first_got came
 
+-- what is known of a derived SipSession: the request that it is of, and its caller's tag
 unfoldable pub derived_leg : Option Leg → ReqId → Option Request → Leg
 derived_leg None req came = record (new_leg (Some req)) { got = derived_got came }
 derived_leg (Some leg) req came = record (new_leg (Some req)) { caller = leg.caller; got = derived_got came }
@@ -105,18 +112,22 @@ handled_in session req original came (Derives tag) = (
 
 -- ## The first 2xx to an INVITE ends its other early SipSessions; this is the project's profile
 
+-- another SipSession of the request, with an early dialog
 unfoldable pub is_overtaken : Known → ReqId → SessId → SessionView → Bool
 is_overtaken known req sess session = is_of known req session && is_early session.state && not session.gone && not (same_session session.id sess)
 
+-- such a one, TERMINATED
 unfoldable pub overtaken_session : Known → ReqId → SessId → SessionView → SessionView
 overtaken_session known req sess session = if is_overtaken known req sess session then in_state Terminated session else session
 
+-- the legs, with a mark on those of such SipSessions, which lose their tags by it
 unfoldable pub overtaken_legs : Known → ReqId → SessId → List SessionView → List Leg → List Leg
 overtaken_legs known req sess [] legs = legs
 overtaken_legs known req sess (session ∷ sessions) [] = []
 overtaken_legs known req sess (session ∷ sessions) (leg ∷ legs) =
     (if is_overtaken known req sess session then record leg { overtaken = true } else leg) ∷ overtaken_legs known req sess sessions legs
 
+-- the application session once the first 2xx came in this SipSession
 unfoldable pub overtaken : ReqId → SessId → Session → Session
 overtaken req sess session = record session {
   view = record session.view { sessions = map (overtaken_session session.known req sess) session.view.sessions };
@@ -128,6 +139,7 @@ unfoldable pub failed_session : Known → ReqId → SessId → SessionView → S
 failed_session known req original session =
     if is_of known req session && not (same_session session.id original) then in_state Terminated session else session
 
+-- the application session once its own INVITE failed
 unfoldable pub without_derived : ReqId → SessId → Session → Session
 without_derived req original session = record session {
   view = record session.view { sessions = map (failed_session session.known req original) session.view.sessions };

@@ -1,5 +1,5 @@
--- Where a request goes that leaves the container: an IPv4 literal, `localhost`, or a name of the
--- settings; no DNS (RFC 3263) is asked.
+-- Where a request goes that leaves the container (RFC 3261 section 8.1.2): an IPv4 literal,
+-- `localhost`, or a name of the settings; no DNS (RFC 3263) is asked.
 use Rattle.std.specs.Prelude.{[], ◌∷◌, Option, None, Some, option_map, unwrap_or, if◌then◌else◌, codes, slice_get}
 use Rattle.std.specs.List.{find}
 use Rattle.std.specs.Option.{option_or}
@@ -13,9 +13,11 @@ use Rattle.sc_tokens.specs.Names.{same_name}
 use Rattle.sc_terms.specs.declared.settings.Config.{Config}
 use Rattle.sc_grammar.specs.Written.{Bytes}
 
+-- the name of 127.0.0.1; compared without case
 unfoldable pub localhost : Bytes
 localhost = codes "localhost"
 
+-- what was read, where nothing is left behind it
 unfoldable pub whole : Option (Bytes × Bytes) → Option Bytes
 whole None = None
 whole (Some (value, [])) = Some value
@@ -29,10 +31,12 @@ literal text = whole (read_ipv4 text)
 unfoldable pub named_address : Config → Bytes → Option Bytes
 named_address config host = option_map (λ entry. entry.ip) (find (λ entry. same_name entry.name host) config.hosts)
 
+-- the IPv4 address of a host: as a literal, as `localhost`, or by the settings
 unfoldable pub address_of : Config → Bytes → Option Bytes
 address_of config host =
     option_or (literal host) (if same_name host localhost then Some (127 ∷ 0 ∷ 0 ∷ 1 ∷ []) else named_address config host)
 
+-- the address and port that a URI names; a port that is absent is 5060
 unfoldable pub place_of_uri : Config → Uri → Option Place
 place_of_uri config (Sip uri) = option_map (λ ip. To ip (unwrap_or uri.port 5060)) (address_of config uri.host)
 place_of_uri config (Other text) = None

@@ -1,4 +1,5 @@
--- What an accepted call leaves of the view and the drafts of its turn.
+-- What an accepted call leaves of the view and the drafts of its turn (JSR 289 sections 6, 10 and
+-- 12).
 use Rattle.std.specs.Prelude.{ℕ, ◌+◌, ◌-◌, ◌==◌, List, [], ◌∷◌, ◌++◌, Bool, true, false, Option, None, Some, if◌then◌else◌, length}
 use Rattle.std.specs.List.{fold}
 use Rattle.sc_value.specs.declared.ids.SessId.{SessId}
@@ -32,21 +33,26 @@ use Rattle.sc_hosts.specs.ViewChanges.{tidy, answered, invalidated, new_session,
 
 -- ## Drafts
 
+-- a draft more, numbered on within the turn
 unfoldable pub with_draft : Bytes → ℕ → Bool → Bool → SessId → Play → Play
 with_draft method hops initial ends sess play = record play {
   drafts = play.drafts ++ record { number = play.drafted + 1; sess = sess; initial = initial; method = method; hops = hops; ends = ends } ∷ [];
   drafted = play.drafted + 1;
 }
 
+-- the turn with another view
 abbrev pub with_view : View → Play → Play
 with_view view play = record play { view = view }
 
+-- an initial request of one's own is drafted, in a SipSession of its own
 unfoldable pub created : Ask → Play → Play
 created ask play = with_draft ask.method 70 true (ends_subscription ask.method ask.fields) (new_session play.view) (with_view (with_own_session play.view) play)
 
+-- a request in the dialog of a SipSession is drafted
 unfoldable pub created_later : SessId → Inside → Play → Play
 created_later sess ask play = with_draft ask.method 70 false (ends_subscription ask.method ask.fields) sess play
 
+-- the second leg of a received request is drafted: its SipSession is linked, and it has a hop less
 unfoldable pub created_leg : Option RequestView → Play → Play
 created_leg None play = play
 created_leg (Some request) play =
@@ -69,6 +75,7 @@ sent_view view draft = record {
   ends = draft.ends;
 }
 
+-- the turn without the draft of this number
 abbrev pub without_draft : ℕ → Play → Play
 without_draft number play = record play { drafts = remove_first (λ draft. draft.number == number) play.drafts }
 
@@ -89,6 +96,7 @@ discarded number (Some draft) play =
 
 -- ## ACK
 
+-- a sent INVITE whose 2xx in this SipSession is acknowledged
 unfoldable pub without_session : SessId → RequestView → RequestView
 without_session sess request = record request { unacked = remove_first (same_session sess) request.unacked }
 
@@ -98,6 +106,7 @@ acked sess view = tidy (record view { requests = change_first (awaits_ack sess) 
 
 -- ## Proxies
 
+-- the request is proxied, to so many targets more
 unfoldable pub proxied_request : ℕ → RequestView → RequestView
 proxied_request count request = record request { proxied = true; branches = request.branches + count }
 
@@ -105,12 +114,14 @@ proxied_request count request = record request { proxied = true; branches = requ
 unfoldable pub proxying : SessionView → SessionView
 proxying session = if is_proxy session.role then session else record session { role = roles.Proxy; peer_tag = None }
 
+-- the view once a received request is proxied to so many targets
 unfoldable pub proxied : Option RequestView → ℕ → View → View
 proxied None count view = view
 proxied (Some request) count view = change_session request.sess proxying (change_request request.id (proxied_request count) view)
 
 -- ## Timers, attributes, flags
 
+-- a timer more, due after so many milliseconds
 unfoldable pub with_timer : ℕ → Period → Bytes → View → View
 with_timer delay period info view = record view {
   timers = view.timers ++ record { id = record { 0 = view.next_timer }; due = view.now + delay; period = period; info = info } ∷ [];
@@ -123,12 +134,14 @@ with_attribute name value fields =
     if is_set name fields then change_first (λ field. same_bytes field.name name) (λ field. record field { value = value }) fields
     else fields ++ record { name = name; value = value } ∷ []
 
+-- the application session, or a SipSession, goes away by itself once ready, or doesn't
 unfoldable pub flagged : Target → Bool → View → View
 flagged targets.Application flag view = record view { ready_flag = flag }
 flagged (targets.Session sess) flag view = change_session sess (λ session. record session { ready_flag = flag }) view
 
 -- ## Each call
 
+-- what is left of the view and the drafts after an accepted call
 unfoldable pub after_call : Play → Call → Play
 after_call play (calls.Respond req answer) = with_view (answered (request_in play.view req) answer.code play.view) play
 after_call play (calls.CreateRequest ask) = created ask play
@@ -156,7 +169,7 @@ after_call play calls.InvalidateApplication = record play { ended = true }
 
 -- ## What a call answers
 
--- the number of what the call made
+-- what an accepted call answers: the number of what it made, where it made something
 unfoldable pub accepted : Play → Call → CallAnswer
 accepted play (calls.Respond req answer) = answers.Fine
 accepted play (calls.CreateRequest ask) = answers.Number (play.drafted + 1)
@@ -181,6 +194,7 @@ accepted play (calls.SetReadyFlag target flag) = answers.Fine
 accepted play (calls.InvalidateSession sess) = answers.Fine
 accepted play calls.InvalidateApplication = answers.Fine
 
+-- the answer of an accepted call, or the refusal
 unfoldable pub answer_by : Play → Call → Option Refusal → CallAnswer
 answer_by play call None = accepted play call
 answer_by play call (Some refused) = answers.Refused refused

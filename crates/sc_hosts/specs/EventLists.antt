@@ -35,11 +35,13 @@ opened form setup app turn done net =
     obeyed setup app done.orders
     (change_host app.host (λ host. record host { sessions = change_first (is_live app.serial) (turned_live form setup.config net.moment turn done) host.sessions }) net)
 
+-- the same for the first event that waits, if one does
 unfoldable pub opened_first : {S : Type 0} → Form S → Setup → AppId → Live S → Option Waiting → ℕ → List CallRecord → End → Net S → Net S
 opened_first form setup app live None now made end net = net
 opened_first form setup app live (Some waiting) now made end net =
     opened form setup app (turn_of net app waiting now made end) (outcome_by form setup.config live.session (turn_of net app waiting now made end)) net
 
+-- the same for a session that may not live
 unfoldable pub opened_by : {S : Type 0} → Form S → Setup → AppId → Option (Live S) → ℕ → List CallRecord → End → Net S → Net S
 opened_by form setup app None now made end net = net
 opened_by form setup app (Some live) now made end net = opened_first form setup app live (slice_get live.inbox 0) now made end net
@@ -52,6 +54,7 @@ before_end form setup app net step = net
 
 -- ## Queued
 
+-- those numbers that are greater than this one
 unfoldable pub above : ℕ → List ℕ → List ℕ
 above count numbers = filter (λ number. nat_lt count number) numbers
 
@@ -61,6 +64,7 @@ queued_by form setup app net step =
     if is_some (live_at app (after_step form setup net step)) then above net.count (waiting_in app (after_step form setup net step))
     else above net.count (waiting_in app (before_end form setup app net step))
 
+-- those that these steps queued, from this net on
 unfoldable pub queued_from : {S : Type 0} → Form S → Setup → AppId → Net S → List Step → List ℕ
 queued_from form setup app net [] = []
 queued_from form setup app net (step ∷ steps) = queued_by form setup app net step ++ queued_from form setup app (after_step form setup net step) steps
@@ -71,6 +75,7 @@ queued form setup epoch began app journal = queued_from form setup app (start se
 
 -- ## Handled, and waiting
 
+-- the event of a step that is a turn of this session
 unfoldable pub handled_by : AppId → Step → Option ℕ
 handled_by app (steps.Turn other event now calls end) = if is_same_app app other then Some event else None
 handled_by app step = None
@@ -79,6 +84,7 @@ handled_by app step = None
 unfoldable pub handled : AppId → List Step → List ℕ
 handled app journal = filter_map (handled_by app) journal
 
+-- the events that wait in a session after a journal
 unfoldable pub waiting : {S : Type 0} → Form S → Setup → ℕ → ℕ → AppId → List Step → List ℕ
 waiting form setup epoch began app journal = waiting_in app (chained form setup epoch began journal)
 
@@ -89,6 +95,7 @@ unfoldable pub purged_by : {S : Type 0} → Form S → Setup → AppId → Net S
 purged_by form setup app net step =
     if is_some (live_at app (after_step form setup net step)) then [] else waiting_in app (before_end form setup app net step)
 
+-- those that these steps dropped or answered, from this net on
 unfoldable pub purged_from : {S : Type 0} → Form S → Setup → AppId → Net S → List Step → List ℕ
 purged_from form setup app net [] = []
 purged_from form setup app net (step ∷ steps) = purged_by form setup app net step ++ purged_from form setup app (after_step form setup net step) steps
@@ -111,6 +118,7 @@ pub record Listing : Type 0 where
   pub live : List AppId
   pub waiting : ℕ
 
+-- what is shown of the net after a journal
 unfoldable pub listing_of : {S : Type 0} → Form S → Setup → ℕ → ℕ → List Step → Listing
 listing_of form setup epoch began journal = record {
   epoch = epoch;

@@ -45,6 +45,7 @@ use Rattle.sc_hosts.specs.Acting.{drafts_ended, faulted, all_act, passes_later}
 unfoldable pub lacks_final : RequestView → Bool
 lacks_final request = is_none request.answered && not (same_bytes request.method ack)
 
+-- a request of this SipSession lacks its final response
 unfoldable pub is_open_in : SessId → RequestView → Bool
 is_open_in sess request = same_session request.sess sess && lacks_final request
 
@@ -60,9 +61,12 @@ is_idle known session =
     || (is_proxy session.role && is_confirmed session.state && has_left known session.id)
     || (is_uac session.role && is_initial_state session.state)
 
+-- the SipSession is ready to go away (JSR 289 section 6.2.4): it is idle, and none of its requests
+-- is open
 unfoldable pub is_session_ready : Known → View → SessionView → Bool
 is_session_ready known view session = is_idle known session && not (list_any (is_open_in session.id) view.requests)
 
+-- it is gone, or ready to go
 unfoldable pub is_session_done : Known → View → SessionView → Bool
 is_session_done known view session = session.gone || is_session_ready known view session
 
@@ -72,6 +76,7 @@ is_ready session = list_all (is_session_done session.known session.view) session
 
 -- ## What goes away
 
+-- the view without this SipSession, where it goes away by itself
 unfoldable pub swept_one : Known → View → View → SessionView → View
 swept_one known before view session =
     if session.ready_flag && not session.gone && is_session_ready known before session then removed session.id view else view
@@ -97,6 +102,7 @@ unfoldable pub is_needed : View → Option Leg → Kept → Way → Bool
 is_needed view leg kept (Received event) = option_map_or lacks_final (request_in view kept.id) false
 is_needed view leg kept (Sent branch) = is_some (request_in view kept.id) || can_succeed view leg kept
 
+-- the session without the requests that aren't needed any more
 unfoldable pub lightened : Session → Session
 lightened session = record session {
   known = record session.known { kept = filter (λ kept. is_needed session.view (leg_of session.known kept.sess) kept kept.way) session.known.kept };
@@ -104,14 +110,17 @@ lightened session = record session {
 
 -- ## The whole turn
 
+-- the event is the session's expiry
 unfoldable pub is_expiry : Queued → Bool
 is_expiry queued.Expired = true
 is_expiry event = false
 
+-- the event is the session's readiness
 unfoldable pub is_ready_event : Queued → Bool
 is_ready_event queued.Ready = true
 is_ready_event event = false
 
+-- what the session is after the calls and what followed them
 unfoldable pub session_in_play : Working → Session
 session_in_play working = record { view = without_acks working.play.view; known = working.known }
 
@@ -127,6 +136,7 @@ unfoldable pub finished : Config → Queued → Option ReqId → End → Working
 finished config event req end working =
     passes_later config event req (all_act config (faulted config req end (drafts_ended working)))
 
+-- what a turn leaves: the session, what it sends, and whether it ends
 unfoldable pub outcome_of : Queued → Working → Outcome
 outcome_of event working = record {
   session = lightened (if is_ended event working then session_in_play working else swept (session_in_play working));

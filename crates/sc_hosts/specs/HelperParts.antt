@@ -19,6 +19,7 @@ use Rattle.sc_hosts.specs.Looking.{timer_in}
 
 -- ## Texts
 
+-- two texts are the same bytes
 abbrev pub text_is : Bytes → Bytes → Bool
 text_is a b = same_bytes a b
 
@@ -42,9 +43,11 @@ items_of value = map trimmed (pieces 44 value)
 unfoldable pub words_of : Bytes → List Bytes
 words_of value = filter (λ word. not (length word == 0)) (pieces 32 (map (λ b. if b == 9 then 32 else b) value))
 
+-- the header of what a sender supports (RFC 3261 section 20.37)
 unfoldable pub supported_word : Bytes
 supported_word = codes "Supported"
 
+-- the header of what a receiver has to support (RFC 3261 section 20.32)
 unfoldable pub require_word : Bytes
 require_word = codes "Require"
 
@@ -55,9 +58,11 @@ lists_option option request =
 
 -- ## Calls
 
+-- `respond` with this code and reason and these headers, without Contact and body
 unfoldable pub answer_with : ReqId → ℕ → Bytes → List Field → Call
 answer_with req code reason fields = calls.Respond req (record { code = code; reason = reason; fields = fields; contact = []; body = [] })
 
+-- a header
 unfoldable pub field : Bytes → Bytes → Field
 field name value = record { name = name; value = value }
 
@@ -75,9 +80,11 @@ send_in sess method fields body script =
 unfoldable pub remove_then : Bytes → View → Script → Script
 remove_then name view script = if is_some (attribute name view) then accepted_then (calls.RemoveAttribute name) script else script
 
+-- this timer is cancelled where it is active; then the script goes on
 unfoldable pub cancel_then : ℕ → View → Script → Script
 cancel_then timer view script =
     if is_some (timer_in view (record { 0 = timer })) then accepted_then (calls.CancelTimer (record { 0 = timer })) script else script
 
+-- the first active timer is cancelled
 unfoldable pub cancel_first_timer : View → Script
 cancel_first_timer view = where_some (slice_get view.timers 0) (λ timer. only (calls.CancelTimer timer.id))

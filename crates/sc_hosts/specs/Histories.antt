@@ -37,10 +37,12 @@ session_of config history = session_after config history history.turns
 unfoldable pub as_session : Form Session
 as_session = record { begin = fresh; read = λ session. session; turned = after_turn }
 
+-- a life that begins with this request at this moment
 unfoldable pub begun_history : AppId → ℕ → ℕ → Note → Request → History
 begun_history app epoch began noted request =
     record { app = app; epoch = epoch; began = began; noted = noted; request = request; turns = [] }
 
+-- a life after one turn more
 unfoldable pub turned_history : Turn → History → History
 turned_history turn history = record history { turns = turn ∷ history.turns }
 

@@ -1,4 +1,4 @@
--- Sessions of a host and their inboxes, with the limits of both.
+-- Sessions of a host and their inboxes, with the limits of both, which are this project's own.
 use Rattle.std.specs.Prelude.{ℕ, ◌+◌, ◌==◌, [], ◌∷◌, ◌++◌, Bool, false, Option, None, Some, is_some, nat_le, if◌then◌else◌, length}
 use Rattle.std.specs.List.{find}
 use Rattle.std.specs.Option.{option_map_or}
@@ -13,14 +13,18 @@ use Rattle.sc_state.specs.declared.queue.Queued.{Queued}
 
 -- ## Limits
 
+-- so many application sessions live at a host; a further initial request gets 503
 abbrev pub MOST_LIVE : ℕ
 MOST_LIVE = 4096
 
+-- where so many events wait in an inbox, a further request gets 503 and a provisional response is
+-- dropped
 abbrev pub MOST_WAITING : ℕ
 MOST_WAITING = 64
 
 -- ## Sessions and their inboxes
 
+-- the live session of this serial
 abbrev pub live_in : {S : Type 0} → ℕ → Host S → Option (Live S)
 live_in serial host = find (is_live serial) host.sessions
 
@@ -31,6 +35,7 @@ with_event number now event live = record live {
   since = if length live.inbox == 0 then now else live.since;
 }
 
+-- the host took a message and answers nothing
 unfoldable pub quiet : {S : Type 0} → Host S → ℕ → Taken S
 quiet host count = record { host = host; reply = None; count = count }
 
@@ -45,8 +50,10 @@ queue serial now event count host =
 unfoldable pub is_full : {S : Type 0} → Live S → Bool
 is_full live = nat_le MOST_WAITING (length live.inbox)
 
+-- the session lives, and its inbox is full
 unfoldable pub is_full_at : {S : Type 0} → ℕ → Host S → Bool
 is_full_at serial host = option_map_or is_full (live_in serial host) false
 
+-- the host answers with this message at once
 abbrev pub replying : {S : Type 0} → Peer → Message → Taken S → Taken S
 replying peer message taken = record taken { reply = Some (record { peer = peer; message = message }) }

@@ -36,6 +36,7 @@ use Rattle.sc_hosts.specs.Messages.{makes_dialog}
 unfoldable pub leg_of : Known → SessId → Option Leg
 leg_of known sess = slice_get known.legs (sess.0 - 1)
 
+-- a change of the leg of a SipSession
 unfoldable pub change_leg : SessId → (Leg → Leg) → Known → Known
 change_leg sess change known = record known { legs = change_nth (sess.0 - 1) change known.legs }
 
@@ -45,9 +46,11 @@ new_leg first = record { first = first; caller = None; dialog = None; got = []; 
 
 -- ## How an application session begins
 
+-- the SipSession of the request that begins an application session
 abbrev pub FIRST_SESSION : SessId
 FIRST_SESSION = record { 0 = 1 }
 
+-- that request
 abbrev pub FIRST_REQUEST : ReqId
 FIRST_REQUEST = record { 0 = 1 }
 
@@ -65,6 +68,7 @@ first_session tag request = record {
   gone = false;
 }
 
+-- the view as an application session begins at this moment, with the parameters of its application
 unfoldable pub first_view : Config → AppId → ℕ → ℕ → Request → View
 first_view config app epoch began request = record {
   app = app;
@@ -88,6 +92,8 @@ first_view config app epoch began request = record {
 unfoldable pub first_got : Request → List Got
 first_got request = record { tag = tag_of request.head.from; number = request.head.cseq.number } ∷ []
 
+-- the leg of the first SipSession: the dialog on the called side, in case it answers, and the
+-- caller's tag, in case it proxies
 unfoldable pub first_leg : Bytes → Request → Leg
 first_leg tag request = record {
   first = Some FIRST_REQUEST;
@@ -98,6 +104,7 @@ first_leg tag request = record {
   overtaken = false;
 }
 
+-- what a session knows as it begins: where the router chose it, and its first leg
 unfoldable pub first_known : Bytes → Note → Request → Known
 first_known tag noted request = record {
   region = noted.region;
@@ -128,6 +135,7 @@ same_tag (Some a) (Some b) = same_bytes a b
 abbrev pub from_tag : Request → Option Bytes
 from_tag request = tag_of request.head.from
 
+-- the tag of its To
 abbrev pub to_tag : Request → Option Bytes
 to_tag request = tag_of request.head.to
 
@@ -136,6 +144,8 @@ unfoldable pub between_peers : Option Bytes → Option Bytes → Request → Boo
 between_peers caller callee request =
     (same_tag caller (from_tag request) && same_tag callee (to_tag request)) || (same_tag callee (from_tag request) && same_tag caller (to_tag request))
 
+-- the request is one of the SipSession's dialog: between the two peers of a proxied one, else from
+-- the peer to the own side
 unfoldable pub in_dialog_by : SessionView → Option Bytes → Request → Bool
 in_dialog_by session caller request =
     if is_proxy session.role then between_peers caller session.peer_tag request
@@ -147,6 +157,7 @@ takes_request known request session =
     is_open_state session.state && not session.gone && same_bytes session.call_id request.head.call_id
     && in_dialog_by session (option_and_then (λ leg. leg.caller) (leg_of known session.id)) request
 
+-- the SipSession in whose dialog a later request came
 unfoldable pub session_for : Session → Request → Option SessId
 session_for session request = option_map (λ s. s.id) (find (takes_request session.known request) session.view.sessions)
 
@@ -154,6 +165,7 @@ session_for session request = option_map (λ s. s.id) (find (takes_request sessi
 unfoldable pub greatest_got : Option Bytes → List Got → ℕ
 greatest_got tag got = option_map_or (λ g. g.number) (find (λ g. same_tag g.tag tag) got) 0
 
+-- the greatest number from each tag, with this one
 unfoldable pub with_got : Option Bytes → ℕ → List Got → List Got
 with_got tag number got =
     if list_any (λ g. same_tag g.tag tag) got
@@ -177,9 +189,11 @@ retargeted dialog (By_peer (messages.Response response)) = record dialog { targe
 retargeted dialog (By_self (messages.Request request)) = record dialog { sent = max dialog.sent request.head.cseq.number }
 retargeted dialog (By_self (messages.Response response)) = dialog
 
+-- the dialog of the leg after a message
 unfoldable pub in_dialog : Passed → Leg → Leg
 in_dialog passed leg = record leg { dialog = option_map (λ dialog. retargeted dialog passed) leg.dialog }
 
+-- the leg after a request of the peer
 unfoldable pub with_request : Request → Leg → Leg
 with_request request leg = in_dialog (By_peer (messages.Request request)) (record leg { got = with_got (from_tag request) request.head.cseq.number leg.got })
 
@@ -200,5 +214,6 @@ answered_leg request response leg =
     if is_some leg.dialog then in_dialog (By_peer (messages.Response response)) leg
     else (if makes_dialog_of request response then record leg { dialog = Some (dialog_of (Calling request response) []) } else leg)
 
+-- the leg after a response to this request
 unfoldable pub with_answer : Request → Response → Leg → Leg
 with_answer request response leg = answered_leg request (as_answer request response) leg

@@ -29,6 +29,7 @@ use Rattle.sc_model.specs.DialogRequests.{cancel}
 
 -- ## The container's own marks
 
+-- the transport of each own Via
 unfoldable pub tcp : Bytes
 tcp = codes "TCP"
 
@@ -41,6 +42,7 @@ own_via config epoch app branch = record {
   params = record { name = branch_name; value = Some (branch_text config.salt epoch app branch) } ∷ [];
 }
 
+-- the address of a URI, without display name and parameters
 unfoldable pub plain : SipUri → Address
 plain uri = record { display = None; uri = Sip uri; params = [] }
 
@@ -48,6 +50,7 @@ plain uri = record { display = None; uri = Sip uri; params = [] }
 unfoldable pub own_address : Config → ℕ → AppId → Address
 own_address config epoch app = plain (session_uri (ip_text config.listen.0) config.listen.1 epoch app)
 
+-- the request with this Via on top
 abbrev pub with_via : Via → Request → Request
 with_via via request = record request { head = record request.head { via = via ∷ request.head.via } }
 
@@ -55,6 +58,7 @@ with_via via request = record request { head = record request.head { via = via �
 unfoldable pub on_branch : Config → View → ℕ → Request → Request
 on_branch config view branch request = with_via (own_via config view.epoch view.app branch) request
 
+-- the request with these Contacts in place of its own
 abbrev pub with_contact : List Contact → Request → Request
 with_contact contacts request = record request { head = record request.head { contact = contacts } }
 
@@ -148,6 +152,7 @@ unfoldable pub given_response : Config → View → Bytes → Bool → Request �
 given_response config view tag initial request answer =
     with_routes initial request (answered_here config view request (response_to tag request answer))
 
+-- an answer of code and reason alone
 unfoldable pub bare_answer : ℕ → Bytes → Answer
 bare_answer code reason = record { code = code; reason = reason; fields = []; contact = []; body = [] }
 
@@ -206,8 +211,10 @@ kin method to request = record {
   };
 }
 
+-- the CANCEL of a request that was sent (RFC 3261 section 9.1)
 unfoldable pub cancel_of : Request → Request
 cancel_of request = kin cancel request.head.to request
 
+-- the ACK to a response other than 2xx, with the response's To (RFC 3261 section 17.1.1.3)
 unfoldable pub ack_of : Request → Response → Request
 ack_of request response = kin ack response.head.to request

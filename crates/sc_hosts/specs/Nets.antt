@@ -1,5 +1,6 @@
--- The net of hosts: how what a session gives to send is sent, and how messages between hosts are
--- delivered. A link between two hosts loses nothing, keeps order, and has no limit.
+-- The net of hosts: how what a session gives to send is sent (RFC 3261 sections 8.1.2, 12.2.1.1 and
+-- 18), and how messages between hosts are delivered. A link between two hosts loses nothing, keeps
+-- order, and has no limit.
 use Rattle.std.specs.Prelude.{ℕ, ◌+◌, ◌==◌, List, [], ◌∷◌, ◌++◌, Bool, true, false, not, ◌&&◌, ◌||◌, Option, None, Some, is_some, if◌then◌else◌, length, slice_get, drop, sum_by}
 use Rattle.std.specs.List.{find, fold}
 use Rattle.sc_value.specs.declared.ids.AppId.{AppId}
@@ -50,9 +51,11 @@ use Rattle.sc_model.specs.DialogRequests.{cancel}
 
 -- ## Hosts of a net
 
+-- the host of this number
 abbrev pub host_at : {S : Type 0} → ℕ → Net S → Option (Host S)
 host_at number net = slice_get net.hosts number
 
+-- a change of the host of this number
 abbrev pub change_host : {S : Type 0} → ℕ → (Host S → Host S) → Net S → Net S
 change_host number change net = record net { hosts = change_nth number change net.hosts }
 
@@ -65,6 +68,7 @@ put sender (peers.Inside host) message noted net =
     record net { wire = net.wire ++ record { sender = sender; receiver = host; message = message; note = noted } ∷ [] }
 put sender peers.Nowhere message noted net = net
 
+-- what a host answers at once, sent
 unfoldable pub put_reply : {S : Type 0} → ℕ → Option Reply → Net S → Net S
 put_reply sender None net = net
 put_reply sender (Some reply) net = put sender reply.peer reply.message None net
@@ -78,6 +82,7 @@ unfoldable pub queued_at : {S : Type 0} → AppId → Queued → Option (Host S)
 queued_at app event None net = net
 queued_at app event (Some host) net = placed app.host (queue app.serial net.moment event net.count host) net
 
+-- an event for a session, where its host is there
 unfoldable pub queue_for : {S : Type 0} → AppId → Queued → Net S → Net S
 queue_for app event net = queued_at app event (host_at app.host net) net
 
@@ -94,6 +99,7 @@ send_to app branch peer noted request net =
     put app.host peer (messages.Request request) noted
     (change_host app.host (with_client (record { app = app; branch = branch; peer = peer; request = request; sent = net.moment; passed = [] })) net)
 
+-- a request that leaves for this place; where there is none its session is told 503
 unfoldable pub leave_for : {S : Type 0} → Config → AppId → ℕ → Request → Option Place → Net S → Net S
 leave_for config app branch request None net = tell_own config app branch 503 unavailable request net
 leave_for config app branch request (Some place) net = send_to app branch (peers.Outside place) None request net
@@ -102,6 +108,7 @@ leave_for config app branch request (Some place) net = send_to app branch (peers
 unfoldable pub leave : {S : Type 0} → Config → AppId → ℕ → Request → Net S → Net S
 leave config app branch request net = leave_for config app branch request (destination config request) net
 
+-- the request with these Routes on top
 abbrev pub with_routes : List Address → Request → Request
 with_routes routes request = record request { head = record request.head { route = routes ++ request.head.route } }
 
@@ -113,17 +120,20 @@ begin_by config app branch request (choices.Send routes) net = leave config app 
 begin_by config app branch request choices.Onward net = leave config app branch request net
 begin_by config app branch request choices.NotFound net = tell_own config app branch 404 not_found request net
 
--- the number of the first host with a live session that the URI names
+-- this host has a live session that the URI names
 unfoldable pub has_named : {S : Type 0} → ℕ → Uri → ℕ → Host S → Bool
 has_named epoch uri number host = is_some (named_live epoch number uri host)
 
+-- the first such host of a list, counted from this number
 unfoldable pub named_from : {S : Type 0} → ℕ → Uri → ℕ → List (Host S) → Option ℕ
 named_from epoch uri number [] = None
 named_from epoch uri number (host ∷ hosts) = if has_named epoch uri number host then Some number else named_from epoch uri (number + 1) hosts
 
+-- the number of the first host with a live session that the URI names
 unfoldable pub named_host : {S : Type 0} → Uri → Net S → Option ℕ
 named_host uri net = named_from net.epoch uri 0 net.hosts
 
+-- a later request goes to that host; where there is none its session is told 481
 unfoldable pub send_named : {S : Type 0} → Config → AppId → ℕ → Request → Option ℕ → Net S → Net S
 send_named config app branch request None net = tell_own config app branch 481 does_not_exist request net
 send_named config app branch request (Some host) net = send_to app branch (peers.Inside host) None request net
@@ -134,10 +144,12 @@ send_later config app branch request net =
     if is_own config (next_uri request) then send_named config app branch request (named_host (next_uri request) net) net
     else leave config app branch request net
 
+-- the other end, where that is a host
 unfoldable pub peer_of_host : Option ℕ → Peer
 peer_of_host None = peers.Nowhere
 peer_of_host (Some host) = peers.Inside host
 
+-- the other end, where that is outside
 unfoldable pub peer_of_place : Option Place → Peer
 peer_of_place None = peers.Nowhere
 peer_of_place (Some place) = peers.Outside place
@@ -153,6 +165,7 @@ unfoldable pub send_cancel : {S : Type 0} → AppId → Client → Net S → Net
 send_cancel app client net =
     put app.host client.peer (messages.Request (cancel_of client.request)) None (change_host app.host (with_client (cancelling net.moment client)) net)
 
+-- a CANCEL is asked for: it goes now, or waits for a provisional response (RFC 3261 section 9.1)
 unfoldable pub cancel_by : {S : Type 0} → AppId → ℕ → Client → Net S → Net S
 cancel_by app branch client net =
     let asked : Net _ = change_host app.host (pass_client app branch false (client_items.CancelAsked net.moment)) net in
@@ -164,10 +177,12 @@ cancel_for app branch at_once None net = net
 cancel_for app branch at_once (Some client) net =
     if is_invite_client client && (not at_once || is_proceeding (state_of_client client)) then cancel_by app branch client net else net
 
+-- the client transaction of a session's branch, not that of its CANCEL
 unfoldable pub client_at : {S : Type 0} → AppId → ℕ → Option (Host S) → Option Client
 client_at app branch None = None
 client_at app branch (Some host) = find (is_client app branch false) host.clients
 
+-- a server transaction after this response
 unfoldable pub answered_server : ℕ → ℕ → Response → Server → Server
 answered_server code now response server = record server { passed = server_items.AnswerGiven code now ∷ server.passed; last = Some response }
 
@@ -180,6 +195,7 @@ respond_by number event response (Some server) net =
     (change_host number (λ host. tidied (record host { servers = change_first (is_server event) (answered_server response.code net.moment response) host.servers })) net)
     else net
 
+-- the server transaction of an event
 unfoldable pub server_at : {S : Type 0} → ℕ → Option (Host S) → Option Server
 server_at event None = None
 server_at event (Some host) = find (is_server event) host.servers
@@ -200,14 +216,17 @@ obeyed setup app given net = fold (obey setup app) net given
 
 -- ## Deliveries
 
+-- some message is on the wire
 unfoldable pub is_busy : {S : Type 0} → Net S → Bool
 is_busy net = not (length net.wire == 0)
 
+-- a host takes a message of the wire, as one from the host that sent it
 unfoldable pub deliver_at : {S : Type 0} → Form S → Setup → Entry → Option (Host S) → Net S → Net S
 deliver_at form setup entry None net = net
 deliver_at form setup entry (Some host) net =
     placed entry.receiver (takes form setup.config net.epoch entry.receiver (peers.Inside entry.sender) net.moment entry.note entry.message net.count host) net
 
+-- this message leaves the wire and is taken
 unfoldable pub deliver_entry : {S : Type 0} → Form S → Setup → Option Entry → Net S → Net S
 deliver_entry form setup None net = net
 deliver_entry form setup (Some entry) net = deliver_at form setup entry (host_at entry.receiver net) (record net { wire = drop 1 net.wire })
@@ -216,17 +235,20 @@ deliver_entry form setup (Some entry) net = deliver_at form setup entry (host_at
 unfoldable pub deliver_first : {S : Type 0} → Form S → Setup → Net S → Net S
 deliver_first form setup net = deliver_entry form setup (slice_get net.wire 0) net
 
--- what a message can still cause on the wire: a request its answers, a provisional answer a CANCEL that
--- waits, a final one its ACK, a CANCEL its answer
+-- the rank of a request: 5, of a CANCEL or an ACK 2
 unfoldable pub rank_of_request : Request → ℕ
 rank_of_request request = if same_bytes (method_of request) cancel || same_bytes (method_of request) ack then 2 else 5
 
+-- the rank of a response: of a provisional one 4, of a final one 3, of one to a CANCEL 1
 unfoldable pub rank_of_response : Response → ℕ
 rank_of_response response = if same_bytes response.head.cseq.method cancel then 1 else (if is_final response.code then 3 else 4)
 
+-- what a message can still cause on the wire: a request its answers, a provisional answer a CANCEL
+-- that waits, a final one its ACK, a CANCEL its answer. What it causes has a lower rank
 unfoldable pub rank : Message → ℕ
 rank (messages.Request request) = rank_of_request request
 rank (messages.Response response) = rank_of_response response
 
+-- the ranks of all messages on the wire; it bounds how many deliveries are left
 unfoldable pub weight : {S : Type 0} → Net S → ℕ
 weight net = sum_by (λ entry. rank entry.message) net.wire

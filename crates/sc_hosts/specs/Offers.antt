@@ -33,9 +33,11 @@ pub record Offer : Type 0 where
   pub cseq : ℕ
   pub timer : ℕ
 
+-- the attribute that remembers the offer of the INVITE of this number
 unfoldable pub rel_name : ℕ → Bytes
 rel_name n = codes "rel" ++ decimal n
 
+-- the offer that waits, read from the words of an attribute: `P`, RSeq, CSeq number and timer
 unfoldable pub offer_in : List Bytes → Option Offer
 offer_in (letter ∷ r ∷ c ∷ t ∷ []) =
     if same_bytes letter (codes "P")
@@ -47,15 +49,19 @@ offer_in words = None
 unfoldable pub pending_offer : View → ℕ → Option Offer
 pending_offer view n = option_and_then (λ text. offer_in (pieces 32 text)) (attribute (rel_name n) view)
 
+-- the same written; the timer is 0 before it is started
 unfoldable pub offer_text : ℕ → ℕ → ℕ → Bytes
 offer_text r c t = codes "P " ++ decimal r ++ codes " " ++ decimal c ++ codes " " ++ decimal t
 
+-- an offer that waits no more: `A` where its PRACK came, `F` where none did
 unfoldable pub ended_offer_text : ℕ → Offer → Bytes
 ended_offer_text letter offer = letter ∷ codes " " ++ decimal offer.rseq ++ codes " " ++ decimal offer.cseq
 
+-- the option of reliable provisional responses (RFC 3262 section 3)
 unfoldable pub rel_option : Bytes
 rel_option = codes "100rel"
 
+-- the reason phrase of a 183 (RFC 3261 section 21.1.5)
 unfoldable pub session_progress : Bytes
 session_progress = codes "Session Progress"
 
@@ -66,6 +72,7 @@ first_offer req request =
     (accepted_then (calls.SetAttribute (rel_name req.0) (offer_text 1 request.head.cseq.number 0))
     (Make (calls.StartTimer 32000 Once (rel_name req.0)) (with_number (λ t. only (calls.SetAttribute (rel_name req.0) (offer_text 1 request.head.cseq.number t))))))
 
+-- the received INVITE that began this SipSession
 unfoldable pub is_invite_of : SessId → RequestView → Bool
 is_invite_of sess request = request.received && request.initial && same_bytes request.method invite && same_session request.sess sess
 
@@ -79,6 +86,8 @@ names_offer offer (Some value) = is_rack (words_of value)
         option_map_or (λ n. n == offer.rseq) (number_of r) false && option_map_or (λ n. n == offer.cseq) (number_of c) false && same_bytes method invite
     is_rack words = false
 
+-- a PRACK for the INVITE's offer: 200 to it and then to the INVITE; one that names no waiting offer
+-- gets 481
 unfoldable pub prack_by : View → ReqId → ReqId → Request → Option Offer → Script
 prack_by view invited req request None = only (reply req 481 does_not_exist)
 prack_by view invited req request (Some offer) =
@@ -88,6 +97,7 @@ prack_by view invited req request (Some offer) =
     (cancel_then offer.timer view (only (reply invited 200 ok))))
     else only (reply req 481 does_not_exist)
 
+-- a PRACK, for the INVITE that began its SipSession
 unfoldable pub take_prack : View → ReqId → SessId → Request → Script
 take_prack view req sess request =
     take_with (find (is_invite_of sess) view.requests)
@@ -96,6 +106,7 @@ take_prack view req sess request =
     take_with None = only (reply req 481 does_not_exist)
     take_with (Some invited) = prack_by view invited.id req request (pending_offer view invited.id.0)
 
+-- no PRACK came in 32 s: the INVITE is answered 500 (RFC 3262 section 3)
 unfoldable pub late_offer : View → ℕ → TimerId → Script
 late_offer view n id =
     where_some (pending_offer view n) (λ offer. where_some (request_in view (record { 0 = n })) (λ request.
@@ -107,6 +118,8 @@ late_offer view n id =
 unfoldable pub after_word : Bytes → Bytes → Option Bytes
 after_word word text = if starts_with nat_eq text word then Some (drop (length word) text) else None
 
+-- `early`: an INVITE whose caller supports it gets a reliable 183, and 200 after its PRACK; others
+-- get 180 and 200
 unfoldable pub early_script : View → Event → Script
 early_script view (events.Initial req sess region subscriber popped request) =
     if same_bytes request.method invite

@@ -36,6 +36,7 @@ use Rattle.sc_hosts.specs.PreparingResponses.{is_sent_on, change_proxy, is_inval
 
 -- ## CANCEL
 
+-- the INVITE that came under this event
 abbrev pub is_invited : ℕ → Invited → Bool
 is_invited event invited = invited.event == event
 
@@ -43,6 +44,7 @@ is_invited event invited = invited.event == event
 abbrev pub kept_of : Known → ReqId → Option Kept
 kept_of known req = find (λ kept. same_request kept.id req) known.kept
 
+-- the own tag of a SipSession
 unfoldable pub own_tag_of : View → SessId → Bytes
 own_tag_of view sess = option_map_or (λ s. s.own_tag) (session_in view sess) []
 
@@ -53,15 +55,20 @@ terminated session invited request (Some kept) =
     showing_in (record session { view = answered (Some request) 487 session.view }) invited.sess (events.Cancelled invited.req invited.sess) (Some invited.req)
     (orders.Respond invited.event (own_response (own_tag_of session.view invited.sess) 487 request_terminated kept.request) ∷ [])
 
+-- the CANCEL of a proxied INVITE: no further target, and a CANCEL to each open branch (RFC 3261
+-- section 16.10)
 unfoldable pub cancelled_proxy : Session → Invited → Option Proxy → Prepared
 cancelled_proxy session invited None = showing_in session invited.sess (events.Cancelled invited.req invited.sess) (Some invited.req) []
 cancelled_proxy session invited (Some proxy) =
     let after : Session = record session { known = change_proxy proxy.req stopped session.known } in
     if is_supervised proxy then showing_in after invited.sess (events.Cancelled invited.req invited.sess) (Some invited.req) [] else silent after []
 
+-- the proxy of this request, if it is proxied
 unfoldable pub proxy_of : Known → ReqId → Option Proxy
 proxy_of known req = find (λ proxy. same_request proxy.req req) known.proxies
 
+-- by what the view shows of the INVITE: proxied, waiting for its answer, or neither, which changes
+-- nothing
 unfoldable pub cancelled_request : Session → Invited → Option RequestView → Prepared
 cancelled_request session invited None = showing_in session invited.sess (events.Cancelled invited.req invited.sess) None []
 cancelled_request session invited (Some request) =
@@ -69,6 +76,7 @@ cancelled_request session invited (Some request) =
     else (if is_none request.answered then terminated session invited request (kept_of session.known invited.req)
     else showing_in session invited.sess (events.Cancelled invited.req invited.sess) (Some invited.req) [])
 
+-- a CANCEL that came for an INVITE
 unfoldable pub prepared_cancel : Session → Option Invited → Prepared
 prepared_cancel session None = silent session []
 prepared_cancel session (Some invited) = cancelled_request session invited (request_in session.view invited.req)
@@ -84,11 +92,12 @@ renewed now timer = next_due now timer.due timer.period
     next_due now due (Rate n) = Some (due + n)
     next_due now due (Delay n) = Some (now + n)
 
+-- the view after a timer has fired, by when it is due again
 unfoldable pub fired : View → TimerView → Option ℕ → View
 fired view timer None = record view { timers = remove_first (is_timer timer.id) view.timers }
 fired view timer (Some due) = record view { timers = change_first (is_timer timer.id) (λ t. record t { due = due }) view.timers }
 
--- a timer that isn't active any more is passed over
+-- a servlet timer fires; one that isn't active any more is passed over
 unfoldable pub prepared_timer : Session → Option TimerView → Prepared
 prepared_timer session None = silent session []
 prepared_timer session (Some timer) =
@@ -98,6 +107,8 @@ prepared_timer session (Some timer) =
 unfoldable pub has_expired : View → Bool
 has_expired view = option_map_or (λ due. nat_le due view.now) view.expires false
 
+-- the application session's expiry; one that was moved meanwhile is passed over (JSR 289 section
+-- 6.1.2)
 unfoldable pub prepared_expiry : Session → Prepared
 prepared_expiry session = if has_expired session.view then showing session events.Expired None [] else silent session []
 
@@ -107,6 +118,7 @@ timed_out config session proxy branch provisional =
     if is_invite proxy && provisional then record session { known = change_proxy proxy.req (to_cancel branch) session.known }
     else record session { known = change_proxy proxy.req (ended_by branch proxy.sess (own_response (edge_tag config.salt) 408 request_timeout proxy.request)) session.known }
 
+-- a branch's timer; nothing follows where the branch has ended, or the timer was begun again
 unfoldable pub prepared_branch_timer : Config → List ℕ → Session → ℕ → ℕ → Option Proxy → Prepared
 prepared_branch_timer config ringing session branch due None = silent session []
 prepared_branch_timer config ringing session branch due (Some proxy) =
@@ -115,6 +127,7 @@ prepared_branch_timer config ringing session branch due (Some proxy) =
 
 -- ## Each event
 
+-- what each event makes of the session, under the number of the event
 unfoldable pub prepared_for : Config → List ℕ → Session → ℕ → Queued → Prepared
 prepared_for config ringing session number (queued.Initial region subscriber popped request) =
     showing (received session number FIRST_SESSION true false request)

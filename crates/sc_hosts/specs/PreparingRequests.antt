@@ -1,5 +1,5 @@
--- What a turn shows of a request that came: what an application session becomes before its servlet is
--- called.
+-- What a turn shows of a request that came: what an application session becomes before its servlet
+-- is called (RFC 3261 section 12.2.2, JSR 289 section 6).
 use Rattle.std.specs.Prelude.{ℕ, ◌+◌, List, [], ◌∷◌, ◌++◌, Bool, true, false, Option, None, Some, if◌then◌else◌}
 use Rattle.sc_value.specs.declared.ids.ReqId.{ReqId}
 use Rattle.sc_value.specs.declared.ids.SessId.{SessId}
@@ -27,9 +27,11 @@ use Rattle.sc_model.specs.BestResponses.{server_error}
 
 -- ## What nobody is called for
 
+-- nobody is called
 unfoldable pub silent : Session → List Order → Prepared
 silent session given = record { view = session.view; known = session.known; event = None; req = None; orders = given }
 
+-- this event is shown, with the number of the request that it is about
 unfoldable pub showing : Session → Event → Option ReqId → List Order → Prepared
 showing session event req given = record { view = session.view; known = session.known; event = Some event; req = req; orders = given }
 
@@ -44,6 +46,7 @@ showing_in session sess event req given =
 abbrev pub next_id : Session → ReqId
 next_id session = record { 0 = session.view.next_request }
 
+-- a received request as it is shown, without an answer yet
 unfoldable pub request_view : ReqId → SessId → Bool → Bool → Request → RequestView
 request_view req sess initial passed request = record {
   id = req;
@@ -59,9 +62,11 @@ request_view req sess initial passed request = record {
   ends = ends_subscription request.method request.head.others;
 }
 
+-- a number for a request is used up
 abbrev pub numbered : Session → Session
 numbered session = record session { view = record session.view { next_request = session.view.next_request + 1 } }
 
+-- an INVITE is noted, as it can be cancelled
 unfoldable pub with_invited : ℕ → ReqId → SessId → Request → Known → Known
 with_invited number req sess request known =
     if same_bytes request.method invite then record known { invited = known.invited ++ record { event = number; req = req; sess = sess } ∷ [] } else known
@@ -89,17 +94,20 @@ too_low session number sess request =
       view = answered (request_in (received session number sess false false request).view (next_id session)) 500 (received session number sess false false request).view;
     } in silent after (refused number 500 server_error request)
 
+-- a request of the dialog is shown; in a proxied dialog it is one that is passed on
 unfoldable pub taken : Session → ℕ → SessionView → Request → Prepared
 taken session number found request =
     let after : Session = received session number found.id false (is_proxy found.role) request in
     showing (record after { known = change_leg found.id (with_request request) after.known })
     (events.Request (next_id session) found.id request) (Some (next_id session)) []
 
+-- a later request in its SipSession, by its sequence number (RFC 3261 section 12.2.2)
 unfoldable pub taken_in : Session → ℕ → SessId → Option SessionView → Request → Prepared
 taken_in session number sess None request = silent (numbered session) []
 taken_in session number sess (Some found) request =
     if is_low (leg_of session.known sess) request then too_low session number sess request else taken session number found request
 
+-- a later request; where no SipSession has its dialog it is answered 481, and nobody is called
 unfoldable pub prepared_request : Session → ℕ → Request → Option SessId → Prepared
 prepared_request session number request None = silent (numbered session) (refused number 481 does_not_exist request)
 prepared_request session number request (Some sess) = taken_in session number sess (session_in session.view sess) request

@@ -1,4 +1,5 @@
--- What a turn shows of a response that came.
+-- What a turn shows of a response that came (RFC 3261 sections 8.1.3, 13.2.2 and 16.7, JSR 289
+-- section 6).
 use Rattle.std.specs.Prelude.{ℕ, ◌+◌, ◌==◌, List, [], ◌∷◌, Bool, true, false, not, ◌&&◌, Option, None, Some, is_some, option_and_then, nat_lt, if◌then◌else◌, length}
 use Rattle.std.specs.List.{find}
 use Rattle.std.specs.Option.{option_map_or, option_or}
@@ -32,6 +33,7 @@ use Rattle.sc_hosts.specs.PreparingRequests.{silent, showing, showing_in}
 
 -- ## A response to a request of one's own
 
+-- the request was sent on this branch
 abbrev pub is_sent_on : ℕ → Kept → Bool
 is_sent_on branch kept = is_way branch kept.way
   where
@@ -39,11 +41,12 @@ is_sent_on branch kept = is_way branch kept.way
     is_way branch (Received event) = false
     is_way branch (Sent number) = number == branch
 
--- the SipSessions whose 2xx waits for an ACK, in order
+-- the SipSessions whose 2xx waits for an ACK, with this one, in order of number and each once
 unfoldable pub insert_session : SessId → List SessId → List SessId
 insert_session sess [] = sess ∷ []
 insert_session sess (s ∷ ss) = if s.0 == sess.0 then s ∷ ss else (if nat_lt sess.0 s.0 then sess ∷ s ∷ ss else (s ∷ insert_session sess ss))
 
+-- a sent INVITE whose 2xx in this SipSession waits for its ACK
 unfoldable pub with_success : SessId → Response → RequestView → RequestView
 with_success sess response request =
     if same_bytes request.method invite && is_success response.code then record request { unacked = insert_session sess request.unacked } else request
@@ -53,6 +56,7 @@ unfoldable pub is_first_success : RequestView → Response → Bool
 is_first_success request response =
     request.initial && same_bytes request.method invite && is_success response.code && not (option_map_or is_success request.answered false)
 
+-- what a final response to an initial request makes of the request's other SipSessions
 unfoldable pub settled_legs : RequestView → SessId → Response → Session → Session
 settled_legs request sess response session =
     if is_first_success request response then overtaken request.id sess session
@@ -111,15 +115,17 @@ insert_request request [] = request ∷ []
 insert_request request (other ∷ others) =
     if nat_lt request.id.0 other.id.0 then request ∷ other ∷ others else (other ∷ insert_request request others)
 
+-- the session with a request that its view shows again
 abbrev pub with_request_again : RequestView → Session → Session
 with_request_again request session = record session { view = record session.view { requests = insert_request request session.view.requests } }
 
--- so that it can be acknowledged again
+-- the 2xx is handled and shown, so that it can be acknowledged again
 unfoldable pub responded_again : Kept → RequestView → Response → SessId × Session → Prepared
 responded_again kept request response (sess, session) =
     if is_gone_in session.view sess then silent session []
     else showing (responded kept request response sess (with_request_again request session)) (events.Response kept.id sess response) None []
 
+-- a 2xx to an INVITE
 abbrev pub accepts_invite : Kept → Response → Bool
 accepts_invite kept response = same_bytes kept.request.method invite && is_success response.code
 
@@ -134,9 +140,12 @@ prepared_own session kept response (Some request) =
 
 -- ## A response on a branch of a proxied request
 
+-- a change of the proxy of this request
 abbrev pub change_proxy : ReqId → (Proxy → Proxy) → Known → Known
 change_proxy req change known = record known { proxies = change_first (λ proxy. same_request proxy.req req) change known.proxies }
 
+-- the response as the application is told of it: of the whole request, or of one branch (JSR 289
+-- section 10)
 unfoldable pub told : Proxy → ℕ → Response → SessId → Event
 told proxy branch response sess =
     if is_told_whole branch response proxy then events.Response proxy.req sess response else events.Branch proxy.req sess response
@@ -156,9 +165,11 @@ dialog_options known sess =
 unfoldable pub is_watched : Known → Proxy → Bool
 is_watched known proxy = option_map_or (λ (o : ProxyOptions). o.supervised) (option_or proxy.options (dialog_options known proxy.sess)) true
 
+-- the application ended this SipSession by a call
 unfoldable pub is_invalid : Known → SessId → Bool
 is_invalid known sess = option_map_or (λ leg. leg.invalidated) (leg_of known sess) false
 
+-- what a response on a branch makes of the session, handled in this SipSession
 unfoldable pub heard_in : Proxy → ℕ → Response → SessId × Session → Prepared
 heard_in proxy branch response (sess, session) =
     let after : Session = record {
@@ -167,6 +178,7 @@ heard_in proxy branch response (sess, session) =
     } in
     if is_watched session.known proxy then showing_in after sess (told proxy branch response sess) None [] else silent after []
 
+-- the SipSession of a response to a proxied request, a derived one maybe
 unfoldable pub branch_placed : Session → Proxy → Response → Option SessionView → SessId × Session
 branch_placed session proxy response None = (proxy.sess, session)
 branch_placed session proxy response (Some original) =
@@ -179,6 +191,7 @@ prepared_branch session proxy branch response =
     if is_invalid session.known proxy.sess then silent session []
     else heard_in proxy branch response (branch_placed session proxy response (session_in session.view proxy.sess))
 
+-- a response: to a sent request, or on a branch of a proxied one
 unfoldable pub prepared_response : Session → ℕ → Response → Option Kept → Option Proxy → Prepared
 prepared_response session branch response (Some kept) proxy = prepared_own session kept response (request_in session.view kept.id)
 prepared_response session branch response None (Some proxy) = prepared_branch session proxy branch response

@@ -1,4 +1,5 @@
--- What refusals of calls look at: the limits, what a call names, and its texts.
+-- What refusals of calls look at: the limits, which are this project's own, what a call names, and
+-- its texts (RFC 3261 sections 7.3 and 25.1).
 use Rattle.std.specs.Prelude.{ℕ, ◌+◌, ◌==◌, List, [], ◌∷◌, Bool, true, not, ◌||◌, ◌&&◌, Option, None, Some, is_none, option_map, nat_lt, nat_le, if◌then◌else◌, length, min, position}
 use Rattle.std.specs.List.{find, list_any}
 use Rattle.std.specs.Option.{option_or, option_map_or}
@@ -26,18 +27,23 @@ use Rattle.sc_model.specs.DialogRequests.{cancel, is_bad_field}
 
 -- ## Limits
 
+-- the calls that a turn lists
 abbrev pub MOST_CALLS : ℕ
 MOST_CALLS = 256
 
+-- the SipSessions that an application session has at a time
 abbrev pub MOST_SESSIONS : ℕ
 MOST_SESSIONS = 64
 
+-- the targets that an application session proxies its request to, those of 3xx included
 abbrev pub MOST_BRANCHES : ℕ
 MOST_BRANCHES = 32
 
+-- the servlet timers that are active at a time
 abbrev pub MOST_TIMERS : ℕ
 MOST_TIMERS = 64
 
+-- the bytes of all attributes, their names and values
 abbrev pub MOST_ATTRIBUTE_BYTES : ℕ
 MOST_ATTRIBUTE_BYTES = 4096
 
@@ -48,6 +54,7 @@ first_of ((test, refusal) ∷ rest) = if test then Some refusal else first_of re
 
 -- ## What a call names
 
+-- the draft of this number, if it wasn't sent or dropped
 abbrev pub draft_in : Play → ℕ → Option Draft
 draft_in play number = find (λ draft. draft.number == number) play.drafts
 
@@ -55,12 +62,15 @@ draft_in play number = find (λ draft. draft.number == number) play.drafts
 unfoldable pub session_of_request : Play → ReqId → Option SessId
 session_of_request play req = option_map (λ request. request.sess) (request_in play.view req)
 
+-- the same for a draft
 unfoldable pub session_of_draft : Play → ℕ → Option SessId
 session_of_draft play number = option_map (λ draft. draft.sess) (draft_in play number)
 
+-- the SipSession of this number, none where nothing has it
 unfoldable pub known_session : Play → SessId → Option SessId
 known_session play sess = option_map (λ session. session.id) (session_in play.view sess)
 
+-- the SipSession of an origin, where the call has one
 unfoldable pub of_origin : Play → Option ReqId → List (Option SessId)
 of_origin play None = []
 of_origin play (Some req) = session_of_request play req ∷ []
@@ -104,6 +114,7 @@ name_refusal view names =
 unfoldable pub bad_field : List Field → Option Refusal
 bad_field fields = option_map (λ i. BadText (min (i + 2) 4294967295)) (position is_bad_field fields)
 
+-- some field is a header that the container sets itself
 unfoldable pub has_system_name : List Field → Bool
 has_system_name fields = list_any (λ field. is_system_name field.name) fields
 
@@ -116,6 +127,7 @@ answer_text answer =
 unfoldable pub is_bad_method : Bytes → Bool
 is_bad_method method = not (is_token method) || same_bytes method ack || same_bytes method cancel
 
+-- a faulty text of a request that is asked for: its method, then its fields
 unfoldable pub asked_text : Bytes → List Field → Option Refusal
 asked_text method fields = option_or (first_of ((is_bad_method method, BadText 0) ∷ [])) (bad_field fields)
 
@@ -125,8 +137,10 @@ unfoldable pub may_have_contact : Bytes → ℕ → Bool
 may_have_contact method code =
     (nat_le 300 code && nat_lt code 400) || code == 485 || (code == 200 && same_bytes method options) || same_bytes method register
 
+-- an answer with a header of the container's own, or with a Contact that it may not have
 unfoldable pub has_system_answer : Bytes → Answer → Bool
 has_system_answer method answer = has_system_name answer.fields || (not (length answer.contact == 0) && not (may_have_contact method answer.code))
 
+-- a request with a header of the container's own, or with a Contact that isn't a REGISTER
 unfoldable pub has_system_ask : Ask → Bool
 has_system_ask ask = has_system_name ask.fields || (not (length ask.contact == 0) && not (same_bytes ask.method register))

@@ -1,5 +1,6 @@
--- Which refusal each call of a turn gets: the first that holds, in the order written. A call is judged
--- by the view, by the drafts of its turn, and by how many calls were made.
+-- Which refusal each call of a turn gets: the first that holds, in the order written. A call is
+-- judged by the view, by the drafts of its turn, and by how many calls were made. What is refused
+-- is of JSR 289, sections 6, 10 and 12; the order is this project's own.
 use Rattle.std.specs.Prelude.{ℕ, ◌+◌, ◌==◌, List, [], ◌∷◌, Bool, true, false, not, ◌||◌, ◌&&◌, Option, None, Some, is_some, is_none, option_map, nat_lt, nat_le, if◌then◌else◌, length, filter, sum_by}
 use Rattle.std.specs.List.{find, list_any}
 use Rattle.std.specs.Option.{option_or, option_map_or}
@@ -40,6 +41,7 @@ respond_refusal request answer =
     ∷ (has_system_answer request.method answer, SystemHeader)
     ∷ [])) (answer_text answer)
 
+-- the router begins anew, and so needs no origin (JSR 289 section 15)
 unfoldable pub is_new : Directive → Bool
 is_new New = true
 is_new Continue = false
@@ -49,9 +51,11 @@ is_new Reverse = false
 unfoldable pub is_origin : Play → Option ReqId → Bool
 is_origin play origin = option_map_or (λ req. option_map_or (λ request. request.received && request.initial) (request_in play.view req) false) origin false
 
+-- the origin is a request that was sent
 unfoldable pub is_sent_origin : Play → Option ReqId → Bool
 is_sent_origin play origin = option_map_or (λ req. option_map_or (λ request. not request.received) (request_in play.view req) false) origin false
 
+-- what `create_request` refuses
 unfoldable pub create_refusal : Play → Ask → Option Refusal
 create_refusal play ask =
     option_or (first_of (
@@ -61,6 +65,8 @@ create_refusal play ask =
     ∷ (has_system_ask ask, SystemHeader)
     ∷ [])) (asked_text ask.method ask.fields)
 
+-- what `create_in_dialog` refuses: outside of an open dialog, and as a proxy; then headers and
+-- texts
 unfoldable pub dialog_refusal : Option SessionView → Inside → Option Refusal
 dialog_refusal None ask = Some NotYours
 dialog_refusal (Some session) ask =
@@ -69,9 +75,11 @@ dialog_refusal (Some session) ask =
     ∷ (has_system_name ask.fields, SystemHeader)
     ∷ [])) (asked_text ask.method ask.fields)
 
+-- the refusal where a SipSession is linked to another one
 unfoldable pub linked_refusal : Option SessId → Option Refusal
 linked_refusal other = option_map (λ sess. AlreadyLinked sess) other
 
+-- what `b2b_create` refuses: its request has to be initial, unanswered, and able to go further
 unfoldable pub b2b_refusal : Play → Option RequestView → Option Refusal
 b2b_refusal play None = Some NotYours
 b2b_refusal play (Some request) =
@@ -85,14 +93,17 @@ b2b_refusal play (Some request) =
     ∷ (nat_le MOST_SESSIONS (session_count play.view), Limit MOST_SESSIONS)
     ∷ [])))
 
+-- what `set_directive` refuses: the draft has to be initial
 unfoldable pub directive_refusal : Play → Option Draft → Directive → Option ReqId → Option Refusal
 directive_refusal play None directive origin = Some NotYours
 directive_refusal play (Some draft) directive origin =
     first_of ((not draft.initial || (not (is_new directive) && not (is_origin play origin)), NotInitial) ∷ [])
 
+-- the SipSession is TERMINATED
 unfoldable pub is_ended_session : Option SessionView → Bool
 is_ended_session session = option_map_or (λ s. is_terminated s.state) session false
 
+-- what `send` refuses: a later request in a dialog that has ended
 unfoldable pub send_refusal : Play → Option Draft → Option Refusal
 send_refusal play None = Some NotYours
 send_refusal play (Some draft) =
@@ -102,15 +113,19 @@ send_refusal play (Some draft) =
 abbrev pub awaits_ack : SessId → RequestView → Bool
 awaits_ack sess request = list_any (same_session sess) request.unacked
 
+-- what `cancel` refuses: other than a sent INVITE that waits for its final response (RFC 3261
+-- section 9.1)
 unfoldable pub cancel_refusal : View → Option RequestView → Option Refusal
 cancel_refusal view None = Some NotYours
 cancel_refusal view (Some request) =
     option_or (first_of ((request.received || not (same_bytes request.method invite), NotSent) ∷ []))
     (if is_some request.answered then option_map (λ session. WrongState session.state) (session_in view request.sess) else None)
 
+-- the SipSession isn't INITIAL any more
 unfoldable pub is_begun : Option SessionView → Bool
 is_begun session = option_map_or (λ s. not (is_initial_state s.state)) session false
 
+-- the refusal that names the SipSession's state
 unfoldable pub state_refusal : Option SessionView → Option Refusal
 state_refusal session = option_map (λ s. WrongState s.state) session
 
@@ -118,6 +133,8 @@ state_refusal session = option_map (λ s. WrongState s.state) session
 unfoldable pub branch_count : View → ℕ
 branch_count view = sum_by (λ request. request.branches) view.requests
 
+-- what `proxy_to` refuses: its request has to be initial, unanswered, and able to go further; a
+-- timeout is 1 to 3,600 s
 unfoldable pub proxy_refusal : Play → Option RequestView → ℕ → ProxyOptions → Option Refusal
 proxy_refusal play None count how = Some NotYours
 proxy_refusal play (Some request) count how =
@@ -134,6 +151,7 @@ proxy_refusal play (Some request) count how =
     ∷ (nat_lt MOST_BRANCHES (branch_count play.view + count), Limit MOST_BRANCHES)
     ∷ [])))
 
+-- what `proxy_cancel` refuses: other than a proxied request that waits for its final response
 unfoldable pub proxy_cancel_refusal : Option RequestView → Option Refusal
 proxy_cancel_refusal None = Some NotYours
 proxy_cancel_refusal (Some request) = first_of ((not request.proxied, NotSent) ∷ (is_some request.answered, AlreadyAnswered) ∷ [])
@@ -142,11 +160,14 @@ proxy_cancel_refusal (Some request) = first_of ((not request.proxied, NotSent) �
 unfoldable pub begun_by : View → SessId → Option RequestView
 begun_by view sess = find (λ request. request.received && request.initial && same_session request.sess sess) view.requests
 
+-- what `b2b_respond` refuses: an unlinked SipSession, and what `respond` refuses of its initial
+-- request
 unfoldable pub b2b_respond_refusal : View → SessId → Answer → Option Refusal
 b2b_respond_refusal view sess answer =
     if is_none (partner view sess) then Some NotLinked
     else option_map_or (λ request. respond_refusal request answer) (begun_by view sess) (Some NotYours)
 
+-- what `link` refuses: itself, an ended SipSession, and one that is linked (JSR 289 section 12)
 unfoldable pub link_refusal : View → SessId → SessId → Option Refusal
 link_refusal view a b =
     option_or (first_of (
@@ -154,6 +175,7 @@ link_refusal view a b =
     ∷ (is_ended_session (session_in view a) || is_ended_session (session_in view b), WrongState Terminated)
     ∷ [])) (option_or (linked_refusal (partner view a)) (linked_refusal (partner view b)))
 
+-- a timer that is due again after no time
 unfoldable pub is_zero_period : Period → Bool
 is_zero_period Once = false
 is_zero_period (Rate n) = n == 0
@@ -163,6 +185,7 @@ is_zero_period (Delay n) = n == 0
 unfoldable pub attribute_bytes : Bytes → List Field → ℕ
 attribute_bytes name fields = sum_by (λ field. length field.name + length field.value) (filter (λ field. not (same_bytes field.name name)) fields)
 
+-- there is an attribute of this name
 unfoldable pub is_set : Bytes → List Field → Bool
 is_set name fields = list_any (λ field. same_bytes field.name name) fields
 

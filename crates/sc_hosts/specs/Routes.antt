@@ -1,5 +1,6 @@
--- With what an initial request from outside asks the router: an own top Route is taken off, and its `ar`
--- gives the place in the list at which the router goes on and the region.
+-- With what an initial request from outside asks the router: an own top Route is taken off, and its
+-- `ar` gives the place in the list at which the router goes on and the region (JSR 289 section 15,
+-- RFC 3261 section 16.4).
 use Rattle.std.specs.Prelude.{ℕ, ◌^◌, List, [], ◌∷◌, Option, None, Some, option_map, option_and_then, if◌then◌else◌, drop, slice_get}
 use Rattle.std.specs.Option.{option_map_or}
 use Rattle.sc_value.specs.declared.ids.Directive.{Directive}
@@ -19,11 +20,13 @@ use Rattle.sc_tokens.specs.Numbers.{number_below}
 use Rattle.sc_model.specs.Names.{ar_name, ar_value}
 use Rattle.sc_model.specs.OwnHosts.{is_own}
 
+-- how the router goes on for a request: the region, the directive, and the place in its list
 pub record Position : Type 0 where
   pub region : Region
   pub directive : Directive
   pub state : Option ℕ
 
+-- from the list's beginning, in the neutral region
 abbrev pub at_beginning : Position
 at_beginning = record { region = Neutral; directive = New; state = None }
 
@@ -31,6 +34,7 @@ at_beginning = record { region = Neutral; directive = New; state = None }
 unfoldable pub popped_route : Config → Request → Option Address
 popped_route config request = option_and_then (λ route. if is_own config route.uri then Some route else None) (slice_get request.head.route 0)
 
+-- the request without its top Route, where that is taken off
 unfoldable pub without_top : Option Address → Request → Request
 without_top None request = request
 without_top (Some route) request = record request { head = record request.head { route = drop 1 request.head.route } }
@@ -39,6 +43,7 @@ without_top (Some route) request = record request { head = record request.head {
 unfoldable pub unrouted_initial : Config → Request → Request
 unrouted_initial config request = without_top (popped_route config request) request
 
+-- the value of `ar` in an own URI
 unfoldable pub ar_of : Uri → Option Bytes
 ar_of (Sip uri) = param_value ar_name uri.params
 ar_of (Other text) = None
@@ -47,6 +52,7 @@ ar_of (Other text) = None
 unfoldable pub named_number : Bytes → Region → Option ℕ
 named_number text region = option_and_then (λ n. if same_bytes (ar_value n region) text then Some n else None) (number_below (2 ^ 32) (before 45 text))
 
+-- from this place in the list on
 unfoldable pub at_number : Region → ℕ → Position
 at_number region n = record { region = region; directive = Continue; state = Some n }
 
@@ -62,9 +68,11 @@ named_position text = first_some (map_position Originating ∷ map_position Term
     first_some (None ∷ more) = first_some more
     first_some (Some position ∷ more) = Some position
 
+-- by the Route that was taken off; where its `ar` names no place, the list's beginning
 unfoldable pub position_by : Option Address → Position
 position_by None = at_beginning
 position_by (Some route) = option_map_or (λ position. position) (option_and_then named_position (ar_of route.uri)) at_beginning
 
+-- how the router goes on for a request from outside
 unfoldable pub position_of : Config → Request → Position
 position_of config request = position_by (popped_route config request)

@@ -29,6 +29,7 @@ use Rattle.sc_hosts.specs.Transacting.{state_of_client, state_of_server, is_over
 
 -- ## The run
 
+-- a host as an epoch begins
 unfoldable pub quiet_host : {S : Type 0} → Host S
 quiet_host = record { clients = []; servers = []; sessions = []; last = 0 }
 
@@ -45,6 +46,7 @@ delivered form setup net = settle is_busy (deliver_first form setup) weight net
 unfoldable pub after_step : {S : Type 0} → Form S → Setup → Net S → Step → Net S
 after_step form setup net step = delivered form setup (stepped form setup step (record net { sent = [] }))
 
+-- the net after these steps, from this one on
 unfoldable pub chained_from : {S : Type 0} → Form S → Setup → Net S → List Step → Net S
 chained_from form setup net journal = fold (after_step form setup) net journal
 
@@ -54,6 +56,7 @@ chained form setup epoch began journal = chained_from form setup (start setup ep
 
 -- ## What it sends
 
+-- what these steps send outside, from this net on
 unfoldable pub all_sent_from : {S : Type 0} → Form S → Setup → Net S → List Step → List Sent
 all_sent_from form setup net [] = []
 all_sent_from form setup net (step ∷ steps) = (after_step form setup net step).sent ++ all_sent_from form setup (after_step form setup net step) steps
@@ -73,10 +76,13 @@ sent_to place sent = map (λ s. s.message) (filter (λ s. same_place place s.pla
 unfoldable pub shown : {S : Type 0} → Form S → Setup → Net S → AppId → Live S → Waiting → ℕ → Prepared
 shown form setup net app live waiting now = prepared setup.config (ringing_at app (host_at app.host net)) (form.read live.session) waiting now
 
+-- what the charters of an application allow; where there is no application, nothing
 unfoldable pub AllowedBy : Option Charters → Prepared → List CallRecord → End → Type 0
 AllowedBy None shown made end = ⊥
 AllowedBy (Some charters) shown made end = Allowed charters.0 charters.1 shown.view shown.event made end
 
+-- a turn that may be taken: the session lives, the event is its first, the moment is between that
+-- at which the event became first and the net's, and the charters allow what was made
 pub record MayTurn {S : Type 0} (form : Form S) (setup : Setup) (net : Net S) (app : AppId) (event now : ℕ) (made : List CallRecord) (end : End) : Type 0 where
   pub live : Live S
   pub live_is : live_at app net ≡ Some live
@@ -92,6 +98,8 @@ unfoldable pub HasVia : Message → Type 0
 HasVia (messages.Request request) = 0 < length request.head.via
 HasVia (messages.Response response) = 0 < length response.head.via
 
+-- a step may be taken of this net: moments don't go back and are 2^63 at most, a withdrawn session
+-- lives
 unfoldable pub IsAllowed : {S : Type 0} → Form S → Setup → Net S → Step → Type 0
 IsAllowed form setup net (steps.In from message) = HasVia message
 IsAllowed form setup net (steps.Bad from bad) = Unit {0}
@@ -100,6 +108,7 @@ IsAllowed form setup net (steps.Tick now) = (net.moment ≤ now) × (now ≤ 2 ^
 IsAllowed form setup net (steps.Turn app event now made end) = MayTurn form setup net app event now made end
 IsAllowed form setup net (steps.Withdraw app) = is_some (live_at app net) ≡ true
 
+-- each step is allowed where it is taken, from this net on
 unfoldable pub IsLawfulFrom : {S : Type 0} → Form S → Setup → Net S → List Step → Type 0
 IsLawfulFrom form setup net [] = Unit {0}
 IsLawfulFrom form setup net (step ∷ steps) = IsAllowed form setup net step × IsLawfulFrom form setup (after_step form setup net step) steps
@@ -110,12 +119,15 @@ IsLawful form setup epoch began journal = IsLawfulFrom form setup (start setup e
 
 -- ## Counts, and epochs
 
+-- how many application sessions live
 unfoldable pub live_count : {S : Type 0} → Net S → ℕ
 live_count net = sum_by (λ host. length host.sessions) net.hosts
 
+-- how many events wait, in all inboxes
 unfoldable pub waiting_count : {S : Type 0} → Net S → ℕ
 waiting_count net = sum_by (λ host. sum_by (λ live. length live.inbox) host.sessions) net.hosts
 
+-- no session lives at this host, and no transaction
 unfoldable pub is_idle_host : {S : Type 0} → Host S → Bool
 is_idle_host host =
     length host.sessions == 0 && list_all (λ client. is_over (state_of_client client)) host.clients && list_all (λ server. is_over (state_of_server server)) host.servers
@@ -130,6 +142,7 @@ pub record Epoch : Type 0 where
   pub began : ℕ
   pub journal : List Step
 
+-- the net after an epoch's journal
 unfoldable pub net_of : {S : Type 0} → Form S → Setup → Epoch → Net S
 net_of form setup epoch = chained form setup epoch.number epoch.began epoch.journal
 
@@ -142,6 +155,7 @@ IsLawfulAfter form setup number began (epoch ∷ next ∷ later) =
     (epoch.number ≡ number) × (epoch.began ≡ began) × IsLawful form setup number began epoch.journal
     × (is_idle (net_of form setup epoch) ≡ true) × IsLawfulAfter form setup (number + 1) (net_of form setup epoch).moment (next ∷ later)
 
+-- the epochs of a run: the first has number 0 and begins at moment 0
 unfoldable pub AreLawful : {S : Type 0} → Form S → Setup → List Epoch → Type 0
 AreLawful form setup epochs = IsLawfulAfter form setup 0 0 epochs
 

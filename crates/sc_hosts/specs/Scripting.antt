@@ -1,5 +1,5 @@
--- Lists of calls with their answers, and scripts: calls, each chosen with the answers before it. Charters
--- are said with them.
+-- Lists of calls with their answers, and scripts: calls, each chosen with the answers before it.
+-- Charters are said with them. Both are this project's own; the calls are those of JSR 289.
 use Rattle.std.specs.Prelude.{◌≡◌, ◌<◌, ℕ, ◌^◌, List, [], ◌∷◌, Bool, true, false, Option, None, Some, Ok, Err, Result, option_map, option_and_then}
 use Rattle.std.specs.List.{find, slice_get}
 use Rattle.sc_value.specs.declared.ids.ReqId.{ReqId}
@@ -35,6 +35,7 @@ IsAnswered view made = IsAnsweredFrom (begun view) made
 
 -- ## Scripts: calls, each chosen with the answers before it
 
+-- a call, and what is called then by its answer; or no call
 pub data Script : Type 0 where
   Done : Script
   Make : Call → (CallAnswer → Script) → Script
@@ -45,6 +46,7 @@ played_from play Done = []
 played_from play (Make call next) =
     record { call = call; answer = answer_of play call } ∷ played_from (after_listed play call) (next (answer_of play call))
 
+-- the calls that the script makes of a turn on this view
 abbrev pub played : View → Script → List CallRecord
 played view script = played_from (begun view) script
 
@@ -81,6 +83,7 @@ same_answer response = record { code = response.code; reason = response.reason; 
 unfoldable pub small_number : Bytes → Option ℕ
 small_number text = number_below (2 ^ 32) text
 
+-- the URI that a text is, if it is one
 unfoldable pub readable : Bytes → Option Uri
 readable text = of_result (uri_of text)
   where
@@ -88,23 +91,29 @@ readable text = of_result (uri_of text)
     of_result (Ok uri) = Some uri
     of_result (Err fault) = None
 
+-- the parameter of the application at this place, from 0
 unfoldable pub param_at : View → ℕ → Option Bytes
 param_at view i = slice_get view.params i
 
+-- the same as a URI, if it is one
 unfoldable pub uri_param : View → ℕ → Option Uri
 uri_param view i = option_and_then readable (param_at view i)
 
+-- the value of an attribute, if it is set
 unfoldable pub attribute : Bytes → View → Option Bytes
 attribute name view = option_map (λ field. field.value) (find (λ field. same_bytes field.name name) view.attributes)
 
+-- the call was refused as the request may go no further
 unfoldable pub is_no_hops : CallAnswer → Bool
 is_no_hops (answers.Refused refusals.NoHops) = true
 is_no_hops answer = false
 
+-- the call was refused for one of its texts
 unfoldable pub is_bad_text : CallAnswer → Bool
 is_bad_text (answers.Refused (refusals.BadText n)) = true
 is_bad_text answer = false
 
+-- the call was refused
 unfoldable pub is_refused : CallAnswer → Bool
 is_refused (answers.Refused refused) = true
 is_refused answer = false

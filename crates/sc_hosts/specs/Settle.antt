@@ -1,6 +1,7 @@
 -- Steps taken until nothing is to do. The weight of a state bounds how many there are.
 use Rattle.std.specs.Prelude.{ℕ, zero, suc, Bool, true, false}
 
+-- so many steps at most, as long as there is something to do
 unfoldable pub steps : {S : Type 0} → (S → Bool) → (S → S) → ℕ → S → S
 steps busy step zero s = s
 steps busy step (suc k) s = elim (busy s) [ true ↦ steps busy step k (step s) | false ↦ s ]

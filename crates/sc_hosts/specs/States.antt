@@ -17,7 +17,7 @@ use Rattle.sc_model.specs.Dialogs.{subscribe, notify}
 use Rattle.sc_model.specs.SessionStates.{invite, bye, is_final, ended_state}
 use Rattle.sc_model.specs.Transactions.{is_success, is_failure}
 
--- where a failure of the initial INVITE or SUBSCRIBE leads: a UAC can try again
+-- where a failure of the initial INVITE leads: a UAC can try again
 unfoldable pub failed_state : Role → State
 failed_state Uac = Initial
 failed_state Uas = Terminated
@@ -71,9 +71,11 @@ after_response role request tagged state code =
 
 -- ## The NOTIFY that ends a subscription (RFC 6665 section 4.1.3)
 
+-- the header of a NOTIFY that says how the subscription stands (RFC 6665 section 8.2.3)
 unfoldable pub subscription_state : Bytes
 subscription_state = codes "Subscription-State"
 
+-- its value where the subscription ends
 unfoldable pub terminated_word : Bytes
 terminated_word = codes "terminated"
 

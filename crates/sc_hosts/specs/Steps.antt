@@ -1,4 +1,5 @@
--- The steps of the container: what each makes of the net, and where it may be taken.
+-- The steps of the container: what each makes of the net. A turn is taken, a session is withdrawn,
+-- a message or a text comes, a place is lost, time passes.
 use Rattle.std.specs.Prelude.{ℕ, ◌==◌, List, [], Bool, true, false, ◌&&◌, Option, None, Some, option_and_then, if◌then◌else◌, length, filter, slice_get, drop}
 use Rattle.std.specs.List.{list_any}
 use Rattle.sc_value.specs.declared.ids.AppId.{AppId}
@@ -27,6 +28,7 @@ use Rattle.sc_hosts.specs.Ticks.{lost, ticked}
 
 -- ## A session takes a turn
 
+-- the live session of this name at its host
 abbrev pub live_of : {S : Type 0} → AppId → Option (Host S) → Option (Live S)
 live_of app host = option_and_then (live_in app.serial) host
 
@@ -34,10 +36,12 @@ live_of app host = option_and_then (live_in app.serial) host
 abbrev pub live_at : {S : Type 0} → AppId → Net S → Option (Live S)
 live_at app net = live_of app (host_at app.host net)
 
+-- the branches of a session whose INVITE has had a provisional response, 100 too
 unfoldable pub ringing_at : {S : Type 0} → AppId → Option (Host S) → List ℕ
 ringing_at app None = []
 ringing_at app (Some host) = ringing_branches app host
 
+-- the outcome of a turn of a session in this form
 unfoldable pub outcome_by : {S : Type 0} → Form S → Config → S → Turn → Outcome
 outcome_by form config session turn = outcome config turn.ringing (form.read session) turn.waiting turn.now turn.calls turn.end
 
@@ -45,6 +49,7 @@ outcome_by form config session turn = outcome config turn.ringing (form.read ses
 unfoldable pub still_fired : Session → List Fired → List Fired
 still_fired session fired = filter (λ f. list_any (λ entry. entry.due == f.due && entry.number == f.number) (entries_of session)) fired
 
+-- a live session after a turn: its first event is done, and the next one is first from now on
 unfoldable pub turned_live : {S : Type 0} → Form S → Config → ℕ → Turn → Outcome → Live S → Live S
 turned_live form config now turn done live = record live {
   session = form.turned config turn live.session;
@@ -53,6 +58,7 @@ turned_live form config now turn done live = record live {
   fired = still_fired done.session live.fired;
 }
 
+-- the net without a session, and without the transactions that aren't kept then
 unfoldable pub without_live : {S : Type 0} → AppId → Net S → Net S
 without_live app net = change_host app.host (λ host. tidied (record host { sessions = remove_first (is_live app.serial) host.sessions })) net
 
@@ -62,6 +68,7 @@ with_ready app done None net = net
 with_ready app done (Some live) net =
     if length live.inbox == 0 && is_ready done.session && done.session.view.ready_flag then queue_for app queued.Ready net else net
 
+-- the events that wait in a session; none where it is gone
 unfoldable pub inbox_of : {S : Type 0} → Option (Live S) → List Waiting
 inbox_of None = []
 inbox_of (Some live) = live.inbox
@@ -70,6 +77,7 @@ inbox_of (Some live) = live.inbox
 unfoldable pub invalidated : {S : Type 0} → Setup → AppId → Session → List Waiting → Net S → Net S
 invalidated setup app session inbox net = without_live app (obeyed setup app (goodbye setup.config session inbox) net)
 
+-- a turn ends: its session is invalidated, or waits for what is next
 unfoldable pub closed_turn : {S : Type 0} → Setup → AppId → Outcome → Bool → Net S → Net S
 closed_turn setup app done true net = invalidated setup app done.session (inbox_of (live_at app net)) net
 closed_turn setup app done false net = with_ready app done (live_at app net) net
@@ -81,20 +89,24 @@ turned form setup app turn done net =
     (obeyed setup app done.orders
     (change_host app.host (λ host. record host { sessions = change_first (is_live app.serial) (turned_live form setup.config net.moment turn done) host.sessions }) net))
 
+-- the turn of an event that is taken of this net
 unfoldable pub turn_of : {S : Type 0} → Net S → AppId → Waiting → ℕ → List CallRecord → End → Turn
 turn_of net app waiting now made end = record { waiting = waiting; now = now; ringing = ringing_at app (host_at app.host net); calls = made; end = end }
 
+-- a turn of the session's first event, if one waits
 unfoldable pub turns_first : {S : Type 0} → Form S → Setup → AppId → Live S → Option Waiting → ℕ → List CallRecord → End → Net S → Net S
 turns_first form setup app live None now made end net = net
 turns_first form setup app live (Some waiting) now made end net =
     turned form setup app (turn_of net app waiting now made end) (outcome_by form setup.config live.session (turn_of net app waiting now made end)) net
 
+-- a turn of a session, where it lives
 unfoldable pub turns : {S : Type 0} → Form S → Setup → AppId → Option (Live S) → ℕ → List CallRecord → End → Net S → Net S
 turns form setup app None now made end net = net
 turns form setup app (Some live) now made end net = turns_first form setup app live (slice_get live.inbox 0) now made end net
 
 -- ## A session is withdrawn
 
+-- an application session is withdrawn from outside: it ends as one that is invalidated
 unfoldable pub withdrawn : {S : Type 0} → Form S → Setup → AppId → Option (Live S) → Net S → Net S
 withdrawn form setup app None net = net
 withdrawn form setup app (Some live) net = invalidated setup app (form.read live.session) live.inbox net

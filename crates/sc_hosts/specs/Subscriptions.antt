@@ -35,6 +35,8 @@ pub record Rule : Type 0 where
   pub longest : ℕ
   pub body : Bytes
 
+-- a rule, where its least time is 1 s to an hour, and its longest no shorter and 4,000,000 s at
+-- most (RFC 6665 section 4.2.1.1)
 unfoldable pub rule_with : Bytes → Option ℕ → Option ℕ → Bytes → Option Rule
 rule_with event_package (Some least) (Some longest) body =
     if nat_le 1 least && nat_le least 3600 && nat_le least longest && nat_le longest 4000000
@@ -42,17 +44,21 @@ rule_with event_package (Some least) (Some longest) body =
 rule_with event_package (Some least) None body = None
 rule_with event_package None longest body = None
 
+-- the rule that the parameters say: package, least time, longest time, and a body if there is one
 unfoldable pub rule_in : List Bytes → Option Rule
 rule_in (event_package ∷ least ∷ longest ∷ []) = rule_with event_package (small_number least) (small_number longest) []
 rule_in (event_package ∷ least ∷ longest ∷ body ∷ more) = rule_with event_package (small_number least) (small_number longest) body
 rule_in params = None
 
+-- the field is an Event, by its name or by the compact one `o` (RFC 6665 section 8.2.1)
 unfoldable pub is_event : Field → Bool
 is_event field = same_name field.name (codes "Event") || same_name field.name (codes "o")
 
+-- the value of the first Event
 unfoldable pub event_value : Request → Option Bytes
 event_value request = option_map (λ field. field.value) (find is_event request.head.others)
 
+-- the request is for the rule's package, whatever the parameters behind it
 unfoldable pub names_package : Rule → Request → Bool
 names_package rule request = option_map_or (λ value. same_bytes (trimmed (before 59 value)) rule.event_package) (event_value request) false
 
@@ -60,35 +66,44 @@ names_package rule request = option_map_or (λ value. same_bytes (trimmed (befor
 unfoldable pub asked_seconds : Rule → Request → ℕ
 asked_seconds rule request = unwrap_or (option_and_then number_of (field_of (codes "Expires") request)) rule.longest
 
+-- a subscription: whether it is active or pending, when it ends, and the timer of its end
 pub record Subscription : Type 0 where
   pub active : Bool
   pub due : ℕ
   pub timer : ℕ
 
+-- `A` for active, `P` for pending
 unfoldable pub letter_of : Bytes → Option Bool
 letter_of word = if same_bytes word (codes "A") then Some true else (if same_bytes word (codes "P") then Some false else None)
 
+-- a subscription, read from the words of an attribute: letter, moment and timer
 unfoldable pub subscription_in : List Bytes → Option Subscription
 subscription_in (letter ∷ d ∷ t ∷ []) =
     option_and_then (λ active. option_and_then (λ due. option_map (λ timer. record { active = active; due = due; timer = timer }) (strict_number t)) (strict_number d)) (letter_of letter)
 subscription_in words = None
 
+-- the attribute of a SipSession's subscription
 unfoldable pub sub_name : SessId → Bytes
 sub_name sess = codes "sub" ++ decimal sess.0
 
+-- the attribute with the Event of that subscription
 unfoldable pub ev_name : SessId → Bytes
 ev_name sess = codes "ev" ++ decimal sess.0
 
+-- the subscription of a SipSession, if there is one
 unfoldable pub subscription_of : View → SessId → Option Subscription
 subscription_of view sess = option_and_then (λ text. subscription_in (pieces 32 text)) (attribute (sub_name sess) view)
 
+-- an active subscription, written
 unfoldable pub sub_text : ℕ → ℕ → Bytes
 sub_text due timer = codes "A " ++ decimal due ++ codes " " ++ decimal timer
 
+-- the state as a NOTIFY says it (RFC 6665 section 4.1.3)
 unfoldable pub state_word : Bool → Bytes
 state_word true = codes "active"
 state_word false = codes "pending"
 
+-- the state of a subscription whose time is over (RFC 6665 section 4.1.3)
 unfoldable pub timeout_state : Bytes
 timeout_state = codes "terminated;reason=timeout"
 
@@ -101,10 +116,13 @@ unfoldable pub without_timer : View → Option Subscription → Script → Scrip
 without_timer view None script = script
 without_timer view (Some old) script = cancel_then old.timer view script
 
+-- the subscription is there and pending
 unfoldable pub is_pending : Option Subscription → Bool
 is_pending None = false
 is_pending (Some old) = not old.active
 
+-- what follows a 200 to SUBSCRIBE for so many seconds: a timer and a NOTIFY, or for 0 the end, with
+-- a NOTIFY that says so
 unfoldable pub subscribed_for : View → Rule → SessId → Bytes → ℕ → Option Subscription → Script
 subscribed_for view rule sess event seconds old =
     if seconds == 0
@@ -114,6 +132,7 @@ subscribed_for view rule sess event seconds old =
     (accepted_then (calls.SetAttribute (ev_name sess) event)
     (notifies sess event (state_word (not (is_pending old)) ++ codes ";expires=" ++ decimal seconds) (if is_pending old then [] else rule.body))))))
 
+-- the Event with which a subscription was made
 unfoldable pub event_of : View → SessId → Bytes
 event_of view sess = unwrap_or (attribute (ev_name sess) view) []
 
@@ -122,6 +141,8 @@ event_of view sess = unwrap_or (attribute (ev_name sess) view) []
 unfoldable pub notified_event : View → SessId → Request → ℕ → Option Subscription → Bytes
 notified_event view sess request seconds old = if seconds == 0 && is_some old then event_of view sess else unwrap_or (event_value request) []
 
+-- the answer to a SUBSCRIBE: 489 for another package, 423 for too short a time, else 200 (RFC 6665
+-- section 4.2.1)
 unfoldable pub accepts : View → Rule → ReqId → SessId → Request → Script
 accepts view rule req sess request =
     if not (names_package rule request) then only (answer_with req 489 (codes "Bad Event") (field (codes "Allow-Events") rule.event_package ∷ []))
@@ -135,24 +156,29 @@ accepts view rule req sess request =
 unfoldable pub seconds_left : ℕ → ℕ → ℕ
 seconds_left due now = ((due - now) + 999) / 1000
 
+-- a NOTIFY of a new state, which only an active subscription is shown
 unfoldable pub changes : View → SessId → Bytes → Subscription → Script
 changes view sess body sub =
     notifies sess (event_of view sess) (state_word sub.active ++ codes ";expires=" ++ decimal (seconds_left sub.due view.now)) (if sub.active then body else [])
 
+-- a subscription with its SipSession
 pub record NamedSub : Type 0 where
   pub sess : SessId
   pub sub : Subscription
 
+-- what an attribute remembers, where it names this timer
 unfoldable pub named_sub : TimerId → Field → Option NamedSub
 named_sub id field =
     option_and_then (λ sess. option_and_then (λ sub. if sub.timer == id.0 then Some (record { sess = sess; sub = sub }) else None) (subscription_in (pieces 32 field.value)))
     (option_and_then session_number (after_word (codes "sub") field.name))
 
+-- the time of a subscription is over: a NOTIFY says so
 unfoldable pub ended_sub : View → NamedSub → Script
 ended_sub view named =
     cancel_then named.sub.timer view (remove_then (sub_name named.sess) view (remove_then (ev_name named.sess) view
     (notifies named.sess (event_of view named.sess) timeout_state [])))
 
+-- a NOTIFY failed: the subscription ends with its SipSession
 unfoldable pub failed_sub : View → SessId → Subscription → Script
 failed_sub view sess sub =
     cancel_then sub.timer view (remove_then (sub_name sess) view (remove_then (ev_name sess) view (only (calls.InvalidateSession sess))))
@@ -163,9 +189,11 @@ accepts_by view None otherwise req sess request = only otherwise
 accepts_by view (Some rule) otherwise req sess request =
     if same_bytes request.method subscribe then accepts view rule req sess request else only (reply req 200 ok)
 
+-- the method that brings a new state, in a request of the dialog (RFC 6086)
 unfoldable pub info_word : Bytes
 info_word = codes "INFO"
 
+-- a later request: a SUBSCRIBE renews, an INFO brings a new state
 unfoldable pub notify_request : View → Option Rule → ReqId → SessId → Request → Script
 notify_request view rule req sess request =
     if same_bytes request.method subscribe then accepts_by view rule (reply req 200 ok) req sess request
@@ -173,6 +201,7 @@ notify_request view rule req sess request =
     then then_make (reply req 200 ok) (where_some (subscription_of view sess) (changes view sess request.head.body))
     else reply_ok req request)
 
+-- `notify`: a notifier of the package that its parameters say
 unfoldable pub notify_script : View → Event → Script
 notify_script view (events.Initial req sess region subscriber popped request) = accepts_by view (rule_in view.params) (reply req 500 server_error) req sess request
 notify_script view (events.Request req sess request) = notify_request view (rule_in view.params) req sess request

@@ -44,14 +44,18 @@ cancelled from now server request count host =
     replying from (messages.Response (own_response server.tag 200 ok request))
     (if has_final server then quiet host count else queue server.app.serial now (queued.Cancelled server.event) count host)
 
+-- the last response of a server transaction, once more
 unfoldable pub last_again : {S : Type 0} → Server → Option Response → Taken S → Taken S
 last_again server None taken = taken
 last_again server (Some response) taken = replying server.peer (messages.Response response) taken
 
+-- the same where it is to be sent again
 unfoldable pub again_if : {S : Type 0} → Bool → Server → Taken S → Taken S
 again_if true server taken = last_again server server.last taken
 again_if false server taken = taken
 
+-- a request that came before: it gets the last answer again where its state has it so (RFC 3261
+-- section 17.2)
 unfoldable pub repeated : {S : Type 0} → Server → ℕ → Host S → Taken S
 repeated server count host =
     again_if (is_sent_again (same_bytes (method_of server.request) invite) server.passed) server (quiet (pass_server server.event server_items.RequestAgain host) count)
@@ -63,16 +67,19 @@ pub data Claim : Type 0 where
   Repeats : Server → Claim
   Unclaimed : Claim
 
+-- a claim of the transaction that was found, else another one
 unfoldable pub claim_by : (Server → Claim) → Option Server → Claim → Claim
 claim_by make None other = other
 claim_by make (Some server) other = make server
 
+-- the claim of a request, by its method and its top Via (RFC 3261 section 17.2.3)
 unfoldable pub claim_of : {S : Type 0} → Peer → Request → Host S → Claim
 claim_of from request host =
     if same_bytes (method_of request) cancel then claim_by Cancels (find (is_cancelled_by from request) host.servers) Unclaimed
     else (if same_bytes (method_of request) ack then claim_by Acks (find (is_acked_by from request) host.servers) Unclaimed
     else claim_by Repeats (find (is_repeated_by from request) host.servers) Unclaimed)
 
+-- the request belongs to a live transaction
 unfoldable pub is_claimed : Claim → Bool
 is_claimed (Cancels server) = true
 is_claimed (Acks server) = true
@@ -81,6 +88,7 @@ is_claimed Unclaimed = false
 
 -- ## Answers without a transaction; an ACK gets none
 
+-- an answer of the container by itself, with the edge tag
 unfoldable pub refuse : {S : Type 0} → Config → Peer → ℕ → Bytes → Request → ℕ → Host S → Taken S
 refuse config from code reason request count host =
     if same_bytes (method_of request) ack then quiet host count
@@ -88,6 +96,7 @@ refuse config from code reason request count host =
 
 -- ## Requests with a To tag
 
+-- the value of `ap` in an own URI
 unfoldable pub ap_of : Uri → Option Bytes
 ap_of (Sip uri) = param_value ap_name uri.params
 ap_of (Other text) = None
@@ -108,6 +117,7 @@ unrouted config request =
 unfoldable pub names : ℕ → AppId → Uri → Bool
 names epoch app uri = option_map_or (same_bytes (ap_value epoch app)) (ap_of uri) false
 
+-- the URI names this live session
 unfoldable pub is_named_live : {S : Type 0} → ℕ → ℕ → Uri → Live S → Bool
 is_named_live epoch host uri live = names epoch (record { host = host; serial = live.serial }) uri
 
@@ -121,6 +131,7 @@ with_server app event peer tag request host =
     if same_bytes (method_of request) ack then host
     else record host { servers = host.servers ++ record { app = app; event = event; peer = peer; tag = tag; request = request; passed = []; last = None } ∷ [] }
 
+-- a server transaction that was answered 100
 unfoldable pub tried : Request → ℕ → Server → Server
 tried request now server = record server { passed = server_items.AnswerGiven 100 now ∷ server.passed; last = Some (trying_response trying request) }
 
@@ -136,6 +147,7 @@ with_trying from now request taken =
 abbrev pub own_tag : Config → ℕ → AppId → Bytes
 own_tag config epoch app = tag_text config.salt epoch app 1
 
+-- a later request waits in the inbox of its session; 503 where that is full
 unfoldable pub queue_later : {S : Type 0} → Config → ℕ → ℕ → Peer → ℕ → Request → ℕ → Live S → Host S → Taken S
 queue_later config epoch number from now request count live host =
     let app : AppId = record { host = number; serial = live.serial } in
@@ -144,16 +156,19 @@ queue_later config epoch number from now request count live host =
     (queue live.serial now (queued.Request (unrouted config request)) count
     (with_server app (count + 1) from (own_tag config epoch app) (unrouted config request) host))
 
+-- the same, where no session is named: 481
 unfoldable pub later_by : {S : Type 0} → Config → ℕ → ℕ → Peer → ℕ → Request → ℕ → Option (Live S) → Host S → Taken S
 later_by config epoch number from now request count None host = refuse config from 481 does_not_exist request count host
 later_by config epoch number from now request count (Some live) host = queue_later config epoch number from now request count live host
 
+-- a request with a To tag, for the live session of the own URI by which it came
 unfoldable pub take_later : {S : Type 0} → Config → ℕ → ℕ → Peer → ℕ → Request → ℕ → Host S → Taken S
 take_later config epoch number from now request count host =
     later_by config epoch number from now request count (option_and_then (λ uri. named_live epoch number uri host) (own_uri config request)) host
 
 -- ## Requests that begin a session
 
+-- a session as it begins to live, its first request waiting
 unfoldable pub begun_live : {S : Type 0} → Form S → Config → ℕ → AppId → ℕ → Note → Request → ℕ → Live S
 begun_live form config epoch app now noted request number = record {
   serial = app.serial;
@@ -163,6 +178,7 @@ begun_live form config epoch app now noted request number = record {
   fired = [];
 }
 
+-- a session begins with a request and its server transaction; its serial is the next one
 unfoldable pub begun : {S : Type 0} → Form S → Config → ℕ → ℕ → Peer → ℕ → Note → Request → ℕ → Host S → Taken S
 begun form config epoch number from now noted request count host =
     let app : AppId = record { host = number; serial = host.last + 1 } in
@@ -171,6 +187,7 @@ begun form config epoch number from now noted request count host =
       last = host.last + 1;
     })) (count + 1))
 
+-- a request that may begin a session; 503 where as many live as may
 unfoldable pub take_initial : {S : Type 0} → Form S → Config → ℕ → ℕ → Peer → ℕ → Note → Request → ℕ → Host S → Taken S
 take_initial form config epoch number from now noted request count host =
     if nat_le MOST_LIVE (length host.sessions) then refuse config from 503 unavailable request count host
@@ -195,17 +212,20 @@ take_new form config epoch number from now noted request count host =
     if is_some (tag_of request.head.to) then take_later config epoch number from now request count host
     else take_begun form config epoch number from now noted request count host
 
+-- a request that belongs to no transaction; a CANCEL gets 481 (RFC 3261 section 9.2)
 unfoldable pub take_unclaimed : {S : Type 0} → Form S → Config → ℕ → ℕ → Peer → ℕ → Option Note → Request → ℕ → Host S → Taken S
 take_unclaimed form config epoch number from now noted request count host =
     if same_bytes (method_of request) cancel then refuse config from 481 does_not_exist request count host
     else take_new form config epoch number from now noted request count host
 
+-- a request, by its claim
 unfoldable pub take_claimed : {S : Type 0} → Form S → Config → ℕ → ℕ → Peer → ℕ → Option Note → Request → Claim → ℕ → Host S → Taken S
 take_claimed form config epoch number from now noted request (Cancels server) count host = cancelled from now server request count host
 take_claimed form config epoch number from now noted request (Acks server) count host = quiet (pass_server server.event server_items.AckCame host) count
 take_claimed form config epoch number from now noted request (Repeats server) count host = repeated server count host
 take_claimed form config epoch number from now noted request Unclaimed count host = take_unclaimed form config epoch number from now noted request count host
 
+-- a request that comes to a host
 unfoldable pub take_request : {S : Type 0} → Form S → Config → ℕ → ℕ → Peer → ℕ → Option Note → Request → ℕ → Host S → Taken S
 take_request form config epoch number from now noted request count host =
     take_claimed form config epoch number from now noted request (claim_of from request host) count host

@@ -23,6 +23,7 @@ told now client response count host =
     if is_cancel_client client || (not (is_final response.code) && is_full_at client.app.serial host) then quiet host count
     else queue client.app.serial now (queued.Response client.branch (without_via response)) count host
 
+-- the same, where the transaction tells its session anything
 unfoldable pub told_by : {S : Type 0} → Option ℕ → ℕ → Client → Response → ℕ → Host S → Taken S
 told_by None now client response count host = quiet host count
 told_by (Some code) now client response count host = told now client response count host
@@ -38,12 +39,14 @@ with_reply out now client response taken =
     else (if out.cancel then replying client.peer (messages.Request (cancel_of client.request)) (record taken { host = with_client (cancelling now client) taken.host })
     else taken)
 
+-- a response passes its client transaction, which tells, acknowledges or cancels
 unfoldable pub response_for : {S : Type 0} → ℕ → Client → Response → ℕ → Host S → Taken S
 response_for now client response count host =
     let item = client_items.ResponseCame response.code now in
     with_reply (out_of_client client item) now client response
     (told_by (out_of_client client item).tell now client response count (pass_client client.app client.branch (is_cancel_client client) item host))
 
+-- the same, where there is such a transaction
 unfoldable pub response_to : {S : Type 0} → ℕ → Option Client → Response → ℕ → Host S → Taken S
 response_to now None response count host = quiet host count
 response_to now (Some client) response count host = response_for now client response count host

@@ -42,6 +42,7 @@ takes_from (peers.Inside host) (peers.Inside from) = host == from
 takes_from (peers.Inside host) peers.Nowhere = false
 takes_from peers.Nowhere from = false
 
+-- the other end is this place outside
 unfoldable pub goes_to : Place → Peer → Bool
 goes_to place (peers.Outside other) = same_place place other
 goes_to place (peers.Inside host) = false
@@ -49,6 +50,7 @@ goes_to place peers.Nowhere = false
 
 -- ## Client transactions
 
+-- what a client transaction does with an item
 unfoldable pub out_of_client : Client → ClientItem → ClientOut
 out_of_client client item = client_out (is_invite_client client) client.sent client.passed item
 
@@ -59,9 +61,11 @@ is_answered_by salt epoch from response client =
     && same_bytes (method_of client.request) response.head.cseq.method
     && option_map_or (λ via. same_bytes (branch_of via) (branch_text salt epoch client.app client.branch)) (top_via response.head.via) false
 
+-- the client transaction that a response belongs to
 unfoldable pub client_for : {S : Type 0} → Bytes → ℕ → Peer → Response → Host S → Option Client
 client_for salt epoch from response host = find (is_answered_by salt epoch from response) host.clients
 
+-- a client transaction that an item has passed
 unfoldable pub client_passed : ClientItem → Client → Client
 client_passed item client = record client { passed = item ∷ client.passed }
 
@@ -70,6 +74,7 @@ unfoldable pub pass_client : {S : Type 0} → AppId → ℕ → Bool → ClientI
 pass_client app branch cancelling item host =
     tidied (record host { clients = change_first (is_client app branch cancelling) (client_passed item) host.clients })
 
+-- a client transaction more, behind the others
 abbrev pub with_client : {S : Type 0} → Client → Host S → Host S
 with_client client host = record host { clients = host.clients ++ client ∷ [] }
 
@@ -80,6 +85,7 @@ ringing_branches app host =
 
 -- ## Server transactions
 
+-- the port of a sent-by; one that is absent is 5060 (RFC 3261 section 18.1.1)
 unfoldable pub port_of : Via → ℕ
 port_of via = unwrap_or via.port 5060
 
@@ -87,6 +93,7 @@ port_of via = unwrap_or via.port 5060
 unfoldable pub same_via : Via → Via → Bool
 same_via a b = same_bytes (branch_of a) (branch_of b) && same_name a.host b.host && port_of a == port_of b
 
+-- both have a top Via, and the two are the same in this way
 unfoldable pub same_top : List Via → List Via → Bool
 same_top a b = option_map_or (λ x. option_map_or (same_via x) (top_via b) false) (top_via a) false
 
@@ -106,11 +113,14 @@ is_acked_by from request server = is_kin from request server && is_invite_server
 abbrev pub is_repeated_by : Peer → Request → Server → Bool
 is_repeated_by from request server = is_kin from request server && same_bytes (method_of server.request) (method_of request)
 
+-- a final response was given (RFC 3261 section 9.2)
 abbrev pub has_final : Server → Bool
 has_final server = is_some (final_answer server.passed)
 
+-- a server transaction that an item has passed
 unfoldable pub server_passed : ServerItem → Server → Server
 server_passed item server = record server { passed = item ∷ server.passed }
 
+-- an item passes the server transaction of this event
 unfoldable pub pass_server : {S : Type 0} → ℕ → ServerItem → Host S → Host S
 pass_server event item host = tidied (record host { servers = change_first (is_server event) (server_passed item) host.servers })

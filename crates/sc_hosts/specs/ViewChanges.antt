@@ -1,4 +1,4 @@
--- What answers and new SipSessions change in the view of a turn.
+-- What answers and new SipSessions change in the view of a turn (JSR 289 sections 6.2 and 12).
 use Rattle.std.specs.Prelude.{ℕ, ◌+◌, ◌==◌, List, [], ◌∷◌, ◌++◌, Bool, true, false, not, ◌||◌, ◌&&◌, Option, None, Some, is_none, if◌then◌else◌, length, map, filter}
 use Rattle.sc_value.specs.declared.ids.SessId.{SessId}
 use Rattle.sc_terms.specs.declared.views.View.{View}
@@ -20,6 +20,7 @@ use Rattle.sc_hosts.specs.States.{after_response}
 unfoldable pub there : View → List SessId → List SessId
 there view sessions = filter (λ sess. not (is_gone_in view sess)) sessions
 
+-- a request that waits for ACKs of such SipSessions alone
 unfoldable pub with_there : View → RequestView → RequestView
 with_there view request = record request { unacked = there view request.unacked }
 
@@ -40,6 +41,7 @@ tidy view = record view { requests = filter (stands view) (map (with_there view)
 unfoldable pub with_answer : ℕ → RequestView → RequestView
 with_answer code request = if is_final code && is_none request.answered then record request { answered = Some code } else request
 
+-- the SipSession after a response of this code to a request
 unfoldable pub with_response : RequestView → Bool → ℕ → SessionView → SessionView
 with_response request tagged code session = record session { state = after_response session.role request tagged session.state code }
 
@@ -64,6 +66,7 @@ unfoldable pub settled_request : SessId → ℕ → RequestView → RequestView
 settled_request sess code request =
     if same_session request.sess sess && is_owed request then record request { answered = Some code } else request
 
+-- the view with them answered
 unfoldable pub settled_requests : SessId → ℕ → View → View
 settled_requests sess code view = record view { requests = map (settled_request sess code) view.requests }
 
@@ -77,12 +80,15 @@ invalidated sess view = tidy (removed sess (settled_requests sess 500 view))
 unfoldable pub new_call_id : View → Bytes
 new_call_id view = call_id_text view.salt view.epoch (ip_text view.ip) view.app (view.counter + 1)
 
+-- its From tag
 unfoldable pub new_tag : View → Bytes
 new_tag view = tag_text view.salt view.epoch view.app (view.counter + 2)
 
+-- the number of the next SipSession
 abbrev pub new_session : View → SessId
 new_session view = record { 0 = length view.sessions + 1 }
 
+-- the SipSession of a request of one's own, without a peer's tag yet
 unfoldable pub own_session : View → SessionView
 own_session view = record {
   id = new_session view;
@@ -96,6 +102,7 @@ own_session view = record {
   gone = false;
 }
 
+-- the view with that SipSession; two names are drawn
 unfoldable pub with_own_session : View → View
 with_own_session view = record view { sessions = view.sessions ++ own_session view ∷ []; counter = view.counter + 2 }
 

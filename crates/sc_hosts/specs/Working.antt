@@ -1,5 +1,6 @@
--- What the accepted calls of a turn do beside what they leave of the view: what is sent, and what the
--- application session knows of it.
+-- What the accepted calls of a turn do beside what they leave of the view: what is sent, and what
+-- the application session knows of it (RFC 3261 sections 8.1, 9.1, 12.2 and 16, JSR 289 sections 10
+-- and 12).
 use Rattle.std.specs.Prelude.{ℕ, ◌+◌, List, [], ◌∷◌, ◌++◌, Bool, true, not, ◌&&◌, Option, None, Some, is_some, is_none, option_and_then, nat_le, if◌then◌else◌, map, filter}
 use Rattle.std.specs.List.{find, flat_map, fold}
 use Rattle.sc_value.specs.declared.ids.Directive.{Directive}
@@ -72,6 +73,7 @@ keeps_sent sess request working = record working {
   };
 }
 
+-- an initial request leaves on a branch, and begins its SipSession; the router says where it goes
 unfoldable pub sends_initial : Config → Written → SessId → Request → Working → Working
 sends_initial config draft sess request working =
     giving (orders.Begin (next_branch working) draft.directive working.known.region (router_state draft.directive working.known) (on_branch config working.play.view (next_branch working) request) ∷ [])
@@ -79,22 +81,27 @@ sends_initial config draft sess request working =
       known = change_leg sess (λ leg. record leg { first = Some (record { 0 = working.play.view.next_request }) }) working.known;
     }))
 
+-- a request in a dialog leaves on a branch, and counts in its dialog
 unfoldable pub sends_later : Config → SessId → Request → Working → Working
 sends_later config sess request working =
     giving (orders.Send (next_branch working) (on_branch config working.play.view (next_branch working) request) ∷ [])
     (keeps_sent sess request (record working { known = change_leg sess (in_dialog (By_self (messages.Request request))) working.known }))
 
+-- the dialog of a SipSession, if there is one
 unfoldable pub dialog_in : Known → SessId → Option DialogState
 dialog_in known sess = option_and_then (λ leg. leg.dialog) (leg_of known sess)
 
+-- the next request in a dialog, with the own Contact where it sets the target
 unfoldable pub sends_in : Config → SessId → Inside → Option DialogState → Working → Working
 sends_in config sess ask None working = working
 sends_in config sess ask (Some dialog) working = sends_later config sess (from_here config working.play.view (next_request dialog ask)) working
 
+-- a draft leaves as what it is
 unfoldable pub sends_written : Config → Written → SessId → Asked → Working → Working
 sends_written config draft sess (asked.Initial request) working = sends_initial config draft sess (from_here config working.play.view request) working
 sends_written config draft sess (asked.Later ask) working = sends_in config sess ask (dialog_in working.known sess) working
 
+-- the draft of this number is sent
 unfoldable pub sends : Config → ℕ → Option Written → Option Draft → Working → Working
 sends config number (Some written) (Some draft) working = forgets number (sends_written config written draft.sess written.asked working)
 sends config number (Some written) None working = working
@@ -102,6 +109,8 @@ sends config number None draft working = working
 
 -- ## ACK and CANCEL
 
+-- the ACK to a 2xx, on a branch of its own, with the number of its INVITE (RFC 3261 section
+-- 13.2.2.4)
 unfoldable pub ack_with : Config → Bytes → Option DialogState → Option Kept → Working → Working
 ack_with config body (Some dialog) (Some kept) working =
     giving (orders.Acknowledge (on_branch config working.play.view (next_branch working) (ack_request dialog kept.request.head.cseq.number body)) ∷ []) working
@@ -113,23 +122,28 @@ unfoldable pub acknowledges : Config → SessId → Bytes → Option RequestView
 acknowledges config sess body None working = working
 acknowledges config sess body (Some request) working = ack_with config body (dialog_in working.known sess) (kept_of working.known request.id) working
 
+-- the branch on which a request was sent
 unfoldable pub branch_of : Way → List ℕ
 branch_of (Received event) = []
 branch_of (Sent branch) = branch ∷ []
 
+-- the same for a request that may not be kept
 unfoldable pub sent_branch : Option Kept → List ℕ
 sent_branch None = []
 sent_branch (Some kept) = branch_of kept.way
 
+-- a CANCEL is asked for on the branch of a sent request (RFC 3261 section 9.1)
 unfoldable pub cancels : Option Kept → Working → Working
 cancels kept working = giving (map (λ branch. orders.Cancel branch) (sent_branch kept)) working
 
 -- ## Proxies
 
+-- the event of a received request, which names its server transaction
 unfoldable pub event_of : Way → ℕ
 event_of (Received event) = event
 event_of (Sent branch) = 0
 
+-- a request begins to be proxied, with these options
 unfoldable pub proxies_first : ReqId → List Uri → ProxyOptions → Option Kept → Known → Known
 proxies_first req uris how None known = known
 proxies_first req uris how (Some kept) known = record known {
@@ -143,6 +157,7 @@ proxies req uris how known =
 
 -- ## Invalidation of a SipSession
 
+-- 500 to a received request that waits
 unfoldable pub owed_answer : Config → View → Known → RequestView → List Order
 owed_answer config view known request =
     answers config (record { code = 500; reason = server_error; fields = []; contact = []; body = [] }) view (kept_of known request.id) request.initial
@@ -152,6 +167,7 @@ unfoldable pub insert_number : ℕ → List ℕ → List ℕ
 insert_number n [] = n ∷ []
 insert_number n (m ∷ ms) = if nat_le n m then n ∷ m ∷ ms else (m ∷ insert_number n ms)
 
+-- numbers in rising order
 unfoldable pub in_order : List ℕ → List ℕ
 in_order [] = []
 in_order (n ∷ ns) = insert_number n (in_order ns)
@@ -169,6 +185,8 @@ goodbyes config view known test =
     flat_map (owed_answer config view known) (filter (λ request. test request.sess && is_owed request) view.requests)
     ++ map (λ branch. orders.CancelNow branch) (in_order (invite_branches test known))
 
+-- a SipSession is invalidated: what waits in it is answered, its INVITEs are cancelled, and that is
+-- noted
 unfoldable pub invalidates : Config → SessId → Working → Working
 invalidates config sess working =
     giving (goodbyes config working.play.view working.known (same_session sess)) (record working {
@@ -177,6 +195,7 @@ invalidates config sess working =
 
 -- ## Each call
 
+-- what an accepted call does beside what it leaves of the view; most do nothing more
 unfoldable pub does : Config → Working → Call → Working
 does config working (calls.Respond req answer) = answering config (request_in working.play.view req) answer working
 does config working (calls.CreateRequest ask) = drafts_own ask working

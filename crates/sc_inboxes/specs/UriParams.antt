@@ -1,4 +1,4 @@
--- Parameters of URIs.
+-- Parameters of URIs (RFC 3261 section 19.1.1).
 use Rattle.std.specs.Prelude.{Option, None}
 use Rattle.sc_value.specs.declared.parts.Uri.{Uri}
 use Rattle.sc_value.specs.declared.parts.Uri.TheVariants.{Sip, Other}

@@ -1,6 +1,7 @@
 -- What a journal keeps.
 use Rattle.std.specs.Prelude.{ℕ, List}
 
+-- a journal as contracts see it: its items, the oldest first, and its two limits
 pub record Kept (T : Type 0) : Type 0 where
   pub items : List T
   -- the bytes of all items together

@@ -1,4 +1,5 @@
--- By what a host knows its transactions: each has a key of its own.
+-- By what a host knows its transactions: each has a key of its own (RFC 3261 sections 17.1.3 and
+-- 17.2.3).
 use Rattle.std.specs.Prelude.{◌≡◌, ◌⊎◌, ℕ, List, [], ◌∷◌, Bool, false, Some}
 use Rattle.std.specs.List.{flat_map, list_any}
 use Rattle.sc_state.specs.Hosts.{Host}
@@ -46,5 +47,6 @@ new_branch (orders.Acknowledge request) = []
 new_branch (orders.Cancel branch) = []
 new_branch (orders.CancelNow branch) = []
 
+-- the branches on which these orders send such requests
 unfoldable pub new_branches : List Order → List ℕ
 new_branches given = flat_map new_branch given

@@ -1,4 +1,4 @@
--- What lasts over the whole life of an application session.
+-- What lasts over the whole life of an application session (JSR 289 sections 6.2 and 12).
 use Rattle.std.specs.Prelude.{◌≡◌, ◌≤◌, ◌<◌, ◌==◌, ℕ, List, [], ◌∷◌, ◌++◌, Bool, true, false, ◌&&◌, ◌||◌, Some, is_some}
 use Rattle.sc_value.specs.declared.ids.SessId.{SessId}
 use Rattle.sc_value.specs.declared.message.Request.{Request}
@@ -22,6 +22,7 @@ use Rattle.sc_hosts.specs.Sessions.{Turn}
 use Rattle.sc_walked.specs.SessionWalks.{AreDone, HasGoneOn}
 use Rattle.sc_hosts.specs.Looking.{is_confirmed, is_gone_in, is_proxy, is_terminated, is_uac, partner, same_session}
 
+-- each item of the list has this property
 unfoldable pub All : {A : Type 0} → (A → Type 0) → List A → Type 0
 All P [] = Unit {0}
 All P (x ∷ xs) = P x × All P xs
@@ -59,6 +60,7 @@ pub record IsOnward (before after : SessionView) : Type 0 where
   pub onward : is_uac before.role ≡ false → stage before.state ≤ stage after.state
   pub role : is_uac before.role ≡ false → is_uac after.role ≡ false
 
+-- each SipSession of the first list stands at its place in the second, the same in this sense
 unfoldable pub Continues : (SessionView → SessionView → Type 0) → List SessionView → List SessionView → Type 0
 Continues Same [] after = Unit {0}
 Continues Same (session ∷ before) [] = ⊥
@@ -71,6 +73,7 @@ pub record IsCarriedOn (before after : Proxy) : Type 0 where
   pub options : after.options ≡ before.options
   pub on : HasGoneOn before after
 
+-- each proxied request of the first list stands at its place in the second, and has gone on
 unfoldable pub GoOn : List Proxy → List Proxy → Type 0
 GoOn [] after = Unit {0}
 GoOn (proxy ∷ before) [] = ⊥
@@ -108,6 +111,7 @@ Proxies began proxy = is_some proxy.options ≡ true → proxy.request ≡ began
 abbrev pub IsDirect : SessionView → Type 0
 IsDirect session = is_proxy session.role ≡ false
 
+-- the application proxies nothing
 abbrev pub AreDirect : Session → Type 0
 AreDirect session = All IsDirect session.view.sessions
 

@@ -28,10 +28,12 @@ pub record IsTimely {S : Type 0} (setup : Setup) (net : Net S) (lease : Lease) (
 unfoldable pub IsShown : Prepared → Lease → Type 0
 IsShown shown lease = (shown.view ≡ lease.shown) × (shown.event ≡ lease.event)
 
+-- the same of the event that is first, where one waits
 unfoldable pub ShowsFirst : {S : Type 0} → Form S → Setup → Net S → Lease → Live S → Option Waiting → Type 0
 ShowsFirst form setup net lease live None = ⊥
 ShowsFirst form setup net lease live (Some waiting) = IsTimely setup net lease live waiting × IsShown (shown form setup net lease.app live waiting lease.shown.now) lease
 
+-- the same of the session, where it lives
 unfoldable pub ShowsOf : {S : Type 0} → Form S → Setup → Net S → Lease → Option (Live S) → Type 0
 ShowsOf form setup net lease None = ⊥
 ShowsOf form setup net lease (Some live) = ShowsFirst form setup net lease live (slice_get live.inbox 0)
@@ -50,9 +52,11 @@ is_own app step = false
 
 -- ## Leases that are kept
 
+-- the lease has this number
 abbrev pub has_number : ℕ → Lease → Bool
 has_number number lease = lease.number == number
 
+-- the lease is of this session
 abbrev pub is_of : AppId → Lease → Bool
 is_of app lease = is_same_app lease.app app
 
@@ -60,6 +64,7 @@ is_of app lease = is_same_app lease.app app
 unfoldable pub is_leased : List Lease → AppId → Bool
 is_leased kept app = list_any (is_of app) kept
 
+-- the lease has another number
 unfoldable pub has_other_number : ℕ → Lease → Bool
 has_other_number number lease = not (has_number number lease)
 
@@ -67,6 +72,7 @@ has_other_number number lease = not (has_number number lease)
 unfoldable pub without_number : ℕ → List Lease → List Lease
 without_number number kept = filter (has_other_number number) kept
 
+-- the lease is of another session
 unfoldable pub is_of_other : AppId → Lease → Bool
 is_of_other app lease = not (is_of app lease)
 

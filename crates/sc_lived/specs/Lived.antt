@@ -30,9 +30,11 @@ pub record Told : Type 0 where
   pub calls : List CallRecord
   pub end : End
 
+-- the turn as a journal tells it
 abbrev pub told_of : Turn → Told
 told_of turn = record { event = turn.waiting.number; now = turn.now; calls = turn.calls; end = turn.end }
 
+-- the turn that a step tells of a session, if it is one
 unfoldable pub told_by : AppId → Step → List Told
 told_by app (steps.Turn other event now calls end) =
     if is_same_app app other then record { event = event; now = now; calls = calls; end = end } ∷ [] else []
@@ -59,6 +61,7 @@ unfoldable pub Begins : Request → Queued → Type 0
 Begins began (queued.Initial region subscriber popped request) = request ≡ began
 Begins began event = ⊥
 
+-- each event is one that comes after the first of a session
 unfoldable pub AreLate : List Waiting → Type 0
 AreLate [] = Unit {0}
 AreLate (waiting ∷ later) = IsLate waiting.event × AreLate later
@@ -107,6 +110,7 @@ pub record HasMore (setup : Setup) (first : Session) (given : List Told) (sessio
   pub is : session ≡ session_of setup.config history
   pub more : IsMoreOf before given history
 
+-- the call was refused
 unfoldable pub is_refused : CallAnswer → Bool
 is_refused (answers.Refused refusal) = true
 is_refused answer = false

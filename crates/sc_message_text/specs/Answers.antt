@@ -1,4 +1,4 @@
--- What the readers answer.
+-- What the readers of messages answer (RFC 3261 section 7).
 use Rattle.std.specs.Prelude.{◌≡◌, ℕ, Result, Ok, Err, ⊤}
 use Rattle.sc_syntax.specs.UriParts.{Fault}
 use Rattle.sc_head_text.specs.declared.unread.Unread.{Unread}

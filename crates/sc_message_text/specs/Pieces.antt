@@ -1,4 +1,5 @@
--- The pieces of a text behind an end, and a head's parts behind its start line.
+-- The pieces of a text behind an end, and a head's parts behind its start line (RFC 3261 section
+-- 7).
 use Rattle.std.specs.Prelude.{ℕ, List, [], Option, Some, None, Result, Ok}
 use Rattle.sc_syntax.specs.declared.ending.Ending.{Ending}
 use Rattle.sc_syntax.specs.declared.ending.Ending.TheVariants.{Unfolded}
@@ -9,6 +10,7 @@ use Rattle.sc_syntax.specs.UriParts.{Fault, then_read}
 use Rattle.sc_syntax.specs.Lines.{pieces_at}
 use Rattle.sc_syntax.specs.Messages.{nothing_left, all_judged}
 
+-- the pieces of what stands behind an end, none where there is none
 unfoldable pub pieces_behind : Ending → Option Bytes → List Bytes
 pieces_behind ending None = []
 pieces_behind ending (Some text) = pieces_at ending text

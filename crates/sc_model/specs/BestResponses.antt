@@ -28,12 +28,15 @@ best_of list = option_or (position is_global list) (position (is_lowest list) li
 
 -- ## Challenges (RFC 3261 sections 20.27 and 20.44)
 
+-- the header of a 401's challenge (RFC 3261 section 20.44)
 unfoldable pub www_authenticate : Bytes
 www_authenticate = codes "WWW-Authenticate"
 
+-- the header of a 407's challenge (RFC 3261 section 20.27)
 unfoldable pub proxy_authenticate : Bytes
 proxy_authenticate = codes "Proxy-Authenticate"
 
+-- the field is a challenge; names compare without case
 unfoldable pub is_challenge : Field → Bool
 is_challenge field = same_name field.name www_authenticate || same_name field.name proxy_authenticate
 
@@ -55,6 +58,7 @@ gathered list chosen = if chosen_asks list chosen then flat_map challenges_of (r
 
 -- ## What is forwarded
 
+-- the reason phrase of a 500 (RFC 3261 section 21.5.1)
 unfoldable pub server_error : Bytes
 server_error = codes "Server Internal Error"
 
@@ -62,6 +66,7 @@ server_error = codes "Server Internal Error"
 unfoldable pub forwarded_code : ℕ → ℕ
 forwarded_code code = if code == 503 then 500 else code
 
+-- the reason phrase that goes with the forwarded code
 unfoldable pub forwarded_reason : Response → Bytes
 forwarded_reason response = if response.code == 503 then server_error else response.reason
 

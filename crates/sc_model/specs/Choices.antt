@@ -28,7 +28,8 @@ use Rattle.sc_model.specs.Routing.{list_of, subscriber_of}
 unfoldable pub tuples_of : Bytes → Dar → List Tuple
 tuples_of method dar = option_map_or (λ list. take 64 list.tuples) (list_of method dar) []
 
--- the region is that opposite to this one; to the neutral region it is itself
+-- the region is the opposite of this one; the neutral region is its own opposite (JSR 289 section
+-- 15.8)
 unfoldable pub is_opposite : Region → Region → Bool
 is_opposite Originating Terminating = true
 is_opposite Terminating Originating = true
@@ -74,6 +75,8 @@ unfoldable pub choice_at : Config → Request → ℕ → Option Tuple → Choic
 choice_at config request order None = exhausted config request
 choice_at config request order (Some tuple) = routed config request order tuple tuple.modifier tuple.route
 
+-- the choice by the tuples of the method and the order of the next one; without an order the list
+-- is exhausted
 unfoldable pub choice_in : Config → Request → List Tuple → Option ℕ → Choice
 choice_in config request tuples None = exhausted config request
 choice_in config request tuples (Some order) = choice_at config request order (slice_get tuples order)

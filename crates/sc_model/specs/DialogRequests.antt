@@ -13,6 +13,7 @@ use Rattle.sc_model.specs.Dialogs.{DialogState}
 use Rattle.sc_model.specs.Responses.{kept_field}
 use Rattle.sc_model.specs.SessionStates.{ack}
 
+-- the method that ends an INVITE which has no final response (RFC 3261 section 9)
 unfoldable pub cancel : Bytes
 cancel = codes "CANCEL"
 

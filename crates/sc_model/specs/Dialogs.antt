@@ -54,15 +54,19 @@ begun_by (Calling first made) = Some first.head.cseq
 
 -- ## The remote target (RFC 3261 sections 12.1, 12.2.1.2 and 12.2.2)
 
+-- the method that changes a session within an early dialog too (RFC 3311)
 unfoldable pub update : Bytes
 update = codes "UPDATE"
 
+-- the method that asks for a subscription (RFC 6665 section 4.1)
 unfoldable pub subscribe : Bytes
 subscribe = codes "SUBSCRIBE"
 
+-- the method that tells a subscriber of an event (RFC 6665 section 4.2)
 unfoldable pub notify : Bytes
 notify = codes "NOTIFY"
 
+-- the method that asks for a request to another place (RFC 3515)
 unfoldable pub refer : Bytes
 refer = codes "REFER"
 
@@ -117,11 +121,13 @@ target_of beginning passed = unwrap_or (slice_get (filter_map (given_target (beg
 
 -- ## Sequence numbers (RFC 3261 sections 12.1 and 12.2.1.1)
 
+-- the sequence number of an own request; responses and the peer's messages give none
 abbrev pub sent_number : Passed → Option ℕ
 sent_number (By_peer message) = None
 sent_number (By_self (messages.Request request)) = Some request.head.cseq.number
 sent_number (By_self (messages.Response response)) = None
 
+-- the sequence number of a request of the peer; responses and the own messages give none
 abbrev pub received_number : Passed → Option ℕ
 received_number (By_peer (messages.Request request)) = Some request.head.cseq.number
 received_number (By_peer (messages.Response response)) = None
@@ -134,9 +140,11 @@ greatest (n ∷ ns) = max n (greatest ns)
 
 -- ## The two sides and the route set
 
+-- the tag of From or To: the value of the first parameter `tag`, none where it has none
 abbrev pub tag_of : Address → Option Bytes
 tag_of address = param_value tag_name address.params
 
+-- the parameters of a side with this tag, or with none
 unfoldable pub tag_params : Option Bytes → List Param
 tag_params None = []
 tag_params (Some tag) = tag_param tag ∷ []
@@ -164,6 +172,7 @@ route_set_of (Calling first made) = reverse made.head.record_route
 
 -- ## The state (RFC 3261 section 12)
 
+-- what later requests of a dialog are made of and judged by
 pub record DialogState : Type 0 where
   pub call_id : Bytes
   -- the two sides, with URI and tag alone

@@ -20,15 +20,19 @@ use Rattle.sc_model.specs.Names.{loose_param, tcp_param}
 
 -- ## The names in it
 
+-- the domain of both users
 unfoldable pub home : Bytes
 home = codes "home.test"
 
+-- the host of both the caller and the container
 unfoldable pub local : Bytes
 local = codes "127.0.0.1"
 
+-- the calling user; the tag of From too
 unfoldable pub caller : Bytes
 caller = codes "m"
 
+-- the called user
 unfoldable pub called : Bytes
 called = codes "u"
 
@@ -44,6 +48,7 @@ session_text host i = decimal host ++ 45 ∷ [] ++ decimal i
 unfoldable pub user_uri : Bytes → Bytes → Option ℕ → Uri
 user_uri user host port = Sip (record { user = Some user; host = host; port = port; params = []; headers = None })
 
+-- the parameter `ap=h-i`, which names a session in an own URI
 unfoldable pub session_param : ℕ → ℕ → Param
 session_param host i = valued (codes "ap") (session_text host i)
 
@@ -57,6 +62,7 @@ session_uri host i = Sip (record {
   headers = None;
 })
 
+-- what each tag of host 1 begins with: the salt and the host's number
 unfoldable pub mark : Bytes
 mark = codes "s1-1-"
 
@@ -64,6 +70,7 @@ mark = codes "s1-1-"
 unfoldable pub answer_tag : ℕ → Bytes
 answer_tag i = mark ++ decimal i ++ 45 ∷ 49 ∷ []
 
+-- what each branch of the caller begins with (RFC 3261 section 8.1.1.7)
 unfoldable pub cookie : Bytes
 cookie = codes "z9hG4bKm"
 
@@ -77,6 +84,7 @@ call_of i = caller ++ decimal i
 
 -- ## The messages of call i
 
+-- the caller's Via in call i: over TCP from port 5090, with the branch of i and the letter
 unfoldable pub via_of : ℕ → Bytes → Via
 via_of i letter = record { transport = codes "TCP"; host = local; port = Some 5090; params = valued branch_name (branch_of i letter) ∷ [] }
 
@@ -100,6 +108,7 @@ caller_contact = At (record { display = None; uri = user_uri caller local (Some 
 unfoldable pub route_of : ℕ → Address
 route_of i = record { display = None; uri = session_uri 0 i; params = [] }
 
+-- the head of the caller's messages in call i, with no further headers and no body
 unfoldable pub head_of : ℕ → Bytes → Bytes → ℕ → Address → List Address → List Contact → Head
 head_of i letter method number to route contact = record {
   via = via_of i letter ∷ [];
@@ -114,6 +123,7 @@ head_of i letter method number to route contact = record {
   body = [];
 }
 
+-- the INVITE, to the called user at its domain
 unfoldable pub invite_of : ℕ → Request
 invite_of i = record { method = invite; uri = user_uri called home None; hops = 70; head = head_of i [] invite 1 to_side [] (caller_contact ∷ []) }
 
@@ -126,26 +136,34 @@ later_of i letter method number = record {
   head = head_of i letter method number (answered_side i) (route_of i ∷ []) [];
 }
 
+-- the ACK to the 2xx, with the number of the INVITE and a branch of its own (RFC 3261 section
+-- 13.2.2.4)
 unfoldable pub ack_of : ℕ → Request
 ack_of i = later_of i (codes "a") ack 1
 
+-- the BYE that ends the call, numbered one above the INVITE
 unfoldable pub bye_of : ℕ → Request
 bye_of i = later_of i (codes "b") bye 2
 
 -- ## The lines
 
+-- the front of a line `in` for connection 1; the size follows
 unfoldable pub in_word : Bytes
 in_word = codes "in c1 "
 
+-- the line after which turns are taken until none is left
 unfoldable pub run_line : Bytes
 run_line = codes "run\n"
 
+-- the last line of a script
 unfoldable pub end_line : Bytes
 end_line = codes "end\n"
 
+-- the front of a line `tick`; the moment follows
 unfoldable pub tick_word : Bytes
 tick_word = codes "tick "
 
+-- time goes on to this moment, in milliseconds
 unfoldable pub tick_line : ℕ → Bytes
 tick_line now = tick_word ++ decimal now ++ 10 ∷ []
 

@@ -18,27 +18,34 @@ use Rattle.sc_terms.specs.declared.steps.Step.{Step}
 use Rattle.sc_terms.specs.declared.steps.Step.TheVariants as steps
 use Rattle.sc_grammar.specs.Written.{Bytes, written}
 
+-- the length of a text that may be absent, and then counts nothing
 unfoldable pub option_size : Option Bytes → ℕ
 option_size None = 0
 option_size (Some text) = length text
 
+-- the lengths of a parameter's name and value; its `;` and `=` count nothing
 unfoldable pub param_size : Param → ℕ
 param_size param = length param.name + option_size param.value
 
+-- the lengths of the texts of a SIP URI; scheme, port and separators count nothing
 unfoldable pub sip_uri_size : SipUri → ℕ
 sip_uri_size uri = option_size uri.user + length uri.host + sum_by param_size uri.params + option_size uri.headers
 
+-- the lengths of the texts of a URI; one of another scheme counts as its whole text
 unfoldable pub uri_size : Uri → ℕ
 uri_size (Sip uri) = sip_uri_size uri
 uri_size (Other text) = length text
 
+-- the lengths of display name, URI and parameters
 unfoldable pub address_size : Address → ℕ
 address_size address = option_size address.display + uri_size address.uri + sum_by param_size address.params
 
+-- the size of a Contact; `*` counts nothing
 unfoldable pub contact_size : Contact → ℕ
 contact_size Star = 0
 contact_size (At address) = address_size address
 
+-- the lengths of a header's name and value
 unfoldable pub field_size : Field → ℕ
 field_size field = length field.name + length field.value
 
@@ -55,6 +62,7 @@ ask_size ask =
 unfoldable pub inside_size : Inside → ℕ
 inside_size ask = length ask.method + sum_by field_size ask.fields + length ask.body
 
+-- the size of a URI that may be absent, and then counts nothing
 unfoldable pub option_uri_size : Option Uri → ℕ
 option_uri_size None = 0
 option_uri_size (Some uri) = uri_size uri
@@ -73,6 +81,7 @@ call_size (calls.SetAttribute name value) = length name + length value
 call_size (calls.RemoveAttribute name) = length name
 call_size call = 0
 
+-- the bytes of a listed call, be it accepted or refused; its answer counts nothing
 unfoldable pub record_size : CallRecord → ℕ
 record_size made = call_size made.call
 
@@ -82,6 +91,7 @@ step_size (steps.In place message) = length (written message)
 step_size (steps.Turn app event now calls end) = sum_by record_size calls
 step_size step = 0
 
+-- the bytes of a journal: of all its steps
 unfoldable pub journal_size : List Step → ℕ
 journal_size journal = sum_by step_size journal
 

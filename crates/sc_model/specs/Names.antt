@@ -1,4 +1,5 @@
--- The names that the container draws. Numbers are decimals without leading zero.
+-- The names that the container draws: tags, branches, Call-IDs and own URIs (RFC 3261 sections
+-- 8.1.1.4, 8.1.1.7, 16.6 and 19.3). Numbers in them are decimals without leading zero.
 use Rattle.std.specs.Prelude.{ℕ, ◌<◌, ◌^◌, [], ◌∷◌, ◌++◌, ◌==◌, if◌then◌else◌, None, Some, codes, decimal}
 use Rattle.sc_value.specs.declared.ids.AppId.{AppId}
 use Rattle.sc_value.specs.declared.ids.Region.{Region}
@@ -37,6 +38,7 @@ branch_text salt epoch app k = branch_cookie ++ tag_text salt epoch app k
 unfoldable pub call_id_text : Bytes → ℕ → Bytes → AppId → ℕ → Bytes
 call_id_text salt epoch host app k = tag_text salt epoch app k ++ 64 ∷ [] ++ host
 
+-- the end of the edge tag; no name of a session has it, as a number follows the salt there
 unfoldable pub edge_word : Bytes
 edge_word = codes "-edge"
 
@@ -68,6 +70,7 @@ ar_value n region = decimal n ++ 45 ∷ [] ++ region_letter region ∷ []
 unfoldable pub tcp_param : Param
 tcp_param = record { name = codes "transport"; value = Some (codes "tcp") }
 
+-- the parameter of a loose route
 unfoldable pub loose_param : Param
 loose_param = record { name = codes "lr"; value = None }
 
@@ -76,9 +79,11 @@ unfoldable pub own_uri : Bytes → ℕ → Bytes → Bytes → SipUri
 own_uri host port name value =
     record { user = None; host = host; port = Some port; params = tcp_param ∷ loose_param ∷ record { name = name; value = Some value } ∷ []; headers = None }
 
+-- the parameter of an own URI that leads to an application session
 unfoldable pub ap_name : Bytes
 ap_name = codes "ap"
 
+-- the parameter of an own URI that leads back to the application router
 unfoldable pub ar_name : Bytes
 ar_name = codes "ar"
 

@@ -13,7 +13,7 @@ unfoldable pub is_at : Bytes → ℕ → Uri → Bool
 is_at host port (Sip uri) = same_name uri.host host && unwrap_or uri.port 5060 == port
 is_at host port (Other text) = false
 
--- the URI is of this host, whatever the port
+-- the URI is of this host, whatever the port; one of another scheme counts as of every host
 unfoldable pub is_of : Bytes → Uri → Bool
 is_of host (Sip uri) = same_name uri.host host
 is_of host (Other text) = true

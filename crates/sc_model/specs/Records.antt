@@ -15,6 +15,7 @@ unfoldable pub place_text : Place → Bytes
 place_text (Back number) = 99 ∷ [] ++ decimal number
 place_text (To ip port) = ip_text ip ++ 58 ∷ [] ++ decimal port
 
+-- the front of the line of a sent message
 unfoldable pub out_word : Bytes
 out_word = codes "out "
 
@@ -26,9 +27,11 @@ record_line place size = out_word ++ place_text place ++ 32 ∷ [] ++ decimal si
 unfoldable pub record_text : Sent → Bytes
 record_text sent = record_line sent.place (length (written sent.message)) ++ written sent.message ++ 10 ∷ []
 
+-- what a run writes of all that it sent, in the order of sending
 unfoldable pub records : List Sent → Bytes
 records sent = flat_map record_text sent
 
+-- the front of a run's last line
 unfoldable pub end_word : Bytes
 end_word = codes "end "
 

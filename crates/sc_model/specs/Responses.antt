@@ -15,9 +15,11 @@ use Rattle.sc_grammar.specs.Written.{Bytes}
 unfoldable pub tag_param : Bytes → Param
 tag_param tag = record { name = tag_name; value = Some tag }
 
+-- the parameter is a `tag`, with a value or without
 abbrev pub is_tag : Param → Bool
 is_tag param = is_named tag_name param
 
+-- the address without its parameters `tag`
 unfoldable pub untagged : Address → Address
 untagged address = record address { params = filter (λ param. not (is_tag param)) address.params }
 
@@ -49,5 +51,6 @@ response_head tag request answer = record {
   body = answer.body;
 }
 
+-- the response with the answer's code and reason, to this request and with this own tag
 unfoldable pub response_to : Bytes → Request → Answer → Response
 response_to tag request answer = record { code = answer.code; reason = answer.reason; head = response_head tag request answer }

@@ -12,9 +12,11 @@ use Rattle.sc_terms.specs.declared.settings.Dar.{Dar}
 use Rattle.sc_terms.specs.declared.settings.MethodList.{MethodList}
 use Rattle.sc_grammar.specs.Written.{Bytes, uri_text}
 
+-- the front of a subscriber that is taken from a header of the request
 unfoldable pub dar_prefix : Bytes
 dar_prefix = codes "DAR:"
 
+-- the name behind `DAR:` that stands for the Request-URI
 unfoldable pub request_uri_name : Bytes
 request_uri_name = codes "Request-URI"
 

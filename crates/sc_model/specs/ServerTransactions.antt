@@ -13,6 +13,7 @@ use Rattle.sc_model.specs.Transactions.{TIMEOUT, is_success, Found, first_in_tim
 
 -- ## What decides a transaction
 
+-- the item is an answer, provisional or final
 unfoldable pub is_answer : ServerItem → Bool
 is_answer RequestAgain = false
 is_answer AckCame = false
@@ -30,12 +31,14 @@ is_final_answer earlier AckCame = false
 is_final_answer earlier (AnswerGiven code moment) = is_final code
 is_final_answer earlier (MomentCame moment) = false
 
+-- the first final answer, with what came after it
 unfoldable pub final_answer : List ServerItem → Option (Found ServerItem)
 final_answer passed = first_in_time is_final_answer passed
 
 -- ## After the final answer: timer L after a 2xx (RFC 6026 section 7.1), timer H and the ACK after
 -- another (RFC 3261 section 17.2.1)
 
+-- the item is a 2xx
 unfoldable pub answers_success : ServerItem → Bool
 answers_success RequestAgain = false
 answers_success AckCame = false
@@ -64,6 +67,7 @@ final_timer invite decided =
 
 -- ## The state, and when the timer that runs is due
 
+-- the state by whether an answer was given and by the first final one
 unfoldable pub state_at : Bool → Bool → Option (Found ServerItem) → TxnState
 state_at invite answered None = if invite || answered then Proceeding else Trying
 state_at invite answered (Some decided) =
@@ -73,6 +77,7 @@ state_at invite answered (Some decided) =
 unfoldable pub server_state : Bool → List ServerItem → TxnState
 server_state invite passed = state_at invite (has_answer passed) (final_answer passed)
 
+-- when the timer that runs is due, by the first final answer; before it none runs
 unfoldable pub due_at : Bool → Option (Found ServerItem) → Option ℕ
 due_at invite None = None
 due_at invite (Some decided) = final_timer invite decided
@@ -93,6 +98,7 @@ sends_in invite Completed code = false
 sends_in invite Accepted code = is_success code
 sends_in invite Terminated code = invite && is_success code
 
+-- an answer of this code is sent where these items have passed
 unfoldable pub is_sent : Bool → List ServerItem → ℕ → Bool
 is_sent invite passed code = sends_in invite (server_state invite passed) code
 
@@ -109,6 +115,7 @@ repeats_in Terminated = false
 unfoldable pub is_sent_again : Bool → List ServerItem → Bool
 is_sent_again invite passed = has_answer passed && repeats_in (server_state invite passed)
 
+-- the state is one in which an ACK is awaited: Completed, of an INVITE alone
 unfoldable pub absorbs_in : TxnState → Bool
 absorbs_in Calling = false
 absorbs_in Trying = false

@@ -6,12 +6,15 @@ use Rattle.sc_terms.specs.declared.views.State.{State}
 use Rattle.sc_terms.specs.declared.views.State.TheVariants.{Initial, Early, Confirmed, Terminated}
 use Rattle.sc_grammar.specs.Written.{Bytes}
 
+-- the method that sets up a session (RFC 3261 section 13)
 unfoldable pub invite : Bytes
 invite = codes "INVITE"
 
+-- the method that ends a session (RFC 3261 section 15)
 unfoldable pub bye : Bytes
 bye = codes "BYE"
 
+-- the method that acknowledges the final response to an INVITE (RFC 3261 sections 13 and 17)
 unfoldable pub ack : Bytes
 ack = codes "ACK"
 

@@ -1,4 +1,5 @@
--- Time: what is due of all entries that were ever made. An entry is made, and it ends when its moment came and it was taken, or before.
+-- Time: what is due of all entries that were ever made. An entry is made, and it ends when its
+-- moment came and it was taken, or before.
 use Rattle.std.specs.Prelude.{ℕ, Bool, if◌then◌else◌, List, [], ◌∷◌, nat_le}
 use Rattle.std.specs.List.{filter, list_any}
 use Rattle.std.specs.declared.cmp.Ordering.{Ordering}
@@ -6,7 +7,8 @@ use Rattle.std.specs.Ordering.{nat_cmp, is_eq, on, then_cmp}
 use Rattle.std.specs.BTreeSet.{insert_key}
 use Rattle.sc_value.specs.declared.ids.AppId.{AppId}
 
--- an entry: its due moment in milliseconds, the application session that it belongs to, and its number there
+-- an entry: its due moment in milliseconds, the application session that it belongs to, and its
+-- number there
 pub record DueEntry : Type 0 where
   pub due : ℕ
   pub app : AppId
@@ -30,7 +32,8 @@ entry_of (Ended entry) = entry
 abbrev pub is_met : DueEntry → List DueEvent → Bool
 is_met entry events = list_any (λ event. is_eq (due_order entry (entry_of event))) events
 
--- of all entries that the events made, in the order of time, those that have not ended since. One that is made again after its end counts anew
+-- of all entries that the events made, in the order of time, those that have not ended since. One
+-- that is made again after its end counts anew
 unfoldable pub running : List DueEvent → List DueEntry
 running [] = []
 running (Made entry ∷ later) = if is_met entry later then running later else (entry ∷ running later)
@@ -45,6 +48,7 @@ in_order (entry ∷ entries) = insert_key due_order (in_order entries) entry
 abbrev pub is_due : ℕ → DueEntry → Bool
 is_due now entry = nat_le entry.due now
 
--- what is due at a moment: of all entries ever made those that have not ended and whose moment has come, by their order
+-- what is due at a moment: of all entries ever made those that have not ended and whose moment has
+-- come, by their order
 unfoldable pub due_by : List DueEvent → ℕ → List DueEntry
 due_by events now = in_order (filter (is_due now) (running events))

@@ -16,10 +16,11 @@ use Rattle.sc_model.specs.Transactions.{TIMEOUT, is_provisional, is_success, is_
 
 -- ## Clients
 
--- the state and the timer after a final response that decides the transaction
+-- the state after a final response that decides the transaction
 abbrev pub decided_state : Bool → ℕ → TxnState
 decided_state invite code = if invite && is_success code then Accepted else Terminated
 
+-- when timer M is due after a 2xx to an INVITE; after another final response no timer runs
 abbrev pub decided_due : Bool → ℕ → ℕ → Option ℕ
 decided_due invite code moment = if invite && is_success code then Some (moment + TIMEOUT) else None
 
@@ -39,6 +40,7 @@ next_state invite Completed due item = Completed
 next_state invite Accepted due item = if reaches due item then Terminated else Accepted
 next_state invite Terminated due item = Terminated
 
+-- an INVITE's state before any response (RFC 3261 figure 5)
 abbrev pub is_calling : TxnState → Bool
 is_calling Calling = true
 is_calling Trying = false
@@ -47,6 +49,7 @@ is_calling Completed = false
 is_calling Accepted = false
 is_calling Terminated = false
 
+-- the state after a provisional response and before a final one
 abbrev pub is_proceeding : TxnState → Bool
 is_proceeding Calling = false
 is_proceeding Trying = false
@@ -85,6 +88,7 @@ next_due invite Completed due asked item = due
 next_due invite Accepted due asked item = if reaches due item then None else due
 next_due invite Terminated due asked item = due
 
+-- what is done with an item where nothing has decided the transaction
 abbrev pub waiting_out : Bool → TxnState → Option ℕ → Bool → ClientItem → ClientOut
 waiting_out invite state due asked item = record {
   tell = told_waiting due item;
@@ -103,19 +107,22 @@ output invite Terminated due asked item = NOTHING
 
 -- ## Servers
 
--- the state and the timer after an answer of this code, where no final one was given
+-- the state after an answer of this code, where no final one was given
 abbrev pub answered_state : Bool → ℕ → TxnState
 answered_state invite code = if is_final code then (if invite then (if is_success code then Accepted else Completed) else Terminated) else Proceeding
 
+-- when timer L or H is due after a final answer to an INVITE; after others no timer runs
 abbrev pub answered_due : Bool → ℕ → ℕ → Option ℕ
 answered_due invite code moment = if is_final code && invite then Some (moment + TIMEOUT) else None
 
+-- the state after an item where no final answer was given
 abbrev pub next_undecided : Bool → TxnState → ServerItem → TxnState
 next_undecided invite state RequestAgain = state
 next_undecided invite state AckCame = state
 next_undecided invite state (AnswerGiven code moment) = answered_state invite code
 next_undecided invite state (server.MomentCame moment) = state
 
+-- the timer after an item where no final answer was given
 abbrev pub undecided_due : Bool → ServerItem → Option ℕ
 undecided_due invite RequestAgain = None
 undecided_due invite AckCame = None

@@ -18,12 +18,15 @@ TIMEOUT = 32000
 
 -- ## Codes (RFC 3261 section 7.2)
 
+-- a 1xx
 abbrev pub is_provisional : ℕ → Bool
 is_provisional code = not (is_final code)
 
+-- a 2xx
 abbrev pub is_success : ℕ → Bool
 is_success code = is_final code && nat_lt code 300
 
+-- a final response other than a 2xx
 abbrev pub is_failure : ℕ → Bool
 is_failure code = nat_le 300 code
 
@@ -46,12 +49,14 @@ first_in_time test (item ∷ earlier) = found_with item (test earlier item) (fir
 
 -- ## CANCEL (RFC 3261 section 9.1)
 
+-- the item is a provisional response, a 100 too
 unfoldable pub brings_provisional : ClientItem → Bool
 brings_provisional (ResponseCame code moment) = is_provisional code
 brings_provisional (CancelAsked moment) = false
 brings_provisional (MomentCame moment) = false
 brings_provisional PlaceLost = false
 
+-- the item asks for a CANCEL
 unfoldable pub asks_cancel : ClientItem → Bool
 asks_cancel (ResponseCame code moment) = false
 asks_cancel (CancelAsked moment) = true
@@ -74,6 +79,7 @@ lets_cancel_go earlier (CancelAsked moment) = has_provisional earlier
 lets_cancel_go earlier (MomentCame moment) = false
 lets_cancel_go earlier PlaceLost = false
 
+-- the moment of an item; the loss of a place has none, and counts as 0
 unfoldable pub moment_of : ClientItem → ℕ
 moment_of (ResponseCame code moment) = moment
 moment_of (CancelAsked moment) = moment
@@ -86,6 +92,7 @@ cancel_moment passed = option_map (λ found. moment_of found.item) (first_in_tim
 
 -- ## The timer of a transaction that nothing has decided
 
+-- when timer B is due, none where a provisional has passed, or the time after a sent CANCEL
 unfoldable pub due_after : ℕ → Bool → Option ℕ → Option ℕ
 due_after sent provisional None = if provisional then None else Some (sent + TIMEOUT)
 due_after sent provisional (Some cancelled) = Some (cancelled + TIMEOUT)
@@ -110,6 +117,7 @@ decides invite sent earlier (CancelAsked moment) = false
 decides invite sent earlier (MomentCame moment) = is_reached (waiting_due invite sent earlier) moment
 decides invite sent earlier PlaceLost = true
 
+-- the item that decided the transaction, with what came after it
 unfoldable pub decision : Bool → ℕ → List ClientItem → Option (Found ClientItem)
 decision invite sent passed = first_in_time (decides invite sent) passed
 
@@ -136,6 +144,7 @@ timer_m invite decided =
 
 -- ## The state, and when the timer that runs is due
 
+-- the state by whether a provisional has passed and by what decided the transaction
 unfoldable pub state_from : Bool → Bool → Option (Found ClientItem) → TxnState
 state_from invite provisional None = if provisional then Proceeding else (if invite then Calling else Trying)
 state_from invite provisional (Some decided) = if is_some (timer_m invite decided) then Accepted else Terminated
@@ -154,6 +163,7 @@ is_undecided Completed = false
 is_undecided Accepted = false
 is_undecided Terminated = false
 
+-- when the timer that runs is due: the one given while nothing decided, then timer M
 unfoldable pub due_from : Bool → Option ℕ → Option (Found ClientItem) → Option ℕ
 due_from invite waiting None = waiting
 due_from invite waiting (Some decided) = timer_m invite decided
@@ -164,6 +174,7 @@ client_due invite sent passed = due_from invite (waiting_due invite sent passed)
 
 -- ## What a transaction does with an item
 
+-- nobody is told anything, and no ACK and no CANCEL goes out
 abbrev pub NOTHING : ClientOut
 NOTHING = record { tell = None; ack = false; cancel = false }
 
@@ -188,6 +199,7 @@ told_accepted (CancelAsked moment) = None
 told_accepted (MomentCame moment) = None
 told_accepted PlaceLost = None
 
+-- what is done with an item, by what decided the transaction before it
 unfoldable pub out_from : Bool → ℕ → List ClientItem → ClientItem → Option (Found ClientItem) → ClientOut
 out_from invite sent passed item None = record {
   tell = told_waiting (waiting_due invite sent passed) item;

@@ -13,6 +13,7 @@ pub record IsRead {V : Type 0} (text : V → Bytes) (InRange : V → Type 0) (by
 abbrev pub Is32 : ℕ → Type 0
 Is32 n = n < 2 ^ 32
 
+-- a number of 64 bits
 abbrev pub Is64 : ℕ → Type 0
 Is64 n = n < 2 ^ 64
 
@@ -20,6 +21,7 @@ Is64 n = n < 2 ^ 64
 abbrev pub IsApp : AppId → Type 0
 IsApp app = Is32 app.host × Is64 app.serial
 
+-- the same with a counter of 64 bits
 abbrev pub IsCounted : AppId × ℕ → Type 0
 IsCounted p = IsApp p.0 × Is64 p.1
 

@@ -1,4 +1,5 @@
--- The scripts of reliable provisional responses, by what an application read before its first call.
+-- The scripts of reliable provisional responses, by what an application read before its first call
+-- (RFC 3262).
 use Rattle.std.specs.Prelude.{ℕ, Option, None, Some, is_some, if◌then◌else◌}
 use Rattle.sc_value.specs.declared.ids.ReqId.{ReqId}
 use Rattle.sc_value.specs.declared.message.Request.{Request}
@@ -21,6 +22,7 @@ unfoldable pub open_in : Option RequestView → Option ReqId
 open_in None = None
 open_in (Some request) = if is_some request.answered then None else Some request.id
 
+-- 500 to the INVITE, where it waits still, and the offer is remembered as one that failed
 unfoldable pub late_by : ℕ → Offer → Option ReqId → Script
 late_by n offer None = Done
 late_by n offer (Some req) = accepted_then (reply req 500 server_error) (only (calls.SetAttribute (rel_name n) (ended_offer_text 70 offer)))

@@ -5,14 +5,17 @@ use Rattle.sc_value.specs.declared.message.Sent.{Sent}
 use Rattle.sc_terms.specs.declared.steps.Step.{Step}
 use Rattle.sc_terms.specs.declared.steps.Step.TheVariants as steps
 
+-- a step of a run, what it sends outside, and whether it is the loss of a place that failed
 pub record Deed : Type 0 where
   pub step : Step
   pub sent : List Sent
   pub failed : Bool
 
+-- those of a run, in order
 abbrev pub Deeds : Type 0
 Deeds = List Deed
 
+-- the step of a deed
 abbrev pub step_of : Deed → Step
 step_of deed = deed.step
 

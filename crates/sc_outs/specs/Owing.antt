@@ -1,4 +1,4 @@
--- What is left to be put to each place, and what a call does to that.
+-- What is left to be put to each place, and what a call does to that (RFC 3261 section 18).
 use Rattle.std.specs.Prelude.{◌≡◌, ℕ, ◌==◌, ◌&&◌, ◌||◌, Bool, false, Option, None, Some, List, [], ◌∷◌, ◌++◌, take, drop, if◌then◌else◌}
 use Rattle.std.specs.List.{find, list_any}
 use Rattle.sc_tokens.specs.Bytes.{Bytes}
@@ -18,23 +18,28 @@ pub record Owed : Type 0 where
   pub place : Place
   pub left : Bytes
 
+-- what is left to be put to all places, and which peers' connections failed
 pub record Owing : Type 0 where
   pub outs : List Owed
   -- the numbers of the peers' connections that failed
   pub gone : List ℕ
 
+-- nothing is left, and none failed
 abbrev pub nothing : Owing
 nothing = record { outs = []; gone = [] }
 
 -- ## What is left
 
+-- what is left is of this place
 abbrev pub is_at : Place → Owed → Bool
 is_at place owed = same_place place owed.place
 
+-- what is left, nothing where nothing was
 unfoldable pub bytes_in : Option Owed → Bytes
 bytes_in None = []
 bytes_in (Some owed) = owed.left
 
+-- what of these is left of a place
 unfoldable pub bytes_of : List Owed → Place → Bytes
 bytes_of outs place = bytes_in (find (is_at place) outs)
 
@@ -47,6 +52,7 @@ unfoldable pub Distinct : List Owed → Type 0
 Distinct [] = Unit {0}
 Distinct (owed ∷ others) = (find (is_at owed.place) others ≡ None) × Distinct others
 
+-- the number is one of these
 unfoldable pub is_among : List ℕ → ℕ → Bool
 is_among numbers number = list_any (λ (other : ℕ). number == other) numbers
 

@@ -1,5 +1,5 @@
--- The stretches of a place: what is sent there until it fails, and from then until it fails again; and how much
--- of them was taken.
+-- The stretches of a place: what is sent there until it fails, and from then until it fails again;
+-- and how much of them was taken (RFC 3261 section 18).
 use Rattle.std.specs.Prelude.{◌≡◌, Bool, true, false, ◌&&◌, Option, List, [], ◌∷◌, ◌++◌, if◌then◌else◌}
 use Rattle.std.specs.List.{flat_map, fold}
 use Rattle.sc_tokens.specs.Bytes.{Bytes}
@@ -15,12 +15,14 @@ use Rattle.sc_outs.specs.Deeds.{Deed}
 
 -- ## What is sent to a place
 
+-- the stretches of a place so far
 pub record Stretching : Type 0 where
   -- the stretches that a failure ended
   pub cut : List Bytes
   -- what was sent since
   pub last : Bytes
 
+-- the written form of a message that goes to this place; of others nothing
 unfoldable pub text_for : Place → Sent → Bytes
 text_for place sent = if same_place place sent.place then written sent.message else []
 
@@ -28,6 +30,7 @@ text_for place sent = if same_place place sent.place then written sent.message e
 unfoldable pub texts_for : Place → List Sent → Bytes
 texts_for place sent = flat_map (text_for place) sent
 
+-- the step is the loss of this place
 unfoldable pub is_lost : Place → Step → Bool
 is_lost place (steps.In from message) = false
 is_lost place (steps.Bad from bad) = false
@@ -36,9 +39,11 @@ is_lost place (steps.Tick now) = false
 is_lost place (steps.Turn app event now calls end) = false
 is_lost place (steps.Withdraw app) = false
 
+-- the stretch has ended, and the next one begins
 abbrev pub ended : Stretching → Stretching
 ended s = record { cut = s.cut ++ s.last ∷ []; last = [] }
 
+-- the last stretch with more sent
 abbrev pub longer : Bytes → Stretching → Stretching
 longer more s = record { cut = s.cut; last = s.last ++ more }
 
@@ -46,6 +51,7 @@ longer more s = record { cut = s.cut; last = s.last ++ more }
 unfoldable pub after_deed : Place → Stretching → Deed → Stretching
 after_deed place s deed = longer (texts_for place deed.sent) (if deed.failed && is_lost place deed.step then ended s else s)
 
+-- the stretches of a place after these deeds
 unfoldable pub stretching : Place → List Deed → Stretching
 stretching place deeds = fold (after_deed place) (record { cut = []; last = [] }) deeds
 
@@ -61,6 +67,7 @@ AreTaken once [] took = took ≡ []
 AreTaken true (stretch ∷ later) took = (cut : Bytes) × (stretch ≡ took ++ cut)
 AreTaken false (stretch ∷ later) took = (part : Bytes) × (cut : Bytes) × (rest : Bytes) × (stretch ≡ part ++ cut) × (took ≡ part ++ rest) × AreTaken false later rest
 
+-- a stretch has ended
 unfoldable pub has_some : List Bytes → Bool
 has_some [] = false
 has_some (stretch ∷ later) = true
@@ -74,6 +81,7 @@ unfoldable pub IsLeft : Bool → Bytes → Bytes → Bytes → Type 0
 IsLeft false last part left = last ≡ part ++ left
 IsLeft true last part left = (part ≡ []) × (left ≡ [])
 
+-- of the stretches that ended parts were taken, and the last was taken up to what is left
 pub record Writing (place : Place) (s : Stretching) (took left : Bytes) : Type 0 where
   pub before : Bytes
   pub part : Bytes

@@ -37,6 +37,7 @@ pub record Occurrence : Type 0 where
   pub step : ℕ
   pub order : Option ℕ
 
+-- the later request that an order sends, an ACK too
 unfoldable pub later_in : Order → Option Request
 later_in (orders.Send branch request) = Some request
 later_in (orders.Acknowledge request) = Some request
@@ -48,12 +49,14 @@ pub record SetOut : Type 0 where
   pub sender : Peer
   pub request : Request
 
+-- the request of a step that came from outside, or of an order of the step's turn
 unfoldable pub set_out_by : Setup → Moment → Step → Option ℕ → Option SetOut
 set_out_by setup moment (steps.In place (messages.Request request)) None = Some (record { moment = moment; sender = peers.Outside place; request = request })
 set_out_by setup moment (steps.Turn app event now made end) (Some order) =
     option_map (λ request. record { moment = moment; sender = peers.Inside app.host; request = request }) (option_and_then later_in (slice_get (given_in setup moment) order))
 set_out_by setup moment step order = None
 
+-- the request of an occurrence in a run, if there is one
 unfoldable pub set_out : Setup → List Moment → Occurrence → Option SetOut
 set_out setup run occurrence = option_and_then (λ moment. set_out_by setup moment moment.step occurrence.order) (slice_get run occurrence.step)
 
@@ -63,9 +66,11 @@ set_out setup run occurrence = option_and_then (λ moment. set_out_by setup mome
 unfoldable pub is_new : SetOut → Bool
 is_new out = not (same_bytes (method_of out.request) cancel) && not (list_any (λ host. is_claimed (claim_of out.sender out.request host)) out.moment.before.hosts)
 
+-- a later request with these tags of From and To
 unfoldable pub is_between : Option Bytes → Option Bytes → Request → Bool
 is_between from to request = is_some (to_tag request) && same_tag (from_tag request) from && same_tag (to_tag request) to
 
+-- its tags are those of the dialog in this direction
 unfoldable pub has_tags : Dialog → Direction → Request → Bool
 has_tags dialog From_caller request = is_between dialog.caller dialog.callee request
 has_tags dialog From_callee request = is_between dialog.callee dialog.caller request
@@ -90,6 +95,7 @@ carries_by config run dialog direction piece out =
     && leads config out.moment.before.epoch (along direction (recorders run piece)) (end_of direction piece) out.request
     && (not (length (ahead run direction piece) == 0) || is_none (own_uri config out.request))
 
+-- the same of an occurrence in a run
 unfoldable pub carries : Setup → List Moment → Dialog → Direction → Piece → Occurrence → Bool
 carries setup run dialog direction piece occurrence = option_map_or (carries_by setup.config run dialog direction piece) (set_out setup run occurrence) false
 
@@ -108,6 +114,7 @@ has_vias more vias got = option_map_or (λ v. same_vias vias (drop more v)) (lat
 unfoldable pub is_passed_on : Got → Got → Bool
 is_passed_on got next = option_map_or (λ vias. has_vias 1 vias next) (later_vias got.waiting.event) false
 
+-- the step is the turn of this event
 unfoldable pub is_turn_of : Got → Step → Bool
 is_turn_of got (steps.Turn app event now made end) = is_same_app app got.app && event == got.waiting.number
 is_turn_of got step = false

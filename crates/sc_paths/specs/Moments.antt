@@ -35,6 +35,7 @@ pub record Moment : Type 0 where
   pub step : Step
   pub after : Net Session
 
+-- the run of these steps, from this net on
 unfoldable pub moments_from : Setup → Net Session → List Step → List Moment
 moments_from setup net [] = []
 moments_from setup net (step ∷ steps) =
@@ -51,6 +52,7 @@ pub record Got : Type 0 where
   pub app : AppId
   pub waiting : Waiting
 
+-- the events that wait in a session
 unfoldable pub waiting_at : Net Session → AppId → List Got
 waiting_at net app = map (λ waiting. record { app = app; waiting = waiting }) (inbox_of (live_at app net))
 
@@ -60,12 +62,14 @@ got_in moment = filter (λ got. nat_lt moment.before.count got.waiting.number) (
 
 -- ## What its turn gives to send
 
+-- what a step's turn gives to send
 unfoldable pub orders_by : Setup → Net Session → Step → List Order
 orders_by setup net (steps.Turn app event now made end) =
     option_map_or (λ live. option_map_or (λ waiting. (outcome_by as_session setup.config live.session (turn_of net app waiting now made end)).orders) (slice_get live.inbox 0) [])
     (live_at app net) []
 orders_by setup net step = []
 
+-- the same in a run
 abbrev pub given_in : Setup → Moment → List Order
 given_in setup moment = orders_by setup moment.before moment.step
 
@@ -75,6 +79,7 @@ given_in setup moment = orders_by setup moment.before moment.step
 abbrev pub is_first_of : AppId → Server → Bool
 is_first_of app server = is_same_app server.app app && is_none (to_tag server.request)
 
+-- that of this session in a net, if it is kept
 unfoldable pub first_server : AppId → Net Session → Option Server
 first_server app net = option_and_then (λ host. find (is_first_of app) host.servers) (host_at app.host net)
 
@@ -84,11 +89,13 @@ began_with run app = slice_get (filter_map (λ moment. first_server app moment.a
 
 -- ## Whether it proxied that request
 
+-- the options of a call that proxied and was accepted
 unfoldable pub options_of : Call → CallAnswer → Option ProxyOptions
 options_of (calls.ProxyTo req uris how) (answers.Refused refusal) = None
 options_of (calls.ProxyTo req uris how) answer = Some how
 options_of call answer = None
 
+-- those of all such calls in a session's turn
 unfoldable pub options_in : AppId → Step → List ProxyOptions
 options_in app (steps.Turn other event now made end) = if is_same_app other app then filter_map (λ made. options_of made.call made.answer) made else []
 options_in app step = []

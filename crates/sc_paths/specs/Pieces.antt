@@ -40,6 +40,7 @@ pub record Dialog : Type 0 where
   pub caller : Option Bytes
   pub callee : Option Bytes
 
+-- from which end of a dialog a later request comes
 pub data Direction : Type 0 where
   From_caller : Direction
   From_callee : Direction
@@ -51,10 +52,12 @@ pub record Piece : Type 0 where
   pub proxies : List AppId
   pub callee : Option AppId
 
+-- one item or none
 abbrev pub listed : {A : Type 0} → Option A → List A
 listed None = []
 listed (Some a) = a ∷ []
 
+-- the sessions of a piece in the order in which the INVITE went
 unfoldable pub sessions_of : Piece → List AppId
 sessions_of piece = listed piece.caller ++ piece.proxies ++ listed piece.callee
 
@@ -66,6 +69,7 @@ makes dialog request response =
     same_bytes request.method invite && is_none (to_tag request) && makes_dialog_of request response
     && same_bytes request.head.call_id dialog.call_id && same_tag (from_tag request) dialog.caller && same_tag (tag_of response.head.to) dialog.callee
 
+-- the other end is outside
 unfoldable pub is_outside : Peer → Bool
 is_outside (peers.Outside place) = true
 is_outside peer = false
@@ -81,6 +85,7 @@ unfoldable pub left_from : List Moment → Dialog → AppId → List Head
 left_from run dialog app =
     flat_map (λ moment. filter_map (λ got. left_by dialog app moment.after got.waiting.event) (filter (λ got. is_same_app got.app app) (got_in moment))) run
 
+-- the head of the answer to this transaction's INVITE, where it makes the dialog
 unfoldable pub answer_by : Dialog → Server → Order → Option Head
 answer_by dialog server (orders.Respond event response) = if event == server.event && makes dialog server.request response then Some response.head else None
 answer_by dialog server order = None
@@ -112,6 +117,7 @@ is_sent_by config epoch run piece app server =
     && option_map_or (is_branch_of config epoch app) (top_via server.request.head.via) false
     && same_vias (vias_at run piece app) (drop 1 server.request.head.via)
 
+-- each of these sessions got the INVITE from the one before
 unfoldable pub goes_from : Config → ℕ → List Moment → Piece → List AppId → Bool
 goes_from config epoch run piece [] = true
 goes_from config epoch run piece (app ∷ []) = true
@@ -153,6 +159,7 @@ pub record IsPiece (setup : Setup) (epoch : ℕ) (run : List Moment) (dialog : D
 unfoldable pub recorders : List Moment → Piece → List AppId
 recorders run piece = filter (λ app. option_map_or (λ (how : ProxyOptions). how.record_route) (proxied_with run app) false) piece.proxies
 
+-- in this direction: as the INVITE went, or back
 unfoldable pub along : {A : Type 0} → Direction → List A → List A
 along From_caller apps = apps
 along From_callee apps = reverse apps
@@ -175,6 +182,7 @@ ahead run direction piece = along direction (recorders run piece) ++ listed (end
 unfoldable pub recorded : Config → ℕ → List Moment → Piece → List Address
 recorded config epoch run piece = map (own_address config epoch) (reverse (recorders run piece))
 
+-- that Record-Route, with what stood below it
 unfoldable pub record_routed : Config → ℕ → List Moment → Piece → List Address
 record_routed config epoch run piece =
     recorded config epoch run piece ++ option_map_or (λ server. server.request.head.record_route) (first_received run piece) []

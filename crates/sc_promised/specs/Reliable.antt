@@ -24,33 +24,39 @@ use Rattle.sc_hosts.specs.Words.{ok}
 
 -- ## What is remembered
 
+-- no offer yet; one that waits, with its timer; one whose PRACK came; one for which none came
 pub data Remembered : Type 0 where
   Fresh : Remembered
   Pending : (rseq cseq timer : ℕ) → Remembered
   Acked : (rseq cseq : ℕ) → Remembered
   Failed : (rseq cseq : ℕ) → Remembered
 
+-- of an offer that waits no more: the words are `A` or `F`, RSeq and CSeq number
 unfoldable pub remembered_three : Bytes → Option ℕ → Option ℕ → Remembered
 remembered_three letter (Some r) (Some c) =
     if same_bytes letter (codes "A") then Acked r c else (if same_bytes letter (codes "F") then Failed r c else Fresh)
 remembered_three letter (Some r) None = Fresh
 remembered_three letter None c = Fresh
 
+-- of an offer that waits: the words are `P`, RSeq, CSeq number and timer
 unfoldable pub remembered_four : Bytes → Option ℕ → Option ℕ → Option ℕ → Remembered
 remembered_four letter (Some r) (Some c) (Some t) = if same_bytes letter (codes "P") then Pending r c t else Fresh
 remembered_four letter (Some r) (Some c) None = Fresh
 remembered_four letter (Some r) None t = Fresh
 remembered_four letter None c t = Fresh
 
+-- by the words of an attribute; others remember nothing
 unfoldable pub remembered_in : List Bytes → Remembered
 remembered_in (letter ∷ r ∷ c ∷ []) = remembered_three letter (strict_number r) (strict_number c)
 remembered_in (letter ∷ r ∷ c ∷ t ∷ []) = remembered_four letter (strict_number r) (strict_number c) (strict_number t)
 remembered_in words = Fresh
 
+-- by the attribute's text
 unfoldable pub remembered_of : Option Bytes → Remembered
 remembered_of None = Fresh
 remembered_of (Some text) = remembered_in (pieces 32 text)
 
+-- what a view remembers of the INVITE of this number
 abbrev pub remembered_at : View → ℕ → Remembered
 remembered_at view n = remembered_of (attribute (rel_name n) view)
 
@@ -74,27 +80,33 @@ names_waiting remembered request = option_map_or (λ offer. names_offer offer (f
 
 -- ## An offer
 
+-- the greatest RSeq that is given: 2^31 - 1, the bound of a first one (RFC 3262 section 3)
 abbrev pub MOST_RSEQ : ℕ
 MOST_RSEQ = 2147483647
 
+-- a reliable provisional response: Require: 100rel, and its RSeq (RFC 3262 section 3)
 unfoldable pub offer_answer : ℕ → ℕ → Bytes → Bytes → Answer
 offer_answer r code reason body = record { code = code; reason = reason; fields = field require_word rel_option ∷ field (codes "RSeq") (decimal r) ∷ []; contact = []; body = body }
 
+-- that response is given
 abbrev pub offer_call : ReqId → ℕ → ℕ → Bytes → Bytes → Call
 offer_call req r code reason body = calls.Respond req (offer_answer r code reason body)
 
+-- an offer: the response, a note of it, and 32 s for its PRACK
 unfoldable pub offers : ReqId → ℕ → ℕ → ℕ → Bytes → Bytes → Script
 offers req r c code reason body =
     accepted_then (offer_call req r code reason body)
     (accepted_then (calls.SetAttribute (rel_name req.0) (offer_text r c 0))
     (Make (calls.StartTimer 32000 Once (rel_name req.0)) (with_number (λ t. only (calls.SetAttribute (rel_name req.0) (offer_text r c t))))))
 
+-- the next offer by what is remembered: none while one waits, and the next RSeq else
 unfoldable pub offer_by : Remembered → ReqId → ℕ → ℕ → Bytes → Bytes → Script
 offer_by (Pending r d t) req c code reason body = Done
 offer_by Fresh req c code reason body = offers req 1 c code reason body
 offer_by (Acked r d) req c code reason body = if r == MOST_RSEQ then Done else offers req (r + 1) c code reason body
 offer_by (Failed r d) req c code reason body = if r == MOST_RSEQ then Done else offers req (r + 1) c code reason body
 
+-- an offer where the INVITE's sender supports it
 unfoldable pub offer_script : View → ReqId → Request → ℕ → Bytes → Bytes → Script
 offer_script view req request code reason body =
     if lists_option rel_option request then offer_by (remembered_at view req.0) req request.head.cseq.number code reason body else Done
@@ -118,15 +130,18 @@ pub data Act : Type 0 where
   Pracks : ReqId → ReqId → Request → Act
   Late : ReqId → TimerId → Act
 
+-- the calls of an act
 unfoldable pub script_of : View → Act → Script
 script_of view (Offers req request code reason body) = offer_script view req request code reason body
 script_of view (Pracks invited req request) = prack_by view invited req request (pending_offer view invited.0)
 script_of view (Late invited id) = late_offer view invited.0 id
 
+-- an act, with what the turn was where it began
 pub record Happened : Type 0 where
   pub play : Play
   pub act : Act
 
+-- what the turn was after the act
 abbrev pub after : Happened → Play
 after happened = play_after happened.play (script_of happened.play.view happened.act)
 
@@ -144,6 +159,7 @@ unfoldable pub offered_as : Play → ReqId → ℕ → Bytes → Bytes → Optio
 offered_as play req code reason body None = None
 offered_as play req code reason body (Some r) = if is_refused (answer_of play (offer_call req r code reason body)) then None else Some r
 
+-- the RSeq of the offer that an act made, if its response went
 unfoldable pub offered : Happened → Option ℕ
 offered happened = offered_by happened.play happened.act
   where

@@ -16,6 +16,7 @@ use Rattle.sc_hosts.specs.RefusalParts.{MOST_BRANCHES}
 
 -- ## What happens to a proxied request
 
+-- what can happen to a proxied request
 pub data ProxyEvent : Type 0 where
   -- the application names targets
   Asked : List Uri → ProxyEvent
@@ -49,12 +50,14 @@ happens (Expired number) proxy = if is_open_in number proxy then to_cancel numbe
 happens (Forwarded code) proxy = with_forwarded code proxy
 happens Rested proxy = rested proxy
 
+-- the proxy after all these
 unfoldable pub proxy_after : Proxy → List ProxyEvent → Proxy
 proxy_after first [] = first
 proxy_after first (event ∷ earlier) = happens event (proxy_after first earlier)
 
 -- ## Branches
 
+-- the branch that the event starts
 unfoldable pub started_by : ProxyEvent → List ℕ
 started_by (Started number now) = number ∷ []
 started_by event = []
@@ -64,6 +67,7 @@ unfoldable pub started_of : List ProxyEvent → List ℕ
 started_of [] = []
 started_of (event ∷ earlier) = started_of earlier ++ started_by event
 
+-- the branch is one that was started
 unfoldable pub was_started : ℕ → List ProxyEvent → Bool
 was_started number events = list_any (λ n. n == number) (started_of events)
 
@@ -84,6 +88,7 @@ is_open_at number events = was_started number events && is_none (final_of number
 
 -- ## The end of the search
 
+-- a 2xx or a 6xx: it ends the search (RFC 3261 section 16.7, steps 5 and 10)
 abbrev pub ends_all : ℕ → Bool
 ends_all code = is_success code || is_global code
 
@@ -110,6 +115,7 @@ unfoldable pub followed : Proxy → List Uri → Bool → Bool → Response → 
 followed first tried settled running response =
     if running && (is_redirect response.code && recurses first && not settled) then take (MOST_BRANCHES - length tried) (untried tried (contacts_of response)) else []
 
+-- the targets that the event gives
 unfoldable pub added_by : Proxy → List Uri → List ProxyEvent → ProxyEvent → List Uri
 added_by first tried earlier (Asked uris) = uris
 added_by first tried earlier (Heard number sess response now) = followed first tried (is_settled earlier) (is_open_at number earlier) response
@@ -137,6 +143,7 @@ targets_of first events = drop (started_since events) (added_since first events)
 
 -- ## Responses
 
+-- the response, where it is the first final one of its branch and is to be among the candidates
 unfoldable pub counts : Proxy → List ProxyEvent → ℕ → Response → List Response
 counts first earlier number response =
     if is_open_at number earlier && not (is_success response.code) && length (followed first (tried_of first earlier) (is_settled earlier) (is_open_at number earlier) response) == 0
@@ -153,6 +160,7 @@ unfoldable pub candidates_of : Proxy → List ProxyEvent → List Response
 candidates_of first [] = []
 candidates_of first (event ∷ earlier) = candidates_of first earlier ++ candidate_by first earlier event
 
+-- the code of a final response that the event forwarded
 unfoldable pub forwarded_by : ProxyEvent → Option ℕ
 forwarded_by (Forwarded code) = if is_final code then Some code else None
 forwarded_by event = None
@@ -164,10 +172,12 @@ forwarded_of events =
 
 -- ## CANCELs
 
+-- the time of this branch was up, and it is to be cancelled
 unfoldable pub is_expiry_of : ℕ → ProxyEvent → Bool
 is_expiry_of number (Expired n) = n == number
 is_expiry_of number event = false
 
+-- a turn ended
 unfoldable pub is_rest : ProxyEvent → Bool
 is_rest Rested = true
 is_rest event = false

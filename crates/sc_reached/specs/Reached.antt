@@ -1,4 +1,5 @@
--- A later request that comes from outside, or from another host, by the own URI of a live session, and what is queued then.
+-- A later request that comes from outside, or from another host, by the own URI of a live session,
+-- and what is queued then (RFC 3261 sections 12.2.2 and 16.4).
 use Rattle.std.specs.Prelude.{◌≡◌, ◌≤◌, ◌<◌, ◌+◌, ◌^◌, List, [], ◌∷◌, ◌++◌, true, false, None, Some, is_some, if◌then◌else◌, length, slice_get, drop}
 use Rattle.sc_value.specs.declared.ids.AppId.{AppId}
 use Rattle.sc_value.specs.declared.ids.Place.{Place}

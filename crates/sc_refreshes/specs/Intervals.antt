@@ -1,9 +1,10 @@
--- Intervals as the code has them.
+-- Intervals of session timers as the code has them (RFC 4028).
 use Rattle.std.specs.Prelude.{◌≤◌}
 use Rattle.sc_refreshes.specs.declared.intervals.Interval.{Interval}
 use Rattle.sc_refreshes.specs.declared.intervals.Interval.TheVariants as intervals
 use Rattle.sc_hosts.specs.SessionTimers.{Granted, Off, Too_small, On}
 
+-- what is granted, as the definitions have it
 unfoldable pub granted_of : Interval → Granted
 granted_of intervals.Off = Off
 granted_of intervals.TooSmall = Too_small

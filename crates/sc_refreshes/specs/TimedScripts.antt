@@ -1,4 +1,4 @@
--- The scripts of session timers, by what an application read before its first call.
+-- The scripts of session timers, by what an application read before its first call (RFC 4028).
 use Rattle.std.specs.Prelude.{ℕ, Bool, Option, None, Some, is_some, option_and_then}
 use Rattle.sc_value.specs.declared.ids.SessId.{SessId}
 use Rattle.sc_value.specs.declared.ids.TimerId.{TimerId}
@@ -10,6 +10,7 @@ use Rattle.sc_hosts.specs.SessionTimers.{Granted, Off, Too_small, On, Timed, dea
 use Rattle.sc_helpers.specs.Leading.{cancel_some, remove_if, timer_named}
 use Rattle.sc_refreshes.specs.declared.stopping.Stop.{Stop}
 
+-- the servlet timer of a session timer, where it runs
 unfoldable pub timer_of_timed : View → Option Timed → Option TimerId
 timer_of_timed view None = None
 timer_of_timed view (Some timed) = timer_named view timed.timer
@@ -22,6 +23,7 @@ stop_of view sess = record {
   running = timer_of_timed view (option_and_then timed_of (attribute (timed_name sess) view));
 }
 
+-- it is stopped, then the script goes on
 unfoldable pub stopped : Stop → Script → Script
 stopped stop = λ script. cancel_some stop.running (remove_if stop.set stop.name script)
 
@@ -30,6 +32,7 @@ unfoldable pub started : SessId → ℕ → Bool → Script
 started sess n me =
     Make (calls.StartTimer (deadline n me) Once (timed_name sess)) (with_number (λ t. only (calls.SetAttribute (timed_name sess) (timed_text n me t))))
 
+-- the session timer begins anew, as granted, once the old one is stopped
 unfoldable pub begun_by : Stop → SessId → Granted → Script
 begun_by stop sess Off = stopped stop Done
 begun_by stop sess Too_small = stopped stop Done

@@ -22,6 +22,7 @@ checked_names words = None
 abbrev pub tuple_count : List MethodList → ℕ
 tuple_count lists = sum_by (λ list. length list.tuples) lists
 
+-- the front of the line that `check` writes
 unfoldable pub ok_word : Bytes
 ok_word = codes "ok "
 

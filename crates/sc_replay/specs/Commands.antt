@@ -7,6 +7,7 @@ use Rattle.sc_script.specs.ScriptTexts.{decimal_upto}
 use Rattle.sc_replay.specs.declared.commanding.Command.{Command}
 use Rattle.sc_replay.specs.declared.commanding.Command.TheVariants.{Replay, Check, Make, Trial, Serve, Usage}
 
+-- the number, where it isn't 0
 abbrev pub if_positive : ℕ → Option ℕ
 if_positive n = if nat_le 1 n then Some n else None
 
@@ -14,6 +15,7 @@ if_positive n = if nat_le 1 n then Some n else None
 unfoldable pub count_in : Bytes → Option ℕ
 count_in text = option_and_then if_positive (decimal_upto 1000 text)
 
+-- the number behind a command's name
 abbrev pub count_behind : Bytes → Bytes → Bytes → Option ℕ
 count_behind name word count = if same_bytes word name then count_in count else None
 
@@ -58,6 +60,7 @@ settled_command word = if same_bytes word (codes "check") then Check else (if sa
 unfoldable pub scripted_command : Bytes → Command
 scripted_command word = if same_bytes word (codes "replay") then Replay else Usage
 
+-- the command that the words are; other words are `Usage`
 unfoldable pub command_of : List Bytes → Command
 command_of (word ∷ count ∷ []) = counted_command word count
 command_of (word ∷ config ∷ dar ∷ []) = settled_command word

@@ -24,6 +24,7 @@ use Rattle.sc_follow.specs.Leading.{IsDueWithoutRoom}
 
 -- ## The words
 
+-- the name of the command
 unfoldable pub replay_word : Bytes
 replay_word = codes "replay"
 
@@ -60,6 +61,7 @@ pub record TellsTable (names : List Bytes) (told : Option Bytes) (dar : Dar) : T
   pub told_is : GivesAll text told
   pub table_is : table_of text names ≡ Ok dar
 
+-- the names of the applications, in order
 abbrev pub app_names : Config → List Bytes
 app_names config = map (λ app. app.name) config.app
 

@@ -37,18 +37,23 @@ tried n = record { config = Some trial_config; dar = Some trial_table; script = 
 
 -- ## Its line
 
+-- a word and a number
 abbrev pub counted_text : Bytes → ℕ → Bytes
 counted_text word n = word ++ decimal n
 
+-- the front of the line that `trial` writes; the number of calls follows
 unfoldable pub trial_word : Bytes
 trial_word = codes "trial "
 
+-- before the number of steps
 unfoldable pub steps_word : Bytes
 steps_word = codes " steps "
 
+-- before the number of messages that were sent
 unfoldable pub sent_word : Bytes
 sent_word = codes " sent "
 
+-- before the number of sessions that live
 unfoldable pub live_word : Bytes
 live_word = codes " live "
 

@@ -1,4 +1,5 @@
--- What a text that is no message does.
+-- What a text that is no message does (RFC 3261 section 18.3): the connection on which it came is
+-- given up.
 use Rattle.std.specs.Prelude.{◌⊎◌, List, [], ◌∷◌, ◌++◌, false}
 use Rattle.sc_value.specs.declared.ids.Place.{Place}
 use Rattle.sc_value.specs.declared.message.Sent.{Sent}

@@ -20,6 +20,7 @@ unfoldable pub MovesOn : Core → Core → Told → Told → Source ℕ → Sour
 MovesOn old new told told2 clock clock2 =
     (given : List ℕ) × Answered clock clock2 given × ((from : Beginning) (edge : EdgeState) (streams : List Pending) → Serves from edge told old streams → Serves (since from given) edge told2 new streams)
 
+-- the run ended, once the clock was asked
 unfoldable pub BreaksOn : Core → Core → Told → Told → Source ℕ → Source ℕ → Type 0
 BreaksOn old new told told2 clock clock2 =
     (given : List ℕ) × Answered clock clock2 given × ((from : Beginning) (edge : EdgeState) (streams : List Pending) → Serves from edge told old streams → Ended (since from given) edge told2 new.switch)

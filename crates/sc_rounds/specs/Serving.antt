@@ -34,6 +34,7 @@ moments_after (steps.Tick now) moments = moments ++ now ∷ []
 moments_after (steps.Turn app event now calls end) moments = moments
 moments_after (steps.Withdraw app) moments = moments
 
+-- what a run is held against, once a step was due
 abbrev pub timed : Step → Beginning → Beginning
 timed step from = record from { moments = moments_after step from.moments }
 
@@ -57,6 +58,7 @@ pub record Ends (from : Beginning) (edge : EdgeState) (told : Told) (known : Kno
 
 -- ## What a step does
 
+-- a step with what it sent, and whether it is the loss of a place that failed
 abbrev pub deed : Step → List Sent → Bool → Deed
 deed step sent failed = record { step = step; sent = sent; failed = failed }
 
@@ -85,6 +87,7 @@ unfoldable pub Settles : Core → Core → Told → Told → Type 0
 Settles old new told told2 =
     (from : Beginning) (edge : EdgeState) (deeds : List Deed) → Runs from told old.switch deeds → Puts from.edge edge deeds old.outs old.switch.left → Ticked from.moments deeds (net_of old.switch).moment → Stands from edge told2 new deeds
 
+-- the switch goes on in the same course
 unfoldable pub RunsOn : Core → Core → Told → Told → Type 0
 RunsOn old new told told2 = (from : Beginning) (deeds : List Deed) → Runs from told old.switch deeds → Runs from told2 new.switch deeds
 

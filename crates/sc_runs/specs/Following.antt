@@ -48,6 +48,7 @@ IsWholeRun form setup net turns = IsPartRun form setup net turns × (next_event 
 abbrev pub Streams : Type 0
 Streams = Place → Bytes
 
+-- nothing is kept of any place
 abbrev pub no_bytes : Streams
 no_bytes place = []
 
@@ -85,12 +86,15 @@ DoesPart form setup net kept line taken = taken ≡ []
 
 -- ## All lines
 
+-- the steps are, line by line, what these lines say, from this net on and with this kept of the
+-- streams
 unfoldable pub FollowsFrom : {S : Type 0} → Form S → Setup → Net S → Streams → List Line → List Step → Type 0
 FollowsFrom form setup net kept [] taken = taken ≡ []
 FollowsFrom form setup net kept (line ∷ later) taken =
     (made : List Step) × (rest : List Step) × (after : Streams)
     × (taken ≡ made ++ rest) × Does form setup net kept line made after × FollowsFrom form setup (chained_from form setup net made) after later rest
 
+-- the steps are a beginning of that
 unfoldable pub UptoFrom : {S : Type 0} → Form S → Setup → Net S → Streams → List Line → List Step → Type 0
 UptoFrom form setup net kept [] taken = taken ≡ []
 UptoFrom form setup net kept (line ∷ later) taken =

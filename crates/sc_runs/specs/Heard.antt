@@ -1,5 +1,6 @@
--- What comes to an edge makes, one after the other: a step of each message of a place's stream, and a loss of
--- each place that gives nothing more or fails, at a poll or at a put.
+-- What comes to an edge makes, one after the other: a step of each message of a place's stream, and
+-- a loss of each place that gives nothing more or fails, at a poll or at a put (RFC 3261 section
+-- 18.3; losses are this project's own).
 use Rattle.std.specs.Prelude.{◌≡◌, ◌⊎◌, List, [], ◌∷◌, ◌++◌}
 use Rattle.sc_value.specs.declared.ids.Place.{Place}
 use Rattle.sc_terms.specs.declared.steps.Step.{Step}
@@ -23,6 +24,7 @@ Makes kept answers.Closed taken after = (taken ≡ []) × AllKept kept after
 Makes kept answers.NotYet taken after = (taken ≡ []) × AllKept kept after
 Makes kept answers.Fault taken after = (taken ≡ []) × AllKept kept after
 
+-- the steps are what these answers make, with this kept of the streams before
 unfoldable pub HeardFrom : Streams → List Polled → List Step → Type 0
 HeardFrom kept [] taken = taken ≡ []
 HeardFrom kept (answer ∷ later) taken =

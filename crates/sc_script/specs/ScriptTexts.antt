@@ -17,27 +17,31 @@ pub record Fault : Type 0 where
   pub at : ℕ
   pub kind : ℕ
 
--- the line has the words of no row, a word that is no number of its range, or one that is no place; too few
--- bytes follow it; its moment is below an earlier one; the text ends without `end` or goes on after it; the
--- text is too long
+-- the line has the words of no row
 abbrev pub WORD : ℕ
 WORD = 1
 
+-- a word is no number of its range
 abbrev pub NUMBER : ℕ
 NUMBER = 2
 
+-- a word is no place
 abbrev pub PLACE : ℕ
 PLACE = 3
 
+-- too few bytes follow the line, or no line feed behind them
 abbrev pub SHORT : ℕ
 SHORT = 4
 
+-- the line's moment is below an earlier one
 abbrev pub BACK : ℕ
 BACK = 5
 
+-- the text ends without `end`, or goes on after it
 abbrev pub NO_END : ℕ
 NO_END = 6
 
+-- the text has more than 67,108,864 bytes
 abbrev pub LONG : ℕ
 LONG = 7
 
@@ -60,6 +64,7 @@ unfoldable pub connection_of : Option ℕ → Option Place
 connection_of None = None
 connection_of (Some number) = if number == 0 then None else Some (Back number)
 
+-- the four numbers of an address, where each is one
 unfoldable pub all_four : Option ℕ → Option ℕ → Option ℕ → Option ℕ → Option (List ℕ)
 all_four (Some a) (Some b) (Some c) (Some d) = Some (a ∷ b ∷ c ∷ d ∷ [])
 all_four a b c d = None
@@ -69,6 +74,7 @@ unfoldable pub ip_of : List Bytes → Option (List ℕ)
 ip_of (a ∷ b ∷ c ∷ d ∷ []) = all_four (decimal_upto 255 a) (decimal_upto 255 b) (decimal_upto 255 c) (decimal_upto 255 d)
 ip_of texts = None
 
+-- an address with its port, where both are there
 unfoldable pub address_of : Option (List ℕ) → Option ℕ → Option Place
 address_of (Some ip) (Some port) = Some (To ip port)
 address_of ip port = None
@@ -78,19 +84,23 @@ unfoldable pub address_in : List Bytes → Option Place
 address_in (ip ∷ port ∷ []) = address_of (ip_of (pieces 46 ip)) (decimal_upto 65535 port)
 address_in texts = None
 
+-- the place that a word names: a peer's connection, or an address
 unfoldable pub place_of : Bytes → Option Place
 place_of [] = None
 place_of (b ∷ bs) = if b == 99 then connection_of (decimal_upto MOST_COUNT bs) else address_in (pieces 58 (b ∷ bs))
 
 -- ## The rows
 
+-- `run` or `end`
 unfoldable pub one_word : Bytes → Result Line ℕ
 one_word word = if same_bytes word (codes "run") then Ok lines.Run else (if same_bytes word (codes "end") then Ok lines.End else Err WORD)
 
+-- `tick N`, N in milliseconds and not below the last one
 unfoldable pub tick_line : ℕ → Option ℕ → Result Line ℕ
 tick_line since None = Err NUMBER
 tick_line since (Some now) = if nat_lt now since then Err BACK else Ok (lines.Tick now)
 
+-- `lost PLACE`
 unfoldable pub lost_line : Option Place → Result Line ℕ
 lost_line None = Err PLACE
 lost_line (Some place) = Ok (lines.Lost place)
@@ -101,18 +111,22 @@ two_words since word more =
     if same_bytes word (codes "tick") then tick_line since (decimal_upto MOST_COUNT more)
     else (if same_bytes word (codes "lost") then lost_line (place_of more) else Err WORD)
 
+-- the session of this host and serial, where both are numbers
 unfoldable pub app_of : Option ℕ → Option ℕ → Result AppId ℕ
 app_of (Some host) (Some serial) = Ok (record { host = host; serial = serial })
 app_of host serial = Err NUMBER
 
+-- `turn H S`
 unfoldable pub turn_line : Result AppId ℕ → Result Line ℕ
 turn_line (Ok app) = Ok (lines.Turn app)
 turn_line (Err kind) = Err kind
 
+-- `drop H S`
 unfoldable pub drop_line : Result AppId ℕ → Result Line ℕ
 drop_line (Ok app) = Ok (lines.Drop app)
 drop_line (Err kind) = Err kind
 
+-- `turn H S` or `drop H S`, with H of 32 bits
 unfoldable pub three_words : Bytes → Bytes → Bytes → Result Line ℕ
 three_words word host serial =
     if same_bytes word (codes "turn") then turn_line (app_of (decimal_upto 4294967295 host) (decimal_upto MOST_COUNT serial))
@@ -150,6 +164,7 @@ line_of since after words = Err WORD
 
 -- ## The whole text
 
+-- the line is `end`
 unfoldable pub is_end : Line → Bool
 is_end lines.End = true
 is_end line = false
@@ -174,6 +189,7 @@ unfoldable pub moment_after : ℕ → Line → ℕ
 moment_after since (lines.Tick now) = now
 moment_after since line = since
 
+-- this line, and then those that are read
 unfoldable pub with_first : Line → Result (List Line) Fault → Result (List Line) Fault
 with_first line (Ok later) = Ok (line ∷ later)
 with_first line (Err fault) = Err fault

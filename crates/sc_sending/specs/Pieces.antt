@@ -16,12 +16,15 @@ use Rattle.sc_hosts.specs.Messages.{on_branch}
 use Rattle.sc_hosts.specs.Giving.{giving}
 use Rattle.sc_hosts.specs.Working.{keeps_sent, next_branch, router_state, worked}
 
+-- the draft with another directive and origin
 unfoldable pub directed : Directive → Option ReqId → Written → Written
 directed directive origin draft = record draft { directive = directive; origin = origin }
 
+-- the leg, begun by this request
 unfoldable pub with_first : ReqId → Leg → Leg
 with_first req leg = record leg { first = Some req }
 
+-- the leg of a SipSession that the application ended
 unfoldable pub as_invalidated : Leg → Leg
 as_invalidated leg = record leg { invalidated = true }
 

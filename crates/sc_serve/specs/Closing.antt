@@ -3,6 +3,7 @@ use Rattle.std.specs.Prelude.{◌≡◌}
 use Rattle.sc_value.specs.declared.ids.Place.{Place}
 use Rattle.sc_edge.specs.Edges.{EdgeState}
 
+-- no place took anything, and nothing is told to have come
 pub record Rests (old new : EdgeState) : Type 0 where
   pub took : (place : Place) → new.took place ≡ old.took place
   pub polled : new.polled ≡ old.polled

@@ -24,9 +24,11 @@ Meets ends.Fine P = P
 Meets ends.Fault P = P
 Meets ends.Starved P = Unit {0}
 
+-- each call has its right answer, and the servlet kept its charter
 abbrev pub ServletAllowed : Charter → View → Event → List CallRecord → End → Type 0
 ServletAllowed charter view event calls end = IsAnswered view calls × Promises charter view event calls end
 
+-- each call has its right answer, and the listener kept its charter
 abbrev pub ListenerAllowed : ListenerCharter → View → Event → List CallRecord → End → Type 0
 ListenerAllowed charter view event calls end = IsAnswered view calls × ListenerPromises charter view event calls end
 

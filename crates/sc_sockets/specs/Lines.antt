@@ -1,4 +1,5 @@
--- What an edge over sockets keeps of its connections, and what becomes of that.
+-- What an edge over sockets keeps of its connections, and what becomes of that (RFC 3261 section
+-- 18).
 use Rattle.std.specs.Prelude.{ℕ, Bool, true, false, not, ◌&&◌, ◌||◌, nat_lt, nat_le, max, ◌+◌, Option, Some, None, List, [], ◌∷◌, ◌++◌, filter, if◌then◌else◌}
 use Rattle.std.specs.List.{find}
 use Rattle.sc_value.specs.declared.ids.Place.{Place}
@@ -15,6 +16,7 @@ use Rattle.sc_sockets.specs.declared.line.Standing.TheVariants.{Unborn, Gone, Cl
 
 -- ## One connection
 
+-- a connection as it is made
 abbrev pub fresh : Place → Line
 fresh place = record { place = place; is_read = true; is_cut = false; is_barred = false }
 
@@ -41,24 +43,29 @@ standing_of (Back number) None = Gone
 standing_of (To ip port) None = Closed
 standing_of place (Some line) = standing_in place line
 
+-- nothing comes from the place
 abbrev pub is_silent_at : Option Line → Bool
 is_silent_at None = true
 is_silent_at (Some line) = not line.is_read
 
+-- the next put to the place fails
 abbrev pub is_barred_at : Place → Option Line → Bool
 is_barred_at place None = is_back place
 is_barred_at place (Some line) = line.is_barred
 
+-- the last put to the place that took bytes took only a part of its piece
 abbrev pub is_cut_at : Option Line → Bool
 is_cut_at None = false
 is_cut_at (Some line) = line.is_cut
 
+-- what comes from the place is read
 abbrev pub is_read_at : Option Line → Bool
 is_read_at None = false
 is_read_at (Some line) = line.is_read
 
 -- ## All of them
 
+-- the connection is of this place
 abbrev pub is_of : Place → Line → Bool
 is_of place line = same_place line.place place
 
@@ -71,6 +78,7 @@ unfoldable pub settled : Bool → Change → Place → List Line → List Line
 settled true change place lines = change_first (is_of place) (after change) lines
 settled false change place lines = filter (is_other place) lines
 
+-- what an edge over sockets knows: its connections by place, and its counts
 pub record Known : Type 0 where
   pub lines : List Line
   -- the number that was given last
@@ -84,6 +92,7 @@ pub record Known : Type 0 where
 abbrev pub made : Known
 made = record { lines = []; last = 0; polls = 0; faults = 0; failures = 0 }
 
+-- what is known of a place, if anything is
 abbrev pub line_at : Known → Place → Option Line
 line_at known place = find (is_of place) known.lines
 
@@ -112,6 +121,7 @@ is_heard known place = is_given known.last place && is_read_at (line_at known pl
 
 -- ## What becomes of it
 
+-- the greatest number of a peer's connection that is known, this place's too
 abbrev pub last_after : ℕ → Place → ℕ
 last_after last (Back number) = max last number
 last_after last (To ip port) = last
@@ -120,22 +130,27 @@ last_after last (To ip port) = last
 abbrev pub accepted : Known → Known
 accepted known = record known { lines = known.lines ++ fresh (Back (known.last + 1)) ∷ []; last = known.last + 1 }
 
--- something of the connection is still to be known after it ended, failed, was closed
+-- something of the connection is still to be known after it ended
 abbrev pub is_kept_ended : Place → Option Line → Bool
 is_kept_ended place line = is_back place || is_cut_at line
 
+-- the same after it failed
 abbrev pub is_kept_failed : Place → Option Line → Bool
 is_kept_failed place line = not (is_back place) && is_cut_at line
 
+-- the same after it was closed
 abbrev pub is_kept_shut : Place → Option Line → Bool
 is_kept_shut place line = not (is_back place) && (is_cut_at line || is_barred_at place line)
 
+-- the place ended
 unfoldable pub ended : Place → Known → Known
 ended place known = record known { lines = settled (is_kept_ended place (line_at known place)) Halted place known.lines }
 
+-- the place failed, and that was counted
 unfoldable pub failed : Place → Known → Known
 failed place known = record known { lines = settled (is_kept_failed place (line_at known place)) Pardoned place known.lines; failures = one_more known.failures }
 
+-- the place was closed
 unfoldable pub shut : Place → Known → Known
 shut place known = record known { lines = settled (is_kept_shut place (line_at known place)) Halted place known.lines; last = last_after known.last place }
 
@@ -144,6 +159,7 @@ abbrev pub opened_lines : Place → Option Line → List Line → List Line
 opened_lines place None lines = lines ++ fresh place ∷ []
 opened_lines place (Some line) lines = settled true Reopened place lines
 
+-- the place is connected, or connected anew
 unfoldable pub opened : Place → Known → Known
 opened place known = record known { lines = opened_lines place (line_at known place) known.lines }
 

@@ -30,7 +30,8 @@ IsField field = (is_token field.name ≡ true) × (long_name field.name ≡ fiel
 
 -- ## Messages
 
--- the length of the body is a number of 64 bits
+-- each part of the head keeps the rule of its kind, and the length of the body is a number of 64
+-- bits
 pub record IsHead (head : Head) : Type 0 where
   pub via : AllKeep IsVia head.via
   pub route : AllKeep IsAddress head.route
@@ -48,6 +49,7 @@ unfoldable pub IsStart : Message → Type 0
 IsStart (Request request) = (is_token request.method ≡ true) × IsUri request.uri × (request.hops ≤ 255)
 IsStart (Response response) = (100 ≤ response.code) × (response.code ≤ 699) × (is_one_line response.reason ≡ true)
 
+-- the message's parts are each one of their kind, and its method is that of CSeq
 abbrev pub KeepsGrammar : Message → Type 0
 KeepsGrammar message = IsStart message × IsHead (head_in message) × HasMethod message
 

@@ -1,4 +1,5 @@
--- What a message keeps by the types of its parts, and what else it needs to be read as itself.
+-- What a message keeps by the types of its parts, and what else it needs to be read as itself (RFC
+-- 3261 section 7).
 use Rattle.std.specs.Prelude.{◌≡◌, ◌≤◌, ◌<◌, true, ⊤}
 use Rattle.sc_tokens.specs.Tokens.{is_token, is_one_line}
 use Rattle.sc_value.specs.AddressValues.{IsUri}
@@ -12,6 +13,7 @@ unfoldable pub IsMadeStart : Message → Type 0
 IsMadeStart (Request request) = (is_token request.method ≡ true) × IsUri request.uri × (request.hops < 256)
 IsMadeStart (Response response) = (is_one_line response.reason ≡ true) × (response.code < 65536)
 
+-- a message as its types let it be made
 abbrev pub IsMade : Message → Type 0
 IsMade message = IsMadeStart message × IsHead (head_in message)
 

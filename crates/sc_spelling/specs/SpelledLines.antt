@@ -42,6 +42,7 @@ abbrev pub IsFieldSpelled : Bytes → Field → Type 0
 IsFieldSpelled text field =
     (name gap rest : Bytes) × (is_token name ≡ true) × (long_name name ≡ field.name) × IsBlanks gap × IsValue field.value × Padded field.value rest × (text ≡ name ++ (gap ++ 58 ∷ rest))
 
+-- the line, with its folds joined, is the field
 abbrev pub IsLineSpelled : Bytes → Field → Type 0
 IsLineSpelled line field = (text : Bytes) × IsFolded line text × IsFieldSpelled text field
 

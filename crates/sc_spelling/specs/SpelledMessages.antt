@@ -12,6 +12,7 @@ use Rattle.sc_spelling.specs.SpelledLines.{ended, AreLinesSpelled}
 use Rattle.sc_spelling.specs.SpelledStarts.{IsStartSpelled}
 use Rattle.sc_spelling.specs.SpelledHeads.{AreFieldsOf, value_count}
 
+-- the head of a message
 unfoldable pub head_in : Message → Head
 head_in (Request request) = request.head
 head_in (Response response) = response.head

@@ -1,5 +1,6 @@
--- What the items that have passed a transaction make of it, one after another: its state, and the moment
--- at which the timer that runs began. When it is due follows from that.
+-- What the items that have passed a transaction make of it, one after another: its state, and the
+-- moment at which the timer that runs began (RFC 3261 section 17, RFC 6026). When it is due follows
+-- from that.
 use Rattle.std.specs.Prelude.{◌≡◌, ℕ, ◌+◌, List, Bool, ◌&&◌, ◌||◌, Option, None, Some, if◌then◌else◌}
 use Rattle.sc_parts.specs.declared.transactions.TxnState.{TxnState}
 use Rattle.sc_parts.specs.declared.transactions.TxnState.TheVariants.{Calling, Trying, Proceeding, Completed, Accepted, Terminated}
@@ -21,9 +22,11 @@ due_since (Some begun) = Some (begun + TIMEOUT)
 
 -- ## Clients
 
+-- when timer M began after a final response: at a 2xx to an INVITE (RFC 6026 section 7.2)
 abbrev pub decided_begun : Bool → ℕ → ℕ → Option ℕ
 decided_begun invite code moment = if invite && is_success code then Some moment else None
 
+-- the timer after a provisional response: timer B runs no more, and the one after a CANCEL begins
 abbrev pub provisional_begun : TxnState → Option ℕ → Bool → ℕ → Option ℕ
 provisional_begun state begun asked moment = if is_calling state then (if asked then Some moment else None) else begun
 
@@ -44,6 +47,7 @@ next_begun invite Completed begun asked item = begun
 next_begun invite Accepted begun asked item = if reaches (due_since begun) item then None else begun
 next_begun invite Terminated begun asked item = begun
 
+-- the stage of a client transaction after one item more
 unfoldable pub client_next : Bool → ClientStage → ClientItem → ClientStage
 client_next invite stage item = record {
   state = next_state invite stage.state (due_since stage.begun) item;
@@ -59,9 +63,11 @@ pub record ClientStands (stage : ClientStage) (invite : Bool) (sent : ℕ) (pass
 
 -- ## Servers
 
+-- when timer L or H began: at the final answer to an INVITE
 abbrev pub answered_begun : Bool → ℕ → ℕ → Option ℕ
 answered_begun invite code moment = if is_final code && invite then Some moment else None
 
+-- the timer after an item where no final answer was given before
 abbrev pub undecided_begun : Bool → ServerItem → Option ℕ
 undecided_begun invite server.RequestAgain = None
 undecided_begun invite server.AckCame = None
@@ -77,6 +83,7 @@ next_server_begun invite Completed begun item = if ends Completed (due_since beg
 next_server_begun invite Accepted begun item = if ends Accepted (due_since begun) item then None else begun
 next_server_begun invite Terminated begun item = begun
 
+-- the stage of a server transaction after one item more
 unfoldable pub server_next : Bool → ServerStage → ServerItem → ServerStage
 server_next invite stage item = record {
   state = next_server_state invite stage.state (due_since stage.begun) item;

@@ -1,4 +1,6 @@
--- The entries that are due in a session.
+-- The entries that are due in an application session: its expiry (JSR 289 section 6.1.2), its
+-- servlet timers, and the timers of its proxies' branches (RFC 3261 section 16.8). Moments are in
+-- milliseconds.
 use Rattle.std.specs.Prelude.{ℕ, ◌+◌, ◌*◌, ◌==◌, List, [], ◌∷◌, ◌++◌, Bool, ◌&&◌, Option, None, Some, if◌then◌else◌, min}
 use Rattle.std.specs.List.{flat_map, list_any}
 use Rattle.sc_terms.specs.declared.views.TimerView.{TimerView}
@@ -15,13 +17,16 @@ pub record SessionEntry : Type 0 where
   pub number : ℕ
   pub event : Queued
 
+-- the expiry of the application session, none where it never expires
 unfoldable pub expiry_entry : Option ℕ → List SessionEntry
 expiry_entry None = []
 expiry_entry (Some due) = record { due = due; number = 0; event = queued.Expired } ∷ []
 
+-- a servlet timer that is active
 unfoldable pub timer_entry : TimerView → SessionEntry
 timer_entry timer = record { due = timer.due; number = 8 * timer.id.0 + 1; event = queued.Timer timer.id }
 
+-- the timer of a branch, none where it doesn't run
 unfoldable pub branch_entry : Branch → List SessionEntry
 branch_entry branch = entry_at branch.due
   where

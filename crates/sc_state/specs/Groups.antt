@@ -12,6 +12,7 @@ use Rattle.sc_state.specs.declared.host.Client.{Client}
 use Rattle.sc_state.specs.declared.host.Live.{Live}
 use Rattle.sc_state.specs.declared.host.Server.{Server}
 
+-- the number of a text with one byte more, of 64 bits
 abbrev pub with_byte : ℕ → ℕ → ℕ
 with_byte number byte = (((number * 1099511628211) % 2 ^ 64) + byte) % 2 ^ 64
 
@@ -31,11 +32,14 @@ branch_number app branch = text_number (counted_text app branch)
 unfoldable pub serial_number : ℕ → ℕ
 serial_number serial = text_number (decimal serial)
 
+-- of a client transaction: its session's, and that of its branch, by which a response names it
 abbrev pub groups_of_client : Client → ℕ × ℕ
 groups_of_client client = (client.app.serial, branch_number client.app client.branch)
 
+-- of a server transaction: its session's, and that of its request's top Via
 abbrev pub groups_of_server : Server → ℕ × ℕ
 groups_of_server server = (server.app.serial, via_number server.request.head.via)
 
+-- of a live session: its serial, and that of the serial as an own URI says it
 abbrev pub groups_of_live : {S : Type 0} → Live S → ℕ × ℕ
 groups_of_live live = (live.serial, serial_number live.serial)

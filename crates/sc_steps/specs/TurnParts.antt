@@ -51,9 +51,11 @@ host_without serial host = tidied (record host { sessions = remove_first (is_liv
 unfoldable pub wakes : Session → Live Session → Bool
 wakes session live = length live.inbox == 0 && is_ready session && session.view.ready_flag
 
+-- the session's readiness is queued, where it is so
 unfoldable pub ready_by : AppId → Session → Net Session → Net Session
 ready_by app session net = if option_map_or (wakes session) (live_at app net) false then queue_for app queued.Ready net else net
 
+-- the session ends with its turn, or goes on
 unfoldable pub closed_by : Setup → AppId → Session → Bool → Net Session → Net Session
 closed_by setup app session true net = invalidated setup app session (inbox_of (live_at app net)) net
 closed_by setup app session false net = ready_by app session net

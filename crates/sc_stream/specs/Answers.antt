@@ -1,4 +1,4 @@
--- The Vias that an answer needs of the fields of a head.
+-- The Vias that an answer needs of the fields of a head (RFC 3261 sections 8.2.6.2 and 17.2.3).
 use Rattle.std.specs.Prelude.{◌≡◌, List, [], ◌++◌, Option, Some, Result, Ok, Err, if◌then◌else◌}
 use Rattle.std.specs.List.{flat_map}
 use Rattle.std.specs.Option.{option_map}

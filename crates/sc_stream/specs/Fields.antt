@@ -1,4 +1,4 @@
--- The fields of a head.
+-- The fields of a head (RFC 3261 section 7.3).
 use Rattle.std.specs.Prelude.{◌≡◌, Bool, List, [], ◌∷◌, ◌++◌, Option, Some, None, ⊤}
 use Rattle.sc_tokens.specs.Blanks.{trimmed}
 use Rattle.sc_tokens.specs.Names.{same_name}

@@ -58,18 +58,22 @@ with_next kept best (Some next) = if is_leased kept next.app then best else bett
 unfoldable pub leased_at : ℕ → List Lease → List ℕ
 leased_at number kept = map (λ lease. lease.app.serial) (filter (λ lease. lease.app.host == number) kept)
 
+-- the lower of the best so far and the first event of this session, where that isn't leased
 unfoldable pub with_live : List Lease → ℕ → Option Next → Live Session → Option Next
 with_live kept number best live = with_next kept best (next_of number live)
 
+-- the same for all sessions of a host
 unfoldable pub with_host : List Lease → ℕ → Option Next → Host Session → Option Next
 with_host kept number best host = fold (with_live kept number) best host.sessions
 
+-- the same for these hosts, counted from this number
 unfoldable pub with_hosts : List Lease → ℕ → Option Next → List (Host Session) → Option Next
 with_hosts kept number best [] = best
 with_hosts kept number best (host ∷ hosts) = with_hosts kept (number + 1) (with_host kept number best host) hosts
 
 -- ## What a brought turn is
 
+-- what a brought turn is: it fits, its lease isn't live any more, or another one has its number
 unfoldable pub Judges : Setup → List Lease → Done → Judged → Type 0
 Judges setup kept done judged.Fits = Fits setup kept done
 Judges setup kept done judged.Gone = is_live_lease kept done.lease.number ≡ false

@@ -67,6 +67,7 @@ is_live_lease kept number = is_some (find (has_number number) kept)
 unfoldable pub servlet_of : Setup → Lease → Option Charter
 servlet_of setup lease = option_and_then (servlet_at lease.event) (charters_of setup lease.app.host)
 
+-- the listener that a lease calls, where it calls one
 unfoldable pub listener_of : Setup → Lease → Option ListenerCharter
 listener_of setup lease = option_and_then (listener_at lease.event) (charters_of setup lease.app.host)
 

@@ -16,5 +16,6 @@ unfoldable pub all_continued : List Bytes → Bytes
 all_continued [] = []
 all_continued (first ∷ more) = fold continued first more
 
+-- the text of a line, with its folds
 unfoldable pub joined : Bytes → Bytes
 joined line = all_continued (pieces_at Any line)

@@ -61,9 +61,11 @@ with_branch vias = if option_map_or has_branch (slice_get vias 0) false then Som
 unfoldable pub vias_in : List Field → Option (List Via)
 vias_in fields = option_and_then (λ lists. with_branch (flat_map (λ vias. vias) lists)) (all_read (in_line vias_of) (values_of via_name fields))
 
+-- the Vias, From and To, Call-ID and CSeq
 abbrev pub Peers : Type 0
 Peers = (List Via × (Address × Address)) × (Bytes × CSeq)
 
+-- the headers of an answer, made of these
 unfoldable pub answerable_with : Peers → Answerable
 answerable_with peers = record { via = peers.0.0; from = peers.0.1.0; to = peers.0.1.1; call_id = peers.1.0; cseq = peers.1.1 }
 
@@ -91,9 +93,12 @@ behind_breaks (b ∷ c ∷ bs) = if begins_break (b ∷ c ∷ bs) then behind_br
 unfoldable pub body_len : Bytes → ℕ
 body_len head = option_map_or (λ left. unwrap_or left.singles.length 0) (result_ok (all_judged (length (start_line head) + 2) nothing_left (header_lines head))) 0
 
+-- the front is no message: the place and kind of its fault, and the headers of an answer where
+-- there are some
 unfoldable pub bad : Bytes → Fault → Front
 bad head fault = Bad fault.at fault.kind (answerable_of head fault)
 
+-- the front is a message of so many bytes, or has a fault
 unfoldable pub whole : Bytes → ℕ → Result Message Fault → Front
 whole head len (Ok message) = Whole len message
 whole head len (Err fault) = bad head fault

@@ -60,36 +60,47 @@ has_branch via = option_map_or (λ branch. not (length branch == 0)) (param_valu
 unfoldable pub begins_well : Left → List Via → Bool
 begins_well left vias = not (length left.lists.via == 0) || option_map_or has_branch (slice_get vias 0) false
 
+-- the Vias of a line, behind those before; of the first one the branch is needed
 unfoldable pub with_vias : Left → List Via → Result Left ℕ
 with_vias left vias = if begins_well left vias then counted (length vias) (record left { lists = record left.lists { via = left.lists.via ++ vias } }) else Err 9
 
+-- the Routes of a line, behind those before
 unfoldable pub with_routes : Left → List Address → Result Left ℕ
 with_routes left routes = counted (length routes) (record left { lists = record left.lists { route = left.lists.route ++ routes } })
 
+-- the Record-Routes of a line, behind those before
 unfoldable pub with_record_routes : Left → List Address → Result Left ℕ
 with_record_routes left routes = counted (length routes) (record left { lists = record left.lists { record_route = left.lists.record_route ++ routes } })
 
+-- the Contacts of a line, behind those before
 unfoldable pub with_contacts : Left → List Contact → Result Left ℕ
 with_contacts left contacts = counted (length contacts) (record left { lists = record left.lists { contact = left.lists.contact ++ contacts } })
 
+-- the one From
 unfoldable pub with_from : Left → Address → Result Left ℕ
 with_from left address = counted 1 (record left { singles = record left.singles { from = Some address } })
 
+-- the one To
 unfoldable pub with_to : Left → Address → Result Left ℕ
 with_to left address = counted 1 (record left { singles = record left.singles { to = Some address } })
 
+-- the one Call-ID
 unfoldable pub with_call_id : Left → Bytes → Result Left ℕ
 with_call_id left text = counted 1 (record left { singles = record left.singles { call_id = Some text } })
 
+-- the one CSeq
 unfoldable pub with_cseq : Left → CSeq → Result Left ℕ
 with_cseq left cseq = counted 1 (record left { singles = record left.singles { cseq = Some cseq } })
 
+-- the one Max-Forwards
 unfoldable pub with_hops : Left → ℕ → Result Left ℕ
 with_hops left hops = counted 1 (record left { singles = record left.singles { hops = Some hops } })
 
+-- the one Content-Length
 unfoldable pub with_length : Left → ℕ → Result Left ℕ
 with_length left len = counted 1 (record left { singles = record left.singles { length = Some len } })
 
+-- a header without structure, behind those before
 unfoldable pub with_field : Left → Bytes → Bytes → Result Left ℕ
 with_field left name value = counted 1 (record left { lists = record left.lists { others = left.lists.others ++ record { name = name; value = value } ∷ [] } })
 

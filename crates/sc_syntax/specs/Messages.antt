@@ -35,9 +35,11 @@ placed at (Err kind) = Err (record { at = at; kind = kind })
 unfoldable pub no_lists : Lists
 no_lists = record { via = []; route = []; record_route = []; contact = []; others = [] }
 
+-- no header yet that stands once
 unfoldable pub no_singles : Singles
 no_singles = record { from = None; to = None; call_id = None; cseq = None; hops = None; length = None }
 
+-- no value yet, and room for 128
 unfoldable pub nothing_left : Left
 nothing_left = record { room = 128; lists = no_lists; singles = no_singles }
 
@@ -52,9 +54,11 @@ all_judged at left (line ∷ more) = then_read (placed at (judged left (joined l
 abbrev pub Peers : Type 0
 Peers = (Address × Address) × (Bytes × CSeq)
 
+-- these four, where each is there
 unfoldable pub peers_of : Singles → Option Peers
 peers_of singles = option_zip (option_zip singles.from singles.to) (option_zip singles.call_id singles.cseq)
 
+-- the head of these lists and these four, with the body
 unfoldable pub head_of : Lists → Peers → Bytes → Head
 head_of lists peers body = record {
   via = lists.via;
@@ -83,6 +87,7 @@ is_method_of (Status code reason) named = true
 unfoldable pub fits : Option ℕ → Bytes → Bool
 fits len body = length body == unwrap_or len 0
 
+-- the message, where method and Content-Length agree
 unfoldable pub finished_with : Start → Lists → Option ℕ → Option ℕ → Bytes → Peers → Result Message ℕ
 finished_with start lists hops len body peers =
     if not (is_method_of start peers.1.1.method) then Err 10

@@ -64,6 +64,7 @@ parts restart sign at (b ∷ bs) = if is_part_end at sign b then [] ∷ parts re
 abbrev pub address_items : Bytes → List Bytes
 address_items text = parts Front 44 Front text
 
+-- the items of Via, Vias having no display and no brackets
 abbrev pub via_items : Bytes → List Bytes
 via_items text = parts Params 44 Params text
 
@@ -71,9 +72,11 @@ via_items text = parts Params 44 Params text
 abbrev pub address_parts : Bytes → List Bytes
 address_parts text = parts Params 59 Front text
 
+-- a Via and its parameters
 abbrev pub via_parts : Bytes → List Bytes
 via_parts text = parts Params 59 Params text
 
+-- a part that was read, before the others; none where one wasn't
 unfoldable pub with_first : {X : Type 0} → Option X → Option (List X) → Option (List X)
 with_first None more = None
 with_first (Some x) more = option_map (λ xs. x ∷ xs) more

@@ -37,5 +37,6 @@ unfoldable pub IsContactSpelled : Bytes → Contact → Type 0
 IsContactSpelled text Star = Padded (42 ∷ []) text
 IsContactSpelled text (At address) = IsAddressIn true text address
 
+-- the items of Contact
 abbrev pub AreContactsSpelled : Bytes → List Contact → Type 0
 AreContactsSpelled text contacts = AreListed 44 IsContactSpelled text contacts

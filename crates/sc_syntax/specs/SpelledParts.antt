@@ -32,6 +32,7 @@ AreListed sign Spells text (x ∷ xs) = (item rest : Bytes) × Spells item x × 
 unfoldable pub header_param : Param → Bytes
 header_param param = param.name ++ led 61 param.value
 
+-- a header parameter, with blanks round it or none
 abbrev pub IsParamSpelled : Bytes → Param → Type 0
 IsParamSpelled text param = IsHeaderParam param × Padded (header_param param) text
 

@@ -13,5 +13,6 @@ IsSequenceSpelled text cseq =
     (is_token cseq.method ≡ true) × (digits gap : Bytes) × (number_below (2 ^ 31) digits ≡ Some cseq.number) × IsBlanks gap × ((length gap == 0) ≡ false)
     × (text ≡ digits ++ (gap ++ cseq.method))
 
+-- the same, with blanks round it or none
 abbrev pub IsCSeqSpelled : Bytes → CSeq → Type 0
 IsCSeqSpelled text cseq = (inner : Bytes) × IsSequenceSpelled inner cseq × Padded inner text

@@ -28,6 +28,7 @@ request_in method uri version =
 unfoldable pub request_behind : Bytes → Bytes → Result Start ℕ
 request_behind method rest = option_map_or (request_in method (before 32 rest)) (after 32 rest) (Err 1)
 
+-- a request line, or the kind of its fault (RFC 3261 section 7.1)
 unfoldable pub request_of : Bytes → Result Start ℕ
 request_of line = option_map_or (request_behind (before 32 line)) (after 32 line) (Err 1)
 
@@ -50,6 +51,7 @@ status_in version code reason =
 unfoldable pub status_behind : Bytes → Bytes → Result Start ℕ
 status_behind version rest = option_map_or (status_in version (before 32 rest)) (after 32 rest) (Err 1)
 
+-- a status line, or the kind of its fault (RFC 3261 section 7.2)
 unfoldable pub status_of : Bytes → Result Start ℕ
 status_of line = option_map_or (status_behind (before 32 line)) (after 32 line) (Err 1)
 
@@ -61,5 +63,6 @@ is_status_line line = same_name (take 4 line) (codes "SIP/")
 unfoldable pub is_broken : Bytes → Bool
 is_broken line = has 13 line || has 10 line
 
+-- the start line, or the kind of its fault
 unfoldable pub start_of : Bytes → Result Start ℕ
 start_of line = if is_broken line then Err 1 else if is_status_line line then status_of line else request_of line

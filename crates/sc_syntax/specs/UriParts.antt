@@ -14,15 +14,19 @@ pub record Fault : Type 0 where
   pub at : ℕ
   pub kind : ℕ
 
+-- the scheme is at fault; a byte that no URI holds is so too behind another scheme than `sip`
 abbrev pub scheme_fault : Fault
 scheme_fault = record { at = 0; kind = 1 }
 
+-- the host at this place is at fault, or a user that begins there
 abbrev pub host_fault : ℕ → Fault
 host_fault at = record { at = at; kind = 2 }
 
+-- the port at this place is at fault
 abbrev pub port_fault : ℕ → Fault
 port_fault at = record { at = at; kind = 3 }
 
+-- the parameter or the headers at this place are at fault
 abbrev pub param_fault : ℕ → Fault
 param_fault at = record { at = at; kind = 4 }
 

@@ -7,6 +7,7 @@ use Rattle.sc_tokens.specs.Names.{same_bytes}
 use Rattle.sc_tokens.specs.Tokens.{is_token}
 use Rattle.sc_terms.specs.declared.settings.MethodList.{MethodList}
 
+-- a routing table as contracts see it: the tuples of each method, in the order of its lines
 pub record DarValue : Type 0 where
   pub lists : List MethodList
 
@@ -26,5 +27,6 @@ unfoldable pub AreMethodLists : List MethodList → List MethodList → Type 0
 AreMethodLists earlier [] = ⊤
 AreMethodLists earlier (list ∷ more) = IsMethodList list × (is_listed earlier list.method ≡ false) × AreMethodLists (earlier ++ list ∷ []) more
 
+-- the rule of a table's type: each method stands once, with 1 to 64 tuples
 abbrev pub IsDar : DarValue → Type 0
 IsDar dar = AreMethodLists [] dar.lists

@@ -1,4 +1,5 @@
--- A place is lost: the client transactions by their keys, and what that is for each.
+-- A place is lost: the client transactions by their keys, and what that is for each (RFC 3261
+-- sections 8.1.3.1 and 16.9).
 use Rattle.std.specs.Prelude.{List, [], ◌∷◌, Option, None, Some}
 use Rattle.std.specs.BTreeMap.{insert_entry, is_at}
 use Rattle.std.specs.Map.{lookup}

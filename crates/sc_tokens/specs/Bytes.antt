@@ -3,6 +3,7 @@ use Rattle.std.specs.Prelude.{ℕ, List, Bool, not, ◌||◌, ◌==◌}
 use Rattle.std.specs.List.{list_all}
 use Rattle.std.specs.Char.{is_ascii_alphanumeric}
 
+-- a text as its bytes, each 0 to 255
 abbrev pub Bytes : Type 0
 Bytes = List ℕ
 

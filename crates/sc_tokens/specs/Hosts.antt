@@ -36,6 +36,7 @@ is_group text = not (length text == 0) && nat_le (length text) 4 && list_all is_
 unfoldable pub groups_of : Bool → Bytes → Option ℕ
 groups_of ipv4 piece = if is_group piece then Some 1 else if ipv4 && is_ipv4 piece then Some 2 else None
 
+-- the sum of two counts, none where one is none
 unfoldable pub sum_of : Option ℕ → Option ℕ → Option ℕ
 sum_of None n = None
 sum_of (Some m) n = option_map (λ k. m + k) n

@@ -19,6 +19,7 @@ is_param_value value = option_map_or (list_all is_param_byte) value true
 unfoldable pub is_scheme : Bytes → Bool
 is_scheme text = option_map_or is_ascii_alphabetic (slice_get text 0) false && list_all is_scheme_byte text
 
+-- the one scheme whose URIs are read in structure; it compares without case
 unfoldable pub sip_scheme : Bytes
 sip_scheme = codes "sip"
 

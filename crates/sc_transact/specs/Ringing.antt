@@ -1,4 +1,4 @@
--- Which client transactions ring.
+-- Which client transactions ring (RFC 3261 section 16.8).
 use Rattle.std.specs.Prelude.{Bool, ◌&&◌}
 use Rattle.sc_value.specs.declared.ids.AppId.{AppId}
 use Rattle.sc_state.specs.declared.host.Client.{Client}

@@ -1,4 +1,5 @@
--- What a transaction of the code holds, and which lists of what has passed a transaction it stands for.
+-- What a transaction of the code holds, and which lists of what has passed a transaction it stands
+-- for (RFC 3261 section 17, RFC 6026).
 use Rattle.std.specs.Prelude.{◌≡◌, ℕ, Bool, List, ◌∷◌, Option}
 use Rattle.sc_parts.specs.declared.transactions.TxnState.{TxnState}
 use Rattle.sc_parts.specs.declared.transactions.ClientOut.{ClientOut}

@@ -10,6 +10,7 @@ use Rattle.sc_value.specs.declared.parts.Uri.TheVariants.{Sip, Other}
 use Rattle.sc_value.specs.UriValues.{IsSip}
 use Rattle.sc_value.specs.ParamRules.{AreHeaderParams}
 
+-- a display name as written, a URI, and header parameters
 pub record AddressValue : Type 0 where
   pub display : Option (List ℕ)
   pub uri : Uri
@@ -20,6 +21,7 @@ unfoldable pub IsUri : Uri → Type 0
 IsUri (Sip uri) = IsSip uri
 IsUri (Other text) = IsOtherSpelled text text
 
+-- what each address keeps
 pub record IsAddress (address : AddressValue) : Type 0 where
   pub display : IsDisplay address.display
   -- nothing of the display ends the line that it stands in

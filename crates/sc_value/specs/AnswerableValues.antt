@@ -6,6 +6,7 @@ use Rattle.sc_value.specs.declared.parts.CSeq.{CSeq}
 use Rattle.sc_value.specs.declared.parts.Via.{Via}
 use Rattle.sc_value.specs.Params.{param_value, branch_name}
 
+-- the headers of a request from which its answer is made
 pub record AnswerableValue : Type 0 where
   pub via : List Via
   pub from : Address
@@ -22,5 +23,6 @@ unfoldable pub BeginsWithBranch : List Via → Type 0
 BeginsWithBranch [] = ⊥
 BeginsWithBranch (via ∷ more) = HasBranch via
 
+-- the first Via has its branch, so that the answer finds its transaction
 abbrev pub IsAnswerable : AnswerableValue → Type 0
 IsAnswerable heads = BeginsWithBranch heads.via

@@ -4,6 +4,7 @@ use Rattle.sc_value.specs.declared.parts.Contact.{Contact}
 use Rattle.sc_value.specs.declared.parts.Contact.TheVariants.{Star, At}
 use Rattle.sc_value.specs.AddressValues.{IsAddress}
 
+-- `*`, or an address
 unfoldable pub IsContact : Contact → Type 0
 IsContact Star = ⊤
 IsContact (At address) = IsAddress address

@@ -10,6 +10,7 @@ use Rattle.sc_value.specs.declared.parts.Param.{Param}
 abbrev pub IsUriParam : Param → Type 0
 IsUriParam param = (is_param_name param.name ≡ true) × (is_param_value param.value ≡ true)
 
+-- each parameter of a URI is such
 unfoldable pub AreUriParams : List Param → Type 0
 AreUriParams [] = ⊤
 AreUriParams (param ∷ params) = IsUriParam param × AreUriParams params
@@ -22,6 +23,7 @@ IsHeaderParam param = (is_token param.name ≡ true) × (option_map_or is_param_
 abbrev pub IsLineParam : Param → Type 0
 IsLineParam param = IsHeaderParam param × (option_map_or is_one_line param.value true ≡ true)
 
+-- each parameter of a header is such
 unfoldable pub AreHeaderParams : List Param → Type 0
 AreHeaderParams [] = ⊤
 AreHeaderParams (param ∷ params) = IsLineParam param × AreHeaderParams params

@@ -4,9 +4,11 @@ use Rattle.std.specs.List.{find}
 use Rattle.sc_tokens.specs.Names.{same_name}
 use Rattle.sc_value.specs.declared.parts.Param.{Param}
 
+-- the parameter of From and To that names a side of a dialog (RFC 3261 section 19.3)
 unfoldable pub tag_name : List ℕ
 tag_name = codes "tag"
 
+-- the parameter of Via that names a transaction (RFC 3261 section 8.1.1.7)
 unfoldable pub branch_name : List ℕ
 branch_name = codes "branch"
 

@@ -1,4 +1,4 @@
--- When two outside places are one.
+-- When two outside places, the ends of connections, are one (RFC 3261 section 18).
 use Rattle.std.specs.Prelude.{◌==◌, Bool, false, ◌&&◌}
 use Rattle.sc_tokens.specs.Names.{same_bytes}
 use Rattle.sc_value.specs.declared.ids.Place.{Place}

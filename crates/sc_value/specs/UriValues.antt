@@ -7,6 +7,7 @@ use Rattle.sc_tokens.specs.UriTokens.{IsUser}
 use Rattle.sc_value.specs.declared.parts.Param.{Param}
 use Rattle.sc_value.specs.ParamRules.{AreUriParams}
 
+-- a `sip:` URI: its user part with the password, host, port, parameters, and headers unread
 pub record SipValue : Type 0 where
   pub user : Option (List ℕ)
   pub host : List ℕ

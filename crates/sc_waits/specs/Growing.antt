@@ -18,6 +18,7 @@ use Rattle.sc_once.specs.Growing.{GoneIn, KnownIn}
 abbrev pub events_of : {S : Type 0} → Option (Live S) → List Waiting
 events_of live = option_map_or (λ live. live.inbox) live []
 
+-- the events that wait in a session of a net, none where it doesn't live
 unfoldable pub events_in : {S : Type 0} → AppId → Net S → List Waiting
 events_in app net = events_of (live_at app net)
 

@@ -1,5 +1,5 @@
--- Relations of what an application session was and what it is, which every change that a turn makes of
--- it keeps.
+-- Relations of what an application session was and what it is, which every change that a turn makes
+-- of it keeps (JSR 289 section 6).
 use Rattle.std.specs.Prelude.{◌≡◌, ℕ, ◌+◌, List, [], ◌∷◌, ◌++◌, Bool, true, false, Option, None, Some, is_some, length, filter}
 use Rattle.std.specs.List.{find}
 use Rattle.sc_value.specs.declared.ids.ReqId.{ReqId}
@@ -134,16 +134,21 @@ AreDone Does play (m ∷ made) = (refusal play m.call ≡ None → Does m.call) 
 
 -- ## The relations
 
+-- a further leg, where the request is kept whose second leg is made
 unfoldable pub with_legs : Option Kept → Known → Known
 with_legs None known = known
 with_legs (Some kept) known = record known { legs = known.legs ++ new_leg None ∷ [] }
 
+-- the request of a draft as it is kept once sent, under its number and branch
 abbrev pub sent_kept : View → Draft → Request → Kept
 sent_kept view draft request = record { id = record { 0 = view.next_request }; sess = draft.sess; way = Sent (view.counter + 1); request = request }
 
+-- the view once a draft is sent
 abbrev pub after_sent : View → Draft → View
 after_sent view draft = record view { requests = view.requests ++ sent_view view draft ∷ []; next_request = view.next_request + 1; counter = view.counter + 1 }
 
+-- what a relation has to keep: it is reflexive and transitive, and each change that this event and
+-- these calls can make is in it
 pub record SessionLaws (event : Queued) (Does : Call → Type 0) (Q : Session → Session → Type 0) : Type 0 where
   pub same : (x : Session) → Q x x
   pub after : (x y z : Session) → Q x y → Q y z → Q x z

@@ -17,6 +17,7 @@ IsFrom first second = (first.epoch < second.epoch) ⊎ ((first.epoch ≡ second.
 abbrev pub IsLater : Note → Note → Note → Type 0
 IsLater first second later = IsFrom first later × IsFrom second later × ((later ≡ first) ⊎ (later ≡ second))
 
+-- a thread that has seen no listing
 abbrev pub knows_none : Knows
 knows_none = record { seen = [] }
 

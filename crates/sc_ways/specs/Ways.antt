@@ -1,4 +1,5 @@
--- What is asked of a run so that the later requests of a dialog keep to the way of its INVITE.
+-- What is asked of a run so that the later requests of a dialog keep to the way of its INVITE (RFC
+-- 3261 sections 12.2.1.1 and 16.12).
 use Rattle.std.specs.Prelude.{◌≡◌, ◌≤◌, ◌<◌, ◌^◌, ℕ, List, [], ◌∷◌, true, false, Some, is_some, length}
 use Rattle.sc_value.specs.declared.ids.AppId.{AppId}
 use Rattle.sc_value.specs.declared.ids.SessId.{SessId}

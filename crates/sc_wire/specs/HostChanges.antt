@@ -21,6 +21,7 @@ answered_host event now response host = tidied (record host { servers = change_f
 
 -- ## A host that takes something
 
+-- the host after it took something
 unfoldable pub host_after : (Host Session → Taken Session) → Host Session → Host Session
 host_after taking host = (taking host).host
 

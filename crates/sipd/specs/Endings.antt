@@ -4,6 +4,7 @@ use Rattle.sc_grammar.specs.Written.{Bytes}
 use Rattle.sc_switch.specs.declared.ran.Status.{Status}
 use Rattle.sc_switch.specs.declared.ran.Status.TheVariants as statuses
 
+-- the exit status of the process
 unfoldable pub exit_status : Status → ℕ
 exit_status statuses.Done = 0
 exit_status statuses.Usage = 2
@@ -16,12 +17,15 @@ exit_status (statuses.Script at kind) = 8
 exit_status statuses.Read = 9
 exit_status statuses.Write = 10
 
+-- before the kind of a refused configuration's fault and the key
 unfoldable pub config_word : Bytes
 config_word = codes "config "
 
+-- before the line of a refused routing table and the kind of its fault
 unfoldable pub dar_word : Bytes
 dar_word = codes "dar "
 
+-- before the place of a refused script's fault and its kind
 unfoldable pub script_word : Bytes
 script_word = codes "script "
 
@@ -38,6 +42,7 @@ cause_text (statuses.Script at kind) = script_word ++ decimal at ++ 32 ∷ [] ++
 cause_text statuses.Read = codes "read"
 cause_text statuses.Write = codes "write"
 
+-- the front of the line
 unfoldable pub program_word : Bytes
 program_word = codes "sipd: "
 
