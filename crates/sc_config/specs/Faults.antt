@@ -61,7 +61,7 @@ unfoldable pub is_top_key : Bytes → Bool
 is_top_key key =
     same_bytes key (codes "listen") || same_bytes key (codes "domain") || same_bytes key (codes "salt") || same_bytes key (codes "workers")
     || same_bytes key (codes "stop_after") || same_bytes key (codes "journal_steps") || same_bytes key (codes "journal_bytes")
-    || same_bytes key (codes "epoch_steps") || same_bytes key (codes "journal_parts") || same_bytes key (codes "hosts") || same_bytes key (codes "app")
+    || same_bytes key (codes "epoch_steps") || same_bytes key (codes "journal_parts") || same_bytes key (codes "reuse") || same_bytes key (codes "hosts") || same_bytes key (codes "app")
 
 -- the key is one of an application's
 unfoldable pub is_app_key : Bytes → Bool
@@ -113,6 +113,9 @@ wrong_numbers top = first_fault (
     ∷ wrong_number 1 67108864 (codes "journal_bytes") top
     ∷ wrong_number 0 1000000 (codes "epoch_steps") top
     ∷ [])
+
+unfoldable pub wrong_flags : Members → Option Fault
+wrong_flags top = first_fault (wrong_flag (codes "journal_parts") top ∷ wrong_flag (codes "reuse") top ∷ [])
 
 -- `hosts` is no table, or one of its entries is wrong
 unfoldable pub wrong_host_in : Option Members → Option Fault
@@ -174,7 +177,7 @@ top_fault Range top = first_fault (
     ∷ wrong_text is_host (codes "domain") top
     ∷ wrong_text is_salt (codes "salt") top
     ∷ wrong_numbers top
-    ∷ wrong_flag (codes "journal_parts") top
+    ∷ wrong_flags top
     ∷ wrong_hosts (get_member (codes "hosts") top)
     ∷ wrong_apps top
     ∷ [])

@@ -1,5 +1,5 @@
 -- The settings that a TOML text gives, or its first refusal.
-use Rattle.std.specs.Prelude.{ℕ, pos, false, Option, Some, None, Result, Ok, Err, List, [], ◌∷◌, map, codes, length, nat_lt, if◌then◌else◌, position}
+use Rattle.std.specs.Prelude.{ℕ, Bool, pos, false, Option, Some, None, Result, Ok, Err, List, [], ◌∷◌, map, codes, length, nat_lt, if◌then◌else◌, position}
 use Rattle.std.specs.Option.{option_and_then, option_map_or, unwrap_or}
 use Rattle.toml.specs.Data.{Data, Members, no_members, member, get_member, as_str, as_table}
 use Rattle.sc_tokens.specs.Names.{same_bytes}
@@ -62,6 +62,10 @@ hosts_in value = option_map_or host_entries (option_and_then as_table value) []
 unfoldable pub number_at : ℕ → ℕ → ℕ → Bytes → Members → ℕ
 number_at low high standard key top = unwrap_or (number_in low high standard (get_member key top)) standard
 
+-- the key is true, false where it is absent
+unfoldable pub flag_at : Bytes → Members → Bool
+flag_at key top = unwrap_or (flag_in (get_member key top)) false
+
 -- the text of one of the container's keys
 unfoldable pub top_text : Bytes → Members → Bytes
 top_text key top = unwrap_or (option_and_then as_str (get_member key top)) []
@@ -77,7 +81,8 @@ config_of kinds top = record {
   journal_steps = number_at 1 1000000 1000000 (codes "journal_steps") top;
   journal_bytes = number_at 1 67108864 67108864 (codes "journal_bytes") top;
   epoch_steps = number_at 0 1000000 0 (codes "epoch_steps") top;
-  journal_parts = unwrap_or (flag_in (get_member (codes "journal_parts") top)) false;
+  journal_parts = flag_at (codes "journal_parts") top;
+  reuse = flag_at (codes "reuse") top;
   hosts = hosts_in (get_member (codes "hosts") top);
   app = map (app_entry kinds) (apps_in top);
 }

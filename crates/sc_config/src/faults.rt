@@ -6,7 +6,7 @@ ghost use Rattle.std.specs.Option.{option_map, option_map_or, option_copied, opt
 ghost use Rattle.toml.specs.Data.{as_str, as_table, get_member};
 ghost use Rattle.sc_tokens.specs.Names.{same_bytes};
 ghost use Rattle.toml.specs.View.{view, table_view};
-ghost use Rattle.sc_config.specs.Faults.{fault_if, missing, wrong_if, wrong_text, wrong_listen, wrong_number, wrong_flag, wrong_params, wrong_expires, app_fault, top_fault, is_app_key, is_top_key, is_any, is_wrong, item_fault, apps_in, apps_fault, are_some_tables, wrong_apps, wrong_hosts, wrong_numbers, table_fault, app_text, is_kind, unknown_kind, double_name, first_refusal, first_fault};
+ghost use Rattle.sc_config.specs.Faults.{fault_if, missing, wrong_if, wrong_text, wrong_listen, wrong_number, wrong_flag, wrong_flags, wrong_params, wrong_expires, app_fault, top_fault, is_app_key, is_top_key, is_any, is_wrong, item_fault, apps_in, apps_fault, are_some_tables, wrong_apps, wrong_hosts, wrong_numbers, table_fault, app_text, is_kind, unknown_kind, double_name, first_refusal, first_fault};
 ghost use Rattle.sc_config.specs.KeyValues.{is_wrong_host, text_in, text_if, is_salt, is_app_name, listen_in, is_params};
 ghost use Rattle.sc_tokens.specs.Hosts.{is_host};
 ghost use Rattle.sc_config.specs.declared.faults.Check.TheVariants.{UnknownKeys, Missing, Range};
@@ -197,6 +197,7 @@ fn is_top_key(key: &str) -> bool
         || key == "journal_bytes"
         || key == "epoch_steps"
         || key == "journal_parts"
+        || key == "reuse"
         || key == "hosts"
         || key == "app"
 }
@@ -368,13 +369,23 @@ fn range_at_top(table: &Table) -> Option<Fault<'_>>
     if let Some(fault) = wrong_numbers(table) {
         return Some(fault);
     }
-    if let Some(fault) = wrong_flag("journal_parts", table) {
+    if let Some(fault) = wrong_flags(table) {
         return Some(fault);
     }
     if let Some(fault) = wrong_hosts(table) {
         return Some(fault);
     }
     wrong_apps(table)
+}
+
+#[tactic(auto, unfolding(crate::specs::Faults::first_fault, crate::specs::Faults::wrong_flags))]
+fn wrong_flags(table: &Table) -> Option<Fault<'_>>
+    ensures { result ≡ wrong_flags (table_view table.now) }
+{
+    if let Some(fault) = wrong_flag("journal_parts", table) {
+        return Some(fault);
+    }
+    wrong_flag("reuse", table)
 }
 
 #[tactic(auto, unfolding(crate::specs::Faults::first_fault, crate::specs::Faults::wrong_numbers))]

@@ -9,7 +9,7 @@ ghost use Rattle.sc_terms.specs.Ranges.{are_few};
 ghost use Rattle.sc_config.specs.Faults.{app_text, apps_in};
 ghost use Rattle.sc_config.specs.Documents.{elements};
 ghost use Rattle.sc_config.specs.KeyValues.{is_salt};
-ghost use Rattle.sc_config.specs.ReadSettings.{param_text, params_in, kind_place, app_value, app_entry, host_entry, host_entries, hosts_in, number_at, top_text, config_of};
+ghost use Rattle.sc_config.specs.ReadSettings.{param_text, params_in, kind_place, app_value, app_entry, host_entry, host_entries, hosts_in, number_at, flag_at, top_text, config_of};
 
 use crate::faults::{app_text, apps_in};
 use crate::values::{
@@ -90,6 +90,14 @@ fn number_at<const LOW: u64, const HIGH: u64>(
     ensures { result ≡ number_at LOW HIGH standard.entry key.now (table_view top.now) }
 {
     number_in(standard, value_at(top, key)).unwrap_or(standard)
+}
+
+/// Whether a key is true.
+#[tactic(auto, unfolding(crate::specs::ReadSettings::flag_at))]
+fn flag_at(key: &str, top: &Table) -> bool
+    ensures { result ≡ flag_at key.now (table_view top.now) }
+{
+    flag_in(value_at(top, key)).unwrap_or(false)
 }
 
 #[tactic(auto, unfolding(crate::specs::ReadSettings::top_text))]
@@ -215,7 +223,8 @@ pub(crate) fn config_of(alloc: Global, kinds: &[Text], top: &Table) -> Result<Co
         journal_steps: number_at(Within::of(1_000_000), "journal_steps", top),
         journal_bytes: number_at(Within::of(67_108_864), "journal_bytes", top),
         epoch_steps: number_at(Within::of(0), "epoch_steps", top),
-        journal_parts: flag_in(value_at(top, "journal_parts")).unwrap_or(false),
+        journal_parts: flag_at("journal_parts", top),
+        reuse: flag_at("reuse", top),
         hosts,
         app,
     })

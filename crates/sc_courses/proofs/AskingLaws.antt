@@ -12,7 +12,7 @@ use Rattle.sc_edge.specs.Telling.{IsTold}
 use Rattle.sc_moments.specs.Moments.{tick_of, ticks_of}
 use Rattle.sc_moments.proofs.FollowTicks.{both-ticks}
 use Rattle.sc_outs.specs.Deeds.{Deed, step_of}
-use Rattle.sc_courses.specs.Asking.{Answered, AreTold, Source, Ticked, TickedPart, count_after, latest, raised, ticks_taken}
+use Rattle.sc_courses.specs.Asking.{Answered, AreTold, Asked, Given, Source, Sources, Ticked, TickedPart, count_after, given_then, latest, none_given, raised, ticks_taken}
 
 -- ## Answers, one after the other
 
@@ -138,3 +138,11 @@ ticked_part moments deeds now ticked = inl ticked.ticks
 pub ticked_cut : (moments : List ℕ) (deeds : List Deed) (now moment : ℕ) → Ticked moments deeds now → TickedPart (moments ++ moment ∷ []) deeds
 unfolding TickedPart
 ticked_cut moments deeds now moment ticked = inr (moments, moment, refl, ticked.ticks)
+
+-- ## Clock and orders
+
+pub asked_none : (sources : Sources) → Asked sources sources none_given
+asked_none sources = record { moments = answered_none sources.0; orders = answered_none sources.1 }
+
+pub asked_then : (a b c : Sources) (xs ys : Given) → Asked a b xs → Asked b c ys → Asked a c (given_then xs ys)
+asked_then a b c xs ys first later = record { moments = answered_then a.0 b.0 c.0 xs.moments ys.moments first.moments later.moments; orders = answered_then a.1 b.1 c.1 xs.orders ys.orders first.orders later.orders }

@@ -1,21 +1,28 @@
 -- A course as steps are taken, epochs end and the notice is told.
-use Rattle.std.proofs.Common.{◌≡◌, ℕ, ◌+◌, Bool, true, List, [], ◌∷◌, ◌++◌, None, Some, refl, sym, ap, ◌∙◌, subst, append_assoc, inl, inr}
+use Rattle.std.proofs.Common.{◌≡◌, ℕ, ◌+◌, Bool, true, false, Option, List, [], ◌∷◌, ◌++◌, None, Some, refl, sym, ap, ◌∙◌, subst, append_assoc, inl, inr}
 use Rattle.std.specs.Prelude.{map, ◌⊎◌}
+use Rattle.std.specs.Option.{is_some}
 use Rattle.std.proofs.lemmas.List.{append-nil, map-append}
 use Rattle.std.proofs.lemmas.List.Sums.{fold-append}
 use Rattle.sc_journal.specs.Kept.{Kept}
+use Rattle.sc_value.specs.declared.ids.AppId.{AppId}
 use Rattle.sc_terms.specs.declared.steps.Step.{Step}
+use Rattle.sc_terms.specs.declared.steps.Step.TheVariants as steps
 use Rattle.sc_parts.specs.declared.setup.Setup.{Setup}
 use Rattle.sc_state.specs.declared.net.Net.{Net}
 use Rattle.sc_state.specs.declared.session.Session.{Session}
 use Rattle.sc_edge.specs.declared.listing.Listing.{Listing}
+use Rattle.sc_edge.specs.declared.orders.Order.{Order}
 use Rattle.sc_edge.specs.Telling.{Notes}
 use Rattle.sc_edge.specs.declared.notice.Noted.{Noted}
 use Rattle.sc_edge.specs.declared.notice.Noted.TheVariants as noted
 use Rattle.sc_hosts.specs.Histories.{as_session}
 use Rattle.sc_hosts.specs.Runs.{AreLawful, Epoch, IsLawful, IsLawfulAfter, after_step, chained, chained_from, is_idle, net_of, start}
+use Rattle.sc_hosts.specs.Steps.{live_at}
 use Rattle.sc_outs.specs.Deeds.{Deed, step_of}
-use Rattle.sc_courses.specs.Courses.{AreDeeds, AreSent, Beginning, Course, IsRun, Telling, TellsEpochs, Told, told_by, with_item}
+use Rattle.sc_courses.specs.Ordering.{Obeys, Point, beginning_point, is_for, order_in, withdrawn_by}
+use Rattle.sc_courses.proofs.OrderingLaws.{is_for_living, obeys_begin, obeys_more, obeys_none, obeys_order, ordered_none, ordered_step, quiet_step, quiet_turn}
+use Rattle.sc_courses.specs.Courses.{AreDeeds, AreSent, Beginning, Course, IsRun, Telling, TellsEpochs, Told, ordered, told_by, with_item}
 
 -- ## A step
 
@@ -38,9 +45,10 @@ run-snoc setup epoch mine step failed run = (
       (ap (λ (j : List Step). (after_step as_session setup (chained_from as_session setup (start setup epoch.number epoch.began) j) step).sent) (sym run.0)),
 )
 
-pub course_step : (from : Beginning) (told : Told) (handed : List Step) (running : Epoch) (deeds : List Deed) (step : Step) (failed : Bool) → Course from told handed running deeds
+-- a step by which none is withdrawn
+pub course_step : (from : Beginning) (told : Told) (handed : List Step) (running : Epoch) (deeds : List Deed) (step : Step) (failed : Bool) → withdrawn_by step ≡ [] → Course from told handed running deeds
     → Course from told handed (with_one running step) (deeds ++ deed_at from.setup running step failed ∷ [])
-course_step from told handed running deeds step failed c = record {
+course_step from told handed running deeds step failed none c = record {
   ended = c.ended;
   before = c.before;
   mine = c.mine ++ deed_at from.setup running step failed ∷ [];
@@ -49,7 +57,53 @@ course_step from told handed running deeds step failed c = record {
   lawful = c.lawful;
   are = c.are;
   run = run-snoc from.setup running c.mine step failed c.run;
+  obeys = obeys_more from.setup beginning_point (record { ended = c.ended; running = running }) (record { ended = c.ended; running = with_one running step }) from.orders c.obeys (quiet_step c.ended running step none);
 }
+
+-- the withdrawal of a session that lives, as it was ordered
+pub course_withdrawn : (from : Beginning) (told : Told) (handed : List Step) (running : Epoch) (deeds : List Deed) (app : AppId) → is_some (live_at app (net_of as_session from.setup running)) ≡ true → Course from told handed running deeds
+    → Course (ordered from (Some (order_in running app) ∷ [])) told handed (with_one running (steps.Withdraw app)) (deeds ++ deed_at from.setup running (steps.Withdraw app) false ∷ [])
+course_withdrawn from told handed running deeds app lives c = record {
+  ended = c.ended;
+  before = c.before;
+  mine = c.mine ++ deed_at from.setup running (steps.Withdraw app) false ∷ [];
+  deeds_are = ap (λ (ds : List Deed). ds ++ deed_at from.setup running (steps.Withdraw app) false ∷ []) c.deeds_are ∙ append_assoc c.before c.mine (deed_at from.setup running (steps.Withdraw app) false ∷ []);
+  tells = c.tells;
+  lawful = c.lawful;
+  are = c.are;
+  run = run-snoc from.setup running c.mine (steps.Withdraw app) false c.run;
+  obeys =
+      let point : Point = record { ended = c.ended; running = running } in
+      subst (λ (after : Point). Obeys from.setup beginning_point (from.orders ++ Some (order_in running app) ∷ []) after) (ordered_step from.setup point (order_in running app) (is_for_living from.setup point app lives))
+      (obeys_order from.setup beginning_point point from.orders (order_in running app) c.obeys);
+}
+
+-- the same course, as more orders were answered
+obeyed-more : (from : Beginning) (told : Told) (handed : List Step) (running : Epoch) (deeds : List Deed) (orders : List (Option Order)) (c : Course from told handed running deeds)
+    → Obeys from.setup beginning_point orders (record { ended = c.ended; running = running }) → Course (record from { orders = orders }) told handed running deeds
+obeyed-more from told handed running deeds orders c obeys = record {
+  ended = c.ended;
+  before = c.before;
+  mine = c.mine;
+  deeds_are = c.deeds_are;
+  tells = c.tells;
+  lawful = c.lawful;
+  are = c.are;
+  run = c.run;
+  obeys = obeys;
+}
+
+-- an order that names no session which lives in the epoch that runs
+pub course_unordered : (from : Beginning) (told : Told) (handed : List Step) (running : Epoch) (deeds : List Deed) (order : Order) → ((point : Point) → point.running ≡ running → is_for from.setup point order ≡ false) → Course from told handed running deeds
+    → Course (ordered from (Some order ∷ [])) told handed running deeds
+course_unordered from told handed running deeds order none c =
+    let point : Point = record { ended = c.ended; running = running } in
+    obeyed-more from told handed running deeds (from.orders ++ Some order ∷ []) c
+    (subst (λ (after : Point). Obeys from.setup beginning_point (from.orders ++ Some order ∷ []) after) (ordered_none from.setup point order (none point refl)) (obeys_order from.setup beginning_point point from.orders order c.obeys))
+
+-- no order was there
+pub course_no_order : (from : Beginning) (told : Told) (handed : List Step) (running : Epoch) (deeds : List Deed) → Course from told handed running deeds → Course (ordered from (None ∷ [])) told handed running deeds
+course_no_order from told handed running deeds c = obeyed-more from told handed running deeds (from.orders ++ None ∷ []) c (obeys_none from.setup beginning_point (record { ended = c.ended; running = running }) from.orders c.obeys)
 
 -- ## The notice
 
@@ -85,6 +139,7 @@ course-told from told told2 handed handed2 running deeds c tells = record {
   lawful = c.lawful;
   are = c.are;
   run = c.run;
+  obeys = c.obeys;
 }
 
 -- the length of a journal says nothing of epochs
@@ -142,6 +197,8 @@ course_next from told told2 handed running deeds journal items notes lawful idle
       (subst (λ (ds : List Deed). AreDeeds from.setup (c.ended ++ running ∷ later) ds) (sym (ap (λ (ds : List Deed). ds ++ rest) c.deeds_are ∙ append_assoc c.before c.mine rest))
       (c.are (running ∷ later) (c.mine ++ rest) (deeds-next from.setup running c.mine later rest c.run are)));
   run = no-run from.setup (next_of from.setup running) refl;
+  obeys = obeys_more from.setup beginning_point (record { ended = c.ended; running = running }) (record { ended = c.ended ++ running ∷ []; running = next_of from.setup running }) from.orders c.obeys
+      (quiet_turn c.ended running (next_of from.setup running) refl);
 }
 
 -- ## Beginning and end
@@ -158,8 +215,8 @@ lawful-first setup later is = is
 abbrev pub first_epoch : Epoch
 first_epoch = record { number = 0; began = 0; journal = [] }
 
-pub course_begin : (from : Beginning) → Course from from.told [] first_epoch []
-course_begin from = record {
+pub course_begin : (from : Beginning) → from.orders ≡ [] → Course from from.told [] first_epoch []
+course_begin from none = record {
   ended = [];
   before = [];
   mine = [];
@@ -168,6 +225,7 @@ course_begin from = record {
   lawful = lawful-first from.setup;
   are = λ later rest are. are;
   run = no-run from.setup first_epoch refl;
+  obeys = subst (λ (orders : List (Option Order)). Obeys from.setup beginning_point orders beginning_point) (sym none) (obeys_begin from.setup beginning_point);
 }
 
 last-lawful : (setup : Setup) (running : Epoch) → IsLawful as_session setup running.number running.began running.journal → IsLawfulAfter as_session setup running.number running.began (running ∷ [])

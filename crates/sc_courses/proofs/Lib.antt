@@ -2,3 +2,4 @@ pub mod AskingLaws
 pub mod CourseLaws
 pub mod HeardLaws
 pub mod OnLaws
+pub mod OrderingLaws

@@ -3,6 +3,7 @@ use Rattle.std.specs.Prelude.{◌≡◌, ◌+◌, ◌⊎◌, ℕ, List, [], ◌�
 use Rattle.std.specs.Bool.{nat_lt}
 use Rattle.sc_edge.specs.Faults.{one_more}
 use Rattle.sc_edge.specs.Telling.{IsTold}
+use Rattle.sc_edge.specs.declared.orders.Order.{Order}
 use Rattle.sc_moments.specs.Moments.{ticks_of}
 use Rattle.sc_outs.specs.Deeds.{Deed, step_of}
 
@@ -48,3 +49,25 @@ pub record Ticked (moments : List ℕ) (deeds : List Deed) (now : ℕ) : Type 0 
 -- the same, but for the last answer of the clock
 unfoldable pub TickedPart : List ℕ → List Deed → Type 0
 TickedPart moments deeds = (ticks_taken deeds ≡ raised 0 moments) ⊎ ((before : List ℕ) × (last : ℕ) × (moments ≡ before ++ last ∷ []) × (ticks_taken deeds ≡ raised 0 before))
+
+-- ## Clock and orders
+
+-- what both were asked and answer
+abbrev pub Sources : Type 0
+Sources = Source ℕ × Source (Option Order)
+
+-- what both answered
+pub record Given : Type 0 where
+  pub moments : List ℕ
+  pub orders : List (Option Order)
+
+abbrev pub none_given : Given
+none_given = record { moments = []; orders = [] }
+
+abbrev pub given_then : Given → Given → Given
+given_then first later = record { moments = first.moments ++ later.moments; orders = first.orders ++ later.orders }
+
+-- they were asked so often, and these were their answers
+pub record Asked (old new : Sources) (given : Given) : Type 0 where
+  pub moments : Answered old.0 new.0 given.moments
+  pub orders : Answered old.1 new.1 given.orders

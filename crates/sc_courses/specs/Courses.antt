@@ -7,11 +7,14 @@ use Rattle.sc_parts.specs.declared.setup.Setup.{Setup}
 use Rattle.sc_state.specs.declared.net.Net.{Net}
 use Rattle.sc_state.specs.declared.session.Session.{Session}
 use Rattle.sc_edge.specs.Edges.{EdgeState}
+use Rattle.sc_edge.specs.declared.orders.Order.{Order}
 use Rattle.sc_edge.specs.declared.notice.Noted.{Noted}
 use Rattle.sc_edge.specs.declared.notice.Noted.TheVariants as noted
 use Rattle.sc_hosts.specs.Histories.{as_session}
 use Rattle.sc_hosts.specs.Runs.{AreLawful, Epoch, IsLawfulAfter, after_step, start}
 use Rattle.sc_outs.specs.Deeds.{Deed, step_of}
+use Rattle.sc_courses.specs.Asking.{Given}
+use Rattle.sc_courses.specs.Ordering.{Obeys, beginning_point}
 
 -- what a notice was told, where it tells it
 abbrev pub Told : Type 0
@@ -52,16 +55,25 @@ unfoldable pub TellsEpochs : Told → Told → Telling → Type 0
 TellsEpochs None now telling = now ≡ None
 TellsEpochs (Some old) now telling = ((items : List (Noted (Kept Step))) × (now ≡ Some (old ++ items)) × (told_by items ≡ telling)) ⊎ (now ≡ None)
 
--- what a run is held against: its settings, what its notice was told and its edge where it began, and the moments
--- that its clock has answered since
+-- what a run is held against: its settings, what its notice was told and its edge where it began, and since then the moments
+-- that its clock has answered, and the orders that were answered, none where there was none
 pub record Beginning : Type 0 where
   pub setup : Setup
   pub told : Told
   pub edge : EdgeState
   pub moments : List ℕ
+  pub orders : List (Option Order)
+
+-- once these orders were answered
+abbrev pub ordered : Beginning → List (Option Order) → Beginning
+ordered from given = record from { orders = from.orders ++ given }
+
+-- once both the clock and the orders answered so
+abbrev pub after : Beginning → Given → Beginning
+after from given = record from { moments = from.moments ++ given.moments; orders = from.orders ++ given.orders }
 
 -- how far it came: the epochs that ended, their deeds, and those of the epoch that runs, of which so much was
--- handed on
+-- handed on; and what was withdrawn was ordered
 pub record Course (from : Beginning) (told : Told) (handed : List Step) (running : Epoch) (deeds : List Deed) : Type 0 where
   pub ended : List Epoch
   pub before : List Deed
@@ -71,3 +83,4 @@ pub record Course (from : Beginning) (told : Told) (handed : List Step) (running
   pub lawful : (later : List Epoch) → IsLawfulAfter as_session from.setup running.number running.began later → AreLawful as_session from.setup (ended ++ later)
   pub are : (later : List Epoch) (rest : List Deed) → AreDeeds from.setup later rest → AreDeeds from.setup (ended ++ later) (before ++ rest)
   pub run : IsRun from.setup running mine
+  pub obeys : Obeys from.setup beginning_point from.orders (record { ended = ended; running = running })

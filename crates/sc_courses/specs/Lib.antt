@@ -2,3 +2,4 @@ pub mod Asking
 pub mod Courses
 pub mod Due
 pub mod Marks
+pub mod Ordering

@@ -1,7 +1,6 @@
 -- The state of a SipSession on the called side (JSR 289 section 6.2.1). That an answer to another
 -- initial request than INVITE ends the session is this project's profile.
-use Rattle.std.specs.Prelude.{ℕ, Bool, true, false, ◌&&◌, nat_lt, if◌then◌else◌, codes}
-use Rattle.sc_tokens.specs.Names.{same_bytes}
+use Rattle.std.specs.Prelude.{ℕ, Bool, nat_lt, codes}
 use Rattle.sc_terms.specs.declared.views.State.{State}
 use Rattle.sc_terms.specs.declared.views.State.TheVariants.{Initial, Early, Confirmed, Terminated}
 use Rattle.sc_grammar.specs.Written.{Bytes}
@@ -22,21 +21,9 @@ ack = codes "ACK"
 abbrev pub is_final : ℕ → Bool
 is_final code = nat_lt 199 code
 
--- an answer to the INVITE that began the session
-unfoldable pub invited_state : State → ℕ → State
-invited_state Initial code = if is_final code then (if nat_lt code 300 then Confirmed else Terminated) else (if nat_lt 100 code then Early else Initial)
-invited_state Early code = if is_final code then (if nat_lt code 300 then Confirmed else Terminated) else Early
-invited_state Confirmed code = Confirmed
-invited_state Terminated code = Terminated
-
 -- a final answer to a BYE
 unfoldable pub ended_state : State → State
 ended_state Initial = Initial
 ended_state Early = Terminated
 ended_state Confirmed = Terminated
 ended_state Terminated = Terminated
-
--- the state after an answer of this code to a request, which began the session or not
-unfoldable pub answered_state : State → Bool → Bytes → ℕ → State
-answered_state state true method code = if same_bytes method invite then invited_state state code else (if is_final code then Terminated else state)
-answered_state state false method code = if same_bytes method bye && is_final code then ended_state state else state

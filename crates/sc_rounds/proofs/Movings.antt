@@ -1,5 +1,5 @@
 -- Steps that aren't heard leave what was heard as it is.
-use Rattle.std.proofs.Common.{◌≡◌, ◌≤◌, ℕ, Bool, true, false, List, [], ◌∷◌, ◌++◌, refl, sym, subst, append_assoc, inl, inr}
+use Rattle.std.proofs.Common.{◌≡◌, ◌≤◌, ℕ, Bool, true, false, Option, None, Some, List, [], ◌∷◌, ◌++◌, refl, sym, ap, ◌∙◌, subst, append_assoc, inl, inr}
 use Rattle.std.specs.Prelude.{◌⊎◌, Result, Ok, Err, OnOk, OnErr, IfOk}
 use Rattle.std.proofs.lemmas.List.{append-nil}
 use Rattle.sc_value.specs.declared.ids.AppId.{AppId}
@@ -7,6 +7,7 @@ use Rattle.sc_value.specs.declared.message.Sent.{Sent}
 use Rattle.sc_terms.specs.declared.steps.Step.{Step}
 use Rattle.sc_terms.specs.declared.steps.Step.TheVariants as steps
 use Rattle.sc_edge.specs.Edges.{EdgeState}
+use Rattle.sc_edge.specs.declared.orders.Order.{Order}
 use Rattle.sc_servlets.specs.declared.done.Done.{Done}
 use Rattle.sc_switch.specs.declared.refused.Committed.{Committed}
 use Rattle.sc_switch.specs.declared.refused.Committed.TheVariants as committed
@@ -14,16 +15,16 @@ use Rattle.sc_switch.specs.declared.refused.StepRefused.{StepRefused}
 use Rattle.sc_switch.specs.Standing.{Known, net_of, step_of}
 use Rattle.sc_outs.specs.Deeds.{Deed}
 use Rattle.sc_outs.proofs.Laws.{cut_of}
-use Rattle.sc_courses.specs.Asking.{Answered, Source}
-use Rattle.sc_courses.proofs.AskingLaws.{answered_none, answered_then, ticked_part}
-use Rattle.sc_courses.specs.Courses.{Beginning, Told}
+use Rattle.sc_courses.specs.Asking.{Answered, Asked, Given, Source, Sources, given_then, none_given}
+use Rattle.sc_courses.proofs.AskingLaws.{answered_none, asked_none, asked_then, ticked_part}
+use Rattle.sc_courses.specs.Courses.{Beginning, Told, after, ordered}
 use Rattle.sc_courses.specs.Marks.{Hearing, is_heard}
 use Rattle.sc_courses.proofs.HeardLaws.{hearing_part, hearing_same, part_same}
 use Rattle.sc_rounds.specs.declared.stepping.Core.{Core}
 use Rattle.sc_rounds.specs.declared.streams.Pending.{Pending}
-use Rattle.sc_rounds.specs.Moving.{Breaks, BreaksOn, Moves, MovesOn}
+use Rattle.sc_rounds.specs.Moving.{AreAlmost, Breaks, BreaksBoth, BreaksOn, BreaksOrdered, EndedAfter, EndedOrdered, Moves, MovesBoth, MovesOn, MovesOrdered}
 use Rattle.sc_rounds.specs.Serving.{Ended, Ends, Same, SameAt, Serves, Stopped, Took, deed, moments_after, since, timed}
-use Rattle.sc_rounds.specs.Stepping.{Commits, Ticks, Withdraws}
+use Rattle.sc_rounds.specs.Stepping.{Commits, Ordered, StoppedAt, Ticks, Unordered, Withdraws, order_at}
 use Rattle.sc_rounds.specs.Streaming.{bytes_of}
 
 pub same_moves : (old new : Core) (told told2 : Told) → Same old new told told2 → Moves old new told told2
@@ -101,14 +102,45 @@ tick-breaks : (now : ℕ) (old new : Core) (told told2 : Told) → Stopped (step
 unfolding is_heard
 tick-breaks now old new told told2 stopped from edge streams s = stopped-timed (steps.Tick now) old new told told2 refl stopped from edge streams s
 
-pub withdraw_moves : (app : AppId) (old new : Core) (told told2 : Told) (lived : Bool) → Withdraws app old new told told2 lived → Moves old new told told2
-unfolding Withdraws is_heard
-withdraw_moves app old new told told2 true took = took_moves (steps.Withdraw app) old new told told2 refl (λ moments. refl) took
-withdraw_moves app old new told told2 false same = same_moves old new told told2 same
+unordered-serves : (answer : Option Order) (old new : Core) (told told2 : Told) → Unordered answer old new told told2
+    → (from : Beginning) (edge : EdgeState) (streams : List Pending) → Serves from edge told old streams → Serves (ordered from (answer ∷ [])) edge told2 new streams
+unfolding Unordered
+unordered-serves answer old new told told2 none from edge streams s = record { deeds = s.deeds; stands = none from edge s.deeds s.stands; hearing = s.hearing }
 
-pub withdraw_breaks : (app : AppId) (old new : Core) (told told2 : Told) → Stopped (steps.Withdraw app) false old new told told2 → Breaks old new told told2
+ordered-serves : (app : AppId) (old new : Core) (told told2 : Told) (lived : Bool) → Withdraws app old new told told2 lived
+    → (from : Beginning) (edge : EdgeState) (streams : List Pending) → Serves from edge told old streams → Serves (ordered from (Some (order_at old app) ∷ [])) edge told2 new streams
+unfolding Withdraws Ordered is_heard
+ordered-serves app old new told told2 true withdrew from edge streams s =
+    let (sent, stands) = withdrew from edge s.deeds s.stands in record {
+      deeds = s.deeds ++ deed (steps.Withdraw app) sent false ∷ [];
+      stands = stands;
+      hearing = hearing_same from.edge.polled edge.polled s.deeds (deed (steps.Withdraw app) sent false) (bytes_of streams) refl s.hearing;
+    }
+ordered-serves app old new told told2 false none from edge streams s = unordered-serves (Some (order_at old app)) old new told told2 none from edge streams s
+
+no-orders : (from : Beginning) (edge : EdgeState) (told : Told) (known : Known) → Ended from edge told known → Ended (ordered from []) edge told known
+no-orders from edge told known ended = subst (λ (orders : List (Option Order)). Ended (record from { orders = orders }) edge told known) (sym (append-nil from.orders)) ended
+
+stopped-ordered : (app : AppId) (old new : Core) (told2 : Told) (from : Beginning) (edge : EdgeState) (streams : List Pending) (deeds : List Deed) → Hearing from.edge.polled edge.polled deeds (bytes_of streams)
+    → Ends from edge told2 new.switch deeds ⊎ ((sent : List Sent) × Ends (ordered from (Some (order_at old app) ∷ [])) edge told2 new.switch (deeds ++ deed (steps.Withdraw app) sent false ∷ []))
+    → EndedOrdered from (Some (order_at old app) ∷ []) edge told2 new.switch
 unfolding is_heard
-withdraw_breaks app old new told told2 stopped = stopped_breaks (steps.Withdraw app) old new told told2 refl (λ moments. refl) stopped
+stopped-ordered app old new told2 from edge streams deeds hearing (inl ends) =
+    ([], inr (Some (order_at old app), refl), no-orders from edge told2 new.switch (record { deeds = deeds; ends = ends; hearing = hearing_part from.edge.polled edge.polled deeds (bytes_of streams) hearing }))
+stopped-ordered app old new told2 from edge streams deeds hearing (inr (sent, ends)) = (
+  Some (order_at old app) ∷ [],
+  inl refl,
+  record {
+    deeds = deeds ++ deed (steps.Withdraw app) sent false ∷ [];
+    ends = ends;
+    hearing = part_same from.edge.polled edge.polled deeds (deed (steps.Withdraw app) sent false) refl (hearing_part from.edge.polled edge.polled deeds (bytes_of streams) hearing);
+  },
+)
+
+stopped-serves : (app : AppId) (old new : Core) (told told2 : Told) → StoppedAt app old new told told2
+    → (from : Beginning) (edge : EdgeState) (streams : List Pending) → Serves from edge told old streams → EndedOrdered from (Some (order_at old app) ∷ []) edge told2 new.switch
+unfolding StoppedAt
+stopped-serves app old new told told2 stopped from edge streams s = stopped-ordered app old new told2 from edge streams s.deeds s.hearing (stopped from edge s.deeds s.stands)
 
 pub commit_moves : (done : Done) (old new : Core) (told told2 : Told) (answer : Committed) → Commits done old new told told2 answer → Moves old new told told2
 unfolding Commits
@@ -126,18 +158,39 @@ unfolding MovesOn
 tick_ok now (Ok later) old new told told2 clock clock2 within answered ticks = (now ∷ [], answered, tick-moves now old new told told2 later within ticks)
 tick_ok now (Err cause) old new told told2 clock clock2 within answered ticks = tt
 
-pub withdraw_ok : (app : AppId) (r : Result Bool StepRefused) (old new : Core) (told told2 : Told) → IfOk r (λ lived. Withdraws app old new told told2 lived) → OnOk r (Moves old new told told2)
-withdraw_ok app (Ok lived) old new told told2 is = withdraw_moves app old new told told2 lived is
-withdraw_ok app (Err cause) old new told told2 is = tt
+order-is : (order : Order) (old : Core) → order.epoch ≡ old.switch.epoch → order_at old order.app ≡ order
+order-is order old e = ap (λ (epoch : ℕ). let o : Order = record { epoch = epoch; app = order.app } in o) (sym e)
+
+-- an order of the epoch that runs was answered
+pub withdraw_ok : (order : Order) (r : Result Bool StepRefused) (old new : Core) (told told2 : Told) (orders orders2 : Source (Option Order)) → order.epoch ≡ old.switch.epoch → Answered orders orders2 (Some order ∷ [])
+    → IfOk r (λ lived. Withdraws order.app old new told told2 lived) → OnOk r (MovesOrdered old new told told2 orders orders2)
+unfolding MovesOrdered
+withdraw_ok order (Ok lived) old new told told2 orders orders2 e answered is = (
+  Some order ∷ [],
+  answered,
+  λ from edge streams s. subst (λ (o : Order). Serves (ordered from (Some o ∷ [])) edge told2 new streams) (order-is order old e) (ordered-serves order.app old new told told2 lived is from edge streams s),
+)
+withdraw_ok order (Err cause) old new told told2 orders orders2 e answered is = tt
+
+-- an order of another epoch, or none
+pub unordered_moves : (answer : Option Order) (old new : Core) (told told2 : Told) (orders orders2 : Source (Option Order)) → Answered orders orders2 (answer ∷ []) → Unordered answer old new told told2 → MovesOrdered old new told told2 orders orders2
+unfolding MovesOrdered
+unordered_moves answer old new told told2 orders orders2 answered none = (answer ∷ [], answered, λ from edge streams s. unordered-serves answer old new told told2 none from edge streams s)
 
 pub tick_err : (now : ℕ) (r : Result Bool StepRefused) (old new : Core) (told told2 : Told) (clock clock2 : Source ℕ) → Answered clock clock2 (now ∷ []) → OnErr r (Stopped (steps.Tick now) false old new told told2) → OnErr r (BreaksOn old new told told2 clock clock2)
 unfolding BreaksOn
 tick_err now (Ok later) old new told told2 clock clock2 answered stopped = tt
 tick_err now (Err cause) old new told told2 clock clock2 answered stopped = (now ∷ [], answered, tick-breaks now old new told told2 stopped)
 
-pub withdraw_err : (app : AppId) (r : Result Bool StepRefused) (old new : Core) (told told2 : Told) → OnErr r (Stopped (steps.Withdraw app) false old new told told2) → OnErr r (Breaks old new told told2)
-withdraw_err app (Ok lived) old new told told2 stopped = tt
-withdraw_err app (Err cause) old new told told2 stopped = withdraw_breaks app old new told told2 stopped
+pub withdraw_err : (order : Order) (r : Result Bool StepRefused) (old new : Core) (told told2 : Told) (orders orders2 : Source (Option Order)) → order.epoch ≡ old.switch.epoch → Answered orders orders2 (Some order ∷ [])
+    → OnErr r (StoppedAt order.app old new told told2) → OnErr r (BreaksOrdered old new told told2 orders orders2)
+unfolding BreaksOrdered
+withdraw_err order (Ok lived) old new told told2 orders orders2 e answered stopped = tt
+withdraw_err order (Err cause) old new told told2 orders orders2 e answered stopped = (
+  Some order ∷ [],
+  answered,
+  λ from edge streams s. subst (λ (o : Order). EndedOrdered from (Some o ∷ []) edge told2 new.switch) (order-is order old e) (stopped-serves order.app old new told told2 stopped from edge streams s),
+)
 
 -- behind what moved, of any result
 pub on_moves : {A E : Type 0} (r : Result A E) (a b c : Core) (told told1 told2 : Told) → Moves a b told told1 → OnOk r (Moves b c told1 told2) → OnOk r (Moves a c told told2)
@@ -152,36 +205,90 @@ pub any_err : {A E P : Type 0} (r : Result A E) → P → OnErr r P
 any_err (Ok x) p = tt
 any_err (Err e) p = p
 
--- ## Once the clock was asked
+-- ## Once the clock and the orders were asked
 
-serves-none : (from : Beginning) (edge : EdgeState) (told : Told) (core : Core) (streams : List Pending) → Serves from edge told core streams → Serves (since from []) edge told core streams
-serves-none from edge told core streams s = subst (λ (moments : List ℕ). Serves (record from { moments = moments }) edge told core streams) (sym (append-nil from.moments)) s
+serves-after : (from : Beginning) (a b : List ℕ) (x y : List (Option Order)) (edge : EdgeState) (told : Told) (core : Core) (streams : List Pending) → a ≡ b → x ≡ y → Serves (record from { moments = a; orders = x }) edge told core streams
+    → Serves (record from { moments = b; orders = y }) edge told core streams
+serves-after from a b x y edge told core streams moments orders s =
+    subst (λ (m : List ℕ). Serves (record from { moments = m; orders = y }) edge told core streams) moments (subst (λ (o : List (Option Order)). Serves (record from { moments = a; orders = o }) edge told core streams) orders s)
 
-ended-none : (from : Beginning) (edge : EdgeState) (told : Told) (known : Known) → Ended from edge told known → Ended (since from []) edge told known
-ended-none from edge told known s = subst (λ (moments : List ℕ). Ended (record from { moments = moments }) edge told known) (sym (append-nil from.moments)) s
+ended-after : (from : Beginning) (a b : List ℕ) (x y : List (Option Order)) (edge : EdgeState) (told : Told) (known : Known) → a ≡ b → x ≡ y → Ended (record from { moments = a; orders = x }) edge told known
+    → Ended (record from { moments = b; orders = y }) edge told known
+ended-after from a b x y edge told known moments orders s =
+    subst (λ (m : List ℕ). Ended (record from { moments = m; orders = y }) edge told known) moments (subst (λ (o : List (Option Order)). Ended (record from { moments = a; orders = o }) edge told known) orders s)
 
-pub moves_on : (a b : Core) (told told1 : Told) (clock : Source ℕ) → Moves a b told told1 → MovesOn a b told told1 clock clock
-unfolding Moves MovesOn
-moves_on a b told told1 clock moves = ([], answered_none clock, λ from edge streams s. serves-none from edge told1 b streams (moves from edge streams s))
+pub moves_both : (a b : Core) (told told1 : Told) (sources : Sources) → Moves a b told told1 → MovesBoth a b told told1 sources sources
+unfolding Moves MovesBoth
+moves_both a b told told1 sources moves =
+    (none_given, asked_none sources, λ from edge streams s. serves-after from from.moments (from.moments ++ []) from.orders (from.orders ++ []) edge told1 b streams (sym (append-nil from.moments)) (sym (append-nil from.orders)) (moves from edge streams s))
 
-pub breaks_on : (a b : Core) (told told1 : Told) (clock : Source ℕ) → Breaks a b told told1 → BreaksOn a b told told1 clock clock
-unfolding Breaks BreaksOn
-breaks_on a b told told1 clock breaks = ([], answered_none clock, λ from edge streams s. ended-none from edge told1 b.switch (breaks from edge streams s))
-
-pub moves_on_then : (a b c : Core) (told told1 told2 : Told) (clock clock1 clock2 : Source ℕ) → MovesOn a b told told1 clock clock1 → MovesOn b c told1 told2 clock1 clock2 → MovesOn a c told told2 clock clock2
-unfolding MovesOn
-moves_on_then a b c told told1 told2 clock clock1 clock2 (xs, asked, first) (ys, asked2, later) = (
-  xs ++ ys,
-  answered_then clock clock1 clock2 xs ys asked asked2,
-  λ from edge streams s.
-      subst (λ (moments : List ℕ). Serves (record from { moments = moments }) edge told2 c streams) (append_assoc from.moments xs ys) (later (since from xs) edge streams (first from edge streams s)),
+-- the clock alone
+pub timed_both : (a b : Core) (told told1 : Told) (clock clock1 : Source ℕ) (orders : Source (Option Order)) → MovesOn a b told told1 clock clock1 → MovesBoth a b told told1 (clock, orders) (clock1, orders)
+unfolding MovesOn MovesBoth
+timed_both a b told told1 clock clock1 orders (given, answered, moves) = (
+  record { moments = given; orders = [] },
+  record { moments = answered; orders = answered_none orders },
+  λ from edge streams s. serves-after from (from.moments ++ given) (from.moments ++ given) from.orders (from.orders ++ []) edge told1 b streams refl (sym (append-nil from.orders)) (moves from edge streams s),
 )
 
-pub breaks_on_then : (a b c : Core) (told told1 told2 : Told) (clock clock1 clock2 : Source ℕ) → MovesOn a b told told1 clock clock1 → BreaksOn b c told1 told2 clock1 clock2 → BreaksOn a c told told2 clock clock2
-unfolding MovesOn BreaksOn
-breaks_on_then a b c told told1 told2 clock clock1 clock2 (xs, asked, first) (ys, asked2, later) = (
-  xs ++ ys,
-  answered_then clock clock1 clock2 xs ys asked asked2,
-  λ from edge streams s.
-      subst (λ (moments : List ℕ). Ended (record from { moments = moments }) edge told2 c.switch) (append_assoc from.moments xs ys) (later (since from xs) edge streams (first from edge streams s)),
+-- the orders alone
+pub ordered_both : (a b : Core) (told told1 : Told) (clock : Source ℕ) (orders orders1 : Source (Option Order)) → MovesOrdered a b told told1 orders orders1 → MovesBoth a b told told1 (clock, orders) (clock, orders1)
+unfolding MovesOrdered MovesBoth
+ordered_both a b told told1 clock orders orders1 (given, answered, moves) = (
+  record { moments = []; orders = given },
+  record { moments = answered_none clock; orders = answered },
+  λ from edge streams s. serves-after from from.moments (from.moments ++ []) (from.orders ++ given) (from.orders ++ given) edge told1 b streams (sym (append-nil from.moments)) refl (moves from edge streams s),
 )
+
+pub both_then : (a b c : Core) (told told1 told2 : Told) (sources sources1 sources2 : Sources) → MovesBoth a b told told1 sources sources1 → MovesBoth b c told1 told2 sources1 sources2 → MovesBoth a c told told2 sources sources2
+unfolding MovesBoth
+both_then a b c told told1 told2 sources sources1 sources2 (xs, asked, first) (ys, asked2, later) = (
+  given_then xs ys,
+  asked_then sources sources1 sources2 xs ys asked asked2,
+  λ from edge streams s. serves-after from ((from.moments ++ xs.moments) ++ ys.moments) (from.moments ++ (xs.moments ++ ys.moments)) ((from.orders ++ xs.orders) ++ ys.orders) (from.orders ++ (xs.orders ++ ys.orders)) edge told2 c streams
+      (append_assoc from.moments xs.moments ys.moments) (append_assoc from.orders xs.orders ys.orders) (later (after from xs) edge streams (first from edge streams s)),
+)
+
+pub breaks_both : (a b : Core) (told told1 : Told) (sources : Sources) → Breaks a b told told1 → BreaksBoth a b told told1 sources sources
+unfolding Breaks BreaksBoth
+breaks_both a b told told1 sources breaks = (
+  none_given,
+  asked_none sources,
+  λ from edge streams s. ([], inl refl, ended-after from from.moments (from.moments ++ []) from.orders (from.orders ++ []) edge told1 b.switch (sym (append-nil from.moments)) (sym (append-nil from.orders)) (breaks from edge streams s)),
+)
+
+pub timed_breaks : (a b : Core) (told told1 : Told) (clock clock1 : Source ℕ) (orders : Source (Option Order)) → BreaksOn a b told told1 clock clock1 → BreaksBoth a b told told1 (clock, orders) (clock1, orders)
+unfolding BreaksOn BreaksBoth
+timed_breaks a b told told1 clock clock1 orders (given, answered, breaks) = (
+  record { moments = given; orders = [] },
+  record { moments = answered; orders = answered_none orders },
+  λ from edge streams s. ([], inl refl, ended-after from (from.moments ++ given) (from.moments ++ given) from.orders (from.orders ++ []) edge told1 b.switch refl (sym (append-nil from.orders)) (breaks from edge streams s)),
+)
+
+pub ordered_breaks : (a b : Core) (told told1 : Told) (clock : Source ℕ) (orders orders1 : Source (Option Order)) → BreaksOrdered a b told told1 orders orders1 → BreaksBoth a b told told1 (clock, orders) (clock, orders1)
+unfolding BreaksOrdered BreaksBoth
+ordered_breaks a b told told1 clock orders orders1 (given, answered, breaks) = (
+  record { moments = []; orders = given },
+  record { moments = answered_none clock; orders = answered },
+  λ from edge streams s.
+      let (obeyed, almost, ended) = breaks from edge streams s in
+      (obeyed, almost, ended-after from from.moments (from.moments ++ []) (from.orders ++ obeyed) (from.orders ++ obeyed) edge told1 b.switch (sym (append-nil from.moments)) refl ended),
+)
+
+almost-more : (xs obeyed given : List (Option Order)) → AreAlmost obeyed given → AreAlmost (xs ++ obeyed) (xs ++ given)
+almost-more xs obeyed given (inl same) = inl (ap (λ (rest : List (Option Order)). xs ++ rest) same)
+almost-more xs obeyed given (inr (last, more)) = inr (last, ap (λ (rest : List (Option Order)). xs ++ rest) more ∙ sym (append_assoc xs obeyed (last ∷ [])))
+
+-- a run that ends after these answers more
+pub ended_more : (from : Beginning) (xs ys : Given) (edge : EdgeState) (told : Told) (known : Known) → EndedAfter (after from xs) ys edge told known → EndedAfter from (given_then xs ys) edge told known
+ended_more from xs ys edge told known (obeyed, almost, ended) = (
+  xs.orders ++ obeyed,
+  almost-more xs.orders obeyed ys.orders almost,
+  ended-after from ((from.moments ++ xs.moments) ++ ys.moments) (from.moments ++ (xs.moments ++ ys.moments)) ((from.orders ++ xs.orders) ++ obeyed) (from.orders ++ (xs.orders ++ obeyed)) edge told known
+      (append_assoc from.moments xs.moments ys.moments) (append_assoc from.orders xs.orders obeyed) ended,
+)
+
+pub both_breaks : (a b c : Core) (told told1 told2 : Told) (sources sources1 sources2 : Sources) → MovesBoth a b told told1 sources sources1 → BreaksBoth b c told1 told2 sources1 sources2 → BreaksBoth a c told told2 sources sources2
+unfolding MovesBoth BreaksBoth
+both_breaks a b c told told1 told2 sources sources1 sources2 (xs, asked, first) (ys, asked2, later) =
+    (given_then xs ys, asked_then sources sources1 sources2 xs ys asked asked2, λ from edge streams s. ended_more from xs ys edge told2 c.switch (later (after from xs) edge streams (first from edge streams s)))

@@ -1,6 +1,7 @@
 -- A step of a server: the switch takes it, and what it sends is taken from the switch.
-use Rattle.std.proofs.Common.{◌≡◌, ℕ, ◌+◌, ◌≤◌, ◌<◌, Bool, true, false, Option, None, Some, List, [], ◌∷◌, ◌++◌, refl, ap, sym, ◌∙◌, subst, append_assoc, inl, inr}
+use Rattle.std.proofs.Common.{◌≡◌, ℕ, ◌+◌, ◌≤◌, ◌<◌, ◌≢◌, Bool, true, false, Option, None, Some, List, [], ◌∷◌, ◌++◌, refl, ap, sym, ◌∙◌, subst, append_assoc, inl, inr}
 use Rattle.std.specs.Prelude.{Result, Ok, Err, OnOk, OnErr, IfOk}
+use Rattle.std.specs.Option.{is_some}
 use Rattle.std.proofs.lemmas.List.{append-nil}
 use Rattle.sc_journal.specs.Kept.{Kept}
 use Rattle.sc_value.specs.declared.ids.Place.{Place}
@@ -13,7 +14,9 @@ use Rattle.sc_edge.specs.Telling.{Notes}
 use Rattle.sc_edge.specs.declared.listing.Listing.{Listing}
 use Rattle.sc_edge.specs.declared.notice.Noted.TheVariants as noted
 use Rattle.sc_hosts.specs.Histories.{as_session}
-use Rattle.sc_hosts.specs.Runs.{IsLawful, after_step, chained, chained_from, is_idle, start}
+use Rattle.sc_edge.specs.declared.orders.Order.{Order}
+use Rattle.sc_hosts.specs.Steps.{live_at}
+use Rattle.sc_hosts.specs.Runs.{Epoch, IsLawful, after_step, chained, chained_from, is_idle, start}
 use Rattle.sc_hosts.specs.Runs.{net_of as net_after}
 use Rattle.sc_switch.specs.declared.refused.Epoch.{Epoch as Ended}
 use Rattle.sc_switch.specs.Standing.{Known, net_of, step_of, whole}
@@ -28,13 +31,16 @@ use Rattle.sc_outs.specs.Deeds.{Deed}
 use Rattle.sc_outs.specs.Owing.{IsLostAt, IsOwed, Owing}
 use Rattle.sc_outs.specs.Puts.{Puts}
 use Rattle.sc_outs.proofs.Laws.{cut_more, cut_of, puts_failed, puts_owed, puts_step}
-use Rattle.sc_courses.specs.Courses.{Beginning, Course, Told}
-use Rattle.sc_courses.proofs.CourseLaws.{course_counted, course_handed, course_listed, course_next, course_step}
+use Rattle.sc_courses.specs.Courses.{Beginning, Course, Told, ordered}
+use Rattle.sc_courses.specs.Ordering.{Point, is_for, withdrawn_by}
+use Rattle.sc_courses.proofs.CourseLaws.{course_counted, course_handed, course_listed, course_next, course_no_order, course_step, course_unordered, course_withdrawn}
+use Rattle.sc_courses.proofs.OrderingLaws.{is_for_gone, is_for_later}
+use Rattle.sc_rounds.specs.Stepping.{Ordered, StoppedAt, Unordered, order_at}
 use Rattle.sc_rounds.specs.declared.stepping.Core.{Core}
 use Rattle.sc_courses.specs.Asking.{Ticked, TickedPart}
 use Rattle.sc_courses.proofs.AskingLaws.{ticked_early, ticked_part}
 use Rattle.sc_rounds.specs.Serving.{Ends, Runs, RunsOn, Same, SameAt, Settles, Stands, Stopped, Took, deed, moments_after, running, timed}
-use Rattle.sc_rounds.proofs.Timings.{IsLater, left_moment, lease_moment, runs_timed, taken_ticked, ticked_at, untaken_part}
+use Rattle.sc_rounds.proofs.Timings.{IsLater, left_moment, lease_moment, none_withdrawn, runs_timed, taken_ticked, ticked_at, untaken_part, withdrawn_ticked}
 
 on_ok : {A E P Q : Type 0} (r : Result A E) → (P → Q) → OnOk r P → OnOk r Q
 on_ok (Ok a) f p = f p
@@ -59,11 +65,13 @@ left-sent from known step e none =
     ap (λ (left : List Sent). left ++ (after_step as_session known.setup (net_of known) step).sent) none
     ∙ (ap (λ (setup : Setup). (after_step as_session setup (net_of known) step).sent) e ∙ ap (λ net. (after_step as_session from.setup net step).sent) (net-same from known e))
 
-runs-step : (from : Beginning) (told : Told) (known : Known) (deeds : List Deed) (step : Step) (failed : Bool) → Runs from told known deeds → Runs from told (with_step known step) (deeds ++ deed step (sends from known step) failed ∷ [])
-runs-step from told known deeds step failed runs = record {
+-- a step by which none is withdrawn
+runs-step : (from : Beginning) (told : Told) (known : Known) (deeds : List Deed) (step : Step) (failed : Bool) → withdrawn_by step ≡ [] → Runs from told known deeds
+    → Runs from told (with_step known step) (deeds ++ deed step (sends from known step) failed ∷ [])
+runs-step from told known deeds step failed none runs = record {
   setup_is = runs.setup_is;
   course = subst (λ (journal : List Step). Course from told known.handed (record { number = known.epoch; began = known.began; journal = journal }) (deeds ++ deed step (sends from known step) failed ∷ []))
-      (append_assoc known.handed known.journal (step ∷ [])) (course_step from told known.handed (running known) deeds step failed runs.course);
+      (append_assoc known.handed known.journal (step ∷ [])) (course_step from told known.handed (running known) deeds step failed none runs.course);
 }
 
 pub runs-left : (from : Beginning) (told : Told) (old new : Known) (deeds : List Deed) → new ≡ record old { left = new.left } → Runs from told old deeds → Runs from told new deeds
@@ -91,7 +99,7 @@ step-stands step mid switch new told told2 e later settles from edge deeds s =
       sent,
       settles (timed step from) edge (deeds ++ deed step sent false ∷ [])
           (runs_timed from (moments_after step from.moments) told switch (deeds ++ deed step sent false ∷ [])
-          (subst (λ (known : Known). Runs from told known (deeds ++ deed step sent false ∷ [])) (sym e) (runs-step from told mid.switch deeds step false s.runs)))
+          (subst (λ (known : Known). Runs from told known (deeds ++ deed step sent false ∷ [])) (sym e) (runs-step from told mid.switch deeds step false (none_withdrawn (net_of mid.switch).moment step later) s.runs)))
           (subst (λ (left : List Sent). Puts from.edge edge (deeds ++ deed step sent false ∷ []) mid.outs left)
           (sym (ap (λ (known : Known). known.left) e ∙ left-sent from mid.switch step s.runs.setup_is s.left_is))
           (puts_step from.edge edge deeds mid.outs (deed step sent false) refl s.puts))
@@ -116,7 +124,7 @@ cut_behind step old mid switch new told told1 told2 same e later on from edge de
       sent,
       record {
         runs = runs_timed from (moments_after step from.moments) told2 new.switch (deeds ++ deed step sent false ∷ [])
-            (on from (deeds ++ deed step sent false ∷ []) (subst (λ (known : Known). Runs from told1 known (deeds ++ deed step sent false ∷ [])) (sym e) (runs-step from told1 mid.switch deeds step false s1.runs)));
+            (on from (deeds ++ deed step sent false ∷ []) (subst (λ (known : Known). Runs from told1 known (deeds ++ deed step sent false ∷ [])) (sym e) (runs-step from told1 mid.switch deeds step false (none_withdrawn (net_of mid.switch).moment step later) s1.runs)));
         cut = cut_more from.edge edge deeds (deed step sent false) (cut_of from.edge edge deeds mid.outs [] s1.puts);
         ticked = ticked_part (moments_after step from.moments) (deeds ++ deed step sent false ∷ []) (net_of switch).moment (taken_ticked step sent false from.moments deeds mid.switch switch e later s1.ticked);
       },
@@ -137,6 +145,116 @@ none_taken step failed old mid new told told1 same e from edge deeds s =
       ticked = untaken_part step from.moments deeds (net_of mid.switch).moment s1.ticked;
     })
 
+-- ## An order
+
+runs-withdrawn : (from : Beginning) (told : Told) (known : Known) (deeds : List Deed) (app : AppId) → is_some (live_at app (net_of known)) ≡ true → Runs from told known deeds
+    → Runs (ordered from (Some (record { epoch = known.epoch; app = app }) ∷ [])) told (with_step known (steps.Withdraw app)) (deeds ++ deed (steps.Withdraw app) (sends from known (steps.Withdraw app)) false ∷ [])
+runs-withdrawn from told known deeds app lives runs =
+    let from2 : Beginning = ordered from (Some (record { epoch = known.epoch; app = app }) ∷ []) in
+    record {
+      setup_is = runs.setup_is;
+      course = subst (λ (journal : List Step). Course from2 told known.handed (record { number = known.epoch; began = known.began; journal = journal }) (deeds ++ deed (steps.Withdraw app) (sends from known (steps.Withdraw app)) false ∷ []))
+          (append_assoc known.handed known.journal (steps.Withdraw app ∷ []))
+          (course_withdrawn from told known.handed (running known) deeds app (subst (λ net. is_some (live_at app net) ≡ true) (net-same from known runs.setup_is) lives) runs.course);
+    }
+
+-- all was taken at the withdrawal
+withdraw-stands : (app : AppId) (mid : Core) (switch : Known) (new : Core) (told told2 : Told) → switch ≡ with_step mid.switch (steps.Withdraw app) → is_some (live_at app (net_of mid.switch)) ≡ true
+    → Settles (record mid { switch = switch }) new told told2 → Ordered app mid new told told2
+unfolding Settles Ordered
+withdraw-stands app mid switch new told told2 e lives settles from edge deeds s =
+    let step : Step = steps.Withdraw app in
+    let sent : List Sent = sends from mid.switch step in
+    let from2 : Beginning = ordered from (Some (order_at mid app) ∷ []) in (
+      sent,
+      settles from2 edge (deeds ++ deed step sent false ∷ [])
+          (subst (λ (known : Known). Runs from2 told known (deeds ++ deed step sent false ∷ [])) (sym e) (runs-withdrawn from told mid.switch deeds app lives s.runs))
+          (subst (λ (left : List Sent). Puts from.edge edge (deeds ++ deed step sent false ∷ []) mid.outs left)
+          (sym (ap (λ (known : Known). known.left) e ∙ left-sent from mid.switch step s.runs.setup_is s.left_is))
+          (puts_step from.edge edge deeds mid.outs (deed step sent false) refl s.puts))
+          (withdrawn_ticked app sent from.moments deeds mid.switch switch e s.ticked),
+    )
+
+-- at another core of the same epoch
+order-same : (old mid : Core) (app : AppId) → mid.switch.epoch ≡ old.switch.epoch → order_at mid app ≡ order_at old app
+order-same old mid app e = ap (λ (epoch : ℕ). let order : Order = record { epoch = epoch; app = app } in order) e
+
+pub withdrew : (app : AppId) (old mid : Core) (switch : Known) (new : Core) (told told1 told2 : Told) → Same old mid told told1 → mid.switch.epoch ≡ old.switch.epoch → switch ≡ with_step mid.switch (steps.Withdraw app)
+    → is_some (live_at app (net_of mid.switch)) ≡ true → Settles (record mid { switch = switch }) new told1 told2 → Ordered app old new told told2
+unfolding Same Ordered
+withdrew app old mid switch new told told1 told2 same epoch e lives settles from edge deeds s =
+    subst (λ (order : Order). (sent : List Sent) × Stands (ordered from (Some order ∷ [])) edge told2 new (deeds ++ deed (steps.Withdraw app) sent false ∷ [])) (order-same old mid app epoch)
+    (withdraw-stands app mid switch new told1 told2 e lives settles from edge deeds (same from edge deeds s))
+
+-- the session was withdrawn, and the run ended behind it
+pub withdrew_behind : (app : AppId) (old mid : Core) (switch : Known) (new : Core) (told told1 told2 : Told) → Same old mid told told1 → mid.switch.epoch ≡ old.switch.epoch → switch ≡ with_step mid.switch (steps.Withdraw app)
+    → is_some (live_at app (net_of mid.switch)) ≡ true → RunsOn (record mid { switch = switch }) new told1 told2 → StoppedAt app old new told told2
+unfolding Same StoppedAt RunsOn
+withdrew_behind app old mid switch new told told1 told2 same epoch e lives on from edge deeds s =
+    let s1 : Stands from edge told1 mid deeds = same from edge deeds s in
+    let step : Step = steps.Withdraw app in
+    let sent : List Sent = sends from mid.switch step in
+    inr (
+      sent,
+      subst (λ (order : Order). Ends (ordered from (Some order ∷ [])) edge told2 new.switch (deeds ++ deed step sent false ∷ [])) (order-same old mid app epoch)
+          (let from2 : Beginning = ordered from (Some (order_at mid app) ∷ []) in
+          record {
+            runs = on from2 (deeds ++ deed step sent false ∷ []) (subst (λ (known : Known). Runs from2 told1 known (deeds ++ deed step sent false ∷ [])) (sym e) (runs-withdrawn from told1 mid.switch deeds app lives s1.runs));
+            cut = cut_more from.edge edge deeds (deed step sent false) (cut_of from.edge edge deeds mid.outs [] s1.puts);
+            ticked = ticked_part from.moments (deeds ++ deed step sent false ∷ []) (net_of switch).moment (withdrawn_ticked app sent from.moments deeds mid.switch switch e s1.ticked);
+          }),
+    )
+
+-- the run ended before it
+pub none_withdrew : (app : AppId) (old mid new : Core) (told told1 : Told) → Same old mid told told1 → new.switch ≡ mid.switch → StoppedAt app old new told told1
+unfolding Same StoppedAt
+none_withdrew app old mid new told told1 same e from edge deeds s =
+    let s1 : Stands from edge told1 mid deeds = same from edge deeds s in
+    inl (record {
+      runs = subst (λ (known : Known). Runs from told1 known deeds) (sym e) s1.runs;
+      cut = cut_of from.edge edge deeds mid.outs [] s1.puts;
+      ticked = ticked_part from.moments deeds (net_of mid.switch).moment s1.ticked;
+    })
+
+-- an order that names no session which lives in the epoch that runs
+unordered-by : (order : Order) (core : Core) (told : Told) → ((setup : Setup) (point : Point) → core.switch.setup ≡ setup → point.running ≡ running core.switch → is_for setup point order ≡ false) → Unordered (Some order) core core told told
+unfolding Unordered
+unordered-by order core told none from edge deeds s = record {
+  runs = record { setup_is = s.runs.setup_is; course = course_unordered from told core.switch.handed (running core.switch) deeds order (λ point is. none from.setup point s.runs.setup_is is) s.runs.course };
+  left_is = s.left_is;
+  puts = s.puts;
+  ticked = s.ticked;
+}
+
+-- it is of another epoch
+pub other_epoch : (order : Order) (core : Core) (told : Told) → order.epoch ≢ core.switch.epoch → Unordered (Some order) core core told told
+other_epoch order core told other = unordered-by order core told (λ setup point _ is. is_for_later setup point order (λ same. other (same ∙ ap (λ (epoch : Epoch). epoch.number) is)))
+
+net-at : (known : Known) (setup : Setup) → known.setup ≡ setup → net_of known ≡ net_after as_session setup (running known)
+unfolding net_of net_after
+net-at known setup e = ap (λ (s : Setup). chained as_session s known.epoch known.began (whole known)) e
+
+gone-order : (core : Core) (told : Told) (app : AppId) → is_some (live_at app (net_of core.switch)) ≡ false → Unordered (Some (order_at core app)) core core told told
+gone-order core told app gone = unordered-by (order_at core app) core told (λ setup point e is. is_for_gone setup point (order_at core app)
+    (subst (λ net. is_some (live_at app net) ≡ false) (net-at core.switch setup e ∙ ap (λ (epoch : Epoch). net_after as_session setup epoch) (sym is)) gone))
+
+-- the session didn't live
+pub gone_order : (app : AppId) (old mid new : Core) (told told1 : Told) → Same old mid told told1 → mid.switch.epoch ≡ old.switch.epoch → is_some (live_at app (net_of mid.switch)) ≡ false → Same mid new told1 told1 → Unordered (Some (order_at old app)) old new told told1
+unfolding Same Unordered
+gone_order app old mid new told told1 same epoch gone later from edge deeds s =
+    let s1 : Stands (ordered from (Some (order_at mid app) ∷ [])) edge told1 mid deeds = gone-order mid told1 app gone from edge deeds (same from edge deeds s) in
+    subst (λ (order : Order). Stands (ordered from (Some order ∷ [])) edge told1 new deeds) (order-same old mid app epoch) (later (ordered from (Some (order_at mid app) ∷ [])) edge deeds s1)
+
+-- no order was there
+pub no_order : (core : Core) (told : Told) → Unordered None core core told told
+unfolding Unordered
+no_order core told from edge deeds s = record {
+  runs = record { setup_is = s.runs.setup_is; course = course_no_order from told core.switch.handed (running core.switch) deeds s.runs.course };
+  left_is = s.left_is;
+  puts = s.puts;
+  ticked = s.ticked;
+}
+
 -- ## A place that failed
 
 fall-stands : (at : Place) (mid : Core) (switch : Known) (outs : Owing) (new : Core) (told told2 : Told) → switch ≡ with_step mid.switch (steps.Lost at) → IsLostAt at mid.outs outs → Settles (record mid { switch = switch; outs = outs }) new told told2
@@ -146,7 +264,7 @@ fall-stands at mid switch outs new told told2 e lost settles from edge deeds s =
     let sent : List Sent = sends from mid.switch (steps.Lost at) in (
       sent,
       settles from edge (deeds ++ deed (steps.Lost at) sent true ∷ [])
-          (subst (λ (known : Known). Runs from told known (deeds ++ deed (steps.Lost at) sent true ∷ [])) (sym e) (runs-step from told mid.switch deeds (steps.Lost at) true s.runs))
+          (subst (λ (known : Known). Runs from told known (deeds ++ deed (steps.Lost at) sent true ∷ [])) (sym e) (runs-step from told mid.switch deeds (steps.Lost at) true refl s.runs))
           (subst (λ (left : List Sent). Puts from.edge edge (deeds ++ deed (steps.Lost at) sent true ∷ []) outs left)
           (sym (ap (λ (known : Known). known.left) e ∙ left-sent from mid.switch (steps.Lost at) s.runs.setup_is s.left_is))
           (puts_failed from.edge edge deeds mid.outs outs at sent s.puts lost))
@@ -171,7 +289,7 @@ fell-behind at old mid switch outs new told told1 told2 same e on from edge deed
     inr (
       sent,
       record {
-        runs = on from (deeds ++ deed (steps.Lost at) sent true ∷ []) (subst (λ (known : Known). Runs from told1 known (deeds ++ deed (steps.Lost at) sent true ∷ [])) (sym e) (runs-step from told1 mid.switch deeds (steps.Lost at) true s1.runs));
+        runs = on from (deeds ++ deed (steps.Lost at) sent true ∷ []) (subst (λ (known : Known). Runs from told1 known (deeds ++ deed (steps.Lost at) sent true ∷ [])) (sym e) (runs-step from told1 mid.switch deeds (steps.Lost at) true refl s1.runs));
         cut = cut_more from.edge edge deeds (deed (steps.Lost at) sent true) (cut_of from.edge edge deeds mid.outs [] s1.puts);
         ticked = ticked_part from.moments (deeds ++ deed (steps.Lost at) sent true ∷ []) (net_of switch).moment (taken_ticked (steps.Lost at) sent true from.moments deeds mid.switch switch e tt s1.ticked);
       },
@@ -190,7 +308,7 @@ fell_starved at old mid new told told1 same e from edge deeds s =
     inr (
       sent,
       record {
-        runs = subst (λ (known : Known). Runs from told1 known (deeds ++ deed (steps.Lost at) sent true ∷ [])) (sym e) (runs-step from told1 mid.switch deeds (steps.Lost at) true s1.runs);
+        runs = subst (λ (known : Known). Runs from told1 known (deeds ++ deed (steps.Lost at) sent true ∷ [])) (sym e) (runs-step from told1 mid.switch deeds (steps.Lost at) true refl s1.runs);
         cut = cut_more from.edge edge deeds (deed (steps.Lost at) sent true) (cut_of from.edge edge deeds mid.outs [] s1.puts);
         ticked = ticked_part from.moments (deeds ++ deed (steps.Lost at) sent true ∷ []) (net_of new.switch).moment (taken_ticked (steps.Lost at) sent true from.moments deeds mid.switch new.switch e tt s1.ticked);
       },
@@ -315,15 +433,15 @@ same_at now core told early from edge deeds s = record {
 pub tail_same : (first old new : Known) → old ≡ record first { left = old.left } → new ≡ record old { left = new.left } → new ≡ record first { left = new.left }
 tail_same first old new before after = after ∙ ap (λ (known : Known). let k : Known = record known { left = new.left } in k) before
 
-pub withdrew_true : (old new : Known) (app : AppId) (lived : Bool) → lived ≡ true → Withdraws old new app lived → new ≡ with_step old (steps.Withdraw app)
+pub withdrew_true : (old new : Known) (app : AppId) (lived : Bool) → lived ≡ true → Withdraws old new app lived → (is_some (live_at app (net_of old)) ≡ true) × (new ≡ with_step old (steps.Withdraw app))
 unfolding Withdraws
-withdrew_true old new app true e is = is.1
+withdrew_true old new app true e is = is
 withdrew_true old new app false e is = cc
 
-pub withdrew_false : (old new : Known) (app : AppId) (lived : Bool) → lived ≡ false → Withdraws old new app lived → new ≡ old
+pub withdrew_false : (old new : Known) (app : AppId) (lived : Bool) → lived ≡ false → Withdraws old new app lived → (is_some (live_at app (net_of old)) ≡ false) × (new ≡ old)
 unfolding Withdraws
 withdrew_false old new app true e is = cc
-withdrew_false old new app false e is = is.1
+withdrew_false old new app false e is = is
 
 pub taken : (old new : Known) (done : Done) (answer : Committed) → answer ≡ committed.Taken → Received old new done answer → new ≡ with_step old (step_of done)
 unfolding Received

@@ -1,5 +1,6 @@
 -- What a step makes of the moments of the clock.
-use Rattle.std.proofs.Common.{◌≡◌, ℕ, ◌≤◌, ◌<◌, Bool, List, [], ◌∷◌, ◌++◌, refl, ap, sym, ◌∙◌, subst}
+use Rattle.std.proofs.Common.{◌≡◌, ℕ, ◌≤◌, ◌<◌, Bool, false, List, [], ◌∷◌, ◌++◌, refl, ap, sym, ◌∙◌, subst}
+use Rattle.sc_value.specs.declared.ids.AppId.{AppId}
 use Rattle.sc_value.specs.declared.message.Sent.{Sent}
 use Rattle.sc_terms.specs.declared.steps.Step.{Step}
 use Rattle.sc_terms.specs.declared.steps.Step.TheVariants as steps
@@ -11,23 +12,32 @@ use Rattle.sc_switch.specs.Standing.{Known, net_of, step_of}
 use Rattle.sc_switch.specs.Answers.{with_step}
 use Rattle.sc_switch.proofs.Standings.{net-step}
 use Rattle.sc_outs.specs.Deeds.{Deed}
+use Rattle.sc_courses.specs.Ordering.{withdrawn_by}
 use Rattle.sc_courses.specs.Asking.{Ticked, TickedPart}
 use Rattle.sc_courses.specs.Courses.{Beginning, Told}
 use Rattle.sc_courses.proofs.AskingLaws.{ticked_cut, ticked_later, ticked_part, ticked_same}
 use Rattle.sc_rounds.specs.Serving.{Runs, deed, moments_after}
 
--- a tick is of a later moment
+-- a tick is of a later moment, and none is withdrawn
 abbrev pub IsLater : ℕ → Step → Type 0
 IsLater now (steps.In place message) = Unit {0}
 IsLater now (steps.Bad place bad) = Unit {0}
 IsLater now (steps.Lost place) = Unit {0}
 IsLater now (steps.Tick moment) = now < moment
 IsLater now (steps.Turn app event moment calls end) = Unit {0}
-IsLater now (steps.Withdraw app) = Unit {0}
+IsLater now (steps.Withdraw app) = ⊥
 
 pub turn_later : (now : ℕ) (done : Done) → IsLater now (step_of done)
 unfolding step_of
 turn_later now done = tt
+
+pub none_withdrawn : (now : ℕ) (step : Step) → IsLater now step → withdrawn_by step ≡ []
+none_withdrawn now (steps.In place message) later = refl
+none_withdrawn now (steps.Bad place bad) later = refl
+none_withdrawn now (steps.Lost place) later = refl
+none_withdrawn now (steps.Tick moment) later = refl
+none_withdrawn now (steps.Turn app event moment calls end) later = refl
+none_withdrawn now (steps.Withdraw app) later = absurd later
 
 ticked-step : (step : Step) (sent : List Sent) (failed : Bool) (moments : List ℕ) (deeds : List Deed) (now : ℕ) → IsLater now step → Ticked moments deeds now
     → Ticked (moments_after step moments) (deeds ++ deed step sent failed ∷ []) (moment_of now step)
@@ -37,7 +47,7 @@ ticked-step (steps.Bad place bad) sent failed moments deeds now later ticked = t
 ticked-step (steps.Lost place) sent failed moments deeds now later ticked = ticked_same moments deeds (deed (steps.Lost place) sent failed) now now refl refl ticked
 ticked-step (steps.Tick moment) sent failed moments deeds now later ticked = ticked_later moments deeds (deed (steps.Tick moment) sent failed) now moment refl later ticked
 ticked-step (steps.Turn app event moment calls end) sent failed moments deeds now later ticked = ticked_same moments deeds (deed (steps.Turn app event moment calls end) sent failed) now now refl refl ticked
-ticked-step (steps.Withdraw app) sent failed moments deeds now later ticked = ticked_same moments deeds (deed (steps.Withdraw app) sent failed) now now refl refl ticked
+ticked-step (steps.Withdraw app) sent failed moments deeds now later ticked = absurd later
 
 -- the step wasn't taken
 pub untaken_part : (step : Step) (moments : List ℕ) (deeds : List Deed) (now : ℕ) → Ticked moments deeds now → TickedPart (moments_after step moments) deeds
@@ -59,6 +69,15 @@ taken_ticked step sent failed moments deeds old new e later ticked =
     (ap (λ (known : Known). (net_of known).moment) e ∙ (ap (λ net. net.moment) (net-step old step) ∙ after_step-moment as_session old.setup (net_of old) step))
     (ticked-step step sent failed moments deeds (net_of old).moment later ticked)
 
+-- a withdrawal takes no time
+pub withdrawn_ticked : (app : AppId) (sent : List Sent) (moments : List ℕ) (deeds : List Deed) (old new : Known) → new ≡ with_step old (steps.Withdraw app) → Ticked moments deeds (net_of old).moment
+    → Ticked moments (deeds ++ deed (steps.Withdraw app) sent false ∷ []) (net_of new).moment
+unfolding moment_of tick_of
+withdrawn_ticked app sent moments deeds old new e ticked =
+    ticked_at moments (deeds ++ deed (steps.Withdraw app) sent false ∷ []) (net_of old).moment (net_of new).moment
+    (ap (λ (known : Known). (net_of known).moment) e ∙ (ap (λ net. net.moment) (net-step old (steps.Withdraw app)) ∙ after_step-moment as_session old.setup (net_of old) (steps.Withdraw app)))
+    (ticked_same moments deeds (deed (steps.Withdraw app) sent false) (net_of old).moment (net_of old).moment refl refl ticked)
+
 pub runs_timed : (from : Beginning) (moments : List ℕ) (told : Told) (known : Known) (deeds : List Deed) → Runs from told known deeds → Runs (record from { moments = moments }) told known deeds
 runs_timed from moments told known deeds runs = record {
   setup_is = runs.setup_is;
@@ -71,6 +90,7 @@ runs_timed from moments told known deeds runs = record {
     lawful = runs.course.lawful;
     are = runs.course.are;
     run = runs.course.run;
+    obeys = runs.course.obeys;
   };
 }
 

@@ -1,8 +1,10 @@
 -- What a server does that isn't heard: turns, moments and orders.
 use Rattle.sc_edge.specs.Edges.{EdgeState}
-use Rattle.std.specs.Prelude.{ℕ, List}
-use Rattle.sc_courses.specs.Asking.{Answered, Source}
-use Rattle.sc_courses.specs.Courses.{Beginning, Told}
+use Rattle.std.specs.Prelude.{◌≡◌, ◌⊎◌, ◌++◌, ℕ, List, [], ◌∷◌, Option}
+use Rattle.sc_courses.specs.Asking.{Answered, Asked, Given, Source, Sources}
+use Rattle.sc_edge.specs.declared.orders.Order.{Order}
+use Rattle.sc_courses.specs.Courses.{Beginning, Told, after, ordered}
+use Rattle.sc_switch.specs.Standing.{Known}
 use Rattle.sc_rounds.specs.declared.stepping.Core.{Core}
 use Rattle.sc_rounds.specs.declared.streams.Pending.{Pending}
 use Rattle.sc_rounds.specs.Serving.{Ended, Serves, since}
@@ -24,3 +26,36 @@ MovesOn old new told told2 clock clock2 =
 unfoldable pub BreaksOn : Core → Core → Told → Told → Source ℕ → Source ℕ → Type 0
 BreaksOn old new told told2 clock clock2 =
     (given : List ℕ) × Answered clock clock2 given × ((from : Beginning) (edge : EdgeState) (streams : List Pending) → Serves from edge told old streams → Ended (since from given) edge told2 new.switch)
+
+-- the same, once orders were asked for
+unfoldable pub MovesOrdered : Core → Core → Told → Told → Source (Option Order) → Source (Option Order) → Type 0
+MovesOrdered old new told told2 orders orders2 =
+    (given : List (Option Order)) × Answered orders orders2 given × ((from : Beginning) (edge : EdgeState) (streams : List Pending) → Serves from edge told old streams → Serves (ordered from given) edge told2 new streams)
+
+-- these are all answers, or all but the last
+abbrev pub AreAlmost : List (Option Order) → List (Option Order) → Type 0
+AreAlmost obeyed given = (obeyed ≡ given) ⊎ ((last : Option Order) × (given ≡ obeyed ++ last ∷ []))
+
+-- the run ended, and obeyed these answers, but maybe for the last
+abbrev pub EndedOrdered : Beginning → List (Option Order) → EdgeState → Told → Known → Type 0
+EndedOrdered from given edge told known = (obeyed : List (Option Order)) × AreAlmost obeyed given × Ended (ordered from obeyed) edge told known
+
+-- the run ended, and what it withdrew was ordered
+unfoldable pub BreaksOrdered : Core → Core → Told → Told → Source (Option Order) → Source (Option Order) → Type 0
+BreaksOrdered old new told told2 orders orders2 =
+    (given : List (Option Order)) × Answered orders orders2 given × ((from : Beginning) (edge : EdgeState) (streams : List Pending) → Serves from edge told old streams → EndedOrdered from given edge told2 new.switch)
+
+-- ## Both
+
+-- the server stands as before, once both were asked
+unfoldable pub MovesBoth : Core → Core → Told → Told → Sources → Sources → Type 0
+MovesBoth old new told told2 sources sources2 =
+    (given : Given) × Asked sources sources2 given × ((from : Beginning) (edge : EdgeState) (streams : List Pending) → Serves from edge told old streams → Serves (after from given) edge told2 new streams)
+
+-- the run ended, where it had obeyed these orders, but maybe for the last one
+abbrev pub EndedAfter : Beginning → Given → EdgeState → Told → Known → Type 0
+EndedAfter from given edge told known = (obeyed : List (Option Order)) × AreAlmost obeyed given.orders × Ended (after from (record given { orders = obeyed })) edge told known
+
+unfoldable pub BreaksBoth : Core → Core → Told → Told → Sources → Sources → Type 0
+BreaksBoth old new told told2 sources sources2 =
+    (given : Given) × Asked sources sources2 given × ((from : Beginning) (edge : EdgeState) (streams : List Pending) → Serves from edge told old streams → EndedAfter from given edge told2 new.switch)

@@ -11,7 +11,7 @@ ghost use Rattle.sc_courses.specs.Courses.{Told};
 ghost use Rattle.sc_outs.specs.Puts.{Puts};
 ghost use Rattle.sc_rounds.specs.Dues.{HasDue};
 ghost use Rattle.sc_rounds.specs.Serving.{RunsOn, Same, Settles, Stopped, Took};
-ghost use Rattle.sc_rounds.specs.Stepping.{Commits, Ticks, Withdraws};
+ghost use Rattle.sc_rounds.specs.Stepping.{Commits, StoppedAt, Ticks, Withdraws};
 
 use sc_edge::Notice;
 use sc_journal::Journal;
@@ -96,6 +96,7 @@ impl Core {
     fn hand_on<N: Notice<Journal<Step>>>(&mut self, notice: &mut N)
         ensures same { Same self.old self.new (N.noted notice.old) (N.noted notice.new) }
         ensures moment { (net_of self.new.switch).moment ≡ (net_of self.old.switch).moment }
+        ensures epoch { self.new.switch.epoch ≡ self.old.switch.epoch }
     {
         if !self.is_part_due() {
             return;
@@ -288,7 +289,7 @@ impl Core {
         app: AppId,
     ) -> Result<bool, StepRefused>
         ensures ok { IfOk result (λ lived. Withdraws app self.old self.new (N.noted notice.old) (N.noted notice.new) lived) }
-        ensures err { OnErr result (Stopped (Step.Withdraw app) false self.old self.new (N.noted notice.old) (N.noted notice.new)) }
+        ensures err { OnErr result (StoppedAt app self.old self.new (N.noted notice.old) (N.noted notice.new)) }
         ensures due { IfErr result (λ cause. HasDue self.new.switch cause) }
     {
         self.hand_on(notice);

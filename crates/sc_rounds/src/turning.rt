@@ -2,10 +2,10 @@
 
 ghost use Rattle.std.specs.Prelude.{◌≡◌, IfErr, OnOk, OnErr};
 ghost use Rattle.sc_rounds.specs.Dues.{HasDue};
-ghost use Rattle.sc_rounds.specs.Moving.{Breaks, BreaksOn, Moves, MovesOn};
+ghost use Rattle.sc_rounds.specs.Moving.{Breaks, BreaksOn, BreaksOrdered, Moves, MovesOn, MovesOrdered};
 
 use crate::stepping::Core;
-use sc_edge::{Clock, Notice, Order, Orders};
+use sc_edge::{Clock, Notice, Orders};
 use sc_journal::Journal;
 use sc_switch::StepRefused;
 use sc_terms::Step;
@@ -22,29 +22,19 @@ pub fn take_order<O: Orders, N: Notice<Journal<Step>>>(
     notice: &mut N,
     orders: &mut O,
 ) -> Result<bool, StepRefused>
-    ensures ok { OnOk result (Moves core.old core.new (N.noted notice.old) (N.noted notice.new)) }
-    ensures err { OnErr result (Breaks core.old core.new (N.noted notice.old) (N.noted notice.new)) }
+    ensures ok { OnOk result (MovesOrdered core.old core.new (N.noted notice.old) (N.noted notice.new) (O.asked orders.old, O.comes orders.old) (O.asked orders.new, O.comes orders.new)) }
+    ensures err { OnErr result (BreaksOrdered core.old core.new (N.noted notice.old) (N.noted notice.new) (O.asked orders.old, O.comes orders.old) (O.asked orders.new, O.comes orders.new)) }
     ensures due { IfErr result (λ cause. HasDue core.new.switch cause) }
 {
     match orders.next() {
-        Some(order) => withdraw(core, notice, order),
+        Some(order) => {
+            if order.epoch != core.switch.epoch() {
+                return Ok(false);
+            }
+            core.withdraw(notice, order.app)
+        }
         None => Ok(false),
     }
-}
-
-fn withdraw<N: Notice<Journal<Step>>>(
-    core: &mut Core,
-    notice: &mut N,
-    order: Order,
-) -> Result<bool, StepRefused>
-    ensures ok { OnOk result (Moves core.old core.new (N.noted notice.old) (N.noted notice.new)) }
-    ensures err { OnErr result (Breaks core.old core.new (N.noted notice.old) (N.noted notice.new)) }
-    ensures due { IfErr result (λ cause. HasDue core.new.switch cause) }
-{
-    if order.epoch != core.switch.epoch() {
-        return Ok(false);
-    }
-    core.withdraw(notice, order.app)
 }
 
 /// Asks the clock: whether its moment is a later one.

@@ -37,6 +37,7 @@ config = record {
   journal_bytes = 1000;
   epoch_steps = 0;
   journal_parts = false;
+  reuse = false;
   hosts = [];
   app = [];
 }

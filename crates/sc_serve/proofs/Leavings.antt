@@ -1,6 +1,6 @@
 -- What a run leaves, from where its last round ended.
 use Rattle.std.specs.Prelude.{Result, Ok, Err, IfErr, OnOk, OnErr}
-use Rattle.std.proofs.Common.{◌≡◌, ℕ, List, [], ◌∷◌, ◌++◌, Option, None, Some, refl, sym, ap, subst, ◌∙◌}
+use Rattle.std.proofs.Common.{◌≡◌, ℕ, List, [], ◌∷◌, ◌++◌, Option, None, Some, refl, sym, ap, subst, ◌∙◌, inl, inr}
 use Rattle.sc_value.specs.declared.ids.Place.{Place}
 use Rattle.sc_terms.specs.declared.steps.Step.{Step}
 use Rattle.sc_parts.specs.declared.setup.Setup.{Setup}
@@ -17,16 +17,19 @@ use Rattle.sc_outs.specs.Deeds.{Deed}
 use Rattle.sc_outs.specs.Owing.{Owing, left_at, nothing}
 use Rattle.sc_outs.specs.Puts.{Puts}
 use Rattle.sc_outs.proofs.Laws.{cut_of, puts_begin, took_parts, took_whole}
-use Rattle.sc_courses.specs.Asking.{Answered, Source, Ticked, raised, ticks_taken}
+use Rattle.sc_courses.specs.Asking.{Asked, Given, Sources, Ticked, raised, ticks_taken}
+use Rattle.sc_courses.specs.Ordering.{Obeys, ObeysPart, Point, beginning_point}
 use Rattle.sc_courses.proofs.AskingLaws.{ticked_begin, ticked_part}
-use Rattle.sc_courses.specs.Courses.{AreDeeds, Beginning, Told}
+use Rattle.sc_edge.specs.declared.orders.Order.{Order}
+use Rattle.sc_courses.specs.Courses.{AreDeeds, Beginning, Told, after}
 use Rattle.sc_courses.specs.Due.{IsDue}
 use Rattle.sc_courses.specs.Marks.{Hearing, HearingPart}
 use Rattle.sc_courses.proofs.CourseLaws.{course_begin, course_deeds, course_lawful}
 use Rattle.sc_courses.proofs.HeardLaws.{hearing_begin, hearing_part}
 use Rattle.sc_rounds.specs.declared.stepping.Core.{Core}
 use Rattle.sc_rounds.specs.declared.streams.Pending.{Pending}
-use Rattle.sc_rounds.specs.Serving.{Ended, Ends, Runs, Serves, running, since}
+use Rattle.sc_rounds.specs.Moving.{AreAlmost}
+use Rattle.sc_rounds.specs.Serving.{Ended, Ends, Runs, Serves, running}
 use Rattle.sc_rounds.specs.Streaming.{bytes_in, bytes_of}
 use Rattle.sc_serve.specs.declared.server.Server.{Server}
 use Rattle.sc_serve.specs.declared.stop.Stop.{Stop}
@@ -42,23 +45,42 @@ due-at : (from : Beginning) (known : Known) (ran : Ran) (journal : Kept Step) �
 due-at from known ran journal epoch began items due =
     subst (λ (last : Epoch). IsDue from.setup last journal.items) (sym (last-is ran known journal epoch began items)) (subst (λ (kept : List Step). IsDue from.setup (running known) kept) (sym items) due)
 
-leaves-of : (from : Beginning) (now : EdgeState) (told : Told) (known : Known) (ran : Ran) (journal : Kept Step) (deeds : List Deed) → Ends from now told known deeds → HearingPart from.edge.polled now.polled deeds
+abbrev obeying : Beginning → List (Option Order) → Beginning
+obeying from orders = record from { orders = orders }
+
+-- of the orders, which were all obeyed but maybe the last
+obeys-part : (setup : Setup) (point : Point) (obeyed orders : List (Option Order)) → AreAlmost obeyed orders → Obeys setup beginning_point obeyed point → ObeysPart setup beginning_point orders point
+unfolding ObeysPart
+obeys-part setup point obeyed orders (inl same) obeys = inl (subst (λ (all : List (Option Order)). Obeys setup beginning_point all point) same obeys)
+obeys-part setup point obeyed orders (inr (last, more)) obeys = inr (obeyed, last, more, obeys)
+
+-- the point is that of the journal that the run leaves
+obeys-last : (from : Beginning) (obeyed : List (Option Order)) (ran : Ran) (known : Known) (journal : Kept Step) (ended : List Epoch) → ran.epoch ≡ known.epoch → ran.began ≡ known.began → journal.items ≡ known.journal
+    → Obeys from.setup beginning_point obeyed (record { ended = ended; running = running known }) → Obeys from.setup beginning_point obeyed (record { ended = ended; running = last_epoch ran known.handed journal })
+obeys-last from obeyed ran known journal ended epoch began items obeys =
+    subst (λ (last : Epoch). Obeys from.setup beginning_point obeyed (record { ended = ended; running = last })) (sym (last-is ran known journal epoch began items)) obeys
+
+leaves-of : (from : Beginning) (obeyed : List (Option Order)) (now : EdgeState) (told : Told) (known : Known) (ran : Ran) (journal : Kept Step) (deeds : List Deed) → AreAlmost obeyed from.orders → (ran.status ≡ statuses.Done → obeyed ≡ from.orders)
+    → Ends (obeying from obeyed) now told known deeds → HearingPart from.edge.polled now.polled deeds
     → ran.epoch ≡ known.epoch → ran.began ≡ known.began → journal.items ≡ known.journal → IsLawful as_session known.setup known.epoch known.began (whole known) → ComesAt from.edge now deeds ran.status
     → (ran.status ≡ statuses.Done → ticks_taken deeds ≡ raised 0 from.moments) → (ran.status ≡ statuses.JournalFull → IsDue from.setup (running known) known.journal) → Leaves from now told ran journal
-leaves-of from now told known ran journal deeds ends heard epoch began items lawful comes ticked due = record {
+leaves-of from obeyed now told known ran journal deeds almost all ends heard epoch began items lawful comes ticked due = record {
   ended = ends.runs.course.ended;
   handed = known.handed;
   deeds = deeds;
   tells = ends.runs.course.tells;
   lawful = subst (λ (last : Epoch). AreLawful as_session from.setup (ends.runs.course.ended ++ last ∷ [])) (sym (last-is ran known journal epoch began items))
-      (course_lawful from told known.handed (running known) deeds ends.runs.course (subst (λ (setup : Setup). IsLawful as_session setup known.epoch known.began (whole known)) ends.runs.setup_is lawful));
+      (course_lawful (obeying from obeyed) told known.handed (running known) deeds ends.runs.course (subst (λ (setup : Setup). IsLawful as_session setup known.epoch known.began (whole known)) ends.runs.setup_is lawful));
   deeds_are = subst (λ (last : Epoch). AreDeeds from.setup (ends.runs.course.ended ++ last ∷ []) deeds) (sym (last-is ran known journal epoch began items))
-      (course_deeds from told known.handed (running known) deeds ends.runs.course);
+      (course_deeds (obeying from obeyed) told known.handed (running known) deeds ends.runs.course);
   heard = heard;
   took = took_parts from.edge now deeds ends.cut;
   comes = comes;
   ticks = ends.ticked;
   ticked = ticked;
+  orders = obeys-part from.setup (record { ended = ends.runs.course.ended; running = last_epoch ran known.handed journal }) obeyed from.orders almost (obeys-last from obeyed ran known journal ends.runs.course.ended epoch began items ends.runs.course.obeys);
+  ordered = λ done. subst (λ (orders : List (Option Order)). Obeys from.setup beginning_point orders (record { ended = ends.runs.course.ended; running = last_epoch ran known.handed journal })) (all done)
+      (obeys-last from obeyed ran known journal ends.runs.course.ended epoch began items ends.runs.course.obeys);
   due = λ full. due-at from known ran journal epoch began items (due full);
 }
 
@@ -68,12 +90,12 @@ with-items None items has = absurd has
 with-items (Some journal) items has = (journal, refl, has)
 
 -- where the run ended within a round
-pub served_cut : (from : Beginning) (now : EdgeState) (told : Told) (known : Known) (ran : Ran) → Ended from now told known → ran.epoch ≡ known.epoch → ran.began ≡ known.began → HasItems ran.journal known.journal
+pub served_cut : (from : Beginning) (obeyed : List (Option Order)) (now : EdgeState) (told : Told) (known : Known) (ran : Ran) → AreAlmost obeyed from.orders → Ended (obeying from obeyed) now told known → ran.epoch ≡ known.epoch → ran.began ≡ known.began → HasItems ran.journal known.journal
     → IsLawful as_session known.setup known.epoch known.began (whole known) → ((deeds : List Deed) → ComesAt from.edge now deeds ran.status)
     → (ran.status ≡ statuses.Done → ⊥) → (known.setup ≡ from.setup → ran.status ≡ statuses.JournalFull → IsDue from.setup (running known) known.journal) → IsServed from now told ran
-served_cut from now told known ran ended epoch began has lawful comes undone due =
+served_cut from obeyed now told known ran almost ended epoch began has lawful comes undone due =
     let (journal, journal_is, items) = with-items ran.journal known.journal has in
-    record { journal = journal; journal_is = journal_is; leaves = leaves-of from now told known ran journal ended.deeds ended.ends ended.hearing epoch began items lawful (comes ended.deeds) (λ done. absurd (undone done)) (due ended.ends.runs.setup_is) }
+    record { journal = journal; journal_is = journal_is; leaves = leaves-of from obeyed now told known ran journal ended.deeds almost (λ done. absurd (undone done)) ended.ends ended.hearing epoch began items lawful (comes ended.deeds) (λ done. absurd (undone done)) (due ended.ends.runs.setup_is) }
 
 done-comes : (from : Beginning) (now : EdgeState) (deeds : List Deed) (status : Status) (core : Core) (streams : List Pending) → status ≡ statuses.Done → Hearing from.edge.polled now.polled deeds (bytes_of streams) → Puts from.edge now deeds core.outs []
     → ((place : Place) → left_at core.outs place ≡ []) → ComesAt from.edge now deeds status
@@ -97,17 +119,17 @@ served_done from now told core streams ran s none status epoch began has lawful 
     record {
       journal = journal;
       journal_is = journal_is;
-      leaves = leaves-of from now told core.switch ran journal s.deeds (record { runs = s.stands.runs; cut = cut_of from.edge now s.deeds core.outs [] s.stands.puts; ticked = ticked_part from.moments s.deeds (net_of core.switch).moment s.stands.ticked })
+      leaves = leaves-of from from.orders now told core.switch ran journal s.deeds (inl refl) (λ done. refl) (record { runs = s.stands.runs; cut = cut_of from.edge now s.deeds core.outs [] s.stands.puts; ticked = ticked_part from.moments s.deeds (net_of core.switch).moment s.stands.ticked })
           (hearing_part from.edge.polled now.polled s.deeds (bytes_of streams) s.hearing) epoch began items lawful (done-comes from now s.deeds ran.status core streams status s.hearing s.stands.puts none) (λ done. s.stands.ticked.ticks) (done-full ran.status status);
     }
 
 -- ## The beginning
 
 abbrev pub beginning : Setup → Told → EdgeState → Beginning
-beginning setup told edge = record { setup = setup; told = told; edge = edge; moments = [] }
+beginning setup told edge = record { setup = setup; told = told; edge = edge; moments = []; orders = [] }
 
 fresh-runs : (setup : Setup) (told : Told) (edge : EdgeState) → Runs (beginning setup told edge) told (fresh setup) []
-fresh-runs setup told edge = record { setup_is = refl; course = course_begin (beginning setup told edge) }
+fresh-runs setup told edge = record { setup_is = refl; course = course_begin (beginning setup told edge) refl }
 
 fresh-moment : (setup : Setup) → (net_of (fresh setup)).moment ≡ 0
 unfolding net_of chained chained_from start
@@ -151,7 +173,7 @@ no-bytes place = refl
 -- no switch could be made
 pub never_started : (setup : Setup) (told : Told) (edge : EdgeState) (ran : Ran) → ran.status ≡ statuses.NoMemory → ran.epoch ≡ 0 → ran.began ≡ 0 → HasItems ran.journal [] → IsServed (beginning setup told edge) edge told ran
 never_started setup told edge ran status epoch began has =
-    served_cut (beginning setup told edge) edge told (fresh setup) ran
+    served_cut (beginning setup told edge) [] edge told (fresh setup) ran (inl refl)
     (record {
       deeds = [];
       ends = record { runs = fresh-runs setup told edge; cut = cut_of edge edge [] nothing [] (puts_begin edge); ticked = ticked_part [] [] 0 ticked_begin };
@@ -160,31 +182,28 @@ never_started setup told edge ran status epoch began has =
 
 -- ## A run from its beginning
 
--- it has its journal, and these were the answers of its clock
-abbrev pub IsServedOn : Setup → Told → EdgeState → EdgeState → Told → Source ℕ → Source ℕ → Ran → Type 0
-IsServedOn setup told edge now told2 clock clock2 ran = (given : List ℕ) × Answered clock clock2 given × IsServed (record { setup = setup; told = told; edge = edge; moments = given }) now told2 ran
+-- it has its journal, and these were the answers of its clock and its orders
+abbrev pub IsServedOn : Setup → Told → EdgeState → EdgeState → Told → Sources → Sources → Ran → Type 0
+IsServedOn setup told edge now told2 sources sources2 ran = (given : Given) × Asked sources sources2 given × IsServed (record { setup = setup; told = told; edge = edge; moments = given.moments; orders = given.orders }) now told2 ran
 
 -- the run was over
-pub done_served : (old new : Server) (e e1 : EdgeState) (t t1 : Told) (k k1 : Source ℕ) (ran : Ran) → old.core.switch ≡ fresh old.core.switch.setup → old.core.outs ≡ nothing → old.streams ≡ [] → FinishesOn old new e e1 t t1 k k1 → ran.status ≡ statuses.Done
+pub done_served : (old new : Server) (e e1 : EdgeState) (t t1 : Told) (k k1 : Sources) (ran : Ran) → old.core.switch ≡ fresh old.core.switch.setup → old.core.outs ≡ nothing → old.streams ≡ [] → FinishesOn old new e e1 t t1 k k1 → ran.status ≡ statuses.Done
     → ran.epoch ≡ new.core.switch.epoch → ran.began ≡ new.core.switch.began → HasItems ran.journal new.core.switch.journal → IsLawful as_session new.core.switch.setup new.core.switch.epoch new.core.switch.began (whole new.core.switch)
     → IsServedOn old.core.switch.setup t e e1 t1 k k1 ran
 unfolding FinishesOn GoesOn
 done_served old new e e1 t t1 k k1 ran switch outs streams ((given, asked, goes), none) status epoch began has lawful =
-    let s : Serves (since (beginning old.core.switch.setup t e) given) e1 t1 new.core new.streams = goes (beginning old.core.switch.setup t e) (begun old.core.switch.setup t e old.core old.streams switch outs streams) in
-    (given, asked, served_done (since (beginning old.core.switch.setup t e) given) e1 t1 new.core new.streams ran s none status epoch began has lawful)
+    let s : Serves (after (beginning old.core.switch.setup t e) given) e1 t1 new.core new.streams = goes (beginning old.core.switch.setup t e) (begun old.core.switch.setup t e old.core old.streams switch outs streams) in
+    (given, asked, served_done (after (beginning old.core.switch.setup t e) given) e1 t1 new.core new.streams ran s none status epoch began has lawful)
 
 -- the run couldn't go on
-pub halt_served : (old new : Server) (e e1 : EdgeState) (t t1 : Told) (k k1 : Source ℕ) (ran : Ran) → old.core.switch ≡ fresh old.core.switch.setup → old.core.outs ≡ nothing → old.streams ≡ [] → HaltsOn old new e e1 t t1 k k1 → ((deeds : List Deed) → ComesAt e e1 deeds ran.status)
+pub halt_served : (old new : Server) (e e1 : EdgeState) (t t1 : Told) (k k1 : Sources) (ran : Ran) → old.core.switch ≡ fresh old.core.switch.setup → old.core.outs ≡ nothing → old.streams ≡ [] → HaltsOn old new e e1 t t1 k k1 → ((deeds : List Deed) → ComesAt e e1 deeds ran.status)
     → (ran.status ≡ statuses.Done → ⊥) → (new.core.switch.setup ≡ old.core.switch.setup → ran.status ≡ statuses.JournalFull → IsDue old.core.switch.setup (running new.core.switch) new.core.switch.journal)
     → ran.epoch ≡ new.core.switch.epoch → ran.began ≡ new.core.switch.began → HasItems ran.journal new.core.switch.journal → IsLawful as_session new.core.switch.setup new.core.switch.epoch new.core.switch.began (whole new.core.switch)
     → IsServedOn old.core.switch.setup t e e1 t1 k k1 ran
 unfolding HaltsOn
-halt_served old new e e1 t t1 k k1 ran switch outs streams (given, asked, halts) comes undone due epoch began has lawful = (
-  given,
-  asked,
-  served_cut (since (beginning old.core.switch.setup t e) given) e1 t1 new.core.switch ran
-      (halts (beginning old.core.switch.setup t e) (begun old.core.switch.setup t e old.core old.streams switch outs streams)) epoch began has lawful comes undone due,
-)
+halt_served old new e e1 t t1 k k1 ran switch outs streams (given, asked, halts) comes undone due epoch began has lawful =
+    let (obeyed, almost, ended) = halts (beginning old.core.switch.setup t e) (begun old.core.switch.setup t e old.core old.streams switch outs streams) in
+    (given, asked, served_cut (after (beginning old.core.switch.setup t e) given) obeyed e1 t1 new.core.switch ran almost ended epoch began has lawful comes undone due)
 
 pub edge_comes : (first now : EdgeState) (status : Status) (cause : Stop) → status ≡ statuses.Edge → cause ≡ stops.Edge → Blames first now cause → (deeds : List Deed) → ComesAt first now deeds status
 unfolding ComesAt Blames
@@ -208,7 +227,7 @@ stop-due setup known status stops.JournalFull is right due same full = subst (λ
 stop-due setup known status stops.Edge is right due same full = cc
 stop-due setup known status stops.NoMemory is right due same full = cc
 
-pub ran_served : {A : Type 0} (r : Result A Stop) (old new : Server) (e e1 : EdgeState) (t t1 : Told) (k k1 : Source ℕ) (status : Status) (ran : Ran) → IsNew old → OnOk r (FinishesOn old new e e1 t t1 k k1) → OnErr r (HaltsOn old new e e1 t t1 k k1) → IfErr r (λ cause. Blames e e1 cause)
+pub ran_served : {A : Type 0} (r : Result A Stop) (old new : Server) (e e1 : EdgeState) (t t1 : Told) (k k1 : Sources) (status : Status) (ran : Ran) → IsNew old → OnOk r (FinishesOn old new e e1 t t1 k k1) → OnErr r (HaltsOn old new e e1 t t1 k k1) → IfErr r (λ cause. Blames e e1 cause)
     → IsSetup old.core.switch.setup → IfErr r (λ cause. IsDueAt new.core.switch cause) → OnOk r (status ≡ statuses.Done) → IfErr r (λ cause. status ≡ stopped cause) → ran.status ≡ status
     → ran.epoch ≡ new.core.switch.epoch → ran.began ≡ new.core.switch.began → HasItems ran.journal new.core.switch.journal → IsLawful as_session new.core.switch.setup new.core.switch.epoch new.core.switch.began (whole new.core.switch)
     → IsServedOn old.core.switch.setup t e e1 t1 k k1 ran

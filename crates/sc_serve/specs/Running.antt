@@ -10,15 +10,16 @@ use Rattle.sc_switch.specs.declared.ran.Status.{Status}
 use Rattle.sc_switch.specs.declared.ran.Status.TheVariants as statuses
 use Rattle.sc_edge.specs.Edges.{EdgeState}
 use Rattle.sc_edge.specs.Faults.{Rose}
-use Rattle.sc_courses.specs.Asking.{Answered, Source}
-use Rattle.sc_courses.specs.Courses.{Beginning, Told}
+use Rattle.sc_courses.specs.Asking.{Asked, Given, Sources}
+use Rattle.sc_courses.specs.Courses.{Beginning, Told, after}
 use Rattle.sc_courses.specs.Due.{IsDue}
 use Rattle.sc_outs.specs.Owing.{left_at, nothing}
 use Rattle.sc_value.specs.declared.ids.Place.{Place}
 use Rattle.sc_serve.specs.declared.server.Server.{Server}
 use Rattle.sc_serve.specs.declared.stop.Stop.{Stop}
 use Rattle.sc_serve.specs.declared.stop.Stop.TheVariants as stops
-use Rattle.sc_rounds.specs.Serving.{Ended, Serves, running, since}
+use Rattle.sc_rounds.specs.Moving.{EndedAfter}
+use Rattle.sc_rounds.specs.Serving.{Ended, Serves, running}
 use Rattle.sc_serve.specs.Served.{Leaves}
 
 -- it stands between two rounds as before
@@ -41,21 +42,21 @@ IsDueAt known stops.JournalFull = IsSetup known.setup → IsDue known.setup (run
 IsDueAt known stops.Edge = Unit {0}
 IsDueAt known stops.NoMemory = Unit {0}
 
--- ## Once the clock was asked
+-- ## Once the clock and the orders were asked
 
 -- it stands between two rounds as before
-unfoldable pub GoesOn : Server → Server → EdgeState → EdgeState → Told → Told → Source ℕ → Source ℕ → Type 0
-GoesOn old new edge edge2 told told2 clock clock2 =
-    (given : List ℕ) × Answered clock clock2 given × ((from : Beginning) → Serves from edge told old.core old.streams → Serves (since from given) edge2 told2 new.core new.streams)
+unfoldable pub GoesOn : Server → Server → EdgeState → EdgeState → Told → Told → Sources → Sources → Type 0
+GoesOn old new edge edge2 told told2 sources sources2 =
+    (given : Given) × Asked sources sources2 given × ((from : Beginning) → Serves from edge told old.core old.streams → Serves (after from given) edge2 told2 new.core new.streams)
 
--- the run ended
-unfoldable pub HaltsOn : Server → Server → EdgeState → EdgeState → Told → Told → Source ℕ → Source ℕ → Type 0
-HaltsOn old new edge edge2 told told2 clock clock2 =
-    (given : List ℕ) × Answered clock clock2 given × ((from : Beginning) → Serves from edge told old.core old.streams → Ended (since from given) edge2 told2 new.core.switch)
+-- the run ended, where it had obeyed the orders, but maybe for the last one
+unfoldable pub HaltsOn : Server → Server → EdgeState → EdgeState → Told → Told → Sources → Sources → Type 0
+HaltsOn old new edge edge2 told told2 sources sources2 =
+    (given : Given) × Asked sources sources2 given × ((from : Beginning) → Serves from edge told old.core old.streams → EndedAfter from given edge2 told2 new.core.switch)
 
 -- it stands behind its last round, with nothing left to be put
-unfoldable pub FinishesOn : Server → Server → EdgeState → EdgeState → Told → Told → Source ℕ → Source ℕ → Type 0
-FinishesOn old new edge edge2 told told2 clock clock2 = GoesOn old new edge edge2 told told2 clock clock2 × ((place : Place) → left_at new.core.outs place ≡ [])
+unfoldable pub FinishesOn : Server → Server → EdgeState → EdgeState → Told → Told → Sources → Sources → Type 0
+FinishesOn old new edge edge2 told told2 sources sources2 = GoesOn old new edge edge2 told told2 sources sources2 × ((place : Place) → left_at new.core.outs place ≡ [])
 
 -- a switch that took no step
 abbrev pub fresh : Setup → Known

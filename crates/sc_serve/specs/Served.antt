@@ -17,8 +17,9 @@ use Rattle.sc_replay.specs.Replaying.{IsUnset, TellsConfig, TellsTable, app_name
 use Rattle.sc_runs.specs.Following.{Streams}
 use Rattle.sc_outs.specs.Deeds.{Deed}
 use Rattle.sc_outs.specs.Puts.{TookParts, TookWhole}
-use Rattle.sc_courses.specs.Asking.{Answered, Source, TickedPart, raised, ticks_taken}
+use Rattle.sc_courses.specs.Asking.{Asked, Given, Sources, TickedPart, none_given, raised, ticks_taken}
 use Rattle.sc_courses.specs.Courses.{AreDeeds, Beginning, TellsEpochs, Told}
+use Rattle.sc_courses.specs.Ordering.{Obeys, ObeysPart, beginning_point}
 use Rattle.sc_courses.specs.Due.{IsDue}
 use Rattle.sc_courses.specs.Marks.{Hearing, HearingPart}
 
@@ -60,8 +61,8 @@ last_epoch ran handed journal = record { number = ran.epoch; began = ran.began; 
 
 -- what a run leaves: its epochs are lawful, and the notice was told of all but the last; the steps that were heard are a
 -- beginning of what the edge's answers make; of what each step sends parts were taken, place by place;
--- each moment of the clock that was later than all before is a Tick step, at `Done` the last one too, and no other is; and
--- at `JournalFull` a step is due that the journal has no room for
+-- each moment of the clock that was later than all before is a Tick step, and each order for a session that lived then is its
+-- withdrawal, at `Done` the last ones too, and no other is; and at `JournalFull` a step is due that the journal has no room for
 pub record Leaves (from : Beginning) (now : EdgeState) (told : Told) (ran : Ran) (journal : Kept Step) : Type 0 where
   pub ended : List Epoch
   pub handed : List Step
@@ -74,19 +75,21 @@ pub record Leaves (from : Beginning) (now : EdgeState) (told : Told) (ran : Ran)
   pub comes : ComesAt from.edge now deeds ran.status
   pub ticks : TickedPart from.moments deeds
   pub ticked : ran.status ≡ statuses.Done → ticks_taken deeds ≡ raised 0 from.moments
+  pub orders : ObeysPart from.setup beginning_point from.orders (record { ended = ended; running = last_epoch ran handed journal })
+  pub ordered : ran.status ≡ statuses.Done → Obeys from.setup beginning_point from.orders (record { ended = ended; running = last_epoch ran handed journal })
   pub due : ran.status ≡ statuses.JournalFull → IsDue from.setup (last_epoch ran handed journal) journal.items
 
 -- ## How a call ends
 
--- the journal is there exactly where the settings were accepted, and the run is one with them; else the edge and the
--- clock weren't asked and the notice was told nothing. `read` says that the shelf's count of faults rose
-unfoldable pub Serves : List Bytes → List Charters → Option Bytes → Option Bytes → Type 0 → EdgeState → EdgeState → Told → Told → Source ℕ → Source ℕ → Ran → Option (Kept Step) → Type 0
-Serves names kinds configs dars read first now told told2 clock clock2 ran None = IsUnset names configs dars read ran.status × (now ≡ first) × (told2 ≡ told) × Answered clock clock2 []
-Serves names kinds configs dars read first now told told2 clock clock2 ran (Some journal) =
+-- the journal is there exactly where the settings were accepted, and the run is one with them; else the edge, the clock and the
+-- orders weren't asked and the notice was told nothing. `read` says that the shelf's count of faults rose
+unfoldable pub Serves : List Bytes → List Charters → Option Bytes → Option Bytes → Type 0 → EdgeState → EdgeState → Told → Told → Sources → Sources → Ran → Option (Kept Step) → Type 0
+Serves names kinds configs dars read first now told told2 sources sources2 ran None = IsUnset names configs dars read ran.status × (now ≡ first) × (told2 ≡ told) × Asked sources sources2 none_given
+Serves names kinds configs dars read first now told told2 sources sources2 ran (Some journal) =
     (setup : Setup) × IsSetUp names kinds configs dars setup
-    × (moments : List ℕ) × Answered clock clock2 moments × Leaves (record { setup = setup; told = told; edge = first; moments = moments }) now told2 ran journal
+    × (given : Given) × Asked sources sources2 given × Leaves (record { setup = setup; told = told; edge = first; moments = given.moments; orders = given.orders }) now told2 ran journal
 
 -- how the call ends for these words
-unfoldable pub ServesWords : Option (Bytes × Bytes) → List Bytes → List Charters → (Bytes → Option Bytes) → Type 0 → EdgeState → EdgeState → Told → Told → Source ℕ → Source ℕ → Ran → Type 0
-ServesWords (Some asked) names kinds holds read first now told told2 clock clock2 ran = Serves names kinds (holds asked.0) (holds asked.1) read first now told told2 clock clock2 ran ran.journal
-ServesWords None names kinds holds read first now told told2 clock clock2 ran = (ran.status ≡ statuses.Usage) × (ran.journal ≡ None) × (now ≡ first) × (told2 ≡ told) × Answered clock clock2 []
+unfoldable pub ServesWords : Option (Bytes × Bytes) → List Bytes → List Charters → (Bytes → Option Bytes) → Type 0 → EdgeState → EdgeState → Told → Told → Sources → Sources → Ran → Type 0
+ServesWords (Some asked) names kinds holds read first now told told2 sources sources2 ran = Serves names kinds (holds asked.0) (holds asked.1) read first now told told2 sources sources2 ran ran.journal
+ServesWords None names kinds holds read first now told told2 sources sources2 ran = (ran.status ≡ statuses.Usage) × (ran.journal ≡ None) × (now ≡ first) × (told2 ≡ told) × Asked sources sources2 none_given

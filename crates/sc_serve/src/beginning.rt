@@ -5,7 +5,7 @@ ghost use Rattle.sc_servlets.specs.Stated.{both_charters};
 ghost use Rattle.sc_edge.specs.Edges.{EdgeState};
 ghost use Rattle.sc_edge.specs.Faults.{Rose};
 ghost use Rattle.sc_model.specs.Settings.{IsSetup};
-ghost use Rattle.sc_courses.specs.Asking.{Source};
+ghost use Rattle.sc_courses.specs.Asking.{Sources};
 ghost use Rattle.sc_courses.specs.Courses.{Told};
 ghost use Rattle.sc_serve.specs.Running.{HasItems, IsNew, IsServed};
 ghost use Rattle.sc_serve.specs.Served.{IsAsked, IsSetUp, Serves, ServesWords, served_names};
@@ -44,7 +44,7 @@ pub fn begin<F: Shelf>(
     ensures new { IfOk result (λ begun. IsNew begun.server) }
     ensures right { IfOk result (λ begun. IsSetup begun.server.core.switch.setup) }
     ensures asked { IfOk result (λ begun. IsAsked (served_names (map string_bytes words.now)) apps.now.names (map (λ k. both_charters (stated (k.servlet.vtable, k.servlet.value)) (option_map (λ l. listens (l.vtable, l.value)) k.listener)) apps.now.kinds) (λ name. F.holds shelf.old name) begun.server.core.switch.setup) }
-    ensures unserved { IfErr result (λ ran. (edge : EdgeState) (told : Told) (clock : Source ℕ) → ServesWords (served_names (map string_bytes words.now)) apps.now.names (map (λ k. both_charters (stated (k.servlet.vtable, k.servlet.value)) (option_map (λ l. listens (l.vtable, l.value)) k.listener)) apps.now.kinds) (λ name. F.holds shelf.old name) (Rose (F.faults shelf.old) (F.faults shelf.new)) edge edge told told clock clock ran) }
+    ensures unserved { IfErr result (λ ran. (edge : EdgeState) (told : Told) (sources : Sources) → ServesWords (served_names (map string_bytes words.now)) apps.now.names (map (λ k. both_charters (stated (k.servlet.vtable, k.servlet.value)) (option_map (λ l. listens (l.vtable, l.value)) k.listener)) apps.now.kinds) (λ name. F.holds shelf.old name) (Rose (F.faults shelf.old) (F.faults shelf.new)) edge edge told told sources sources ran) }
 {
     match served_names(words) {
         Some((config, dar)) => begin_named(alloc, config, dar, shelf, apps),
@@ -63,7 +63,7 @@ fn begin_named<F: Shelf>(
     ensures new { IfOk result (λ begun. IsNew begun.server) }
     ensures right { IfOk result (λ begun. IsSetup begun.server.core.switch.setup) }
     ensures set { IfOk result (λ begun. IsSetUp apps.now.names (map (λ k. both_charters (stated (k.servlet.vtable, k.servlet.value)) (option_map (λ l. listens (l.vtable, l.value)) k.listener)) apps.now.kinds) (F.holds shelf.old (string_bytes config.now)) (F.holds shelf.old (string_bytes dar.now)) begun.server.core.switch.setup) }
-    ensures unserved { IfErr result (λ ran. (edge : EdgeState) (told : Told) (clock : Source ℕ) → Serves apps.now.names (map (λ k. both_charters (stated (k.servlet.vtable, k.servlet.value)) (option_map (λ l. listens (l.vtable, l.value)) k.listener)) apps.now.kinds) (F.holds shelf.old (string_bytes config.now)) (F.holds shelf.old (string_bytes dar.now)) (Rose (F.faults shelf.old) (F.faults shelf.new)) edge edge told told clock clock ran ran.journal) }
+    ensures unserved { IfErr result (λ ran. (edge : EdgeState) (told : Told) (sources : Sources) → Serves apps.now.names (map (λ k. both_charters (stated (k.servlet.vtable, k.servlet.value)) (option_map (λ l. listens (l.vtable, l.value)) k.listener)) apps.now.kinds) (F.holds shelf.old (string_bytes config.now)) (F.holds shelf.old (string_bytes dar.now)) (Rose (F.faults shelf.old) (F.faults shelf.new)) edge edge told told sources sources ran ran.journal) }
 {
     match read_settings(alloc, config, dar, shelf, apps.names()) {
         Ok(settings) => begin_over(alloc, settings, apps),
@@ -76,7 +76,7 @@ fn begin_over(alloc: Global, settings: Settings, apps: &Catalogue) -> Result<Beg
     requires { IsSetup (record { config = settings.config; dar = settings.dar; kinds = (map (λ k. both_charters (stated (k.servlet.vtable, k.servlet.value)) (option_map (λ l. listens (l.vtable, l.value)) k.listener)) apps.now.kinds) }) }
     ensures new { IfOk result (λ begun. IsNew begun.server) }
     ensures setup { IfOk result (λ begun. begun.server.core.switch.setup ≡ record { config = settings.config; dar = settings.dar; kinds = (map (λ k. both_charters (stated (k.servlet.vtable, k.servlet.value)) (option_map (λ l. listens (l.vtable, l.value)) k.listener)) apps.now.kinds) }) }
-    ensures unserved { IfErr result (λ ran. (edge : EdgeState) (told : Told) → IsServed (record { setup = record { config = settings.config; dar = settings.dar; kinds = (map (λ k. both_charters (stated (k.servlet.vtable, k.servlet.value)) (option_map (λ l. listens (l.vtable, l.value)) k.listener)) apps.now.kinds) }; told = told; edge = edge; moments = [] }) edge told ran) }
+    ensures unserved { IfErr result (λ ran. (edge : EdgeState) (told : Told) → IsServed (record { setup = record { config = settings.config; dar = settings.dar; kinds = (map (λ k. both_charters (stated (k.servlet.vtable, k.servlet.value)) (option_map (λ l. listens (l.vtable, l.value)) k.listener)) apps.now.kinds) }; told = told; edge = edge; moments = []; orders = [] }) edge told ran) }
 {
     let turning = Turning {
         epoch_steps: settings.config.epoch_steps.get(),

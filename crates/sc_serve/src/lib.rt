@@ -11,5 +11,5 @@ mod serving;
 mod stop;
 mod watch;
 
-pub use naming::listening_at;
+pub use naming::{Listening, listening_at};
 pub use serving::{serve, serve_alone};

@@ -33,27 +33,42 @@ fn is_word(word: &[u8], expected: &[u8]) -> bool
     word == expected
 }
 
-/// The address and the port that the settings of `serve CONFIG DAR` listen at: None of other words, and where the
+/// Where a server listens, and how it writes to addresses.
+#[derive(Clone, Copy, Debug, PartialEq, Eq)]
+pub struct Listening {
+    /// The IPv4 address.
+    pub ip: [u8; 4],
+    /// The port, 1 to 65,535.
+    pub port: u16,
+    /// Whether what goes to an address is written on the open connection that came from there.
+    pub reuse: bool,
+}
+
+/// What the settings of `serve CONFIG DAR` say of the outside: None of other words, and where the
 /// configuration or the routing table is refused or can't be read. `serve` reads them again, and says why.
 pub fn listening_at<F: Shelf>(
     alloc: Global,
     words: &[String],
     shelf: &mut F,
     apps: &Catalogue,
-) -> Option<([u8; 4], u16)>
+) -> Option<Listening>
     ensures same { (n : List ℕ) → F.holds shelf.new n ≡ F.holds shelf.old n }
     ensures later { F.faults shelf.old ≤ F.faults shelf.new }
 {
     match served_names(words) {
         Some((config, dar)) => match read_settings(alloc, config, dar, shelf, apps.names()) {
-            Ok(settings) => Some(address_of(&settings.config)),
+            Ok(settings) => Some(listening_of(&settings.config)),
             Err(_) => None,
         },
         None => None,
     }
 }
 
-fn address_of(config: &Config) -> ([u8; 4], u16) {
+fn listening_of(config: &Config) -> Listening {
     let (ip, port) = config.listen;
-    (ip, port.get())
+    Listening {
+        ip,
+        port: port.get(),
+        reuse: config.reuse,
+    }
 }

@@ -33,8 +33,8 @@ pub fn round<R: Wait, E: Edge, T: Clock, O: Orders, N: Notice<Journal<Step>>>(
     notice: &mut N,
     apps: &Catalogue,
 ) -> Result<bool, Stop>
-    ensures ok { OnOk result (GoesOn server.old server.new (E.state edge.old) (E.state edge.new) (N.noted notice.old) (N.noted notice.new) (T.asked clock.old, T.comes clock.old) (T.asked clock.new, T.comes clock.new)) }
-    ensures err { OnErr result (HaltsOn server.old server.new (E.state edge.old) (E.state edge.new) (N.noted notice.old) (N.noted notice.new) (T.asked clock.old, T.comes clock.old) (T.asked clock.new, T.comes clock.new)) }
+    ensures ok { OnOk result (GoesOn server.old server.new (E.state edge.old) (E.state edge.new) (N.noted notice.old) (N.noted notice.new) ((T.asked clock.old, T.comes clock.old), (O.asked orders.old, O.comes orders.old)) ((T.asked clock.new, T.comes clock.new), (O.asked orders.new, O.comes orders.new))) }
+    ensures err { OnErr result (HaltsOn server.old server.new (E.state edge.old) (E.state edge.new) (N.noted notice.old) (N.noted notice.new) ((T.asked clock.old, T.comes clock.old), (O.asked orders.old, O.comes orders.old)) ((T.asked clock.new, T.comes clock.new), (O.asked orders.new, O.comes orders.new))) }
     ensures due { IfErr result (λ cause. IsDueAt server.new.core.switch cause) }
     ensures later { CountsOn (E.state edge.old) (E.state edge.new) }
     ensures blames { IfErr result (λ cause. Blames (E.state edge.old) (E.state edge.new) cause) }
@@ -116,8 +116,8 @@ fn step_once<R: Wait, T: Clock, O: Orders, N: Notice<Journal<Step>>>(
     notice: &mut N,
     apps: &Catalogue,
 ) -> Result<bool, Stop>
-    ensures ok { OnOk result ((edge : EdgeState) → GoesOn server.old server.new edge edge (N.noted notice.old) (N.noted notice.new) (T.asked clock.old, T.comes clock.old) (T.asked clock.new, T.comes clock.new)) }
-    ensures err { OnErr result ((edge : EdgeState) → HaltsOn server.old server.new edge edge (N.noted notice.old) (N.noted notice.new) (T.asked clock.old, T.comes clock.old) (T.asked clock.new, T.comes clock.new)) }
+    ensures ok { OnOk result ((edge : EdgeState) → GoesOn server.old server.new edge edge (N.noted notice.old) (N.noted notice.new) ((T.asked clock.old, T.comes clock.old), (O.asked orders.old, O.comes orders.old)) ((T.asked clock.new, T.comes clock.new), (O.asked orders.new, O.comes orders.new))) }
+    ensures err { OnErr result ((edge : EdgeState) → HaltsOn server.old server.new edge edge (N.noted notice.old) (N.noted notice.new) ((T.asked clock.old, T.comes clock.old), (O.asked orders.old, O.comes orders.old)) ((T.asked clock.new, T.comes clock.new), (O.asked orders.new, O.comes orders.new))) }
     ensures due { IfErr result (λ cause. IsDueAt server.new.core.switch cause) }
     ensures blames { IfErr result (λ cause. (edge : EdgeState) → Blames edge edge cause) }
 {

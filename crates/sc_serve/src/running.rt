@@ -53,8 +53,8 @@ pub fn run_beside<
     notice: &mut N,
     apps: &Catalogue,
 ) -> Result<(), Stop>
-    ensures ok { OnOk result (FinishesOn server.old server.new (E.state edge.old) (E.state edge.new) (N.noted notice.old) (N.noted notice.new) (T.asked clock.old, T.comes clock.old) (T.asked clock.new, T.comes clock.new)) }
-    ensures err { OnErr result (HaltsOn server.old server.new (E.state edge.old) (E.state edge.new) (N.noted notice.old) (N.noted notice.new) (T.asked clock.old, T.comes clock.old) (T.asked clock.new, T.comes clock.new)) }
+    ensures ok { OnOk result (FinishesOn server.old server.new (E.state edge.old) (E.state edge.new) (N.noted notice.old) (N.noted notice.new) ((T.asked clock.old, T.comes clock.old), (O.asked orders.old, O.comes orders.old)) ((T.asked clock.new, T.comes clock.new), (O.asked orders.new, O.comes orders.new))) }
+    ensures err { OnErr result (HaltsOn server.old server.new (E.state edge.old) (E.state edge.new) (N.noted notice.old) (N.noted notice.new) ((T.asked clock.old, T.comes clock.old), (O.asked orders.old, O.comes orders.old)) ((T.asked clock.new, T.comes clock.new), (O.asked orders.new, O.comes orders.new))) }
     ensures due { IfErr result (λ cause. IsDueAt server.new.core.switch cause) }
     ensures later { CountsOn (E.state edge.old) (E.state edge.new) }
     ensures blames { IfErr result (λ cause. Blames (E.state edge.old) (E.state edge.new) cause) }
@@ -98,8 +98,8 @@ fn run_at<
     requires kinds { (jobs_of pass).kinds ≡ length apps.now.kinds }
     requires last { (jobs_of pass).last ≡ 0 }
     requires passes { All (MayWork board.now (length apps.now.kinds)) passes.items }
-    ensures ok { OnOk result (FinishesOn server.old server.new (E.state edge.old) (E.state edge.new) (N.noted notice.old) (N.noted notice.new) (T.asked clock.old, T.comes clock.old) (T.asked clock.new, T.comes clock.new)) }
-    ensures err { OnErr result (HaltsOn server.old server.new (E.state edge.old) (E.state edge.new) (N.noted notice.old) (N.noted notice.new) (T.asked clock.old, T.comes clock.old) (T.asked clock.new, T.comes clock.new)) }
+    ensures ok { OnOk result (FinishesOn server.old server.new (E.state edge.old) (E.state edge.new) (N.noted notice.old) (N.noted notice.new) ((T.asked clock.old, T.comes clock.old), (O.asked orders.old, O.comes orders.old)) ((T.asked clock.new, T.comes clock.new), (O.asked orders.new, O.comes orders.new))) }
+    ensures err { OnErr result (HaltsOn server.old server.new (E.state edge.old) (E.state edge.new) (N.noted notice.old) (N.noted notice.new) ((T.asked clock.old, T.comes clock.old), (O.asked orders.old, O.comes orders.old)) ((T.asked clock.new, T.comes clock.new), (O.asked orders.new, O.comes orders.new))) }
     ensures due { IfErr result (λ cause. IsDueAt server.new.core.switch cause) }
     ensures later { CountsOn (E.state edge.old) (E.state edge.new) }
     ensures blames { IfErr result (λ cause. Blames (E.state edge.old) (E.state edge.new) cause) }
@@ -108,8 +108,8 @@ fn run_at<
     let workers = passes.len();
     let mut seat = Some(Seat::new(board, pass, apps.kinds.len()));
     let mut here = || -> Result<(), Stop>
-        ensures ok { OnOk result (FinishesOn server.entry.now server.exit.now (E.state edge.entry.now) (E.state edge.exit.now) (N.noted notice.entry.now) (N.noted notice.exit.now) (T.asked clock.entry.now, T.comes clock.entry.now) (T.asked clock.exit.now, T.comes clock.exit.now)) }
-        ensures err { OnErr result (HaltsOn server.entry.now server.exit.now (E.state edge.entry.now) (E.state edge.exit.now) (N.noted notice.entry.now) (N.noted notice.exit.now) (T.asked clock.entry.now, T.comes clock.entry.now) (T.asked clock.exit.now, T.comes clock.exit.now)) }
+        ensures ok { OnOk result (FinishesOn server.entry.now server.exit.now (E.state edge.entry.now) (E.state edge.exit.now) (N.noted notice.entry.now) (N.noted notice.exit.now) ((T.asked clock.entry.now, T.comes clock.entry.now), (O.asked orders.entry.now, O.comes orders.entry.now)) ((T.asked clock.exit.now, T.comes clock.exit.now), (O.asked orders.exit.now, O.comes orders.exit.now))) }
+        ensures err { OnErr result (HaltsOn server.entry.now server.exit.now (E.state edge.entry.now) (E.state edge.exit.now) (N.noted notice.entry.now) (N.noted notice.exit.now) ((T.asked clock.entry.now, T.comes clock.entry.now), (O.asked orders.entry.now, O.comes orders.entry.now)) ((T.asked clock.exit.now, T.comes clock.exit.now), (O.asked orders.exit.now, O.comes orders.exit.now))) }
         ensures due { IfErr result (λ cause. IsDueAt server.exit.now.core.switch cause) }
         ensures later { CountsOn (E.state edge.entry.now) (E.state edge.exit.now) }
         ensures blames { IfErr result (λ cause. Blames (E.state edge.entry.now) (E.state edge.exit.now) cause) }
@@ -134,8 +134,8 @@ fn run_for<R: Wait, E: Edge, T: Clock, O: Orders, N: Notice<Journal<Step>>>(
     notice: &mut N,
     apps: &Catalogue,
 ) -> Result<(), Stop>
-    ensures ok { OnOk result (FinishesOn server.old server.new (E.state edge.old) (E.state edge.new) (N.noted notice.old) (N.noted notice.new) (T.asked clock.old, T.comes clock.old) (T.asked clock.new, T.comes clock.new)) }
-    ensures err { OnErr result (HaltsOn server.old server.new (E.state edge.old) (E.state edge.new) (N.noted notice.old) (N.noted notice.new) (T.asked clock.old, T.comes clock.old) (T.asked clock.new, T.comes clock.new)) }
+    ensures ok { OnOk result (FinishesOn server.old server.new (E.state edge.old) (E.state edge.new) (N.noted notice.old) (N.noted notice.new) ((T.asked clock.old, T.comes clock.old), (O.asked orders.old, O.comes orders.old)) ((T.asked clock.new, T.comes clock.new), (O.asked orders.new, O.comes orders.new))) }
+    ensures err { OnErr result (HaltsOn server.old server.new (E.state edge.old) (E.state edge.new) (N.noted notice.old) (N.noted notice.new) ((T.asked clock.old, T.comes clock.old), (O.asked orders.old, O.comes orders.old)) ((T.asked clock.new, T.comes clock.new), (O.asked orders.new, O.comes orders.new))) }
     ensures due { IfErr result (λ cause. IsDueAt server.new.core.switch cause) }
     ensures later { CountsOn (E.state edge.old) (E.state edge.new) }
     ensures blames { IfErr result (λ cause. Blames (E.state edge.old) (E.state edge.new) cause) }
@@ -161,8 +161,8 @@ pub fn run<R: Wait, E: Edge, T: Clock, O: Orders, N: Notice<Journal<Step>>>(
     notice: &mut N,
     apps: &Catalogue,
 ) -> Result<(), Stop>
-    ensures ok { OnOk result (FinishesOn server.old server.new (E.state edge.old) (E.state edge.new) (N.noted notice.old) (N.noted notice.new) (T.asked clock.old, T.comes clock.old) (T.asked clock.new, T.comes clock.new)) }
-    ensures err { OnErr result (HaltsOn server.old server.new (E.state edge.old) (E.state edge.new) (N.noted notice.old) (N.noted notice.new) (T.asked clock.old, T.comes clock.old) (T.asked clock.new, T.comes clock.new)) }
+    ensures ok { OnOk result (FinishesOn server.old server.new (E.state edge.old) (E.state edge.new) (N.noted notice.old) (N.noted notice.new) ((T.asked clock.old, T.comes clock.old), (O.asked orders.old, O.comes orders.old)) ((T.asked clock.new, T.comes clock.new), (O.asked orders.new, O.comes orders.new))) }
+    ensures err { OnErr result (HaltsOn server.old server.new (E.state edge.old) (E.state edge.new) (N.noted notice.old) (N.noted notice.new) ((T.asked clock.old, T.comes clock.old), (O.asked orders.old, O.comes orders.old)) ((T.asked clock.new, T.comes clock.new), (O.asked orders.new, O.comes orders.new))) }
     ensures due { IfErr result (λ cause. IsDueAt server.new.core.switch cause) }
     ensures later { CountsOn (E.state edge.old) (E.state edge.new) }
     ensures blames { IfErr result (λ cause. Blames (E.state edge.old) (E.state edge.new) cause) }

@@ -71,7 +71,7 @@ pub fn serve<
     notice: &mut N,
     apps: &Catalogue,
 ) -> Ran
-    ensures serves { ServesWords (served_names (map string_bytes words.now)) apps.now.names (map (λ k. both_charters (stated (k.servlet.vtable, k.servlet.value)) (option_map (λ l. listens (l.vtable, l.value)) k.listener)) apps.now.kinds) (λ name. F.holds shelf.old name) (Rose (F.faults shelf.old) (F.faults shelf.new)) (E.state edge.old) (E.state edge.new) (N.noted notice.old) (N.noted notice.new) (T.asked clock.old, T.comes clock.old) (T.asked clock.new, T.comes clock.new) result }
+    ensures serves { ServesWords (served_names (map string_bytes words.now)) apps.now.names (map (λ k. both_charters (stated (k.servlet.vtable, k.servlet.value)) (option_map (λ l. listens (l.vtable, l.value)) k.listener)) apps.now.kinds) (λ name. F.holds shelf.old name) (Rose (F.faults shelf.old) (F.faults shelf.new)) (E.state edge.old) (E.state edge.new) (N.noted notice.old) (N.noted notice.new) ((T.asked clock.old, T.comes clock.old), (O.asked orders.old, O.comes orders.old)) ((T.asked clock.new, T.comes clock.new), (O.asked orders.new, O.comes orders.new)) result }
     ensures later { CountsOn (E.state edge.old) (E.state edge.new) }
 {
     match begin(alloc, words, shelf, apps) {
@@ -111,7 +111,7 @@ pub fn serve_alone<R: Wait, F: Shelf, E: Edge, T: Clock, O: Orders, N: Notice<Jo
     notice: &mut N,
     apps: &Catalogue,
 ) -> Ran
-    ensures serves { ServesWords (served_names (map string_bytes words.now)) apps.now.names (map (λ k. both_charters (stated (k.servlet.vtable, k.servlet.value)) (option_map (λ l. listens (l.vtable, l.value)) k.listener)) apps.now.kinds) (λ name. F.holds shelf.old name) (Rose (F.faults shelf.old) (F.faults shelf.new)) (E.state edge.old) (E.state edge.new) (N.noted notice.old) (N.noted notice.new) (T.asked clock.old, T.comes clock.old) (T.asked clock.new, T.comes clock.new) result }
+    ensures serves { ServesWords (served_names (map string_bytes words.now)) apps.now.names (map (λ k. both_charters (stated (k.servlet.vtable, k.servlet.value)) (option_map (λ l. listens (l.vtable, l.value)) k.listener)) apps.now.kinds) (λ name. F.holds shelf.old name) (Rose (F.faults shelf.old) (F.faults shelf.new)) (E.state edge.old) (E.state edge.new) (N.noted notice.old) (N.noted notice.new) ((T.asked clock.old, T.comes clock.old), (O.asked orders.old, O.comes orders.old)) ((T.asked clock.new, T.comes clock.new), (O.asked orders.new, O.comes orders.new)) result }
     ensures later { CountsOn (E.state edge.old) (E.state edge.new) }
 {
     match begin(alloc, words, shelf, apps) {

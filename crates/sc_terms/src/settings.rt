@@ -27,6 +27,9 @@ pub struct Config {
     pub epoch_steps: Within<0, 1_000_000>,
     /// Whether a server hands on what its journal has while sessions live.
     pub journal_parts: bool,
+    /// Whether a server writes what goes to an address on the open connection that came from there
+    /// (RFC 5923's connection reuse, without TLS).
+    pub reuse: bool,
     /// The names that the container knows, in byte order.
     pub hosts: List<HostEntry>,
     /// The applications, 1 to 64. The place of one is the number of its host.

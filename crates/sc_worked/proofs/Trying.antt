@@ -47,6 +47,7 @@ settings apps = record {
   journal_bytes = 67108864;
   epoch_steps = 0;
   journal_parts = false;
+  reuse = false;
   hosts = [];
   app = apps;
 }

@@ -40,6 +40,7 @@ fn settings(alloc: Global) -> Result<Config, NoMemory> {
         journal_bytes: Within::of(1),
         epoch_steps: Within::of(0),
         journal_parts: false,
+        reuse: false,
         hosts: List::new(alloc),
         app,
     })

@@ -1,0 +1,16 @@
+//! Cases on dialogs, transactions, best responses, names and the choice of applications.
+//! A crate with tests is proved twice, so they stand here.
+#![tactic(auto)]
+
+#[cfg(test)]
+mod best_tests;
+#[cfg(test)]
+mod dialog_tests;
+#[cfg(test)]
+mod due_tests;
+#[cfg(test)]
+mod names_tests;
+#[cfg(test)]
+mod router_tests;
+#[cfg(test)]
+mod txn_tests;
