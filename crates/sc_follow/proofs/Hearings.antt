@@ -21,7 +21,7 @@ use Rattle.sc_switch.specs.declared.refused.StepRefused.TheVariants as refused
 use Rattle.sc_switch.specs.Standing.{Known}
 use Rattle.sc_follow.specs.Moving.{Came, HasDue, HearsUpto, IsCut, IsDone, IsDue, IsFree, IsStopped, IsUntaken, TookStep}
 use Rattle.sc_follow.specs.Streaming.{BadUpto, HeardOne}
-use Rattle.sc_follow.proofs.Fronts.{heard_via}
+use Rattle.sc_runs.proofs.Vias.{heard_via}
 use Rattle.sc_follow.proofs.Steppings.{came-none, came-on}
 
 -- ## A cut that has a weaker property too

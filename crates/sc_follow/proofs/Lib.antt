@@ -1,5 +1,4 @@
 pub mod Followings
-pub mod Fronts
 pub mod Hearings
 pub mod LineSteps
 pub mod Places

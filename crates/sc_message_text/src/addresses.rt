@@ -3,8 +3,7 @@
 ghost use Rattle.std.specs.Prelude.{◌≡◌, ◌++◌, OnOk};
 ghost use Rattle.sc_grammar.specs.Written.{address_text, contact_text};
 
-use crate::pieces::{put_byte, put_ended};
-use crate::uris::{put_params, put_uri};
+use sc_uri_text::{put_byte, put_ended, put_params, put_uri};
 use sc_value::{Address, Contact, NoMemory, Text};
 
 #[tactic(auto, unfolding(sc_grammar::specs::Written::address_text))]

@@ -3,8 +3,8 @@
 ghost use Rattle.std.specs.Prelude.{◌≡◌, ◌++◌, ◌∷◌, [], OnOk};
 ghost use Rattle.sc_grammar.specs.Written.{cseq_text, params_text, port_text, version, via_text};
 
-use crate::pieces::{put_byte, put_port, put_version};
-use crate::uris::put_params;
+use crate::pieces::put_version;
+use sc_uri_text::{put_byte, put_params, put_port};
 use sc_value::{CSeq, NoMemory, Text, Via, write_u64};
 
 #[tactic(auto, unfolding(sc_grammar::specs::Written::via_text))]

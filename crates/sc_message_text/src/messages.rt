@@ -17,9 +17,9 @@ use crate::lines::{
     put_name, put_number_line,
 };
 use crate::names;
-use crate::pieces::{put_byte, put_line_end, put_version};
-use crate::uris::put_uri;
+use crate::pieces::{put_line_end, put_version};
 use sc_spelling::written_again;
+use sc_uri_text::{put_byte, put_uri};
 use sc_value::{
     Address, CSeq, Contact, Field, Head, Message, NoMemory, Request, Response, Text, Via, write_u64,
 };

@@ -1,15 +1,9 @@
-//! The small pieces of a text: one byte, the end of a line, and parts that may be missing.
+//! The small pieces of a message's text that are always the same.
 
-ghost use Rattle.std.specs.Prelude.{◌≡◌, ◌++◌, [], ◌∷◌, OnOk};
-ghost use Rattle.sc_grammar.specs.Written.{crlf, ended_text, port_text, signed_text, version};
+ghost use Rattle.std.specs.Prelude.{◌≡◌, ◌++◌, OnOk};
+ghost use Rattle.sc_grammar.specs.Written.{crlf, version};
 
-use sc_value::{NoMemory, Text, write_u64};
-
-pub fn put_byte(byte: u8, out: &mut Text) -> Result<(), NoMemory>
-    ensures { OnOk result (out.new ≡ out.old ++ byte ∷ []) }
-{
-    out.append(&[byte])
-}
+use sc_value::{NoMemory, Text};
 
 #[tactic(auto, unfolding(sc_grammar::specs::Written::crlf))]
 pub fn put_line_end(out: &mut Text) -> Result<(), NoMemory>
@@ -23,45 +17,4 @@ pub fn put_version(out: &mut Text) -> Result<(), NoMemory>
     ensures { OnOk result (out.new ≡ out.old ++ version) }
 {
     out.append(b"SIP/2.0")
-}
-
-// Nothing, or the sign and the text.
-#[tactic(auto, unfolding(sc_grammar::specs::Written::signed_text))]
-pub fn put_signed(sign: u8, text: &Option<Text>, out: &mut Text) -> Result<(), NoMemory>
-    ensures { OnOk result (out.new ≡ out.old ++ signed_text sign text.now) }
-{
-    match text {
-        Some(text) => {
-            put_byte(sign, out)?;
-            out.append(text.as_bytes())
-        }
-        None => Ok(()),
-    }
-}
-
-// Nothing, or the text and the sign.
-#[tactic(auto, unfolding(sc_grammar::specs::Written::ended_text))]
-pub fn put_ended(text: &Option<Text>, sign: u8, out: &mut Text) -> Result<(), NoMemory>
-    ensures { OnOk result (out.new ≡ out.old ++ ended_text text.now sign) }
-{
-    match text {
-        Some(text) => {
-            out.append(text.as_bytes())?;
-            put_byte(sign, out)
-        }
-        None => Ok(()),
-    }
-}
-
-#[tactic(auto, unfolding(sc_grammar::specs::Written::port_text))]
-pub fn put_port(port: Option<u16>, out: &mut Text) -> Result<(), NoMemory>
-    ensures { OnOk result (out.new ≡ out.old ++ port_text port) }
-{
-    match port {
-        Some(port) => {
-            put_byte(b':', out)?;
-            write_u64(u64::from(port), out)
-        }
-        None => Ok(()),
-    }
 }

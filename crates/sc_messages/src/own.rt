@@ -1,16 +1,17 @@
 //! The marks by which the container knows its own: the Via of a branch, and the Record-Route and
 //! Contact of an application session.
 
-ghost use Rattle.std.specs.Prelude.{◌≡◌, true, ◌++◌, ◌∷◌, [], Some, decimal, IfOk, OnOk};
+ghost use Rattle.std.specs.Prelude.{◌≡◌, true, ◌∷◌, [], Some, IfOk};
 ghost use Rattle.sc_tokens.specs.Hosts.{is_host};
 ghost use Rattle.sc_value.specs.Params.{branch_name};
 ghost use Rattle.sc_value.specs.ParamRules.{AreHeaderParams, AreUriParams};
-ghost use Rattle.sc_model.specs.Names.{ap_name, ap_value, app_text, branch_text, loose_param, session_uri, tcp_param};
+ghost use Rattle.sc_model.specs.Names.{ap_name, ap_value, branch_text, loose_param, session_uri, tcp_param};
 ghost use Rattle.sc_model.specs.Records.{ip_text};
 ghost use Rattle.sc_hosts.specs.Messages.{own_address, own_via};
 
+use sc_names::{put_ap_value, put_ip};
 use sc_terms::Config;
-use sc_value::{Address, AppId, List, NoMemory, Param, SipUri, Text, Token, Uri, Via, write_u64};
+use sc_value::{Address, AppId, List, NoMemory, Param, SipUri, Text, Token, Uri, Via};
 use std::alloc::Global;
 
 /// The text of an address, `a.b.c.d`.
@@ -29,24 +30,6 @@ fn own_host(alloc: Global, ip: [u8; 4]) -> Result<Text, NoMemory>
     ensures exact { IfOk result (λ t. t ≡ ip_text ip) }
 {
     ip_text(alloc, ip)
-}
-
-#[tactic(auto, unfolding(sc_model::specs::Records::ip_text))]
-fn put_ip(ip: [u8; 4], out: &mut Text) -> Result<(), NoMemory>
-    ensures { OnOk result (out.new ≡ out.old ++ ip_text ip) }
-{
-    put_pair(ip[0], ip[1], out)?;
-    out.append(b".")?;
-    put_pair(ip[2], ip[3], out)
-}
-
-// `a.b`
-fn put_pair(a: u8, b: u8, out: &mut Text) -> Result<(), NoMemory>
-    ensures { OnOk result (out.new ≡ out.old ++ (decimal a ++ 46 ∷ [] ++ decimal b)) }
-{
-    write_u64(u64::from(a), out)?;
-    out.append(b".")?;
-    write_u64(u64::from(b), out)
 }
 
 /// The Via of a branch (RFC 3261 section 8.1.1.7).
@@ -190,26 +173,4 @@ fn ap_param(alloc: Global, epoch: u32, app: AppId) -> Result<Param, NoMemory>
         name,
         value: Some(value),
     })
-}
-
-#[tactic(auto, unfolding(sc_model::specs::Names::ap_value))]
-fn put_ap_value(epoch: u32, app: AppId, out: &mut Text) -> Result<(), NoMemory>
-    ensures { OnOk result (out.new ≡ out.old ++ ap_value epoch app) }
-{
-    put_app(app, out)?;
-    if epoch == 0 {
-        return Ok(());
-    }
-    out.append(b".")?;
-    write_u64(u64::from(epoch), out)
-}
-
-// `h-s`
-#[tactic(auto, unfolding(sc_model::specs::Names::app_text))]
-fn put_app(app: AppId, out: &mut Text) -> Result<(), NoMemory>
-    ensures { OnOk result (out.new ≡ out.old ++ app_text app) }
-{
-    write_u64(u64::from(app.host), out)?;
-    out.append(b"-")?;
-    write_u64(app.serial, out)
 }

@@ -8,4 +8,4 @@ mod writing;
 
 pub use laws::names_are_apart;
 pub use reading::{read_ap, read_ar, read_branch};
-pub use writing::{ap_uri, ar_uri, branch, call_id, edge_tag, tag};
+pub use writing::{ap_uri, ar_uri, branch, call_id, edge_tag, put_ap_value, put_ip, tag};

@@ -165,9 +165,9 @@ fn put_edge_word(out: &mut Text) -> Result<(), NoMemory>
     out.append(b"-edge")
 }
 
-// `a.b.c.d`
+/// Appends the text of an address, `a.b.c.d`. For want of memory `out` may hold a part of it.
 #[tactic(auto, unfolding(sc_model::specs::Records::ip_text))]
-fn put_ip(ip: [u8; 4], out: &mut Text) -> Result<(), NoMemory>
+pub fn put_ip(ip: [u8; 4], out: &mut Text) -> Result<(), NoMemory>
     ensures { OnOk result (out.new ≡ out.old ++ ip_text ip) }
 {
     put_pair(ip[0], ip[1], out)?;
@@ -216,8 +216,10 @@ fn put_return_uri(
     put_own_uri(ip, port, b"ar", value.as_bytes(), out)
 }
 
+/// Appends the value of an `ap` parameter: `h-s`, and behind a dot the epoch where it isn't 0. For want of memory
+/// `out` may hold a part of it.
 #[tactic(auto, unfolding(sc_model::specs::Names::ap_value))]
-fn put_ap_value(epoch: u32, app: AppId, out: &mut Text) -> Result<(), NoMemory>
+pub fn put_ap_value(epoch: u32, app: AppId, out: &mut Text) -> Result<(), NoMemory>
     ensures { OnOk result (out.new ≡ out.old ++ ap_value epoch app) }
 {
     put_app(app, out)?;

@@ -6,4 +6,3 @@ pub mod Refusals
 pub mod Servings
 pub mod Steppings
 pub mod Timings
-pub mod Vias

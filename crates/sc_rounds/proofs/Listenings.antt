@@ -32,7 +32,7 @@ use Rattle.sc_rounds.specs.Polling.{Comes}
 use Rattle.sc_rounds.specs.Serving.{Ended, Ends, Serves, ServesMore, ServesOn, Stopped, Took, deed}
 use Rattle.sc_rounds.specs.Streaming.{bytes_of}
 use Rattle.sc_rounds.proofs.Servings.{stands_ended, stands_on}
-use Rattle.sc_rounds.proofs.Vias.{heard_via}
+use Rattle.sc_runs.proofs.Vias.{heard_via}
 
 -- ## Where bytes come
 

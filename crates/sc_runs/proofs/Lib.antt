@@ -1,3 +1,4 @@
 pub mod NextMaps
+pub mod Vias
 pub mod FollowMaps
 pub mod HeardParts

@@ -35,6 +35,13 @@ use std::time::Clock;
 /// - `rest` returns as soon as something comes. The first 32 rests after something came or was put
 ///   only look and return at once, so that what other threads make ready is put soon.
 ///
+/// Where connections are used again ([`MioEdge::set_reuse`]), a put to an address that isn't connected goes
+/// out by the open connection that came from there, whole pieces of the one place after whole pieces of
+/// the other. When that connection is lost both places are: each is named by a poll of its own. When the
+/// peer sends its end the address is lost, and the peer is still written to.
+///
+/// A put to the address that it listens at fails.
+///
 /// An address whose connection was lost after it took only a part of a piece is remembered until it
 /// takes a whole one; once 16,384 are, a put to an address that isn't among them fails.
 ///
@@ -94,6 +101,16 @@ impl<'a, R: Net + Clock> MioEdge<'a, R> {
             rt,
             book: Book::new(alloc),
             sockets: Sockets::new(rt, alloc, ip, port).ok(),
+        }
+    }
+
+    /// Whether a put to an address goes out by an open connection that comes from that address from now
+    /// on, in place of one that is made to it (RFC 5923, without TLS). It is off at the beginning.
+    pub fn set_reuse(&mut self, is_on: bool)
+        ensures { self.new ≡ self.old }
+    {
+        if let Some(sockets) = &mut self.sockets {
+            sockets.set_reuse(is_on);
         }
     }
 

@@ -10,8 +10,7 @@ ghost use Rattle.sc_sockets.specs.Lines.{edge_state, is_heard, shut};
 
 use crate::book::Book;
 use crate::reading::Heard;
-use crate::sockets::Sockets;
-use mio::net::TcpStream;
+use crate::sockets::{Opened, Sockets};
 use sc_edge::Got;
 use sc_value::Place;
 use std::time::Clock;
@@ -51,19 +50,19 @@ fn make_room(book: &mut Book, sockets: &mut Sockets) -> bool
 }
 
 // Takes in a peer's connection, under the next number.
-fn admit(book: &mut Book, sockets: &mut Sockets, stream: TcpStream)
+fn admit(book: &mut Book, sockets: &mut Sockets, opened: Opened)
     ensures { Grows book.old book.new }
 {
     if let Some(number) = book.accept() {
-        keep(book, sockets, Place::Back(number), stream);
+        keep(book, sockets, Place::Back(number), opened);
     }
 }
 
 // Keeps the socket of a connection that has its number; where that fails the connection is dropped.
-fn keep(book: &mut Book, sockets: &mut Sockets, place: Place, stream: TcpStream)
+fn keep(book: &mut Book, sockets: &mut Sockets, place: Place, opened: Opened)
     ensures { Grows book.old book.new }
 {
-    if !sockets.add(place, stream) {
+    if !sockets.add(place, opened) {
         book.shut(place);
     }
 }
@@ -72,9 +71,9 @@ fn keep(book: &mut Book, sockets: &mut Sockets, place: Place, stream: TcpStream)
 fn welcome(book: &mut Book, sockets: &mut Sockets)
     ensures { Grows book.old book.new }
 {
-    if let Some(stream) = sockets.accept() {
+    if let Some(opened) = sockets.accept() {
         if make_room(book, sockets) {
-            admit(book, sockets, stream);
+            admit(book, sockets, opened);
         }
     }
 }

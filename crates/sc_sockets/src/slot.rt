@@ -8,7 +8,7 @@ use crate::reading::{Heard, read_some};
 use crate::writing::{Taken, write_some};
 use mio::event::Event;
 use mio::net::TcpStream;
-use sc_value::Place;
+use sc_value::{Place, same_place};
 
 // A connect that takes longer has failed, in milliseconds. The system alone gives up after two
 // minutes.
@@ -21,11 +21,22 @@ const LONGEST_SILENCE: u64 = 64_000;
 // A piece that would wait may be so long, in bytes; with a longer one the peer is given up.
 const LONGEST_PIECE: usize = 1 << 20;
 
+// Whether it is this place.
+fn is_place(some: Option<Place>, place: Place) -> bool {
+    matches!(some, Some(other) if same_place(other, place))
+}
+
 // A connection.
 #[derive(Drop)]
 pub(crate) struct Slot {
     pub(crate) place: Place,
     pub(crate) stream: TcpStream,
+    // The address that a peer's connection came from, where what goes there may go out here.
+    origin: Option<Place>,
+    // What goes to that address goes out here.
+    is_lent: bool,
+    // The place whose piece was taken in part: nothing else goes out before the rest of it.
+    part: Option<Place>,
     // It stands among those that may give something.
     pub(crate) is_ready: bool,
     // It sends no more: what it sent before may still be there.
@@ -44,10 +55,13 @@ pub(crate) struct Slot {
 
 impl Slot {
     // A connection that was made at this moment.
-    pub(crate) fn new(place: Place, stream: TcpStream, now: u64) -> Slot {
+    pub(crate) fn new(place: Place, stream: TcpStream, origin: Option<Place>, now: u64) -> Slot {
         Slot {
             place,
             stream,
+            origin,
+            is_lent: false,
+            part: None,
             is_ready: false,
             is_closing: false,
             is_ended: false,
@@ -90,17 +104,41 @@ impl Slot {
         }
     }
 
-    // It was read to its end at this moment.
+    // Whether what goes to a place goes out here.
+    pub(crate) fn serves(&self, place: Place) -> bool {
+        same_place(self.place, place) || self.is_lent && is_place(self.origin, place)
+    }
+
+    // From now on what goes to an address goes out here, where it came from there and is read still.
+    pub(crate) fn lend(&mut self, place: Place) -> bool {
+        let is_lent = !self.is_ended && is_place(self.origin, place);
+        self.is_lent = self.is_lent || is_lent;
+        is_lent
+    }
+
+    // The other place that goes out here beside this one.
+    pub(crate) fn other(&self, place: Place) -> Option<Place> {
+        if !self.is_lent {
+            None
+        } else if same_place(self.place, place) {
+            self.origin
+        } else {
+            Some(self.place)
+        }
+    }
+
+    // It was read to its end at this moment. What goes to its address goes out here no more.
     pub(crate) fn end(&mut self, now: u64) {
         self.is_ended = true;
+        self.is_lent = false;
         self.used = now;
     }
 
-    // Writes from the front of the bytes, once, unless it is known to take none.
-    pub(crate) fn write(&mut self, bytes: &[u8], now: u64) -> Taken
+    // Writes from the front of a piece that goes to a place, once, unless it is known to take none.
+    pub(crate) fn write(&mut self, to: Place, bytes: &[u8], now: u64) -> Taken
         ensures { IsTaken result (length bytes.now) }
     {
-        if self.is_blocked {
+        if self.is_blocked || !self.may_take(to) {
             return self.wait(bytes.len(), now);
         }
         match write_some(&mut self.stream, bytes) {
@@ -112,9 +150,15 @@ impl Slot {
             Taken::Some(count) => {
                 self.is_connecting = false;
                 self.used = now;
+                self.part = if count < bytes.len() { Some(to) } else { None };
                 Taken::Some(count)
             }
         }
+    }
+
+    // Whether it has no piece of another place to end first.
+    fn may_take(&self, to: Place) -> bool {
+        self.part.is_none() || is_place(self.part, to)
     }
 
     // A piece that has to wait: it doesn't where it is too long, or the connect lasts too long.

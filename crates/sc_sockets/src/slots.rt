@@ -18,12 +18,17 @@ const PEERS: usize = 256;
 
 const ADDRESSES: usize = 512;
 
+// No slot has this number.
+const NOWHERE: usize = usize::MAX;
+
 // The slots. The token of a connection is the number of its slot.
 #[derive(Drop)]
 pub(crate) struct Slots {
     slots: Vec<Option<Slot>>,
     // The slots that may give something, each once, in turn.
     ready: VecDeque<usize>,
+    // Places whose connection was lost with another place, and that weren't told so yet.
+    lost: VecDeque<Place>,
 }
 
 impl Slots {
@@ -32,6 +37,7 @@ impl Slots {
         Ok(Slots {
             slots: Vec::with_capacity(alloc, PEERS + ADDRESSES)?,
             ready: VecDeque::with_capacity(alloc, PEERS + ADDRESSES)?,
+            lost: VecDeque::new(alloc),
         })
     }
 
@@ -64,21 +70,48 @@ impl Slots {
     }
 
     // Keeps a connection that was made at this moment; `false` where there is no such slot.
-    pub(crate) fn fill(&mut self, at: usize, place: Place, stream: TcpStream, now: u64) -> bool {
+    pub(crate) fn fill(
+        &mut self,
+        at: usize,
+        place: Place,
+        stream: TcpStream,
+        origin: Option<Place>,
+        now: u64,
+    ) -> bool {
         match self.slots.get_mut(at) {
             Some(slot) => {
-                *slot = Some(Slot::new(place, stream, now));
+                *slot = Some(Slot::new(place, stream, origin, now));
                 true
             }
             None => false,
         }
     }
 
-    // The slot of a place.
+    // The slot by which what goes to a place goes out.
     fn slot_of(&self, place: Place) -> Option<usize> {
-        self.slots.iter().position(
-            |slot| matches!(slot, Some(slot) if same_place(slot.place, place)),
-        )
+        self.slots
+            .iter()
+            .position(|slot| matches!(slot, Some(slot) if slot.serves(place)))
+    }
+
+    // From now on what goes to an address goes out by the connection that came from there; `false`
+    // where there is none that is open.
+    pub(crate) fn lend(&mut self, place: Place) -> bool {
+        self.slots.iter_mut().flatten().any(|slot| slot.lend(place))
+    }
+
+    // A place is connected anew: that it was lost is no news.
+    pub(crate) fn forget_lost(&mut self, place: Place) {
+        self.lost.retain(|other| !same_place(*other, place));
+    }
+
+    // The other place of a connection is lost with this one.
+    fn lose_other(&mut self, at: usize, place: Place) {
+        if let Some(Some(slot)) = self.slots.get_mut(at) {
+            if let Some(other) = slot.other(place) {
+                let _ = self.lost.push_back(other);
+            }
+        }
     }
 
     // Drops the connection in a slot.
@@ -89,9 +122,10 @@ impl Slots {
         self.ready.retain(|token| *token != at);
     }
 
-    // Drops the connection with a place.
+    // Drops the connection with a place. Another place that it served is lost with it.
     pub(crate) fn close(&mut self, place: Place) {
         if let Some(at) = self.slot_of(place) {
+            self.lose_other(at, place);
             self.clear(at);
         }
     }
@@ -130,11 +164,15 @@ impl Slots {
 
     // Whether a connection may give something.
     pub(crate) fn has_ready(&self) -> bool {
-        !self.ready.is_empty()
+        !self.ready.is_empty() || !self.lost.is_empty()
     }
 
-    // The next connection that may give something, with its slot.
+    // The next connection that may give something, with its slot; a place that was lost with another
+    // one comes first, with no slot, so that a read of it fails.
     pub(crate) fn next_ready(&mut self) -> Option<(usize, Place)> {
+        if let Some(place) = self.lost.pop_front() {
+            return Some((NOWHERE, place));
+        }
         let at = self.ready.pop_front()?;
         match self.slots.get_mut(at) {
             Some(Some(slot)) => {
@@ -165,7 +203,10 @@ impl Slots {
     pub(crate) fn end(&mut self, at: usize, place: Place, now: u64) {
         if !is_back(place) {
             self.clear(at);
-        } else if let Some(Some(slot)) = self.slots.get_mut(at) {
+            return;
+        }
+        self.lose_other(at, place);
+        if let Some(Some(slot)) = self.slots.get_mut(at) {
             slot.end(now);
         }
     }
@@ -178,7 +219,7 @@ impl Slots {
             return Taken::Failed;
         };
         match self.slots.get_mut(at) {
-            Some(Some(slot)) => slot.write(bytes, now),
+            Some(Some(slot)) => slot.write(place, bytes, now),
             _ => Taken::Failed,
         }
     }

@@ -32,9 +32,20 @@ const SWEEP: u64 = 1_000;
 // The token of the listener. That of a connection is its slot.
 const LISTENER: Token = Token(usize::MAX);
 
+// A connection that a peer opened, with the address that it came from where what goes there is to go out by it.
+#[derive(Drop)]
+pub(crate) struct Opened {
+    stream: TcpStream,
+    origin: Option<Place>,
+}
+
 // The sockets of an edge.
 #[derive(Drop)]
 pub(crate) struct Sockets {
+    // The address that it listens at.
+    own: SocketAddr,
+    // What goes to an address goes out by the open connection that came from there.
+    is_reusing: bool,
     began: Instant,
     // Milliseconds since it began, when the system was asked last.
     now: u64,
@@ -60,6 +71,14 @@ pub(crate) struct Sockets {
 // The address in the form of the system.
 fn address(ip: [u8; 4], port: u16) -> SocketAddr {
     SocketAddr::V4(SocketAddrV4::new(Ipv4Addr::from_octets(ip), port))
+}
+
+// The IPv4 address and the port; no address where it isn't one of IPv4.
+fn parts(address: SocketAddr) -> ([u8; 4], u16) {
+    match address {
+        SocketAddr::V4(address) => (address.ip().octets(), address.port()),
+        SocketAddr::V6(address) => ([0; 4], address.port()),
+    }
 }
 
 // Notes the events. It answers whether one is of the listener.
@@ -88,6 +107,8 @@ impl Sockets {
         poll.registry()
             .register(&mut listener, LISTENER, Interest::READABLE)?;
         Ok(Sockets {
+            own: listener.local_addr()?,
+            is_reusing: false,
             began: Instant::now(rt)?,
             now: 0,
             poll,
@@ -104,12 +125,15 @@ impl Sockets {
         })
     }
 
+    // Whether what goes to an address goes out by an open connection that comes from there from now on.
+    pub(crate) fn set_reuse(&mut self, is_reusing: bool) {
+        self.is_reusing = is_reusing;
+    }
+
     // The address that it listens at.
     pub(crate) fn local_address(&self) -> io::Result<([u8; 4], u16)> {
-        match self.listener.local_addr()? {
-            SocketAddr::V4(address) => Ok((address.ip().octets(), address.port())),
-            SocketAddr::V6(address) => Ok(([0; 4], address.port())),
-        }
+        let own = self.listener.local_addr()?;
+        Ok(parts(own))
     }
 }
 
@@ -178,17 +202,28 @@ impl Sockets {
 // Connections that come and go.
 impl Sockets {
     // A connection that waits at the listener.
-    pub(crate) fn accept(&mut self) -> Option<TcpStream> {
+    pub(crate) fn accept(&mut self) -> Option<Opened> {
         if !self.is_knocked {
             return None;
         }
         match self.listener.accept() {
-            Ok((stream, _)) => Some(stream),
+            Ok((stream, from)) => Some(self.opened(stream, from)),
             Err(e) => {
                 self.refuse(e.kind());
                 None
             }
         }
+    }
+
+    // A connection that came from an address.
+    fn opened(&self, stream: TcpStream, from: SocketAddr) -> Opened {
+        let (ip, port) = parts(from);
+        let origin = if self.is_reusing {
+            Some(Place::To(ip, port))
+        } else {
+            None
+        };
+        Opened { stream, origin }
     }
 
     // None could be taken in: none waits, the peer has left, or the system has no room for one now.
@@ -208,8 +243,14 @@ impl Sockets {
         self.slots.has_room_for_peer()
     }
 
-    // Keeps a connection; `false` where the system or the memory has no room for it.
-    pub(crate) fn add(&mut self, place: Place, mut stream: TcpStream) -> bool {
+    // Keeps a peer's connection; `false` where the system or the memory has no room for it.
+    pub(crate) fn add(&mut self, place: Place, opened: Opened) -> bool {
+        let Opened { stream, origin } = opened;
+        self.keep(place, stream, origin)
+    }
+
+    // The same of any connection.
+    fn keep(&mut self, place: Place, mut stream: TcpStream, origin: Option<Place>) -> bool {
         let Some(at) = self.slots.free_slot() else {
             return false;
         };
@@ -223,16 +264,28 @@ impl Sockets {
         {
             return false;
         }
-        self.slots.fill(at, place, stream, self.now)
+        self.slots.fill(at, place, stream, origin, self.now)
     }
 
-    // Begins to connect to an address; `false` where that fails at once, or too many are connected.
+    // Whether an address is the own one. One that listens at all addresses knows those of the loopback.
+    fn is_own(&self, ip: [u8; 4], port: u16) -> bool {
+        let (own, own_port) = parts(self.own);
+        port == own_port && (ip == own || own == [0; 4] && ip[0] == 127)
+    }
+
+    // Begins to connect to an address, or takes the open connection that came from there; `false`
+    // where that fails at once, too many are connected, or the address is the own one.
     fn connect<R: Net>(&mut self, rt: &R, ip: [u8; 4], port: u16) -> bool {
-        if !self.slots.has_room_for_address() {
+        let place = Place::To(ip, port);
+        self.slots.forget_lost(place);
+        if self.slots.lend(place) {
+            return true;
+        }
+        if self.is_own(ip, port) || !self.slots.has_room_for_address() {
             return false;
         }
         match TcpStream::connect(rt, address(ip, port)) {
-            Ok(stream) => self.add(Place::To(ip, port), stream),
+            Ok(stream) => self.keep(place, stream, None),
             Err(_) => false,
         }
     }

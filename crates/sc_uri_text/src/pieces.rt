@@ -1,25 +1,27 @@
-//! The small pieces of a URI's text: one byte, and parts that may be missing. Of want of memory
-//! the text may hold a part of the piece.
+//! The small pieces of a text: one byte, and parts that may be missing. For want of memory the text may
+//! hold a part of the piece.
 
 ghost use Rattle.std.specs.Prelude.{◌≡◌, ◌++◌, [], ◌∷◌, OnOk};
 ghost use Rattle.sc_grammar.specs.Written.{ended_text, port_text, scheme, signed_text};
 
 use sc_value::{NoMemory, Text, write_u64};
 
+/// Appends one byte.
 pub fn put_byte(byte: u8, out: &mut Text) -> Result<(), NoMemory>
     ensures { OnOk result (out.new ≡ out.old ++ byte ∷ []) }
 {
     out.append(&[byte])
 }
 
+/// Appends `sip:`.
 #[tactic(auto, unfolding(sc_grammar::specs::Written::scheme))]
-pub fn put_scheme(out: &mut Text) -> Result<(), NoMemory>
+pub(crate) fn put_scheme(out: &mut Text) -> Result<(), NoMemory>
     ensures { OnOk result (out.new ≡ out.old ++ scheme) }
 {
     out.append(b"sip:")
 }
 
-// Nothing, or the sign and the text.
+/// Appends nothing, or the sign and the text.
 #[tactic(auto, unfolding(sc_grammar::specs::Written::signed_text))]
 pub fn put_signed(sign: u8, text: &Option<Text>, out: &mut Text) -> Result<(), NoMemory>
     ensures { OnOk result (out.new ≡ out.old ++ signed_text sign text.now) }
@@ -33,7 +35,7 @@ pub fn put_signed(sign: u8, text: &Option<Text>, out: &mut Text) -> Result<(), N
     }
 }
 
-// Nothing, or the text and the sign.
+/// Appends nothing, or the text and the sign.
 #[tactic(auto, unfolding(sc_grammar::specs::Written::ended_text))]
 pub fn put_ended(text: &Option<Text>, sign: u8, out: &mut Text) -> Result<(), NoMemory>
     ensures { OnOk result (out.new ≡ out.old ++ ended_text text.now sign) }
@@ -47,6 +49,7 @@ pub fn put_ended(text: &Option<Text>, sign: u8, out: &mut Text) -> Result<(), No
     }
 }
 
+/// Appends nothing, or a colon and the port.
 #[tactic(auto, unfolding(sc_grammar::specs::Written::port_text))]
 pub fn put_port(port: Option<u16>, out: &mut Text) -> Result<(), NoMemory>
     ensures { OnOk result (out.new ≡ out.old ++ port_text port) }

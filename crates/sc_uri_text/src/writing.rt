@@ -19,8 +19,9 @@ pub fn write(alloc: Global, uri: &Uri, out: &mut Text) -> Result<(), NoMemory>
     out.append(text.as_bytes())
 }
 
+/// As [`write`]; but for want of memory `out` may hold a part of the text.
 #[tactic(auto, unfolding(sc_grammar::specs::Written::uri_text))]
-fn put_uri(uri: &Uri, out: &mut Text) -> Result<(), NoMemory>
+pub fn put_uri(uri: &Uri, out: &mut Text) -> Result<(), NoMemory>
     ensures { OnOk result (out.new ≡ out.old ++ uri_text uri.now) }
 {
     match uri {
@@ -41,8 +42,10 @@ fn put_sip_uri(uri: &SipUri, out: &mut Text) -> Result<(), NoMemory>
     put_signed(b'?', &uri.headers, out)
 }
 
+/// Appends the parameters, each behind a semicolon (RFC 3261 section 25.1). For want of memory `out` may hold a
+/// part of them.
 #[tactic(auto, unfolding(sc_grammar::specs::Written::params_text))]
-fn put_params(params: &[Param], out: &mut Text) -> Result<(), NoMemory>
+pub fn put_params(params: &[Param], out: &mut Text) -> Result<(), NoMemory>
     ensures { OnOk result (out.new ≡ out.old ++ params_text params.now) }
 {
     for param in params {

@@ -89,8 +89,9 @@ fn serve_edge<
     };
     let mut edge = match listening_at(alloc, words, shelf, apps) {
         Some(at) => {
-            let ip = at.0;
-            MioEdge::new_or_deaf(rt, alloc, ip, at.1)
+            let mut edge = MioEdge::new_or_deaf(rt, alloc, at.ip, at.port);
+            edge.set_reuse(at.reuse);
+            edge
         }
         None => MioEdge::deaf(rt, alloc),
     };

@@ -35,7 +35,9 @@ settings of its own, and writes `trial N steps S sent M live L`, with the counts
 of `end`.
 
 serve listens at the address of the configuration for SIP over TCP. Standard
-error has the line `sipd: listening A.B.C.D:PORT` once it does.
+error has the line `sipd: listening A.B.C.D:PORT` once it does. On standard input it
+takes the lines `list`, which is answered with the sessions that live, and
+`drop H S`, which ends one of them.
 
 explain writes what a refusal means and how to mend it: WHAT is config, dar,
 script or status, and NUMBER a kind, or the exit status.
