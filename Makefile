@@ -8,13 +8,14 @@ program = crates/sipd/out/sipd
 
 install: $(program)
 	install -D -m 755 $(program) $(to)/bin/sipd
+	install -D -m 755 share/sipdctl $(to)/bin/sipdctl
 	install -D -m 644 docs/sipd.1 $(to)/share/man/man1/sipd.1
 	install -D -m 644 share/sipd.bash-completion $(to)/share/bash-completion/completions/sipd
 	install -D -m 644 share/sipd.service $(to)/share/doc/sipd/sipd.service
 	install -D -m 644 -t $(to)/share/doc/sipd README.md SECURITY.md CONTRIBUTING.md CHANGELOG.md
 	install -D -m 644 -t $(to)/share/doc/sipd/docs docs/*.md
 	install -D -m 644 -t $(to)/share/doc/sipd/docs/calling docs/calling/*.md
-	for example in examples/*/; do install -D -m 644 -t $(to)/share/doc/sipd/$$example $$example*; done
+	find examples -type f | while read -r file; do install -D -m 644 $$file $(to)/share/doc/sipd/$$file; done
 
 # Runs an example from the program's sources, before any proof: make try EXAMPLE=options COMMAND=replay
 EXAMPLE ?= screened_call

@@ -114,6 +114,7 @@ wrong_numbers top = first_fault (
     ∷ wrong_number 0 1000000 (codes "epoch_steps") top
     ∷ [])
 
+-- the first key of a flag that is neither true nor false
 unfoldable pub wrong_flags : Members → Option Fault
 wrong_flags top = first_fault (wrong_flag (codes "journal_parts") top ∷ wrong_flag (codes "reuse") top ∷ [])
 

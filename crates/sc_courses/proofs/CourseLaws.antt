@@ -21,8 +21,10 @@ use Rattle.sc_hosts.specs.Runs.{AreLawful, Epoch, IsLawful, IsLawfulAfter, after
 use Rattle.sc_hosts.specs.Steps.{live_at}
 use Rattle.sc_outs.specs.Deeds.{Deed, step_of}
 use Rattle.sc_courses.specs.Ordering.{Obeys, Point, beginning_point, is_for, order_in, withdrawn_by}
-use Rattle.sc_courses.proofs.OrderingLaws.{is_for_living, obeys_begin, obeys_more, obeys_none, obeys_order, ordered_none, ordered_step, quiet_step, quiet_turn}
-use Rattle.sc_courses.specs.Courses.{AreDeeds, AreSent, Beginning, Course, IsRun, Telling, TellsEpochs, Told, ordered, told_by, with_item}
+use Rattle.sc_courses.proofs.OrderingLaws.{comes_step, is_for_living, obeys_begin, obeys_more, obeys_none, obeys_order, ordered_none, ordered_step, quiet_step, quiet_turn}
+use Rattle.sc_courses.specs.Listings.{IsListingAt}
+use Rattle.sc_courses.proofs.ListingLaws.{listings_none, listings_on, listings_told, lists_one, lists_other}
+use Rattle.sc_courses.specs.Courses.{AreDeeds, AreSent, Beginning, Course, IsRun, Telling, TellsEpochs, TellsListings, Told, ordered, told_by, with_item}
 
 -- ## A step
 
@@ -58,6 +60,7 @@ course_step from told handed running deeds step failed none c = record {
   are = c.are;
   run = run-snoc from.setup running c.mine step failed c.run;
   obeys = obeys_more from.setup beginning_point (record { ended = c.ended; running = running }) (record { ended = c.ended; running = with_one running step }) from.orders c.obeys (quiet_step c.ended running step none);
+  listings = listings_on from.setup from.told told (record { ended = c.ended; running = running }) (record { ended = c.ended; running = with_one running step }) c.listings (comes_step c.ended running step);
 }
 
 -- the withdrawal of a session that lives, as it was ordered
@@ -76,6 +79,7 @@ course_withdrawn from told handed running deeds app lives c = record {
       let point : Point = record { ended = c.ended; running = running } in
       subst (λ (after : Point). Obeys from.setup beginning_point (from.orders ++ Some (order_in running app) ∷ []) after) (ordered_step from.setup point (order_in running app) (is_for_living from.setup point app lives))
       (obeys_order from.setup beginning_point point from.orders (order_in running app) c.obeys);
+  listings = listings_on from.setup from.told told (record { ended = c.ended; running = running }) (record { ended = c.ended; running = with_one running (steps.Withdraw app) }) c.listings (comes_step c.ended running (steps.Withdraw app));
 }
 
 -- the same course, as more orders were answered
@@ -91,6 +95,7 @@ obeyed-more from told handed running deeds orders c obeys = record {
   are = c.are;
   run = c.run;
   obeys = obeys;
+  listings = c.listings;
 }
 
 -- an order that names no session which lives in the epoch that runs
@@ -129,8 +134,9 @@ tells-more (Some first) now new telling item (inl (items, e, is)) notes = tells-
 tells-more (Some first) now new telling item (inr none) notes = inr (rw none at notes)
 
 -- the same course, as more was told of it
-course-told : (from : Beginning) (told told2 : Told) (handed handed2 : List Step) (running : Epoch) (deeds : List Deed) (c : Course from told handed running deeds) → TellsEpochs from.told told2 (record { ended = c.ended; handed = handed2 }) → Course from told2 handed2 running deeds
-course-told from told told2 handed handed2 running deeds c tells = record {
+course-told : (from : Beginning) (told told2 : Told) (handed handed2 : List Step) (running : Epoch) (deeds : List Deed) (c : Course from told handed running deeds) → TellsEpochs from.told told2 (record { ended = c.ended; handed = handed2 })
+    → TellsListings from.setup from.told told2 (record { ended = c.ended; running = running }) → Course from told2 handed2 running deeds
+course-told from told told2 handed handed2 running deeds c tells listings = record {
   ended = c.ended;
   before = c.before;
   mine = c.mine;
@@ -140,22 +146,28 @@ course-told from told told2 handed handed2 running deeds c tells = record {
   are = c.are;
   run = c.run;
   obeys = c.obeys;
+  listings = listings;
 }
 
 -- the length of a journal says nothing of epochs
 pub course_counted : (from : Beginning) (told told2 : Told) (handed : List Step) (running : Epoch) (deeds : List Deed) (count : ℕ) → Notes told told2 (noted.Step count) → Course from told handed running deeds → Course from told2 handed running deeds
 unfolding with_item
 course_counted from told told2 handed running deeds count notes c = course-told from told told2 handed handed running deeds c (tells-more from.told told told2 _ (noted.Step count) c.tells notes)
+    (listings_told from.setup from.told told told2 (record { ended = c.ended; running = running }) (noted.Step count) (lists_other from.setup beginning_point (record { ended = c.ended; running = running })) c.listings notes)
 
--- nor does a listing
-pub course_listed : (from : Beginning) (told told2 : Told) (handed : List Step) (running : Epoch) (deeds : List Deed) (listing : Listing) → Notes told told2 (noted.List listing) → Course from told handed running deeds → Course from told2 handed running deeds
+-- nor does a listing, which is of this point
+pub course_listed : (from : Beginning) (told told2 : Told) (handed : List Step) (running : Epoch) (deeds : List Deed) (listing : Listing) → ((ended : List Epoch) → IsListingAt from.setup (record { ended = ended; running = running }) listing) → Notes told told2 (noted.List listing)
+    → Course from told handed running deeds → Course from told2 handed running deeds
 unfolding with_item
-course_listed from told told2 handed running deeds listing notes c = course-told from told told2 handed handed running deeds c (tells-more from.told told told2 _ (noted.List listing) c.tells notes)
+course_listed from told told2 handed running deeds listing is notes c = course-told from told told2 handed handed running deeds c (tells-more from.told told told2 _ (noted.List listing) c.tells notes)
+    (let point : Point = record { ended = c.ended; running = running } in
+    listings_told from.setup from.told told told2 point (noted.List listing) (λ listings lists. lists_one from.setup beginning_point point listings listing lists (is c.ended)) c.listings notes)
 
 -- steps are handed on
 pub course_handed : (from : Beginning) (told told2 : Told) (handed : List Step) (running : Epoch) (deeds : List Deed) (journal : Kept Step) → Notes told told2 (noted.Part journal) → Course from told handed running deeds → Course from told2 (handed ++ journal.items) running deeds
 unfolding with_item
 course_handed from told told2 handed running deeds journal notes c = course-told from told told2 handed (handed ++ journal.items) running deeds c (tells-more from.told told told2 _ (noted.Part journal) c.tells notes)
+    (listings_told from.setup from.told told told2 (record { ended = c.ended; running = running }) (noted.Part journal) (lists_other from.setup beginning_point (record { ended = c.ended; running = running })) c.listings notes)
 
 -- ## The end of an epoch
 
@@ -199,6 +211,9 @@ course_next from told told2 handed running deeds journal items notes lawful idle
   run = no-run from.setup (next_of from.setup running) refl;
   obeys = obeys_more from.setup beginning_point (record { ended = c.ended; running = running }) (record { ended = c.ended ++ running ∷ []; running = next_of from.setup running }) from.orders c.obeys
       (quiet_turn c.ended running (next_of from.setup running) refl);
+  listings = listings_on from.setup from.told told2 (record { ended = c.ended; running = running }) (record { ended = c.ended ++ running ∷ []; running = next_of from.setup running })
+      (listings_told from.setup from.told told told2 (record { ended = c.ended; running = running }) (noted.Epoch running.number running.began journal) (lists_other from.setup beginning_point (record { ended = c.ended; running = running })) c.listings notes)
+      (quiet_turn c.ended running (next_of from.setup running) refl).comes;
 }
 
 -- ## Beginning and end
@@ -226,6 +241,7 @@ course_begin from none = record {
   are = λ later rest are. are;
   run = no-run from.setup first_epoch refl;
   obeys = subst (λ (orders : List (Option Order)). Obeys from.setup beginning_point orders beginning_point) (sym none) (obeys_begin from.setup beginning_point);
+  listings = listings_none from.setup from.told;
 }
 
 last-lawful : (setup : Setup) (running : Epoch) → IsLawful as_session setup running.number running.began running.journal → IsLawfulAfter as_session setup running.number running.began (running ∷ [])

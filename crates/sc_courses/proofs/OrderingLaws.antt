@@ -1,5 +1,5 @@
 -- How a run obeys orders as it comes on.
-use Rattle.std.proofs.Common.{◌≡◌, ◌≢◌, ◌⊎◌, ◌&&◌, ◌++◌, nat_eq, eq-eqb, ne_eqb, Bool, true, false, List, [], ◌∷◌, Option, None, Some, refl, ap, sym, ◌∙◌, subst, ⊎_elim, inl, inr, append_assoc, append-nil, if◌then◌else◌}
+use Rattle.std.proofs.Common.{◌≡◌, ◌≢◌, ◌&&◌, ◌++◌, nat_eq, eq-eqb, ne_eqb, Bool, true, false, List, [], ◌∷◌, Option, None, Some, refl, ap, sym, ◌∙◌, subst, inl, inr, append_assoc, append-nil}
 use Rattle.std.specs.List.{flat_map}
 use Rattle.std.specs.Option.{is_some}
 use Rattle.sc_value.specs.declared.ids.AppId.{AppId}
@@ -10,17 +10,17 @@ use Rattle.sc_edge.specs.declared.orders.Order.{Order}
 use Rattle.sc_hosts.specs.Histories.{as_session}
 use Rattle.sc_hosts.specs.Runs.{Epoch, net_of}
 use Rattle.sc_hosts.specs.Steps.{live_at}
-use Rattle.sc_courses.specs.Ordering.{ComesOn, IsQuiet, Obeys, ObeysPart, Point, after_order, epochs_of, is_for, with_steps, withdrawn, withdrawn_by}
+use Rattle.sc_courses.specs.Ordering.{ComesOn, IsQuiet, Obeys, ObeysPart, Point, after_order, is_for, with_steps, withdrawn, withdrawn_by}
 
 -- ## Lists
 
-flat-append : {A B : Type 0} (f : A → List B) (xs ys : List A) → flat_map f (xs ++ ys) ≡ flat_map f xs ++ flat_map f ys
-flat-append f [] ys = refl
-flat-append f (x ∷ xs) ys = ap (λ rest. f x ++ rest) (flat-append f xs ys) ∙ sym (append_assoc (f x) (flat_map f xs) (flat_map f ys))
+pub flat_append : {A B : Type 0} (f : A → List B) (xs ys : List A) → flat_map f (xs ++ ys) ≡ flat_map f xs ++ flat_map f ys
+flat_append f [] ys = refl
+flat_append f (x ∷ xs) ys = ap (λ rest. f x ++ rest) (flat_append f xs ys) ∙ sym (append_assoc (f x) (flat_map f xs) (flat_map f ys))
 
 pub withdrawn_append : (xs ys : List Epoch) → withdrawn (xs ++ ys) ≡ withdrawn xs ++ withdrawn ys
 unfolding withdrawn
-withdrawn_append xs ys = flat-append (λ (epoch : Epoch). flat_map withdrawn_by epoch.journal) xs ys
+withdrawn_append xs ys = flat_append (λ (epoch : Epoch). flat_map withdrawn_by epoch.journal) xs ys
 
 -- of one epoch
 one-epoch : (epoch : Epoch) → withdrawn (epoch ∷ []) ≡ flat_map withdrawn_by epoch.journal
@@ -60,13 +60,18 @@ quiet_same point = record { comes = comes_same point; none = refl }
 pub quiet_then : (a b c : Point) → IsQuiet a b → IsQuiet b c → IsQuiet a c
 quiet_then a b c first second = record { comes = comes_then a b c first.comes second.comes; none = second.none ∙ first.none }
 
+-- by a step
+pub comes_step : (ended : List Epoch) (epoch : Epoch) (step : Step) → ComesOn (record { ended = ended; running = epoch }) (record { ended = ended; running = with_steps epoch (step ∷ []) })
+unfolding ComesOn
+comes_step ended epoch step = inl (step ∷ [], refl, refl)
+
 -- a step that withdraws none
 pub quiet_step : (ended : List Epoch) (epoch : Epoch) (step : Step) → withdrawn_by step ≡ [] → IsQuiet (record { ended = ended; running = epoch }) (record { ended = ended; running = with_steps epoch (step ∷ []) })
 unfolding ComesOn
 quiet_step ended epoch step none = record {
   comes = inl (step ∷ [], refl, refl);
   none = withdrawn_append ended (with_steps epoch (step ∷ []) ∷ []) ∙ (ap (λ (rest : List AppId). withdrawn ended ++ rest)
-      (one-epoch (with_steps epoch (step ∷ [])) ∙ (flat-append withdrawn_by epoch.journal (step ∷ []) ∙ (ap (λ (rest : List AppId). flat_map withdrawn_by epoch.journal ++ (rest ++ [])) none ∙ (append-nil (flat_map withdrawn_by epoch.journal) ∙ sym (one-epoch epoch)))))
+      (one-epoch (with_steps epoch (step ∷ [])) ∙ (flat_append withdrawn_by epoch.journal (step ∷ []) ∙ (ap (λ (rest : List AppId). flat_map withdrawn_by epoch.journal ++ (rest ++ [])) none ∙ (append-nil (flat_map withdrawn_by epoch.journal) ∙ sym (one-epoch epoch)))))
       ∙ sym (withdrawn_append ended (epoch ∷ [])));
 }
 

@@ -61,9 +61,11 @@ pub record Given : Type 0 where
   pub moments : List ℕ
   pub orders : List (Option Order)
 
+-- nothing was answered
 abbrev pub none_given : Given
 none_given = record { moments = []; orders = [] }
 
+-- the one's answers, and then the other's
 abbrev pub given_then : Given → Given → Given
 given_then first later = record { moments = first.moments ++ later.moments; orders = first.orders ++ later.orders }
 

@@ -14,7 +14,8 @@ use Rattle.sc_hosts.specs.Histories.{as_session}
 use Rattle.sc_hosts.specs.Runs.{AreLawful, Epoch, IsLawfulAfter, after_step, start}
 use Rattle.sc_outs.specs.Deeds.{Deed, step_of}
 use Rattle.sc_courses.specs.Asking.{Given}
-use Rattle.sc_courses.specs.Ordering.{Obeys, beginning_point}
+use Rattle.sc_courses.specs.Listings.{Lists, listings_in}
+use Rattle.sc_courses.specs.Ordering.{Obeys, Point, beginning_point}
 
 -- what a notice was told, where it tells it
 abbrev pub Told : Type 0
@@ -55,6 +56,11 @@ unfoldable pub TellsEpochs : Told → Told → Telling → Type 0
 TellsEpochs None now telling = now ≡ None
 TellsEpochs (Some old) now telling = ((items : List (Noted (Kept Step))) × (now ≡ Some (old ++ items)) × (told_by items ≡ telling)) ⊎ (now ≡ None)
 
+-- a notice was told what lived at points of the run, one after the other, as far as it came, or it doesn't tell
+unfoldable pub TellsListings : Setup → Told → Told → Point → Type 0
+TellsListings setup None now point = now ≡ None
+TellsListings setup (Some old) now point = ((items : List (Noted (Kept Step))) × (now ≡ Some (old ++ items)) × Lists setup beginning_point (listings_in items) point) ⊎ (now ≡ None)
+
 -- what a run is held against: its settings, what its notice was told and its edge where it began, and since then the moments
 -- that its clock has answered, and the orders that were answered, none where there was none
 pub record Beginning : Type 0 where
@@ -73,7 +79,7 @@ abbrev pub after : Beginning → Given → Beginning
 after from given = record from { moments = from.moments ++ given.moments; orders = from.orders ++ given.orders }
 
 -- how far it came: the epochs that ended, their deeds, and those of the epoch that runs, of which so much was
--- handed on; and what was withdrawn was ordered
+-- handed on; what was withdrawn was ordered; and each listing that the notice was told is of a point on the way
 pub record Course (from : Beginning) (told : Told) (handed : List Step) (running : Epoch) (deeds : List Deed) : Type 0 where
   pub ended : List Epoch
   pub before : List Deed
@@ -84,3 +90,4 @@ pub record Course (from : Beginning) (told : Told) (handed : List Step) (running
   pub are : (later : List Epoch) (rest : List Deed) → AreDeeds from.setup later rest → AreDeeds from.setup (ended ++ later) (before ++ rest)
   pub run : IsRun from.setup running mine
   pub obeys : Obeys from.setup beginning_point from.orders (record { ended = ended; running = running })
+  pub listings : TellsListings from.setup from.told told (record { ended = ended; running = running })

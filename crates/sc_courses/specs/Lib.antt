@@ -1,5 +1,6 @@
 pub mod Asking
 pub mod Courses
 pub mod Due
+pub mod Listings
 pub mod Marks
 pub mod Ordering

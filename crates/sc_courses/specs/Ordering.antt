@@ -1,5 +1,5 @@
 -- Which orders become withdrawals: those that name a session which lives in the epoch that runs then.
-use Rattle.std.specs.Prelude.{◌≡◌, ◌&&◌, ◌⊎◌, ◌++◌, ℕ, Bool, List, [], ◌∷◌, Option, None, Some, if◌then◌else◌, nat_eq}
+use Rattle.std.specs.Prelude.{◌≡◌, ◌&&◌, ◌⊎◌, ◌++◌, Bool, List, [], ◌∷◌, Option, None, Some, if◌then◌else◌, nat_eq}
 use Rattle.std.specs.List.{flat_map}
 use Rattle.std.specs.Option.{is_some}
 use Rattle.sc_value.specs.declared.ids.AppId.{AppId}
@@ -22,9 +22,11 @@ pub record Point : Type 0 where
 abbrev pub beginning_point : Point
 beginning_point = record { ended = []; running = record { number = 0; began = 0; journal = [] } }
 
+-- all epochs until then, the one that runs the last
 abbrev pub epochs_of : Point → List Epoch
 epochs_of point = point.ended ++ point.running ∷ []
 
+-- the epoch with more steps at the end of its journal
 abbrev pub with_steps : Epoch → List Step → Epoch
 with_steps epoch more = record epoch { journal = epoch.journal ++ more }
 
@@ -36,6 +38,7 @@ ComesOn earlier later =
 
 -- ## What is withdrawn
 
+-- the session that a step withdraws
 abbrev pub withdrawn_by : Step → List AppId
 withdrawn_by (steps.In from message) = []
 withdrawn_by (steps.Bad from bad) = []

@@ -35,20 +35,21 @@ use Rattle.sc_hosts.specs.TakingResponses.{told, told_by, cancelling, with_reply
 use Rattle.sc_hosts.specs.Ticks.{mark_fired}
 use Rattle.sc_hosts.specs.Transacting.{client_for, is_answered_by, method_of, out_of_client, pass_client, pass_server, server_passed, tidied, with_client}
 use Rattle.sc_hosts.proofs.Deliveries.{same_bytes-equal}
-use Rattle.sc_lives.specs.Numbers.{IsNumbered}
+use Rattle.sc_lives.specs.Numbers.{IsNumbered, IsRising}
 use Rattle.sc_lives.proofs.Serials.{append-rising, change-rising}
 use Rattle.sc_once.specs.Growing.{IsBetween}
 use Rattle.sc_once.proofs.Bounds.{between-append, from-lower, next-between, to-higher}
 use Rattle.sc_once.proofs.Finding.{cond_first, find-more}
 use Rattle.sc_keyed.specs.Keyed.{IsIn}
 use Rattle.sc_keyed.proofs.Apart.{found-in, in-append, in-change, in-filter}
-use Rattle.sc_keyed.proofs.ClientKeys.{AreKeyed, IsDrawnBy, keyed-cancel, keyed-counted, keyed-kept, keyed-passed, may-send}
+use Rattle.sc_keyed.proofs.ClientKeys.{AreKeyed, IsDrawnBy, equal, keyed-cancel, keyed-counted, keyed-kept, keyed-passed, may-send}
 
 -- ## Servers
 
--- each is of a session of this host, and their events rise up to a count
-pub record AreServers (number count : ℕ) (servers : List Server) : Type 0 where
+-- each is of a session of this host, whose last serial is this, and their events rise up to a count
+pub record AreServers (number last count : ℕ) (servers : List Server) : Type 0 where
   pub here : (server : Server) → IsIn server servers → server.app.host ≡ number
+  pub given : (server : Server) → IsIn server servers → server.app.serial ≤ last
   pub events : IsBetween (map (λ (s : Server). s.event) servers) 0 count
 
 events-kept : (kept : Server → Bool) (servers : List Server) (low high : ℕ) → IsBetween (map (λ (s : Server). s.event) servers) low high
@@ -81,41 +82,53 @@ map-append : (xs : List Server) (s : Server) → map (λ (s : Server). s.event) 
 map-append [] s = refl
 map-append (x ∷ xs) s = ap (λ ns. x.event ∷ ns) (map-append xs s)
 
-module _ (number count : ℕ) where
+module _ (number last count : ℕ) where
   pub servers-changed : (test : Server → Bool) (change : Server → Server) (servers : List Server) → ((s : Server) → (change s).event ≡ s.event)
-      → ((s : Server) → (change s).app ≡ s.app) → AreServers number count servers → AreServers number count (change_first test change servers)
+      → ((s : Server) → (change s).app ≡ s.app) → AreServers number last count servers → AreServers number last count (change_first test change servers)
   servers-changed test change servers event app are = record {
-    here = λ server within. at server (in-change test change servers server within);
+    here = λ server within. let one = of server (in-change test change servers server within) in ap (λ (a : AppId). a.host) one.2 ∙ are.here one.0 one.1;
+    given = λ server within. let one = of server (in-change test change servers server within) in subst (λ (a : AppId). a.serial ≤ last) (sym one.2) (are.given one.0 one.1);
     events = subst (λ (ns : List ℕ). IsBetween ns 0 count) (sym (events-changed test change servers event)) are.events;
   }
     where
-      at : (server : Server) → (y : Server) × IsIn y servers × ((server ≡ change y) ⊎ (server ≡ y)) → server.app.host ≡ number
-      at server one = by one.2
+      of : (server : Server) → (y : Server) × IsIn y servers × ((server ≡ change y) ⊎ (server ≡ y)) → (y : Server) × IsIn y servers × (server.app ≡ y.app)
+      of server one = (one.0, one.1, by one.2)
         where
-          by : (server ≡ change one.0) ⊎ (server ≡ one.0) → server.app.host ≡ number
-          by (inl changed) = ap (λ (s : Server). s.app.host) changed ∙ ap (λ (a : AppId). a.host) (app one.0) ∙ are.here one.0 one.1
-          by (inr same) = ap (λ (s : Server). s.app.host) same ∙ are.here one.0 one.1
+          by : (server ≡ change one.0) ⊎ (server ≡ one.0) → server.app ≡ one.0.app
+          by (inl changed) = ap (λ (s : Server). s.app) changed ∙ app one.0
+          by (inr same) = ap (λ (s : Server). s.app) same
 
-  pub servers-kept : (kept : Server → Bool) (servers : List Server) → AreServers number count servers → AreServers number count (filter kept servers)
+  pub servers-kept : (kept : Server → Bool) (servers : List Server) → AreServers number last count servers
+      → AreServers number last count (filter kept servers)
   servers-kept kept servers are = record {
     here = λ server within. are.here server (in-filter kept servers server within);
+    given = λ server within. are.given server (in-filter kept servers server within);
     events = events-kept kept servers 0 count are.events;
   }
 
-  pub servers-more : (servers : List Server) (new : Server) → new.app.host ≡ number → new.event ≡ count + 1 → AreServers number count servers
-      → AreServers number (count + 1) (servers ++ new ∷ [])
-  servers-more servers new here next are = record {
-    here = λ server within. at server (in-append servers new server within);
+  pub servers-more : (servers : List Server) (new : Server) → new.app.host ≡ number → new.app.serial ≤ last → new.event ≡ count + 1
+      → AreServers number last count servers → AreServers number last (count + 1) (servers ++ new ∷ [])
+  servers-more servers new here given next are = record {
+    here = λ server within. either (λ (a : AppId). a.host ≡ number) server (in-append servers new server within) (are.here server) here;
+    given = λ server within. either (λ (a : AppId). a.serial ≤ last) server (in-append servers new server within) (are.given server) given;
     events = subst (λ (ns : List ℕ). IsBetween ns 0 (count + 1)) (sym (map-append servers new ∙ ap (λ (n : ℕ). map (λ (s : Server). s.event) servers ++ n ∷ []) next))
         (between-append (map (λ (s : Server). s.event) servers) ((count + 1) ∷ []) 0 count (count + 1) are.events (next-between count));
   }
     where
-      at : (server : Server) → IsIn server servers ⊎ (server ≡ new) → server.app.host ≡ number
-      at server (inl old) = are.here server old
-      at server (inr same) = ap (λ (s : Server). s.app.host) same ∙ here
+      either : (P : AppId → Type 0) (server : Server) → IsIn server servers ⊎ (server ≡ new) → (IsIn server servers → P server.app) → P new.app → P server.app
+      either P server (inl old) one two = one old
+      either P server (inr same) one two = subst (λ (s : Server). P s.app) (sym same) two
 
-pub servers-counted : (number count more : ℕ) (servers : List Server) → count ≤ more → AreServers number count servers → AreServers number more servers
-servers-counted number count more servers up are = record { here = are.here; events = to-higher _ 0 count more up are.events }
+pub servers-counted : (number last later count more : ℕ) (servers : List Server) → last ≤ later → count ≤ more → AreServers number last count servers
+    → AreServers number later more servers
+servers-counted number last later count more servers on up are = record {
+  here = are.here;
+  given = λ server within. through server.app.serial (are.given server within);
+  events = to-higher _ 0 count more up are.events;
+}
+  where
+    through : (n : ℕ) → n ≤ last → n ≤ later
+    through n is = omega (arith, is, on)
 
 -- ## Sessions
 
@@ -132,6 +145,25 @@ found-same {A = A} {B = B} (x ∷ xs) p q f g same gives = by (p x) (q x) refl (
     by false true is more = rw is refl
     by false false is more = rw is more
 
+pub rises-to : {S : Type 0} (lives : List (Live S)) (low last : ℕ) → IsRising lives low last → low ≤ last
+unfolding IsRising
+rises-to [] low last rising = rising
+rises-to (live ∷ lives) low last rising = through low live.serial last rising.0 (rises-to lives live.serial last rising.1)
+  where
+    through : (a b c : ℕ) → a < b → b ≤ c → a ≤ c
+    through a b c p q = omega (arith, p, q)
+
+-- what lives has a serial up to the last
+there-last : {S : Type 0} (lives : List (Live S)) (low last serial : ℕ) → IsRising lives low last → is_some (find (is_live serial) lives) ≡ true → serial ≤ last
+unfolding IsRising
+there-last [] low last serial rising is = cc
+there-last {S = S} (other ∷ lives) low last serial rising is = by (other.serial == serial) refl is (there-last lives other.serial last serial rising.1)
+  where
+    by : (b : Bool) → (other.serial == serial) ≡ b → is_some (cond b (Some other) (find (is_live serial) lives)) ≡ true
+        → (is_some (find (is_live serial) lives) ≡ true → serial ≤ last) → serial ≤ last
+    by true at is more = subst (λ (n : ℕ). n ≤ last) (equal other.serial serial at) (rises-to lives other.serial last rising.1)
+    by false at is more = more is
+
 abbrev pub last_number : {S : Type 0} → Form S → Live S → ℕ
 last_number form live = (form.read live.session).view.counter
 
@@ -143,7 +175,7 @@ counter_at form lives serial = option_map (last_number form) (find (is_live seri
 -- may give them up to another
 pub record IsKeyed {S : Type 0} (form : Form S) (Own : AppId → Type 0) (low high number count : ℕ) (host : Host S) : Type 0 where
   pub clients : AreKeyed Own low number host.last (counter_at form host.sessions) host.clients
-  pub servers : AreServers number count host.servers
+  pub servers : AreServers number host.last count host.servers
   pub numbered : IsNumbered host
   pub began : (app : AppId) → Own app → app.host ≡ number → app.serial ≤ host.last
   pub able : (app : AppId) → Own app → app.host ≡ number → IsDrawnBy high (counter_at form host.sessions app.serial)
@@ -158,7 +190,7 @@ module _ {S : Type 0} (form : Form S) (Own : AppId → Type 0) (low high number 
   pub counted : (count more : ℕ) (host : Host S) → count ≤ more → Keyed count host → Keyed more host
   counted count more host up keyed = record {
     clients = keyed.clients;
-    servers = servers-counted number count more host.servers up keyed.servers;
+    servers = servers-counted number host.last host.last count more host.servers (omega arith) up keyed.servers;
     numbered = keyed.numbered;
     began = keyed.began;
     able = keyed.able;
@@ -208,7 +240,7 @@ module _ {S : Type 0} (form : Form S) (Own : AppId → Type 0) (low high number 
   unfolding pass_client tidied
   pass_client-keyed app branch cancelling item count host keyed = record {
     clients = keyed-passed Own low number host.last (counter_at form host.sessions) app branch cancelling item _ host.clients keyed.clients;
-    servers = servers-kept number count _ host.servers keyed.servers;
+    servers = servers-kept number host.last count _ host.servers keyed.servers;
     numbered = keyed.numbered;
     began = keyed.began;
     able = keyed.able;
@@ -219,7 +251,7 @@ module _ {S : Type 0} (form : Form S) (Own : AppId → Type 0) (low high number 
       → Keyed count (record host { servers = change_first test change host.servers })
   servers-keyed test change count host event app keyed = record {
     clients = keyed.clients;
-    servers = servers-changed number count test change host.servers event app keyed.servers;
+    servers = servers-changed number host.last count test change host.servers event app keyed.servers;
     numbered = keyed.numbered;
     began = keyed.began;
     able = keyed.able;
@@ -229,7 +261,7 @@ module _ {S : Type 0} (form : Form S) (Own : AppId → Type 0) (low high number 
   unfolding tidied
   tidied-keyed count host keyed = record {
     clients = keyed-kept Own low number host.last (counter_at form host.sessions) _ host.clients keyed.clients;
-    servers = servers-kept number count _ host.servers keyed.servers;
+    servers = servers-kept number host.last count _ host.servers keyed.servers;
     numbered = keyed.numbered;
     began = keyed.began;
     able = keyed.able;
@@ -247,7 +279,7 @@ module _ {S : Type 0} (form : Form S) (Own : AppId → Type 0) (low high number 
   unfolding pass_client tidied
   cancel-keyed now item client count host within kind sends keyed = record {
     clients = keyed-cancel Own low number host.last (counter_at form host.sessions) now item _ host.clients client within kind sends keyed.clients;
-    servers = servers-kept number count _ host.servers keyed.servers;
+    servers = servers-kept number host.last count _ host.servers keyed.servers;
     numbered = keyed.numbered;
     began = keyed.began;
     able = keyed.able;
@@ -355,21 +387,21 @@ module _ {S : Type 0} (form : Form S) (Own : AppId → Type 0) (low high number 
   refuse-keyed config from code reason request count host keyed = if-took _ _ _ keyed keyed
 
   -- a request that was queued gets its server, of the event that is next
-  if-server : (b : Bool) (count : ℕ) (host : Host S) (server : Server) → server.app.host ≡ number → server.event ≡ count + 1 → Keyed count host
+  if-server : (b : Bool) (count : ℕ) (host : Host S) (server : Server) → server.app.host ≡ number → server.app.serial ≤ host.last → server.event ≡ count + 1 → Keyed count host
       → Keyed (count + 1) (cond b host (record host { servers = host.servers ++ server ∷ [] }))
-  if-server true count host server here next keyed = counted count (count + 1) host (omega arith) keyed
-  if-server false count host server here next keyed = record {
+  if-server true count host server here given next keyed = counted count (count + 1) host (omega arith) keyed
+  if-server false count host server here given next keyed = record {
     clients = keyed.clients;
-    servers = servers-more number count host.servers server here next keyed.servers;
+    servers = servers-more number host.last count host.servers server here given next keyed.servers;
     numbered = keyed.numbered;
     began = keyed.began;
     able = keyed.able;
   }
 
-  with_server-keyed : (serial : ℕ) (peer : Peer) (tag : Bytes) (request : Request) (count : ℕ) (host : Host S) → Keyed count host
+  with_server-keyed : (serial : ℕ) (peer : Peer) (tag : Bytes) (request : Request) (count : ℕ) (host : Host S) → serial ≤ host.last → Keyed count host
       → Keyed (count + 1) (with_server (record { host = number; serial = serial }) (count + 1) peer tag request host)
   unfolding with_server
-  with_server-keyed serial peer tag request count host keyed = if-server _ count host _ refl refl keyed
+  with_server-keyed serial peer tag request count host given keyed = if-server _ count host _ refl given refl keyed
 
   with_trying-keyed : (from : Peer) (now : ℕ) (request : Request) (taken : Taken S) → Took taken → Took (with_trying from now request taken)
   unfolding with_trying tried
@@ -399,7 +431,7 @@ module _ {S : Type 0} (form : Form S) (Own : AppId → Type 0) (low high number 
   queue_later-keyed config epoch from now request count live host there keyed =
       if-took _ _ _ (refuse-keyed config from 503 _ request count host keyed)
       (with_trying-keyed from now request _
-      (queue-counts count live.serial now _ _ _ (ap (λ (lives : List (Live S)). is_some (find (is_live live.serial) lives)) (with_server-sessions _ _ from _ _ host) ∙ there) (with_server-keyed live.serial from _ _ count host keyed)))
+      (queue-counts count live.serial now _ _ _ (ap (λ (lives : List (Live S)). is_some (find (is_live live.serial) lives)) (with_server-sessions _ _ from _ _ host) ∙ there) (with_server-keyed live.serial from _ _ count host (there-last host.sessions 0 host.last live.serial keyed.numbered there) keyed)))
 
   itself : (n : ℕ) → (n == n) ≡ true
   itself n = grind (arith, nat_tests)
@@ -453,7 +485,7 @@ module _ {S : Type 0} (form : Form S) (Own : AppId → Type 0) (low high number 
   begins-keyed count host new serial keyed = record {
     clients = keyed-counted Own Own low low number host.last (host.last + 1) (counter_at form host.sessions) (counter_at form (host.sessions ++ new ∷ [])) host.clients (one-up host.last)
         (λ at n under drawn. subst (IsDrawnBy n) (sym (more-lives host.sessions new at host.last serial under)) drawn) keyed.clients.below keyed.clients;
-    servers = keyed.servers;
+    servers = servers-counted number host.last (host.last + 1) count count host.servers (one-up host.last) (omega arith) keyed.servers;
     numbered = append-rising host.sessions 0 host.last new serial keyed.numbered;
     began = λ app own here. up app.serial (keyed.began app own here);
     able = λ app own here. subst (IsDrawnBy high) (sym (more-lives host.sessions new app.serial host.last serial (keyed.began app own here))) (keyed.able app own here);
@@ -469,7 +501,7 @@ module _ {S : Type 0} (form : Form S) (Own : AppId → Type 0) (low high number 
       → Took (begun form config epoch number from now noted request count host)
   unfolding begun quiet begun_live
   begun-keyed config epoch from now noted request count host keyed =
-      with_trying-keyed from now request _ (with_server-keyed (host.last + 1) from _ request count _ (begins-keyed count host _ refl keyed))
+      with_trying-keyed from now request _ (with_server-keyed (host.last + 1) from _ request count _ (omega arith) (begins-keyed count host _ refl keyed))
 
   take_initial-keyed : (config : Config) (epoch : ℕ) (from : Peer) (now : ℕ) (noted : Note) (request : Request) (count : ℕ) (host : Host S) → Keyed count host
       → Took (take_initial form config epoch number from now noted request count host)

@@ -80,7 +80,7 @@ module _ {S : Type 0} (form : Form S) (setup : Setup) (turns : Turns form setup.
       apart = tt;
       cancelled = λ c d in-c in-d app branch kind other. absurd in-c;
     };
-    servers = record { here = λ server within. absurd within; events = omega arith };
+    servers = record { here = λ server within. absurd within; given = λ server within. absurd within; events = omega arith };
     numbered = omega arith;
     began = λ app own here. absurd own;
     able = λ app own here. absurd own;
@@ -125,6 +125,12 @@ module _ {S : Type 0} (form : Form S) (setup : Setup) (turns : Turns form setup.
   chained-keys : (epoch began : ℕ) (journal : List Step) → HaveOwnKeys (chained form setup epoch began journal)
   unfolding chained
   chained-keys epoch began journal = own-keys (chained_from form setup (start setup epoch began) journal) (chained_from-keyed journal (start setup epoch began) (start-keyed epoch began))
+
+-- what stands between two steps
+pub session-keyed : (setup : Setup) (epoch began : ℕ) (journal : List Step) → AllKeyed as_session NoTurn 0 0 (chained as_session setup epoch began journal)
+unfolding chained
+session-keyed setup epoch began journal =
+    chained_from-keyed as_session setup (session-turns setup.config) journal (start setup epoch began) (start-keyed as_session setup (session-turns setup.config) epoch began)
 
 -- for each form in which sessions are kept
 pub session-keys : (setup : Setup) (epoch began : ℕ) (journal : List Step) → HaveOwnKeys (chained as_session setup epoch began journal)

@@ -31,7 +31,7 @@ use Rattle.sc_keyed.specs.Keyed.{new_branches}
 use Rattle.sc_keyed.proofs.Branches.{branches-rise}
 use Rattle.sc_keyed.proofs.OldOrders.{goodbye-old}
 use Rattle.sc_keyed.proofs.ClientKeys.{IsDrawnBy, equal, keyed-counted}
-use Rattle.sc_keyed.proofs.KeyedHosts.{IsKeyed, counter_at, last_number, tidied-keyed}
+use Rattle.sc_keyed.proofs.KeyedHosts.{IsKeyed, counter_at, last_number, rises-to, tidied-keyed}
 use Rattle.sc_keyed.proofs.KeyedNets.{AllKeyed, differ, mapped, change-keyed, obeyed-keyed, obeyed-old}
 use Rattle.sc_keyed.proofs.KeyedSteps.{with_ready-keyed}
 
@@ -74,14 +74,6 @@ module _ {S : Type 0} where
       by true at more = above-none lives live.serial last serial (subst (λ (n : ℕ). n ≤ live.serial) (equal live.serial serial at) (same live.serial)) rising.1
       by false at more = rw at more
 
-  rises : (lives : List (Live S)) (low last : ℕ) → IsRising lives low last → low ≤ last
-  unfolding IsRising
-  rises [] low last rising = rising
-  rises (live ∷ lives) low last rising = through low live.serial last rising.0 (rises lives live.serial last rising.1)
-    where
-      through : (a b c : ℕ) → a < b → b ≤ c → a ≤ c
-      through a b c p q = omega (arith, p, q)
-
   rising-last : (lives : List (Live S)) (low last serial : ℕ) (live : Live S) → IsRising lives low last → find (is_live serial) lives ≡ Some live → serial ≤ last
   unfolding IsRising
   rising-last [] low last serial live rising is = cc
@@ -89,7 +81,7 @@ module _ {S : Type 0} where
     where
       by : (b : Bool) → (other.serial == serial) ≡ b → cond b (Some other) (find (is_live serial) lives) ≡ Some live
           → (find (is_live serial) lives ≡ Some live → serial ≤ last) → serial ≤ last
-      by true at is more = subst (λ (n : ℕ). n ≤ last) (equal other.serial serial at) (rises lives other.serial last rising.1)
+      by true at is more = subst (λ (n : ℕ). n ≤ last) (equal other.serial serial at) (rises-to lives other.serial last rising.1)
       by false at is more = more is
 
   -- ## A turn begins

@@ -1,5 +1,5 @@
 pub mod Apart
-mod OldOrders
+pub mod OldOrders
 pub mod Branches
 pub mod ClientKeys
 pub mod KeyedHosts

@@ -1,5 +1,5 @@
 -- Orders that send nothing on a new branch: answers, CANCELs, what a turn begins with, and what invalidation sends.
-use Rattle.std.proofs.Common.{◌≡◌, ℕ, ◌++◌, Bool, true, false, Option, None, Some, List, [], ◌∷◌, refl, sym, ap, ◌∙◌}
+use Rattle.std.proofs.Common.{◌≡◌, ℕ, ◌++◌, Bool, true, false, Option, None, Some, List, [], ◌∷◌, refl}
 use Rattle.std.specs.Prelude.{cond, map, filter, is_none, ◌&&◌}
 use Rattle.std.specs.List.{flat_map}
 use Rattle.sc_value.specs.declared.ids.SessId.{SessId}
@@ -37,42 +37,53 @@ use Rattle.sc_keyed.specs.Keyed.{new_branch, new_branches}
 
 -- ## Orders without new branches
 
+-- answers and CANCELs alone
 unfoldable pub IsOld : List Order → Type 0
-IsOld given = new_branches given ≡ []
+IsOld [] = Unit {0}
+IsOld (orders.Respond event response ∷ given) = IsOld given
+IsOld (orders.Begin branch directive region state request ∷ given) = ⊥
+IsOld (orders.Send branch request ∷ given) = ⊥
+IsOld (orders.Acknowledge request ∷ given) = ⊥
+IsOld (orders.Cancel branch ∷ given) = IsOld given
+IsOld (orders.CancelNow branch ∷ given) = IsOld given
 
-pub branches-append : (xs ys : List Order) → new_branches (xs ++ ys) ≡ new_branches xs ++ new_branches ys
-unfolding new_branches
-branches-append [] ys = refl
-branches-append (x ∷ xs) ys = ap (λ more. new_branch x ++ more) (branches-append xs ys) ∙ sym (append-assoc (new_branch x) (new_branches xs) (new_branches ys))
-  where
-    append-assoc : (ns ms ks : List ℕ) → (ns ++ ms) ++ ks ≡ ns ++ (ms ++ ks)
-    append-assoc [] ms ks = refl
-    append-assoc (n ∷ ns) ms ks = ap (λ more. n ∷ more) (append-assoc ns ms ks)
+-- they have no new branch
+pub none-new : (given : List Order) → IsOld given → new_branches given ≡ []
+unfolding IsOld new_branches new_branch
+none-new [] old = refl
+none-new (orders.Respond event response ∷ given) old = none-new given old
+none-new (orders.Begin branch directive region state request ∷ given) old = absurd old
+none-new (orders.Send branch request ∷ given) old = absurd old
+none-new (orders.Acknowledge request ∷ given) old = absurd old
+none-new (orders.Cancel branch ∷ given) old = none-new given old
+none-new (orders.CancelNow branch ∷ given) old = none-new given old
 
 pub old-append : (xs ys : List Order) → IsOld xs → IsOld ys → IsOld (xs ++ ys)
 unfolding IsOld
-old-append xs ys p q = branches-append xs ys ∙ rw (p, q) refl
+old-append [] ys p q = q
+old-append (orders.Respond event response ∷ xs) ys p q = old-append xs ys p q
+old-append (orders.Begin branch directive region state request ∷ xs) ys p q = absurd p
+old-append (orders.Send branch request ∷ xs) ys p q = absurd p
+old-append (orders.Acknowledge request ∷ xs) ys p q = absurd p
+old-append (orders.Cancel branch ∷ xs) ys p q = old-append xs ys p q
+old-append (orders.CancelNow branch ∷ xs) ys p q = old-append xs ys p q
 
 pub old-none : IsOld []
-unfolding IsOld new_branches
-old-none = refl
+unfolding IsOld
+old-none = tt
 
 pub old-answer : (event : ℕ) (response : Response) → IsOld (orders.Respond event response ∷ [])
-unfolding IsOld new_branches new_branch
-old-answer event response = refl
-
-pub old-acknowledge : (request : Request) → IsOld (orders.Acknowledge request ∷ [])
-unfolding IsOld new_branches new_branch
-old-acknowledge request = refl
+unfolding IsOld
+old-answer event response = tt
 
 pub old-cancels : (branches : List ℕ) → IsOld (map (λ branch. orders.Cancel branch) branches)
-unfolding IsOld new_branches new_branch
-old-cancels [] = refl
+unfolding IsOld
+old-cancels [] = tt
 old-cancels (b ∷ bs) = old-cancels bs
 
 old-now : (branches : List ℕ) → IsOld (map (λ branch. orders.CancelNow branch) branches)
-unfolding IsOld new_branches new_branch
-old-now [] = refl
+unfolding IsOld
+old-now [] = tt
 old-now (b ∷ bs) = old-now bs
 
 answer_order-old : (config : Config) (view : View) (initial : Bool) (answer : Answer) (kept : Kept) (way : Way) → IsOld (answer_order config view initial answer kept way)
@@ -94,21 +105,23 @@ unfolding goodbyes owed_answer
 goodbyes-old config view known test =
     old-append _ _ (flat-old (filter (λ request. test request.sess && is_owed request) view.requests) _ (λ request. answers-old config _ view _ request.initial)) (old-now _)
 
-none-first : (ns ms : List ℕ) → ns ++ ms ≡ [] → ns ≡ []
-none-first [] ms is = refl
-none-first (n ∷ ns) ms is = cc
-
-none-second : (ns ms : List ℕ) → ns ++ ms ≡ [] → ms ≡ []
-none-second [] ms is = is
-none-second (n ∷ ns) ms is = cc
-
 old-first : (x : Order) (xs : List Order) → IsOld (x ∷ xs) → IsOld (x ∷ [])
-unfolding IsOld new_branches
-old-first x xs old = rw (none-first (new_branch x) (new_branches xs) old) refl
+unfolding IsOld
+old-first (orders.Respond event response) xs old = tt
+old-first (orders.Begin branch directive region state request) xs old = old
+old-first (orders.Send branch request) xs old = old
+old-first (orders.Acknowledge request) xs old = old
+old-first (orders.Cancel branch) xs old = tt
+old-first (orders.CancelNow branch) xs old = tt
 
 old-rest : (x : Order) (xs : List Order) → IsOld (x ∷ xs) → IsOld xs
-unfolding IsOld new_branches
-old-rest x xs old = none-second (new_branch x) (new_branches xs) old
+unfolding IsOld
+old-rest (orders.Respond event response) xs old = old
+old-rest (orders.Begin branch directive region state request) xs old = absurd old
+old-rest (orders.Send branch request) xs old = absurd old
+old-rest (orders.Acknowledge request) xs old = absurd old
+old-rest (orders.Cancel branch) xs old = old
+old-rest (orders.CancelNow branch) xs old = old
 
 old-filter : (test : Order → Bool) (given : List Order) → IsOld given → IsOld (filter test given)
 old-filter test [] old = old-none
@@ -133,10 +146,14 @@ waiting_answer-old tag number (queued.BranchTimer branch due) = old-none
 waiting_answer-old tag number queued.Expired = old-none
 waiting_answer-old tag number queued.Ready = old-none
 
-pub goodbye-old : (config : Config) (session : Session) (inbox : List Waiting) → new_branches (goodbye config session inbox) ≡ []
-unfolding goodbye IsOld
-goodbye-old config session inbox =
+-- what is sent as a session ends
+pub goodbye-sends : (config : Config) (session : Session) (inbox : List Waiting) → IsOld (goodbye config session inbox)
+unfolding goodbye
+goodbye-sends config session inbox =
     old-append _ _ (old-append _ _ (old-filter _ _ (goodbyes-old config session.view session.known (λ sess. true))) (flat-old inbox _ (λ waiting. waiting_answer-old _ waiting.number waiting.event))) (old-filter _ _ (goodbyes-old config session.view session.known (λ sess. true)))
+
+pub goodbye-old : (config : Config) (session : Session) (inbox : List Waiting) → new_branches (goodbye config session inbox) ≡ []
+goodbye-old config session inbox = none-new (goodbye config session inbox) (goodbye-sends config session inbox)
 
 -- ## What a turn shows is given no new branch
 

@@ -10,13 +10,15 @@ ghost use Rattle.sc_hosts.specs.Finishing.{outcome};
 ghost use Rattle.sc_hosts.specs.Histories.{as_history, as_session};
 ghost use Rattle.sc_hosts.specs.Runs.{chained};
 ghost use Rattle.sc_once.specs.Growing.{IsBetween};
-ghost use Rattle.sc_keyed.specs.Keyed.{HaveOwnKeys, new_branches};
+ghost use Rattle.sc_keyed.specs.Keyed.{AreOn, HaveOwnKeys, new_branches};
 
 /// Each request that a turn sends goes on a branch of its own: the branches rise, from above the last number
-/// that its session drew before the turn up to the last that it has drawn after it. So it is for any session,
-/// event and calls. The contract is the law, and the call does nothing.
+/// that its session drew before the turn up to the last that it has drawn after it. An ACK to a 2xx, which has
+/// no transaction, has one of them too, and each request stands under the Via of its branch. So it is for any
+/// session, event and calls. The contract is the law, and the call does nothing.
 pub fn branches_are_new()
-    ensures { (config : Config) (ringing : List ℕ) (session : Session) (waiting : Waiting) (now : ℕ) (made : List CallRecord) (end : End) → IsBetween (new_branches (outcome config ringing session waiting now made end).orders) session.view.counter (outcome config ringing session waiting now made end).session.view.counter }
+    ensures vias { (config : Config) (ringing : List ℕ) (session : Session) (waiting : Waiting) (now : ℕ) (made : List CallRecord) (end : End) → AreOn config session.view.epoch session.view.app session.view.counter (outcome config ringing session waiting now made end).orders (outcome config ringing session waiting now made end).session.view.counter }
+    ensures branches { (config : Config) (ringing : List ℕ) (session : Session) (waiting : Waiting) (now : ℕ) (made : List CallRecord) (end : End) → IsBetween (new_branches (outcome config ringing session waiting now made end).orders) session.view.counter (outcome config ringing session waiting now made end).session.view.counter }
 {}
 
 /// A host knows each of its transactions by a key that no other has: after any journal, lawful or not, no two

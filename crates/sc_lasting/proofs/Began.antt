@@ -36,7 +36,7 @@ use Rattle.sc_hosts.specs.Refusals.{refusal, own_refusal, proxy_refusal}
 use Rattle.sc_hosts.specs.Sessions.{Turn}
 use Rattle.sc_hosts.specs.ViewChanges.{linked, with_own_session}
 use Rattle.sc_hosts.specs.Working.{proxies, proxies_first, event_of}
-use Rattle.sc_walked.specs.SessionWalks.{Each, Brings, IsSameRequest, IsSameProxy, SessionLaws, with_legs, sent_kept}
+use Rattle.sc_walked.specs.SessionWalks.{Each, Brings, IsKeptProxy, IsSameRequest, IsSameProxy, SessionLaws, with_legs, sent_kept}
 use Rattle.sc_walked.proofs.WalkParts.{each-first, same-proxy}
 use Rattle.sc_walked.proofs.WalkShown.{targets-same}
 use Rattle.sc_lasting.specs.Lasting.{All, IsOf, Proxies, Numbered, IsLife}
@@ -45,10 +45,10 @@ use Rattle.sc_lasting.proofs.Numbers.{numbers-law, proxies-kept}
 use Rattle.sc_lasting.proofs.Held.{lives-hold}
 
 -- what is kept under the number of a request that came and began a SipSession is that request
-unfoldable Keeps : Request → RequestView → Kept → Type 0
+unfoldable pub Keeps : Request → RequestView → Kept → Type 0
 Keeps began request kept = request.received ≡ true → request.initial ≡ true → kept.id.0 ≡ request.id.0 → kept.request ≡ began
 
-abbrev Began : Request → Session → Type 0
+abbrev pub Began : Request → Session → Type 0
 Began began session =
     Numbered session × All (Proxies began) session.known.proxies × All (λ (request : RequestView). All (Keeps began request) session.known.kept) session.view.requests
 
@@ -88,7 +88,7 @@ not-number a n less is = grind (arith, less, is)
 not-lower : (a n : ℕ) → a < n → a ≡ n → ⊥
 not-lower a n less is = grind (arith, less, is)
 
-same-number : (a n : ℕ) → (a == n) ≡ true → a ≡ n
+pub same-number : (a n : ℕ) → (a == n) ≡ true → a ≡ n
 same-number a n is = grind (arith, nat_tests, is)
 
 test-if : {A : Type 0} (b : Bool) (y : A) (xs : List A) (x : A) (test : A → Bool) → test y ≡ b
@@ -179,7 +179,7 @@ brings-began began (queued.BranchTimer branch due) x sess initial passed request
 brings-began began queued.Expired x sess initial passed request of brings is = absurd brings
 brings-began began queued.Ready x sess initial passed request of brings is = absurd brings
 
-abbrev Kepts : Request → View → Known → Type 0
+abbrev pub Kepts : Request → View → Known → Type 0
 Kepts began view known = All (λ (r : RequestView). All (Keeps began r) known.kept) view.requests
 
 came-keeps : (began : Request) (next : ReqId) (sess : SessId) (initial passed : Bool) (request : Request) (kept : Kept)
@@ -245,7 +245,7 @@ pub none-proxied : (play : Play) (count : ℕ) (how : ProxyOptions) → proxy_re
 unfolding proxy_refusal
 none-proxied play count how is = cc
 
-kept-began : (began : Request) (view : View) (known : Known) (req : ReqId) (r : RequestView) (k : Kept)
+pub kept-began : (began : Request) (view : View) (known : Known) (req : ReqId) (r : RequestView) (k : Kept)
     → request_in view req ≡ Some r → kept_of known req ≡ Some k → r.received ≡ true → r.initial ≡ true
     → Kepts began view known → k.request ≡ began
 unfolding Keeps
@@ -323,7 +323,7 @@ receives-began began event x number sess initial passed request is ok = received
       (came-keeps began (next_id x) sess initial passed request _ refl is)),
 ))
 
-began-law : (began : Request) (event : Queued) → IsOf began event
+pub began-law : (began : Request) (event : Queued) → IsOf began event
     → SessionLaws event (λ call. Unit {0}) (λ x y. Began began x → Began began y)
 began-law began event of = record {
   same = λ x ok. ok;
@@ -339,7 +339,7 @@ began-law began event of = record {
   renews = λ x requests same ok. ((numbers-law event).renews x requests same ok.0, ok.1, renewed began x.known.kept x.view.requests requests same ok.2);
   drops = λ x test ok. ((numbers-law event).drops x test ok.0, ok.1, all-filter (λ (r : RequestView). All (Keeps began r) x.known.kept) test x.view.requests ok.2);
   same_legs = λ x legs same ok. ok;
-  same_proxies = λ x all same ok. (ok.0, all-each (Proxies began) IsSameProxy x.known.proxies all (proxy-same began) same ok.1, ok.2);
+  same_proxies = λ x all same ok. (ok.0, all-each (Proxies began) IsKeptProxy x.known.proxies all (λ p q kept. proxy-same began p q kept.same) same ok.1, ok.2);
   forgets = λ x test ok. (
     (numbers-law event).forgets x test ok.0,
     ok.1,

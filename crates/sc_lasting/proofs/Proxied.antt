@@ -17,12 +17,12 @@ use Rattle.sc_hosts.specs.Looking.{same_request}
 use Rattle.sc_hosts.specs.Preparing.{kept_of, proxy_of}
 use Rattle.sc_hosts.specs.Sessions.{Turn}
 use Rattle.sc_hosts.specs.Working.{proxies, proxies_first}
-use Rattle.sc_walked.specs.SessionWalks.{Each, IsSameProxy, SessionLaws, with_legs}
+use Rattle.sc_walked.specs.SessionWalks.{Each, IsKeptProxy, IsSameProxy, SessionLaws, with_legs}
 use Rattle.sc_walked.proofs.WalkParts.{each-first, same-proxy}
 use Rattle.sc_walked.proofs.WalkShown.{gone-then, targets-same}
 use Rattle.sc_lasting.specs.Lasting.{GoOn, IsCarriedOn}
 use Rattle.sc_lasting.proofs.Held.{any-since, lives-relate}
-use Rattle.sc_lasting.proofs.Parts.{received-holds}
+use Rattle.sc_lasting.proofs.Parts.{each-weaker, received-holds}
 
 carried : (p q : Proxy) → IsSameProxy p q → IsCarriedOn p q
 carried p q same = record { req = same.req; request = same.request; options = same.options; on = same.on }
@@ -95,7 +95,7 @@ goes-law event = record {
   renews = λ x requests same. same-on x.known.proxies;
   drops = λ x test. same-on x.known.proxies;
   same_legs = λ x legs same. same-on x.known.proxies;
-  same_proxies = λ x all same. each-on x.known.proxies all same;
+  same_proxies = λ x all same. each-on x.known.proxies all (each-weaker IsKeptProxy IsSameProxy x.known.proxies all (λ p q kept. kept.same) same);
   forgets = λ x test. same-on x.known.proxies;
   unlinks = λ x sess does. same-on x.known.proxies;
   removes = λ x sess. same-on x.known.proxies;

@@ -20,7 +20,7 @@ use Rattle.sc_hosts.specs.Runs.{Epoch, IsLawful, after_step, chained, chained_fr
 use Rattle.sc_hosts.specs.Runs.{net_of as net_after}
 use Rattle.sc_switch.specs.declared.refused.Epoch.{Epoch as Ended}
 use Rattle.sc_switch.specs.Standing.{Known, net_of, step_of, whole}
-use Rattle.sc_switch.specs.Answers.{IsTurned, Leased, Received, Withdraws, handing, with_step}
+use Rattle.sc_switch.specs.Answers.{IsListing, IsTurned, Leased, Received, Withdraws, handing, with_step}
 use Rattle.sc_switch.specs.declared.refused.Committed.{Committed}
 use Rattle.sc_switch.specs.declared.refused.Committed.TheVariants as committed
 use Rattle.sc_servlets.specs.declared.done.Done.{Done}
@@ -32,6 +32,7 @@ use Rattle.sc_outs.specs.Owing.{IsLostAt, IsOwed, Owing}
 use Rattle.sc_outs.specs.Puts.{Puts}
 use Rattle.sc_outs.proofs.Laws.{cut_more, cut_of, puts_failed, puts_owed, puts_step}
 use Rattle.sc_courses.specs.Courses.{Beginning, Course, Told, ordered}
+use Rattle.sc_courses.specs.Listings.{IsListingAt}
 use Rattle.sc_courses.specs.Ordering.{Point, is_for, withdrawn_by}
 use Rattle.sc_courses.proofs.CourseLaws.{course_counted, course_handed, course_listed, course_next, course_no_order, course_step, course_unordered, course_withdrawn}
 use Rattle.sc_courses.proofs.OrderingLaws.{is_for_gone, is_for_later}
@@ -389,10 +390,18 @@ handed_same old new told told2 journal e outs items notes from edge deeds s = re
   ticked = ticked_at from.moments deeds (net_of old.switch).moment (net_of new.switch).moment (ap (λ (known : Known). (net_of known).moment) e ∙ handing-moment old.switch) s.ticked;
 }
 
-pub listed_same : (core : Core) (told told2 : Told) (listing : Listing) → Notes told told2 (noted.List listing) → Same core core told told2
+-- what the switch lists is of the point to which its run came
+listing-at : (known : Known) (setup : Setup) (listing : Listing) → known.setup ≡ setup → IsListing known listing → (ended : List Epoch) → IsListingAt setup (record { ended = ended; running = running known }) listing
+listing-at known setup listing e is ended =
+    subst (λ (s : Setup). IsListingAt s (record { ended = ended; running = running known }) listing) e (record { epoch_is = is.epoch_is; steps_is = is.steps_is; live_is = is.live_is; waiting_is = is.waiting_is })
+
+pub listed_same : (core : Core) (told told2 : Told) (listing : Listing) → IsListing core.switch listing → Notes told told2 (noted.List listing) → Same core core told told2
 unfolding Same
-listed_same core told told2 listing notes from edge deeds s = record {
-  runs = record { setup_is = s.runs.setup_is; course = course_listed from told told2 core.switch.handed (running core.switch) deeds listing notes s.runs.course };
+listed_same core told told2 listing is notes from edge deeds s = record {
+  runs = record {
+    setup_is = s.runs.setup_is;
+    course = course_listed from told told2 core.switch.handed (running core.switch) deeds listing (listing-at core.switch from.setup listing s.runs.setup_is is) notes s.runs.course;
+  };
   left_is = s.left_is;
   puts = s.puts;
   ticked = s.ticked;

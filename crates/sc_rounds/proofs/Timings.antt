@@ -91,6 +91,7 @@ runs_timed from moments told known deeds runs = record {
     are = runs.course.are;
     run = runs.course.run;
     obeys = runs.course.obeys;
+    listings = runs.course.listings;
   };
 }
 

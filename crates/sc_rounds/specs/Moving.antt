@@ -56,6 +56,7 @@ MovesBoth old new told told2 sources sources2 =
 abbrev pub EndedAfter : Beginning → Given → EdgeState → Told → Known → Type 0
 EndedAfter from given edge told known = (obeyed : List (Option Order)) × AreAlmost obeyed given.orders × Ended (after from (record given { orders = obeyed })) edge told known
 
+-- the run ended once both were asked
 unfoldable pub BreaksBoth : Core → Core → Told → Told → Sources → Sources → Type 0
 BreaksBoth old new told told2 sources sources2 =
     (given : Given) × Asked sources sources2 given × ((from : Beginning) (edge : EdgeState) (streams : List Pending) → Serves from edge told old streams → EndedAfter from given edge told2 new.switch)

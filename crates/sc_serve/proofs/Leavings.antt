@@ -21,7 +21,7 @@ use Rattle.sc_courses.specs.Asking.{Asked, Given, Sources, Ticked, raised, ticks
 use Rattle.sc_courses.specs.Ordering.{Obeys, ObeysPart, Point, beginning_point}
 use Rattle.sc_courses.proofs.AskingLaws.{ticked_begin, ticked_part}
 use Rattle.sc_edge.specs.declared.orders.Order.{Order}
-use Rattle.sc_courses.specs.Courses.{AreDeeds, Beginning, Told, after}
+use Rattle.sc_courses.specs.Courses.{AreDeeds, Beginning, TellsListings, Told, after}
 use Rattle.sc_courses.specs.Due.{IsDue}
 use Rattle.sc_courses.specs.Marks.{Hearing, HearingPart}
 use Rattle.sc_courses.proofs.CourseLaws.{course_begin, course_deeds, course_lawful}
@@ -60,6 +60,11 @@ obeys-last : (from : Beginning) (obeyed : List (Option Order)) (ran : Ran) (know
 obeys-last from obeyed ran known journal ended epoch began items obeys =
     subst (λ (last : Epoch). Obeys from.setup beginning_point obeyed (record { ended = ended; running = last })) (sym (last-is ran known journal epoch began items)) obeys
 
+listings-last : (from : Beginning) (told : Told) (ran : Ran) (known : Known) (journal : Kept Step) (ended : List Epoch) → ran.epoch ≡ known.epoch → ran.began ≡ known.began → journal.items ≡ known.journal
+    → TellsListings from.setup from.told told (record { ended = ended; running = running known }) → TellsListings from.setup from.told told (record { ended = ended; running = last_epoch ran known.handed journal })
+listings-last from told ran known journal ended epoch began items listings =
+    subst (λ (last : Epoch). TellsListings from.setup from.told told (record { ended = ended; running = last })) (sym (last-is ran known journal epoch began items)) listings
+
 leaves-of : (from : Beginning) (obeyed : List (Option Order)) (now : EdgeState) (told : Told) (known : Known) (ran : Ran) (journal : Kept Step) (deeds : List Deed) → AreAlmost obeyed from.orders → (ran.status ≡ statuses.Done → obeyed ≡ from.orders)
     → Ends (obeying from obeyed) now told known deeds → HearingPart from.edge.polled now.polled deeds
     → ran.epoch ≡ known.epoch → ran.began ≡ known.began → journal.items ≡ known.journal → IsLawful as_session known.setup known.epoch known.began (whole known) → ComesAt from.edge now deeds ran.status
@@ -81,6 +86,7 @@ leaves-of from obeyed now told known ran journal deeds almost all ends heard epo
   orders = obeys-part from.setup (record { ended = ends.runs.course.ended; running = last_epoch ran known.handed journal }) obeyed from.orders almost (obeys-last from obeyed ran known journal ends.runs.course.ended epoch began items ends.runs.course.obeys);
   ordered = λ done. subst (λ (orders : List (Option Order)). Obeys from.setup beginning_point orders (record { ended = ends.runs.course.ended; running = last_epoch ran known.handed journal })) (all done)
       (obeys-last from obeyed ran known journal ends.runs.course.ended epoch began items ends.runs.course.obeys);
+  listings = listings-last from told ran known journal ends.runs.course.ended epoch began items ends.runs.course.listings;
   due = λ full. due-at from known ran journal epoch began items (due full);
 }
 

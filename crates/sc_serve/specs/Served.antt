@@ -18,7 +18,7 @@ use Rattle.sc_runs.specs.Following.{Streams}
 use Rattle.sc_outs.specs.Deeds.{Deed}
 use Rattle.sc_outs.specs.Puts.{TookParts, TookWhole}
 use Rattle.sc_courses.specs.Asking.{Asked, Given, Sources, TickedPart, none_given, raised, ticks_taken}
-use Rattle.sc_courses.specs.Courses.{AreDeeds, Beginning, TellsEpochs, Told}
+use Rattle.sc_courses.specs.Courses.{AreDeeds, Beginning, TellsEpochs, TellsListings, Told}
 use Rattle.sc_courses.specs.Ordering.{Obeys, ObeysPart, beginning_point}
 use Rattle.sc_courses.specs.Due.{IsDue}
 use Rattle.sc_courses.specs.Marks.{Hearing, HearingPart}
@@ -59,10 +59,11 @@ ComesAt first now deeds statuses.Write = ⊥
 abbrev pub last_epoch : Ran → List Step → Kept Step → Epoch
 last_epoch ran handed journal = record { number = ran.epoch; began = ran.began; journal = handed ++ journal.items }
 
--- what a run leaves: its epochs are lawful, and the notice was told of all but the last; the steps that were heard are a
--- beginning of what the edge's answers make; of what each step sends parts were taken, place by place;
--- each moment of the clock that was later than all before is a Tick step, and each order for a session that lived then is its
--- withdrawal, at `Done` the last ones too, and no other is; and at `JournalFull` a step is due that the journal has no room for
+-- what a run leaves: its epochs are lawful; the notice was told of all but the last, and what lived at points on the
+-- way; the steps that were heard are a beginning of what the edge's answers make; of what each step sends parts were
+-- taken, place by place; each moment of the clock that was later than all before is a Tick step, and each order for a
+-- session that lived then is its withdrawal, at `Done` the last ones too, and no other is; and at `JournalFull` a step is
+-- due that the journal has no room for
 pub record Leaves (from : Beginning) (now : EdgeState) (told : Told) (ran : Ran) (journal : Kept Step) : Type 0 where
   pub ended : List Epoch
   pub handed : List Step
@@ -77,6 +78,7 @@ pub record Leaves (from : Beginning) (now : EdgeState) (told : Told) (ran : Ran)
   pub ticked : ran.status ≡ statuses.Done → ticks_taken deeds ≡ raised 0 from.moments
   pub orders : ObeysPart from.setup beginning_point from.orders (record { ended = ended; running = last_epoch ran handed journal })
   pub ordered : ran.status ≡ statuses.Done → Obeys from.setup beginning_point from.orders (record { ended = ended; running = last_epoch ran handed journal })
+  pub listings : TellsListings from.setup from.told told (record { ended = ended; running = last_epoch ran handed journal })
   pub due : ran.status ≡ statuses.JournalFull → IsDue from.setup (last_epoch ran handed journal) journal.items
 
 -- ## How a call ends

@@ -40,6 +40,6 @@ fn close_at<E: Edge>(
         return;
     }
     edge.close(place);
-    watch.note_end(place);
+    watch.note_loss(place);
     broken.items.swap_remove(at);
 }

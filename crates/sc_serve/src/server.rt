@@ -80,7 +80,7 @@ impl Server {
             }
             Went::Nothing => Ok(false),
             Went::Failed => {
-                self.watch.note_end(place);
+                self.watch.note_loss(place);
                 Ok(true)
             }
         }

@@ -31,7 +31,8 @@ use std::thread::Threads;
 ///
 /// A round polls the edge once and makes a step of each message that is whole (RFC 3261 section 18.3), takes one
 /// order, asks the clock, lends out up to 64 turns, takes up to 64 that were made, and puts what was sent to each
-/// place once.
+/// place once. An order withdraws the session that it names, where it names the epoch that runs and the session
+/// lives there; any other does nothing. After a round with a step the notice is told what lives.
 ///
 /// The turns that are lent out are made by as many threads as the settings' `workers` says, 1 to 32. Each passes the
 /// gate before it calls a servlet. The rounds begin with the first of these threads, or after 2 seconds without one;

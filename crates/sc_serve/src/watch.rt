@@ -10,7 +10,7 @@ use std::alloc::Global;
 pub struct Watch {
     /// After so many connections that ended the server ends; 0 for never.
     stop_after: u64,
-    /// How many ended; counted only where `stop_after` isn't 0.
+    /// How many ended.
     ended: u64,
     /// The connections that gave or took bytes and haven't ended; kept only where `stop_after` isn't 0.
     open: List<Place>,
@@ -41,12 +41,24 @@ impl Watch {
         Ok(())
     }
 
-    /// The connection ended, failed or was closed.
+    /// The edge told that the connection ended or failed, which it tells once of each. That of a peer counts though it
+    /// gave and took nothing.
     pub fn note_end(&mut self, place: Place) {
-        if self.is_open(place) {
-            self.ended = self.ended.saturating_add(1);
-            self.open.items.retain(|other| !same_place(*other, place));
+        if matches!(place, Place::Back(_)) || self.is_open(place) {
+            self.count_end(place);
         }
+    }
+
+    /// The connection failed at a put, or was closed. One that ended before doesn't count again.
+    pub fn note_loss(&mut self, place: Place) {
+        if self.is_open(place) {
+            self.count_end(place);
+        }
+    }
+
+    fn count_end(&mut self, place: Place) {
+        self.ended = self.ended.saturating_add(1);
+        self.open.items.retain(|other| !same_place(*other, place));
     }
 
     fn is_open(&self, place: Place) -> bool {

@@ -43,7 +43,7 @@ use Rattle.sc_hosts.specs.Refusals.{refusal, awaits_ack}
 use Rattle.sc_hosts.specs.ViewChanges.{tidy, invalidated, settled_request, settled_requests}
 use Rattle.sc_hosts.specs.Working.{starts, keeps_sent, sends_initial, sends_later, sends_in, sends_written, sends, ack_with, acknowledges, cancels, invalidates, does, does_by, worked, worked_all}
 use Rattle.sc_walked.proofs.WalkParts.{each-first, each-map, follow-same, if-is, same-request, session-walks, leg-walks, proxy-walks, tidy-walks, answered-walks}
-use Rattle.sc_walked.proofs.WalkShown.{stopped-same}
+use Rattle.sc_walked.proofs.WalkShown.{stopped-kept}
 use Rattle.sc_walked.specs.SessionWalks.{AreDone, IsSameRequest, IsSameLeg, SessionLaws, with_legs, after_sent}
 
 -- the session within a turn
@@ -180,7 +180,7 @@ module _ (event : Queued) (Does : Call → Type 0) (Q : Session → Session → 
   accepted-walks config working (calls.Ack sess body) is ok = with-known (session_at working) _ _ (acknowledges-known config sess body _ working) (acked-walks (session_at working) sess)
   accepted-walks config working (calls.Cancel req) is ok = law.same (session_at working)
   accepted-walks config working (calls.ProxyTo req uris how) is ok = law.turns working.play working.known req uris how _ is ok refl
-  accepted-walks config working (calls.ProxyCancel req) is ok = proxy-walks event Does Q law (session_at working) req stopped stopped-same
+  accepted-walks config working (calls.ProxyCancel req) is ok = proxy-walks event Does Q law (session_at working) req stopped stopped-kept
   accepted-walks config working (calls.B2bRespond sess answer) is ok =
       with-known (session_at working) _ _ (answering-known config _ answer working) (answered-walks event Does Q law (session_at working) _ answer.code)
   accepted-walks config working (calls.Link a b) is ok = law.links working.play working.known a b is ok

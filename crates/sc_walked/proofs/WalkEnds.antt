@@ -1,5 +1,5 @@
 -- The end of a turn keeps each relation with the laws; and so a whole turn does.
-use Rattle.std.proofs.Common.{◌≡◌, ℕ, ◌++◌, Bool, true, false, Option, None, Some, List, [], ◌∷◌, refl, sym}
+use Rattle.std.proofs.Common.{◌≡◌, ℕ, ◌++◌, Bool, true, false, Option, None, Some, List, [], ◌∷◌, refl, sym, ap}
 use Rattle.std.specs.Prelude.{cond, ◌&&◌, ◌||◌, ◌==◌, not, map, drop, is_some, is_none, option_and_then}
 use Rattle.std.specs.List.{fold}
 use Rattle.sc_tokens.specs.Names.{same_bytes}
@@ -52,7 +52,7 @@ use Rattle.sc_hosts.specs.Words.{too_many_hops}
 use Rattle.sc_walked.proofs.WalkParts.{follow-ended, follow-initial, follow-same, if-is, moved, same-proxy, stays-on, session-walks, sessions-walk, proxy-walks, tidy-walks, answered_in-walks, answered-walks, if-walks, if-view, fold-walks}
 use Rattle.sc_walked.proofs.WalkShown.{append-none, prepared-walks}
 use Rattle.sc_walked.proofs.WalkCalls.{session_at, answering-known, worked_all-walks}
-use Rattle.sc_walked.specs.SessionWalks.{AreDone, IsMoved, IsSameProxy, SessionLaws}
+use Rattle.sc_walked.specs.SessionWalks.{AreDone, IsMoved, IsSameProxy, IsKeptProxy, SessionLaws}
 
 over-moved : (known : Known) (req : ReqId) (original : SessId) (s : SessionView)
     → IsMoved s (closed_session known req original s)
@@ -96,6 +96,17 @@ forwarded-same code proxy = forwarded-by code proxy (is_final code) proxy.forwar
 rested-same : (proxy : Proxy) → IsSameProxy proxy (rested proxy)
 unfolding rested
 rested-same proxy = record { req = refl; sess = refl; event = refl; request = refl; options = refl; on = stays-on proxy (rested proxy) refl refl refl }
+
+forwarded-kept : (code : ℕ) (proxy : Proxy) → IsKeptProxy proxy (with_forwarded code proxy)
+unfolding with_forwarded
+forwarded-kept code proxy = record {
+  same = forwarded-same code proxy;
+  bare = λ none bare. if-is (λ (p : Proxy). p.targets ≡ []) _ _ proxy bare bare;
+}
+
+rested-kept : (proxy : Proxy) → IsKeptProxy proxy (rested proxy)
+unfolding rested
+rested-kept proxy = record { same = rested-same proxy; bare = λ none bare. bare }
 
 module _ (event : Queued) (Does : Call → Type 0) (Q : Session → Session → Type 0) (law : SessionLaws event Does Q) where
   -- between two moments of a turn
@@ -160,7 +171,10 @@ module _ (event : Queued) (Does : Call → Type 0) (Q : Session → Session → 
       let x : Session = session_at working in
       let y : Session = record x { view = drawn x.view } in
       let change : Proxy → Proxy = λ p. record p { branches = p.branches ++ new_branch proxy (next_branch working) working.play.view.now ∷ []; targets = drop 1 p.targets } in
-      law.after x y _ (law.counts x) (proxy-walks event Does Q law y proxy.req change (λ p. record { req = refl; sess = refl; event = refl; request = refl; options = refl; on = stays-on p (change p) refl refl refl }))
+      law.after x y _ (law.counts x) (proxy-walks event Does Q law y proxy.req change (λ p. record {
+        same = record { req = refl; sess = refl; event = refl; request = refl; options = refl; on = stays-on p (change p) refl refl refl };
+        bare = λ none bare. ap (λ (uris : List Uri). drop 1 uris) bare;
+      }))
 
   subscribed-walks : (proxy : Proxy) (sess : SessId) (response : Response) (x : Session)
       → Q x (record x { view = with_subscribed proxy sess response x.view })
@@ -185,7 +199,7 @@ module _ (event : Queued) (Does : Call → Type 0) (Q : Session → Session → 
       let y : Session = record x { view = with_subscribed proxy sess response x.view } in
       let z : Session = record y { view = forwarded_view proxy sess (request_in working.play.view proxy.req) response y.view } in
       law.after x y _ (subscribed-walks proxy sess response x)
-      (law.after y z _ (forwarded-walks proxy sess (request_in working.play.view proxy.req) response y) (proxy-walks event Does Q law z proxy.req (with_forwarded response.code) (forwarded-same response.code)))
+      (law.after y z _ (forwarded-walks proxy sess (request_in working.play.view proxy.req) response y) (proxy-walks event Does Q law z proxy.req (with_forwarded response.code) (forwarded-kept response.code)))
 
   passes-goes : (proxy : Proxy) (passing : Option Passing) (working : Working)
       → Goes working (passes proxy passing working)
@@ -214,7 +228,7 @@ module _ (event : Queued) (Does : Call → Type 0) (Q : Session → Session → 
 
   rested-goes : (req : ReqId) (working : Working)
       → Q (session_at working) (record (session_at working) { known = change_proxy req rested working.known })
-  rested-goes req working = proxy-walks event Does Q law (session_at working) req rested rested-same
+  rested-goes req working = proxy-walks event Does Q law (session_at working) req rested rested-kept
 
   acted-goes : (config : Config) (proxy : Proxy) (working : Working) → Goes working (acted config proxy working)
   unfolding acted sends_cancels

@@ -28,7 +28,7 @@ use Rattle.sc_hosts.specs.Looking.{change_request, change_session, is_session, i
 use Rattle.sc_hosts.specs.PreparingResponses.{change_proxy}
 use Rattle.sc_hosts.specs.States.{after_initial, after_later, after_response, failed_state, invited_state, subscribed_state, unsubscribed_state}
 use Rattle.sc_hosts.specs.ViewChanges.{tidy, with_there, with_answer, with_response, answered_in, answered, stands}
-use Rattle.sc_walked.specs.SessionWalks.{Each, IsMoved, IsSameRequest, IsSameLeg, IsSameProxy, HasGoneOn, SessionLaws, may_follow}
+use Rattle.sc_walked.specs.SessionWalks.{Each, IsMoved, IsSameRequest, IsSameLeg, IsSameProxy, IsKeptProxy, HasGoneOn, SessionLaws, may_follow}
 
 -- ## Item by item
 
@@ -174,6 +174,9 @@ stays-on before after tried settled forwarded = record {
 pub same-proxy : (proxy : Proxy) → IsSameProxy proxy proxy
 same-proxy proxy = record { req = refl; sess = refl; event = refl; request = refl; options = refl; on = stays-on proxy proxy refl refl refl }
 
+pub kept-proxy : (proxy : Proxy) → IsKeptProxy proxy proxy
+kept-proxy proxy = record { same = same-proxy proxy; bare = λ none bare. bare }
+
 pub there-same : (view : View) (r : RequestView) → IsSameRequest r (with_there view r)
 unfolding with_there
 there-same view r = record { id = refl; sess = refl; method = refl; received = refl; initial = refl; proxied = refl }
@@ -207,9 +210,9 @@ module _ (event : Queued) (Does : Call → Type 0) (Q : Session → Session → 
   leg-walks x sess change each = law.same_legs x _ (each-nth IsSameLeg x.known.legs _ change same-leg each)
 
   pub proxy-walks : (x : Session) (req : ReqId) (change : Proxy → Proxy)
-      → ((proxy : Proxy) → IsSameProxy proxy (change proxy))
+      → ((proxy : Proxy) → IsKeptProxy proxy (change proxy))
       → Q x (record x { known = change_proxy req change x.known })
-  proxy-walks x req change each = law.same_proxies x _ (each-first IsSameProxy x.known.proxies _ change same-proxy each)
+  proxy-walks x req change each = law.same_proxies x _ (each-first IsKeptProxy x.known.proxies _ change kept-proxy each)
 
   pub tidy-walks : (x : Session) → Q x (record x { view = tidy x.view })
   unfolding tidy

@@ -35,7 +35,7 @@ use Rattle.sc_model.specs.Dialogs.{tag_of, dialog_of, Calling, By_peer}
 use Rattle.sc_value.specs.declared.message.Message.TheVariants as messages
 use Rattle.sc_model.specs.Names.{edge_tag}
 use Rattle.sc_model.specs.SessionStates.{is_final}
-use Rattle.sc_hosts.specs.Branches.{is_supervised, stopped, to_cancel, ended_by, heard, after_end, ended_branch, with_candidate, with_targets, added_targets, passing_on, rung, is_global, branch_in, is_open}
+use Rattle.sc_hosts.specs.Branches.{is_supervised, stopped, to_cancel, ended_by, heard, after_end, ended_branch, with_candidate, with_targets, added_targets, passing_on, recurses, rung, is_global, branch_in, is_open}
 use Rattle.sc_hosts.specs.DerivedSessions.{Handling, In, Takes, Derives, handled_in, is_overtaken, overtaken_session, overtaken_legs, overtaken, is_of, failed_session, without_derived}
 use Rattle.sc_hosts.specs.Legs.{change_leg, FIRST_SESSION, in_dialog, with_request, with_answer, answered_leg, as_answer, makes_dialog_of}
 use Rattle.sc_hosts.specs.Looking.{change_request, same_session, session_in, is_proxy, in_state}
@@ -46,7 +46,7 @@ use Rattle.sc_hosts.specs.Preparing.{kept_of, proxy_of, terminated, cancelled_pr
 use Rattle.sc_hosts.specs.ViewChanges.{tidy, answered_in, with_answer as with_final}
 use Rattle.sc_hosts.specs.Words.{request_timeout}
 use Rattle.sc_walked.proofs.WalkParts.{each-same, follow-ended, follow-same, if-is, moved, answer-same, same-request, same-leg, same-proxy, stays-on, session-walks, sessions-walk, request-walks, leg-walks, proxy-walks, tidy-walks, answered_in-walks, answered-walks, if-walks}
-use Rattle.sc_walked.specs.SessionWalks.{Each, IsMoved, IsSameRequest, IsSameLeg, IsSameProxy, HasGoneOn, IsShownAgain, Brings, SessionLaws}
+use Rattle.sc_walked.specs.SessionWalks.{Each, IsMoved, IsSameRequest, IsSameLeg, IsSameProxy, IsKeptProxy, HasGoneOn, IsShownAgain, Brings, SessionLaws}
 
 -- ## What a message makes of a SipSession, a request and a proxy leaves what it is
 
@@ -171,6 +171,60 @@ cancel-same : (branch : ℕ) (proxy : Proxy) → IsSameProxy proxy (to_cancel br
 unfolding to_cancel
 cancel-same branch proxy =
     record { req = refl; sess = refl; event = refl; request = refl; options = refl; on = stays-on proxy (to_cancel branch proxy) refl refl refl }
+
+-- ## Targets
+
+both-none : (xs ys : List Uri) → xs ≡ [] → ys ≡ [] → xs ++ ys ≡ []
+both-none xs ys p q = rw (p, q) refl
+
+if-bare : (b : Bool) (x y : Proxy) → x.targets ≡ [] → y.targets ≡ [] → (cond b x y).targets ≡ []
+if-bare true x y p q = p
+if-bare false x y p q = q
+
+none-if : (redirected unsettled : Bool) (uris : List Uri) → cond (redirected && false && unsettled) uris [] ≡ []
+none-if true true uris = refl
+none-if true false uris = refl
+none-if false true uris = refl
+none-if false false uris = refl
+
+-- nothing is followed for a later request
+added-none : (proxy : Proxy) (response : Response) → proxy.options ≡ None → added_targets proxy response ≡ []
+unfolding added_targets recurses
+added-none proxy response none = rw none (none-if _ _ _)
+
+candidate-bare : (response : Response) (proxy : Proxy) → proxy.targets ≡ [] → (with_candidate response proxy).targets ≡ []
+unfolding with_candidate
+candidate-bare response proxy bare = if-bare _ proxy (record proxy { candidates = proxy.candidates ++ response ∷ [] }) bare bare
+
+pub stopped-kept : (proxy : Proxy) → IsKeptProxy proxy (stopped proxy)
+unfolding stopped
+stopped-kept proxy = record { same = stopped-same proxy; bare = λ none bare. refl }
+
+cancel-kept : (branch : ℕ) (proxy : Proxy) → IsKeptProxy proxy (to_cancel branch proxy)
+unfolding to_cancel
+cancel-kept branch proxy = record { same = cancel-same branch proxy; bare = λ none bare. bare }
+
+ended_by-bare : (number : ℕ) (sess : SessId) (response : Response) (proxy : Proxy) → proxy.options ≡ None → proxy.targets ≡ [] → (ended_by number sess response proxy).targets ≡ []
+unfolding ended_by ended_branch with_targets passing_on stopped
+ended_by-bare number sess response proxy none bare =
+    let two : Proxy = with_candidate response (ended_branch number response.code proxy) in
+    let ended : Proxy = with_targets (added_targets proxy response) two in
+    if-bare (is_success response.code) (passing_on sess response (stopped ended)) (cond (is_global response.code) (stopped ended) ended) refl
+    (if-bare (is_global response.code) (stopped ended) ended refl
+    (both-none two.targets (added_targets proxy response) (candidate-bare response (ended_branch number response.code proxy) bare) (added-none proxy response none)))
+
+ended_by-kept : (number : ℕ) (sess : SessId) (response : Response) (proxy : Proxy) → IsKeptProxy proxy (ended_by number sess response proxy)
+ended_by-kept number sess response proxy = record { same = ended_by-same number sess response proxy; bare = ended_by-bare number sess response proxy }
+
+heard-bare : (number : ℕ) (sess : SessId) (response : Response) (now : ℕ) (proxy : Proxy) → proxy.options ≡ None → proxy.targets ≡ [] → (heard number sess response now proxy).targets ≡ []
+unfolding heard after_end rung passing_on stopped
+heard-bare number sess response now proxy none bare =
+    if-bare (not (option_map_or is_open (branch_in proxy number) false)) (after_end sess response proxy) (cond (is_final response.code) (ended_by number sess response proxy) (passing_on sess response (rung number now proxy)))
+    (if-bare (is_success response.code) (passing_on sess response (stopped proxy)) proxy refl bare)
+    (if-bare (is_final response.code) (ended_by number sess response proxy) (passing_on sess response (rung number now proxy)) (ended_by-bare number sess response proxy none bare) bare)
+
+heard-kept : (number : ℕ) (sess : SessId) (response : Response) (now : ℕ) (proxy : Proxy) → IsKeptProxy proxy (heard number sess response now proxy)
+heard-kept number sess response now proxy = record { same = heard-same number sess response now proxy; bare = heard-bare number sess response now proxy }
 
 brings-initial : (event : Queued) (region : Region) (subscriber : Bytes) (popped : Option Address) (request : Request) (x : Session)
     → event ≡ queued.Initial region subscriber popped request → Brings event x FIRST_SESSION true false request
@@ -350,7 +404,7 @@ module _ (event : Queued) (Does : Call → Type 0) (Q : Session → Session → 
       let all = law.after x y three p
       (law.after y one three (request-walks event Does Q law y proxy.req (λ r. record r { branches = r.branches + length (added_targets proxy response) }) (λ r. record { id = refl; sess = refl; method = refl; received = refl; initial = refl; proxied = refl }))
       (law.after one two three (leg-walks event Does Q law one sess (with_answer proxy.request response) (answer-leg proxy.request response))
-      (proxy-walks event Does Q law two proxy.req (heard branch sess response y.view.now) (heard-same branch sess response y.view.now)))) in
+      (proxy-walks event Does Q law two proxy.req (heard branch sess response y.view.now) (heard-kept branch sess response y.view.now)))) in
       if-shown _ x _ _ (showing_in-walks x three sess _ None [] all) (silent-walks x three [] all)
 
   branch_placed-walks : (x : Session) (proxy : Proxy) (response : Response) (original : Option SessionView)
@@ -386,7 +440,7 @@ module _ (event : Queued) (Does : Call → Type 0) (Q : Session → Session → 
   cancelled_proxy-walks x invited (Some proxy) =
       let after : Session = record x { known = change_proxy proxy.req stopped x.known } in
       if-shown (is_supervised proxy) x (showing_in after invited.sess (events.Cancelled invited.req invited.sess) (Some invited.req) []) (silent after [])
-      (showing_in-walks x after _ _ _ [] (proxy-walks event Does Q law x proxy.req stopped stopped-same)) (silent-walks x after [] (proxy-walks event Does Q law x proxy.req stopped stopped-same))
+      (showing_in-walks x after _ _ _ [] (proxy-walks event Does Q law x proxy.req stopped stopped-kept)) (silent-walks x after [] (proxy-walks event Does Q law x proxy.req stopped stopped-kept))
 
   cancelled_request-walks : (x : Session) (invited : Invited) (request : Option RequestView)
       → Shows x (cancelled_request x invited request)
@@ -421,8 +475,8 @@ module _ (event : Queued) (Does : Call → Type 0) (Q : Session → Session → 
       → Q x (timed_out config x proxy branch provisional)
   unfolding timed_out
   timed_out-walks config x proxy branch provisional =
-      if-walks event Does Q law _ x _ _ (proxy-walks event Does Q law x proxy.req (to_cancel branch) (cancel-same branch))
-      (proxy-walks event Does Q law x proxy.req (ended_by branch proxy.sess (own_response (edge_tag config.salt) 408 request_timeout proxy.request)) (ended_by-same branch proxy.sess (own_response (edge_tag config.salt) 408 request_timeout proxy.request)))
+      if-walks event Does Q law _ x _ _ (proxy-walks event Does Q law x proxy.req (to_cancel branch) (cancel-kept branch))
+      (proxy-walks event Does Q law x proxy.req (ended_by branch proxy.sess (own_response (edge_tag config.salt) 408 request_timeout proxy.request)) (ended_by-kept branch proxy.sess (own_response (edge_tag config.salt) 408 request_timeout proxy.request)))
 
   prepared_branch_timer-walks : (config : Config) (ringing : List ℕ) (x : Session) (branch due : ℕ) (proxy : Option Proxy)
       → Shows x (prepared_branch_timer config ringing x branch due proxy)

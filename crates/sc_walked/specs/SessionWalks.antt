@@ -107,6 +107,11 @@ pub record IsSameProxy (before after : Proxy) : Type 0 where
   pub options : after.options ≡ before.options
   pub on : HasGoneOn before after
 
+-- the same, and where it has no options, as that of a later request, it gets no target if it had none
+pub record IsKeptProxy (before after : Proxy) : Type 0 where
+  pub same : IsSameProxy before after
+  pub bare : before.options ≡ None → before.targets ≡ [] → after.targets ≡ []
+
 -- ## How a request comes
 
 -- this event brings it to this SipSession, which is that of a proxy or isn't
@@ -170,7 +175,7 @@ pub record SessionLaws (event : Queued) (Does : Call → Type 0) (Q : Session �
       → Q x (record x { view = record x.view { requests = filter test x.view.requests } })
   pub same_legs : (x : Session) (legs : List Leg) → Each IsSameLeg x.known.legs legs
       → Q x (record x { known = record x.known { legs = legs } })
-  pub same_proxies : (x : Session) (all : List Proxy) → Each IsSameProxy x.known.proxies all
+  pub same_proxies : (x : Session) (all : List Proxy) → Each IsKeptProxy x.known.proxies all
       → Q x (record x { known = record x.known { proxies = all } })
   pub forgets : (x : Session) (test : Kept → Bool)
       → Q x (record x { known = record x.known { kept = filter test x.known.kept } })

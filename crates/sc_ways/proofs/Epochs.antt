@@ -13,7 +13,7 @@ use Rattle.sc_state.specs.declared.orders.Outcome.{Outcome}
 use Rattle.sc_state.specs.declared.queue.Waiting.{Waiting}
 use Rattle.sc_state.specs.declared.session.Session.{Session}
 use Rattle.sc_hosts.specs.Runs.{after_step}
-use Rattle.sc_hosts.specs.Sessions.{Form, Turn}
+use Rattle.sc_hosts.specs.Sessions.{Form}
 use Rattle.sc_hosts.specs.Steps.{closed_turn, invalidated, stepped, turned, turns, turns_first, withdrawn, without_live}
 use Rattle.sc_walks.specs.Walks.{HostLaws, NetLaws}
 use Rattle.sc_walks.proofs.WalkNets.{delivered-walks, obeyed-walks}

@@ -1,5 +1,5 @@
 -- The events that a step queued: each waits in its session, and is right for it.
-use Rattle.std.proofs.Common.{◌≡◌, ◌≤◌, ◌<◌, ℕ, zero, suc, ◌+◌, ◌++◌, ◌^◌, Bool, true, false, Option, None, Some, List, [], ◌∷◌, refl, ap, subst, ◌∙◌, arith}
+use Rattle.std.proofs.Common.{◌≡◌, ◌≤◌, ◌<◌, ℕ, zero, suc, ◌++◌, ◌^◌, Bool, true, false, Option, None, Some, List, [], ◌∷◌, refl, ap, subst, ◌∙◌, arith}
 use Rattle.std.specs.Prelude.{cond, filter, length, map, nat_lt, slice_get}
 use Rattle.std.specs.List.{find, flat_map}
 use Rattle.std.proofs.lemmas.Bool.Decides.{nat_tests}
@@ -79,17 +79,17 @@ all-and P Q (x ∷ xs) p q = ((p.0, q.0), all-and P Q xs p.1 q.1)
 
 -- ## At a host
 
-small-sessions : (hosts : List (Host Session)) (place : ℕ) (host : Host Session) → AllSmall hosts → slice_get hosts place ≡ Some host → AreSmall host.sessions
+pub small-sessions : (hosts : List (Host Session)) (place : ℕ) (host : Host Session) → AllSmall hosts → slice_get hosts place ≡ Some host → AreSmall host.sessions
 small-sessions [] place host small at = cc
 small-sessions (first ∷ hosts) zero host small at = let same : first ≡ host = cc in subst (λ (h : Host Session). AreSmall h.sessions) same small.0
 small-sessions (first ∷ hosts) (suc place) host small at = small-sessions hosts place host small.1 at
 
-small-place : (hosts : List (Host Session)) (place : ℕ) (host : Host Session) → slice_get hosts place ≡ Some host → place < length hosts
+pub small-place : (hosts : List (Host Session)) (place : ℕ) (host : Host Session) → slice_get hosts place ≡ Some host → place < length hosts
 small-place [] place host at = cc
 small-place (first ∷ hosts) zero host at = omega arith
 small-place (first ∷ hosts) (suc place) host at = omega (arith, small-place hosts place host at)
 
-all-small : (lives : List (Live Session)) → AreSmall lives → All (λ (live : Live Session). live.serial < 2 ^ 64) lives
+pub all-small : (lives : List (Live Session)) → AreSmall lives → All (λ (live : Live Session). live.serial < 2 ^ 64) lives
 unfolding All
 all-small [] small = tt
 all-small (live ∷ lives) small = (small.0, all-small lives small.1)

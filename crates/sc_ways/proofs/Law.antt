@@ -1,5 +1,5 @@
 -- The law of paths.
-use Rattle.std.proofs.Common.{◌≡◌, ℕ, ◌+◌, ◌++◌, true, Option, None, Some, List, [], ◌∷◌, refl, sym, ap, subst}
+use Rattle.std.proofs.Common.{◌≡◌, ◌<◌, ◌^◌, ℕ, ◌++◌, true, Option, None, Some, List, [], ◌∷◌, refl, sym, ap, subst}
 use Rattle.std.proofs.lemmas.List.{reverse-append}
 use Rattle.std.specs.Prelude.{◌==◌, cond, is_some, length, not, reverse}
 use Rattle.std.specs.List.{filter_map, flat_map}
@@ -10,20 +10,30 @@ use Rattle.sc_terms.specs.declared.calls.ProxyOptions.{ProxyOptions}
 use Rattle.sc_terms.specs.declared.steps.Step.{Step}
 use Rattle.sc_parts.specs.declared.setup.Setup.{Setup}
 use Rattle.sc_state.specs.declared.host.Server.{Server}
+use Rattle.sc_state.specs.declared.net.Net.{Net}
+use Rattle.sc_state.specs.declared.session.Session.{Session}
 use Rattle.sc_model.specs.Names.{IsOf64}
 use Rattle.sc_hosts.specs.Histories.{as_session}
 use Rattle.sc_hosts.specs.Runs.{IsLawful, chained, start}
 use Rattle.sc_lasting.specs.Lasting.{All, AreDirect, Directly}
 use Rattle.sc_lasting.proofs.Direct.{nothing-proxied}
-use Rattle.sc_lasting.proofs.Parts.{all-append, all-filter}
+use Rattle.sc_lasting.proofs.Parts.{all-append}
 use Rattle.sc_lived.proofs.Since.{session-holds}
 use Rattle.sc_paths.specs.LaterRequests.{Occurrence, carries, visits}
 use Rattle.sc_paths.specs.Moments.{Moment, given_in, moments, moments_from, proxied_with}
-use Rattle.sc_paths.specs.Pieces.{Dialog, Direction, From_caller, From_callee, IsPiece, Piece, ahead, along, answer_by, answers_of, end_of, heads_at_end, is_made, listed, received, recorders, sessions_of}
-use Rattle.sc_ways.specs.Ways.{AreInitial, AreSmallNames, HasOwnBranch, IsApart, IsPrefix, TakesNoProxy}
+use Rattle.sc_paths.specs.Pieces.{Dialog, Direction, From_caller, From_callee, IsPiece, Piece, ahead, along, answer_by, answers_of, end_of, heads_at_end, is_made, listed, received, recorders}
+use Rattle.sc_keyed.proofs.KeyedNets.{AllKeyed}
+use Rattle.sc_keyed.proofs.KeyedRuns.{session-keyed}
+use Rattle.sc_keyed.proofs.KeyedTurns.{NoTurn}
+use Rattle.sc_vias.proofs.RunVias.{Hold, start-kept}
+use Rattle.sc_ways.specs.Ways.{AreSmallDraws, AreSmallNames, IsApart, IsPrefix, TakesNoProxy}
+use Rattle.sc_ways.proofs.Callees.{callee-small}
 use Rattle.sc_ways.proofs.Directs.{accepted-before, direct-takes}
+use Rattle.sc_ways.proofs.OneHop.{IsFine}
+use Rattle.sc_ways.proofs.OwnBranches.{HasOwnBranch, Is64, IsReadyAt, moments-kept, own-branches}
 use Rattle.sc_ways.proofs.Prefix.{run-follows}
-use Rattle.sc_ways.proofs.Runs.{run-each, run-fine}
+use Rattle.sc_ways.proofs.Recorders.{recorders-small}
+use Rattle.sc_ways.proofs.Runs.{run-each, run-fine, run-next}
 
 -- ## Names of those ahead
 
@@ -47,14 +57,10 @@ unfolding All
 all-reverse P [] all = tt
 all-reverse P (x ∷ xs) all = rw (reverse-append (x ∷ []) xs) (all-append P (reverse xs) x (all-reverse P xs all.1) all.0)
 
-all-ahead : (P : AppId → Type 0) (run : List Moment) (direction : Direction) (piece : Piece) → All P (sessions_of piece) → All P (ahead run direction piece)
-unfolding sessions_of ahead along end_of recorders
-all-ahead P run From_caller piece all =
-    all-both P _ (listed piece.callee) (all-filter P _ piece.proxies (back P (listed piece.caller) piece.proxies (front P (listed piece.caller ++ piece.proxies) (listed piece.callee) all)))
-    (back P (listed piece.caller ++ piece.proxies) (listed piece.callee) all)
-all-ahead P run From_callee piece all =
-    let first = front P (listed piece.caller ++ piece.proxies) (listed piece.callee) all in
-    all-both P _ (listed piece.caller) (all-reverse P _ (all-filter P _ piece.proxies (back P (listed piece.caller) piece.proxies first))) (front P (listed piece.caller) piece.proxies first)
+all-ahead : (P : AppId → Type 0) (run : List Moment) (direction : Direction) (piece : Piece) → All P (recorders run piece) → All P (listed piece.caller ++ listed piece.callee) → All P (ahead run direction piece)
+unfolding ahead along end_of
+all-ahead P run From_caller piece stayed ends = all-both P (recorders run piece) (listed piece.callee) stayed (back P (listed piece.caller) (listed piece.callee) ends)
+all-ahead P run From_callee piece stayed ends = all-both P _ (listed piece.caller) (all-reverse P (recorders run piece) stayed) (front P (listed piece.caller) (listed piece.callee) ends)
 
 -- ## The end of the way
 
@@ -85,6 +91,21 @@ answered-end setup run dialog piece app callee made =
     none-proxied (proxied_with run app) (received run piece app) (λ server. flat_map (λ moment. filter_map (answer_by dialog server) (given_in setup moment)) run)
     (at-callee (λ app. option_map_or (answers_of setup run dialog app) (received run piece app) []) piece.callee _ app callee made)
 
+-- ## Branches
+
+ready-all : (setup : Setup) (epoch : ℕ) (run : List Moment) → All (IsFine setup epoch) run → All (λ (moment : Moment). Hold setup.config epoch Is64 moment.before) run
+    → All (λ (moment : Moment). AllKeyed as_session NoTurn 0 0 moment.before) run → AreSmallDraws setup run → All (IsReadyAt setup epoch) run
+unfolding All
+ready-all setup epoch [] fine kept keyed drawn = tt
+ready-all setup epoch (moment ∷ run) fine kept keyed drawn = (
+  record {
+    fine = fine.0;
+    ready = record { same = fine.0.at; kept = kept.0; keyed = keyed.0; few = fine.0.few_before; lasts = fine.0.lasts };
+    drawn = drawn.0;
+  },
+  ready-all setup epoch run fine.1 kept.1 keyed.1 drawn.1,
+)
+
 module _ (setup : Setup) (epoch began : ℕ) (journal : List Step) (lawful : IsLawful as_session setup epoch began journal) (dialog : Dialog) (piece : Piece) where
   abbrev Run : List Moment
   Run = moments setup epoch began journal
@@ -109,18 +130,37 @@ module _ (setup : Setup) (epoch began : ℕ) (journal : List Step) (lawful : IsL
   ends From_caller made apart app is = callee-ends app (answered-end setup Run dialog piece app is made)
   ends From_callee made apart app is = caller-ends app (proxied_with Run app) refl (apart app is)
 
-  run-prefix : (direction : Direction) (occurrence : Occurrence) → IsPiece setup epoch Run dialog piece → IsApart Run dialog piece → AreSmallNames setup epoch (chained as_session setup epoch began journal) piece → AreInitial setup Run → HasOwnBranch setup Run occurrence
-      → carries setup Run dialog direction piece occurrence ≡ true → IsPrefix (visits setup Run occurrence) (ahead Run direction piece)
+  -- each later request that a turn sends is on a branch of its own
+  run-own : (occurrence : Occurrence) → epoch < 2 ^ 64 → All (IsFine setup epoch) Run → AreSmallDraws setup Run → HasOwnBranch setup Run occurrence
   unfolding moments
-  run-prefix direction occurrence is apart small initial own carried =
-      run-follows setup epoch small.within (start setup epoch began) journal dialog direction piece occurrence own carried (run-fine setup epoch began journal lawful small.hosts small.events initial)
-      (ends direction is.made apart) (all-ahead (λ (app : AppId). IsOf64 epoch app 0) Run direction piece small.sessions)
+  run-own occurrence small fine drawn =
+      let keyed = run-each setup epoch began journal lawful (λ (moment : Moment). AllKeyed as_session NoTurn 0 0 moment.before) (λ before step later is allowed. session-keyed setup epoch began before) in
+      let kept = moments-kept setup epoch journal (start setup epoch began) drawn (start-kept setup epoch Is64 began) in
+      own-branches setup epoch Run occurrence small (ready-all setup epoch Run fine kept keyed drawn)
+
+  -- the name of the session that answered it has 64 bits
+  run-callee : epoch < 2 ^ 64 → All (IsFine setup epoch) Run → is_made setup Run dialog piece ≡ true → (found : Option AppId) → piece.callee ≡ found → All (λ (app : AppId). IsOf64 epoch app 0) (listed found)
+  unfolding moments is_made heads_at_end All
+  run-callee small fine made None is = tt
+  run-callee small fine made (Some app) is =
+      let keyed = run-each setup epoch began journal lawful (λ (moment : Moment). AllKeyed as_session NoTurn 0 0 moment.after)
+      (λ before step later at allowed. subst (λ (net : Net Session). AllKeyed as_session NoTurn 0 0 net) (run-next setup epoch began journal lawful before step) (session-keyed setup epoch began (before ++ step ∷ []))) in
+      (callee-small setup epoch Run piece app (answers_of setup Run dialog app) small fine keyed (at-callee (λ app. option_map_or (answers_of setup Run dialog app) (received Run piece app) []) piece.callee _ app is made), tt)
+
+  run-prefix : (direction : Direction) (occurrence : Occurrence) → IsPiece setup epoch Run dialog piece → IsApart Run dialog piece → AreSmallNames setup epoch (chained as_session setup epoch began journal) piece
+      → AreSmallDraws setup Run → carries setup Run dialog direction piece occurrence ≡ true → IsPrefix (visits setup Run occurrence) (ahead Run direction piece)
+  unfolding moments
+  run-prefix direction occurrence is apart small drawn carried =
+      let fine = run-fine setup epoch began journal lawful small.hosts small.events in
+      run-follows setup epoch small.within (start setup epoch began) journal dialog direction piece occurrence (run-own occurrence small.within fine drawn) carried fine (ends direction is.made apart)
+      (all-ahead (λ (app : AppId). IsOf64 epoch app 0) Run direction piece (recorders-small setup epoch Run piece small.within fine)
+      (all-both (λ (app : AppId). IsOf64 epoch app 0) (listed piece.caller) (listed piece.callee) small.caller (run-callee small.within fine is.made piece.callee refl)))
 
 -- what it visits is a beginning of those that stayed
 pub prefix : (setup : Setup) (epoch began : ℕ) (journal : List Step) (dialog : Dialog) (direction : Direction) (piece : Piece) (occurrence : Occurrence) → IsLawful as_session setup epoch began journal
     → IsPiece setup epoch (moments setup epoch began journal) dialog piece → IsApart (moments setup epoch began journal) dialog piece
-    → AreSmallNames setup epoch (chained as_session setup epoch began journal) piece → AreInitial setup (moments setup epoch began journal) → HasOwnBranch setup (moments setup epoch began journal) occurrence
+    → AreSmallNames setup epoch (chained as_session setup epoch began journal) piece → AreSmallDraws setup (moments setup epoch began journal)
     → carries setup (moments setup epoch began journal) dialog direction piece occurrence ≡ true
     → IsPrefix (visits setup (moments setup epoch began journal) occurrence) (ahead (moments setup epoch began journal) direction piece)
-prefix setup epoch began journal dialog direction piece occurrence lawful is apart small initial own carried =
-    run-prefix setup epoch began journal lawful dialog piece direction occurrence is apart small initial own carried
+prefix setup epoch began journal dialog direction piece occurrence lawful is apart small drawn carried =
+    run-prefix setup epoch began journal lawful dialog piece direction occurrence is apart small drawn carried

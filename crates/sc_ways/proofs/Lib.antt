@@ -7,6 +7,9 @@ pub mod Follows
 pub mod Outside
 pub mod Runs
 pub mod Directs
+pub mod Recorders
+pub mod OwnBranches
+pub mod Callees
 pub mod Prefix
 pub mod Law
 pub mod Sending

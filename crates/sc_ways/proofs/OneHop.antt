@@ -12,6 +12,7 @@ use Rattle.sc_terms.specs.declared.calls.CallRecord.{CallRecord}
 use Rattle.sc_terms.specs.declared.calls.End.{End}
 use Rattle.sc_terms.specs.declared.steps.Step.TheVariants as steps
 use Rattle.sc_parts.specs.declared.setup.Setup.{Setup}
+use Rattle.sc_state.specs.Hosts.{Host}
 use Rattle.sc_state.specs.declared.host.Live.{Live}
 use Rattle.sc_state.specs.declared.net.Net.{Net}
 use Rattle.sc_state.specs.declared.orders.Order.{Order}
@@ -22,6 +23,7 @@ use Rattle.sc_state.specs.declared.session.Session.{Session}
 use Rattle.sc_model.specs.Names.{IsOf64}
 use Rattle.sc_hosts.specs.EventLists.{waiting_in}
 use Rattle.sc_hosts.specs.Histories.{as_session}
+use Rattle.sc_hosts.specs.Nets.{host_at}
 use Rattle.sc_hosts.specs.Runs.{IsAllowed, MayTurn, after_step}
 use Rattle.sc_hosts.specs.Steps.{live_at, outcome_by, turn_of}
 use Rattle.sc_hosts.specs.Taking.{names, own_uri, unrouted}
@@ -50,6 +52,10 @@ pub record IsFine (setup : Setup) (epoch : ℕ) (moment : Moment) : Type 0 where
   pub untagged : All IsUntagged (given_in setup moment)
   pub few : length moment.after.hosts ≤ 2 ^ 64
   pub small : AllSmall moment.after.hosts
+  pub few_before : length moment.before.hosts ≤ 2 ^ 64
+  pub small_before : AllSmall moment.before.hosts
+  pub lasts_after : (number : ℕ) (host : Host Session) → host_at number moment.after ≡ Some host → host.last < 2 ^ 64
+  pub lasts : (number : ℕ) (host : Host Session) → host_at number moment.before ≡ Some host → host.last < 2 ^ 64
   pub allowed : IsAllowed as_session setup moment.before moment.step
 
 -- the request that the session passed on as it came to the next one

@@ -32,11 +32,12 @@ use Rattle.sc_paths.specs.LaterRequests.{Occurrence, SetOut, carries, carries_by
 use Rattle.sc_paths.specs.Moments.{Got, Moment, given_in, got_in, moments_from}
 use Rattle.sc_paths.specs.Pieces.{Dialog, Direction, From_caller, From_callee, Piece, ahead, along, end_of, listed, recorders}
 use Rattle.sc_hops.proofs.OneTurn.{unrouted-vias}
-use Rattle.sc_ways.specs.Ways.{HasOwnBranch, IsOnOwnBranch, IsPrefix}
+use Rattle.sc_ways.specs.Ways.{IsPrefix}
 use Rattle.sc_hops.specs.Hops.{GoesAs}
 use Rattle.sc_hops.proofs.OwnBranch.{goes-itself}
 use Rattle.sc_reached.proofs.Naming.{names-one}
 use Rattle.sc_ways.proofs.Follows.{EndsAt, Goes, end-follows, unrouted-call, way-follows}
+use Rattle.sc_ways.proofs.OwnBranches.{HasOwnBranch, IsOnOwnBranch}
 use Rattle.sc_ways.proofs.OneHop.{IsFine, IsFirst, moment}
 use Rattle.sc_ways.proofs.Outside.{at, first-of}
 use Rattle.sc_ways.proofs.Sending.{sent-first, session-by}

@@ -1,23 +1,27 @@
 -- What holds at each moment of a lawful run.
-use Rattle.std.proofs.Common.{◌≡◌, ◌≤◌, ◌<◌, ℕ, zero, suc, ◌+◌, ◌++◌, ◌^◌, Bool, true, false, Some, List, [], ◌∷◌, refl, sym, ap, subst, ◌∙◌, append_assoc, arith}
+use Rattle.std.proofs.Common.{◌≡◌, ◌≤◌, ◌<◌, ℕ, zero, suc, ◌+◌, ◌++◌, ◌^◌, Bool, true, false, Option, None, Some, List, [], ◌∷◌, refl, sym, ap, subst, ◌∙◌, append_assoc, arith}
 use Rattle.std.proofs.lemmas.List.Elements.{All-nil, All-cons}
+use Rattle.std.specs.Option.{option_map_or}
 use Rattle.std.specs.Prelude.{◌==◌, drop, length, map, not, slice_get}
 use Rattle.std.proofs.lemmas.Bool.Decides.{nat_tests}
 use Rattle.sc_value.specs.declared.ids.AppId.{AppId}
 use Rattle.sc_terms.specs.declared.settings.AppEntry.{AppEntry}
 use Rattle.sc_terms.specs.declared.steps.Step.{Step}
+use Rattle.sc_terms.specs.declared.steps.Step.TheVariants as steps
 use Rattle.sc_parts.specs.declared.setup.Setup.{Setup}
 use Rattle.sc_state.specs.Hosts.{Host}
 use Rattle.sc_state.specs.declared.host.Live.{Live}
 use Rattle.sc_state.specs.declared.net.Entry.{Entry}
 use Rattle.sc_state.specs.declared.net.Net.{Net}
+use Rattle.sc_state.specs.declared.orders.Order.{Order}
+use Rattle.sc_state.specs.declared.queue.Waiting.{Waiting}
 use Rattle.sc_state.specs.declared.session.Session.{Session}
 use Rattle.sc_hosts.proofs.Deliveries.{wire-ends-empty}
 use Rattle.sc_hosts.specs.EventLists.{handled, waiting, waiting_in}
 use Rattle.sc_hosts.specs.Histories.{as_session}
-use Rattle.sc_hosts.specs.Nets.{is_busy}
+use Rattle.sc_hosts.specs.Nets.{host_at, is_busy}
 use Rattle.sc_hosts.specs.Runs.{IsLawful, IsLawfulFrom, after_step, chained, chained_from, quiet_host, start}
-use Rattle.sc_hosts.specs.Steps.{live_at}
+use Rattle.sc_hosts.specs.Steps.{live_at, outcome_by, ringing_at, turn_of}
 use Rattle.sc_lives.proofs.HostCountSteps.{chained-hosts}
 use Rattle.sc_lives.specs.Numbers.{AreNumbered, IsNumbered, IsRising}
 use Rattle.sc_once.specs.Growing.{IsBetween}
@@ -29,8 +33,9 @@ use Rattle.sc_lasting.proofs.Lives.{live-is}
 use Rattle.sc_lasting.proofs.Numbers.{numbers-hold}
 use Rattle.sc_reached.specs.Reached.{AllSmall}
 use Rattle.sc_ways.proofs.Counts.{AreWithin, run-rises, small-net, step-rises}
-use Rattle.sc_paths.specs.Moments.{Moment, given_in, moments, moments_from}
+use Rattle.sc_paths.specs.Moments.{Moment, moments, moments_from, orders_by}
 use Rattle.sc_hops.specs.Hops.{IsUntagged}
+use Rattle.sc_begun.proofs.FirstTurns.{given-first}
 use Rattle.sc_ways.proofs.Epochs.{step-epoch}
 use Rattle.sc_ways.proofs.OneHop.{IsFine}
 
@@ -114,9 +119,31 @@ within-after setup epoch began before app lawful = between-zero (handled app bef
 numbered-after : (setup : Setup) (epoch began : ℕ) (before : List Step) (app : AppId) (live : Live Session) → live_at app (chained as_session setup epoch began before) ≡ Some live → Numbered live.session
 numbered-after setup epoch began before app live is = live-is Numbered setup (λ history. numbers-hold setup.config history) epoch began before app live is
 
--- no initial request that its turn gives has a To tag
-abbrev pub IsInitial : Setup → Moment → Type 0
-IsInitial setup moment = All IsUntagged (given_in setup moment)
+-- no initial request that a turn gives has a To tag
+none-given : All IsUntagged []
+unfolding All
+none-given = tt
+
+of-waiting : (found : Option Waiting) (give : Waiting → List Order) → ((waiting : Waiting) → found ≡ Some waiting → All IsUntagged (give waiting)) → All IsUntagged (option_map_or give found [])
+of-waiting None give each = none-given
+of-waiting (Some waiting) give each = each waiting refl
+
+of-live : (found : Option (Live Session)) (give : Live Session → List Order) → ((live : Live Session) → found ≡ Some live → All IsUntagged (give live)) → All IsUntagged (option_map_or give found [])
+of-live None give each = none-given
+of-live (Some live) give each = each live refl
+
+initial-given : (setup : Setup) (epoch began : ℕ) (before : List Step) (step : Step) → IsLawful as_session setup epoch began before → All IsUntagged (orders_by setup (chained as_session setup epoch began before) step)
+unfolding orders_by outcome_by as_session turn_of
+initial-given setup epoch began before (steps.Turn app event now made end) lawful =
+    let net : Net Session = chained as_session setup epoch began before in
+    of-live (live_at app net) _
+    (λ live is. of-waiting (slice_get live.inbox 0) (λ waiting. (outcome_by as_session setup.config live.session (turn_of net app waiting now made end)).orders)
+    (λ waiting at. given-first setup epoch began before app live waiting (ringing_at app (host_at app.host net)) now made end lawful is at))
+initial-given setup epoch began before (steps.In from message) lawful = none-given
+initial-given setup epoch began before (steps.Bad from bad) lawful = none-given
+initial-given setup epoch began before (steps.Lost place) lawful = none-given
+initial-given setup epoch began before (steps.Tick now) lawful = none-given
+initial-given setup epoch began before (steps.Withdraw app) lawful = none-given
 
 under : (a b : ℕ) → a ≤ b → b < 2 ^ 64 → a < 2 ^ 64
 under a b p q = omega (arith, p, q)
@@ -130,7 +157,7 @@ module _ (setup : Setup) (epoch began : ℕ) (journal : List Step) (lawful : IsL
   lawful-before before later is =
       lawful-front before later setup (start setup epoch began) (subst (λ (steps : List Step). IsLawfulFrom as_session setup (start setup epoch began) steps) (sym is) lawful)
 
-  run-next : (before : List Step) (step : Step) → Run (before ++ step ∷ []) ≡ after_step as_session setup (Run before) step
+  pub run-next : (before : List Step) (step : Step) → Run (before ++ step ∷ []) ≡ after_step as_session setup (Run before) step
   unfolding chained
   run-next before step = chained-next before setup (start setup epoch began) step
 
@@ -140,6 +167,9 @@ module _ (setup : Setup) (epoch began : ℕ) (journal : List Step) (lawful : IsL
         subst (λ (net : Net Session). length net.hosts ≤ 2 ^ 64) (run-next before step)
         (subst (λ (n : ℕ). n ≤ 2 ^ 64) (sym (chained-hosts as_session setup epoch began (before ++ step ∷ []))) apps)
 
+    few-before : (before : List Step) → length (Run before).hosts ≤ 2 ^ 64
+    few-before before = subst (λ (n : ℕ). n ≤ 2 ^ 64) (sym (chained-hosts as_session setup epoch began before)) apps
+
     small-after : (before : List Step) (step : Step) (later : List Step) → Base epoch (Run before) → (chained_from as_session setup (after_step as_session setup (Run before) step) later).count < 2 ^ 64
         → AllSmall (after_step as_session setup (Run before) step).hosts
     small-after before step later base few =
@@ -148,11 +178,11 @@ module _ (setup : Setup) (epoch began : ℕ) (journal : List Step) (lawful : IsL
         small-net after next.numbered next.within (under after.count _ (run-rises as_session setup later after) few)
 
     fine-from : (later before : List Step) → before ++ later ≡ journal → Base epoch (Run before) → IsLawfulFrom as_session setup (Run before) later
-        → (chained_from as_session setup (Run before) later).count < 2 ^ 64 → All (IsInitial setup) (moments_from setup (Run before) later)
+        → (chained_from as_session setup (Run before) later).count < 2 ^ 64
         → All (IsFine setup epoch) (moments_from setup (Run before) later)
     unfolding moments_from IsLawfulFrom All chained_from
-    fine-from [] before is base allowed few initial = tt
-    fine-from (step ∷ later) before is base allowed few initial =
+    fine-from [] before is base allowed few = tt
+    fine-from (step ∷ later) before is base allowed few =
         let next : Run (before ++ step ∷ []) ≡ after_step as_session setup (Run before) step = run-next before step in (
           record {
             numbered = base.numbered;
@@ -160,22 +190,25 @@ module _ (setup : Setup) (epoch began : ℕ) (journal : List Step) (lawful : IsL
             quiet = base.quiet;
             at = base.at;
             sessions = λ app live at. numbered-after setup epoch began before app live at;
-            untagged = initial.0;
+            untagged = initial-given setup epoch began before step (lawful-before before (step ∷ later) is);
             few = few-hosts before step;
             small = small-after before step later base few;
+            few_before = few-before before;
+            small_before = small-net (Run before) base.numbered base.within (under (Run before).count _ (run-rises as_session setup (step ∷ later) (Run before)) few);
+            lasts_after = λ number host at. under host.last _ ((step-base setup epoch (Run before) step base).within number host at) (under (after_step as_session setup (Run before) step).count _ (run-rises as_session setup later (after_step as_session setup (Run before) step)) few);
+            lasts = λ number host at. under host.last _ (base.within number host at) (under (Run before).count _ (run-rises as_session setup (step ∷ later) (Run before)) few);
             allowed = allowed.0;
           },
           subst (λ (net : Net Session). All (IsFine setup epoch) (moments_from setup net later)) next
               (fine-from later (before ++ step ∷ []) (append_assoc before (step ∷ []) later ∙ is) (subst (λ (net : Net Session). Base epoch net) (sym next) (step-base setup epoch (Run before) step base))
               (subst (λ (net : Net Session). IsLawfulFrom as_session setup net later) (sym next) allowed.1)
-              (subst (λ (net : Net Session). (chained_from as_session setup net later).count < 2 ^ 64) (sym next) few)
-              (subst (λ (net : Net Session). All (IsInitial setup) (moments_from setup net later)) (sym next) initial.1)),
+              (subst (λ (net : Net Session). (chained_from as_session setup net later).count < 2 ^ 64) (sym next) few)),
         )
 
     -- each moment of the run is fine
-    pub run-fine : (chained as_session setup epoch began journal).count < 2 ^ 64 → All (IsInitial setup) (moments setup epoch began journal) → All (IsFine setup epoch) (moments setup epoch began journal)
+    pub run-fine : (chained as_session setup epoch began journal).count < 2 ^ 64 → All (IsFine setup epoch) (moments setup epoch began journal)
     unfolding moments IsLawful chained chained_from
-    run-fine few initial = fine-from journal [] refl (start-base setup epoch began) lawful few initial
+    run-fine few = fine-from journal [] refl (start-base setup epoch began) lawful few
 
   each-from : (P : Moment → Type 0) → ((before : List Step) (step : Step) (later : List Step) → before ++ step ∷ later ≡ journal
       → P (record { before = Run before; step = step; after = after_step as_session setup (Run before) step }))

@@ -16,10 +16,9 @@ use Rattle.sc_hosts.specs.Legs.{session_for}
 use Rattle.sc_hosts.specs.Looking.{is_proxy, session_in}
 use Rattle.sc_hosts.specs.Steps.{live_at}
 use Rattle.sc_lasting.specs.Lasting.{All}
-use Rattle.sc_paths.specs.LaterRequests.{Occurrence, SetOut, set_out}
-use Rattle.sc_paths.specs.Moments.{Moment, given_in, proxied_with}
-use Rattle.sc_paths.specs.Pieces.{Dialog, Piece, sessions_of}
-use Rattle.sc_hops.specs.Hops.{AreOtherBranches, HasNoClient, IsUntagged}
+use Rattle.sc_paths.specs.Moments.{Moment, proxied_with}
+use Rattle.sc_paths.specs.Pieces.{Dialog, Piece, listed}
+use Rattle.sc_vias.specs.Vias.{drawn_by}
 
 -- the first list begins the second
 unfoldable pub IsPrefix : List AppId → List AppId → Type 0
@@ -27,17 +26,13 @@ IsPrefix [] all = Unit {0}
 IsPrefix (app ∷ apps) [] = ⊥
 IsPrefix (app ∷ apps) (first ∷ all) = (app ≡ first) × IsPrefix apps all
 
--- the numbers in the names of application sessions have 64 bits: the epoch, the hosts, those of the sessions of the way, and as
--- many as events were counted up to this net
+-- the numbers in the names of application sessions have 64 bits: the epoch, the hosts, that of the session which sent the INVITE
+-- of the way first, and as many as events were counted up to this net
 pub record AreSmallNames (setup : Setup) (epoch : ℕ) (net : Net Session) (piece : Piece) : Type 0 where
   pub within : epoch < 2 ^ 64
   pub hosts : length setup.config.app ≤ 2 ^ 64
   pub events : net.count < 2 ^ 64
-  pub sessions : All (λ (app : AppId). IsOf64 epoch app 0) (sessions_of piece)
-
--- no initial request that a turn gives to send has a To tag
-abbrev pub AreInitial : Setup → List Moment → Type 0
-AreInitial setup run = All (λ (moment : Moment). All IsUntagged (given_in setup moment)) run
+  pub caller : All (λ (app : AppId). IsOf64 epoch app 0) (listed piece.caller)
 
 -- at this moment no request of this Call-ID would come to the session in the SipSession of a proxy
 unfoldable pub TakesNoProxy : Bytes → AppId → Moment → Type 0
@@ -52,15 +47,6 @@ abbrev pub IsApart : List Moment → Dialog → Piece → Type 0
 IsApart run dialog piece =
     (app : AppId) → piece.caller ≡ Some app → is_some (proxied_with run app) ≡ true → All (TakesNoProxy dialog.call_id app) run
 
--- the request that set out has a Via, and in the step in which a turn sends it no other order of the turn and no client
--- transaction that was there has its branch
-pub record IsOnOwnBranch (setup : Setup) (out : SetOut) (order : ℕ) : Type 0 where
-  pub vias : 1 ≤ length out.request.head.via
-  pub orders : AreOtherBranches out.request (given_in setup out.moment) order
-  pub clients : HasNoClient out.request out.moment.before
-
--- where a turn sends it, it is on a branch of its own: numbers of branches are drawn one by one, so no other has it as long as
--- they have 64 bits
-unfoldable pub HasOwnBranch : Setup → List Moment → Occurrence → Type 0
-HasOwnBranch setup run occurrence =
-    (order : ℕ) (out : SetOut) → occurrence.order ≡ Some order → set_out setup run occurrence ≡ Some out → IsOnOwnBranch setup out order
+-- the number that the session of each turn drew last, by the end of it, has 64 bits, so that each branch is another text
+abbrev pub AreSmallDraws : Setup → List Moment → Type 0
+AreSmallDraws setup run = All (λ (moment : Moment). drawn_by setup moment.before moment.step < 2 ^ 64) run

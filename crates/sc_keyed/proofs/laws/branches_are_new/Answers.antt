@@ -1,5 +1,8 @@
-use Rattle.sc_keyed.proofs.Branches.{branches-rise}
+use Rattle.sc_keyed.proofs.Branches.{branches-rise, sends-on-branches}
 use Rattle.sc_keyed.proofs.laws.branches_are_new.Goals as goal
 
-pub returns : goal.returns
-returns c = branches-rise
+pub returns-clause-vias : goal.returns-clause-vias
+returns-clause-vias c = sends-on-branches
+
+pub returns-clause-branches : goal.returns-clause-branches
+returns-clause-branches c = branches-rise

@@ -1,0 +1,4 @@
+pub mod HostVias
+pub mod NetVias
+pub mod StepVias
+pub mod RunVias
