@@ -9,7 +9,8 @@ ghost use Rattle.sc_hosts.specs.Giving.{giving};
 ghost use Rattle.sc_hosts.specs.Acting.{drawn, with_forwarded, rested_branch, rested, proxy_now};
 ghost use Rattle.sc_acting.specs.Acts.{branched};
 
-use sc_effects::{is_final, proxy_of, proxy_place};
+use sc_effects::{proxy_of, proxy_place};
+use sc_methods::is_final;
 use sc_state::{Branch, Known, Order, Proxy, Working};
 use sc_terms::View;
 use sc_value::{CloneIn, NoMemory, ReqId, sum};

@@ -8,7 +8,7 @@ use crate::changing::proxy_now;
 use sc_branches::{cancelled_now, is_exhausted};
 use sc_derived::is_of;
 use sc_effects::{in_state, is_early};
-use sc_refusals::is_initial_state;
+use sc_looking::is_initial_state;
 use sc_state::{Known, Order, Proxy, Working};
 use sc_terms::{SessionView, State};
 use sc_value::{List, NoMemory, ReqId, SessId};

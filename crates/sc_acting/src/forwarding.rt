@@ -11,8 +11,9 @@ ghost use Rattle.sc_hosts.specs.Acting.{forwarded_view, moved_on, subscribed_tag
 use crate::changing::{give, note_forwarded};
 use sc_best::{best, forwarded};
 use sc_branches::{can_choose, can_pass};
-use sc_effects::{after_initial, answered_in, is_subscribe, is_success, request_copy, tidy};
-use sc_refusals::session_place;
+use sc_effects::{after_initial, answered_in, request_copy, tidy};
+use sc_looking::session_place;
+use sc_methods::{is_subscribe, is_success};
 use sc_state::{Order, Passing, Proxy, Working};
 use sc_terms::{RequestView, SessionView, View};
 use sc_value::{CloneIn, List, NoMemory, Response, SessId, Shared, Text, tag};

@@ -17,7 +17,7 @@ use crate::proxying::is_no_hops;
 use crate::reading::shown;
 use crate::replies::{reply_483, reply_500};
 use crate::returning::pass_back;
-use sc_refusals::partner;
+use sc_looking::partner;
 use sc_servlets::SipServlet;
 use sc_terms::{Call, CallAnswer, Charter, End, Event};
 use sc_turn::Turn;

@@ -12,7 +12,7 @@ ghost use Rattle.sc_apps.specs.Scripted.{IsPlayed, is_first_of};
 
 use crate::calling::cancel;
 use crate::reading::shown;
-use sc_refusals::partner;
+use sc_looking::partner;
 use sc_terms::{Call, RequestView, View};
 use sc_turn::Turn;
 use sc_value::{NoMemory, ReqId, SessId};

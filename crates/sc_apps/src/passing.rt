@@ -11,7 +11,7 @@ use crate::calling::ack;
 use crate::drafting::{create_in_dialog, draft_of, send};
 use crate::keeping::set_attribute;
 use crate::reading::{decimal_text, memory_of};
-use sc_refusals::is_ack;
+use sc_methods::is_ack;
 use sc_terms::{Call, CallAnswer, Inside};
 use sc_turn::Turn;
 use sc_value::{CloneIn, NoMemory, ReqId, Request, SessId, Text, write_u64};

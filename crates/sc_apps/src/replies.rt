@@ -12,7 +12,7 @@ ghost use Rattle.sc_model.specs.BestResponses.{server_error};
 
 use crate::calling::respond;
 use crate::reading::memory_of;
-use sc_refusals::is_ack;
+use sc_methods::is_ack;
 use sc_terms::{Answer, Call, CallAnswer};
 use sc_turn::Turn;
 use sc_value::{List, NoMemory, ReqId, Request, Text};

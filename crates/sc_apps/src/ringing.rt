@@ -17,7 +17,7 @@ use crate::ending::ended;
 use crate::keeping::{cancel_timer, invalidate_application, start_timer};
 use crate::reading::{decimal_text, memory_of, param_at, shown, small_number};
 use crate::replies::{reply_180, reply_200, reply_ok};
-use sc_refusals::is_invite;
+use sc_methods::is_invite;
 use sc_servlets::SipServlet;
 use sc_terms::{Call, Charter, End, Event, Period, TimerView, View};
 use sc_turn::Turn;

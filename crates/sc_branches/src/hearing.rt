@@ -10,23 +10,10 @@ ghost use Rattle.sc_branches.specs.Changes.{candidate_unless, noted, ending};
 use crate::changing::{due_in, end_in, stopped, with_targets};
 use crate::options::{branch_due, branch_in, is_open};
 use crate::targets::added_targets;
+use sc_methods::{is_final, is_success};
 use sc_state::{Passing, Proxy};
 use sc_value::{CloneIn, NoMemory, Response, SessId, Shared};
 use std::alloc::Global;
-
-/// A 200 to 699 (RFC 3261 section 7.2).
-pub fn is_final(code: u16) -> bool
-    ensures { result ≡ is_final code }
-{
-    200 <= code
-}
-
-/// A 2xx.
-pub fn is_success(code: u16) -> bool
-    ensures { result ≡ is_success code }
-{
-    is_final(code) && code < 300
-}
 
 /// A 6xx, which speaks for every place.
 pub fn is_global(code: u16) -> bool

@@ -11,7 +11,7 @@ mod targets;
 mod telling;
 
 pub use changing::{stopped, with_targets};
-pub use hearing::{ended_by, heard, is_final, is_global, is_success};
+pub use hearing::{ended_by, heard, is_global};
 pub use making::{new_branch, new_proxy};
 pub use options::{
     branch_due, branch_in, has_branch, has_open, is_invite, is_open, is_parallel, is_supervised,

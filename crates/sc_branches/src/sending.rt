@@ -4,8 +4,8 @@ ghost use Rattle.std.specs.Prelude.{◌≡◌, ◌++◌, IfOk, OnOk, map, filter
 ghost use Rattle.sc_branches.specs.Changes.{is_cancelled, number_of};
 ghost use Rattle.sc_hosts.specs.Branches.{starting, can_choose, can_pass, cancelled_now, is_exhausted};
 
-use crate::hearing::is_success;
 use crate::options::{has_open, is_invite, is_open, is_parallel};
+use sc_methods::is_success;
 use sc_state::{Branch, Proxy};
 use sc_value::{CloneIn, List, NoMemory, Response, Uri};
 use std::alloc::Global;

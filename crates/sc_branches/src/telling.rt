@@ -7,9 +7,10 @@ ghost use Rattle.std.specs.Option.{option_map_or};
 ghost use Rattle.sc_hosts.specs.Branches.{is_branch, is_open, branch_in, has_open, ends_search, ended_branch, leaves_target, ends_last, is_told_whole, is_timed_out, to_cancel};
 
 use crate::changing::{cancel_in, end_in};
-use crate::hearing::{is_final, is_global, is_success};
+use crate::hearing::is_global;
 use crate::options::{any_open, branch_in, is_invite, is_open};
 use crate::targets::added_targets;
+use sc_methods::{is_final, is_success};
 use sc_state::{Branch, Proxy};
 use sc_value::{CloneIn, NoMemory, Response};
 use std::alloc::Global;

@@ -41,6 +41,7 @@ fn settings(alloc: Global) -> Result<Config, NoMemory> {
         epoch_steps: Within::of(0),
         journal_parts: false,
         reuse: false,
+        recording: None,
         hosts: List::new(alloc),
         app,
     })

@@ -31,7 +31,7 @@ few_apps_of top none = both_first _ _ (none_if (are_some_tables (apps_in top)) _
 
 few_at_top : (top : Members) → top_fault Range top ≡ None → are_few (apps_in top) ≡ true
 unfolding top_fault
-few_at_top top none = few_apps_of top (no_fault _ _ (no_fault _ _ (no_fault _ _ (no_fault _ _ (no_fault _ _ (no_fault _ _ (no_fault _ _ none).1).1).1).1).1).1).0
+few_at_top top none = few_apps_of top (no_fault _ _ (no_fault _ _ (no_fault _ _ (no_fault _ _ (no_fault _ _ (no_fault _ _ (no_fault _ _ (no_fault _ _ none).1).1).1).1).1).1).1).0
 
 few_in_table : (top : Members) → table_fault Range top ≡ None → are_few (apps_in top) ≡ true
 unfolding table_fault

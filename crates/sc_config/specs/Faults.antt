@@ -11,7 +11,7 @@ use Rattle.sc_config.specs.declared.faults.Check.TheVariants.{UnknownKeys, Missi
 use Rattle.sc_config.specs.declared.faults.Wrong.{Wrong}
 use Rattle.sc_config.specs.declared.faults.Wrong.TheVariants.{TopKey, AppKey, Host}
 use Rattle.sc_config.specs.Documents.{Bytes, elements, first_key, first_given}
-use Rattle.sc_config.specs.KeyValues.{listen_in, text_in, number_in, flag_in, is_wrong_host, is_params, expires_in, is_app_name, is_salt}
+use Rattle.sc_config.specs.KeyValues.{listen_in, text_in, number_in, flag_in, is_wrong_host, is_file, is_params, expires_in, is_app_name, is_salt}
 
 -- a kind of refusal and the key at fault
 abbrev pub Fault : Type 0
@@ -61,7 +61,8 @@ unfoldable pub is_top_key : Bytes → Bool
 is_top_key key =
     same_bytes key (codes "listen") || same_bytes key (codes "domain") || same_bytes key (codes "salt") || same_bytes key (codes "workers")
     || same_bytes key (codes "stop_after") || same_bytes key (codes "journal_steps") || same_bytes key (codes "journal_bytes")
-    || same_bytes key (codes "epoch_steps") || same_bytes key (codes "journal_parts") || same_bytes key (codes "reuse") || same_bytes key (codes "hosts") || same_bytes key (codes "app")
+    || same_bytes key (codes "epoch_steps") || same_bytes key (codes "journal_parts") || same_bytes key (codes "reuse") || same_bytes key (codes "record")
+    || same_bytes key (codes "hosts") || same_bytes key (codes "app")
 
 -- the key is one of an application's
 unfoldable pub is_app_key : Bytes → Bool
@@ -117,6 +118,10 @@ wrong_numbers top = first_fault (
 -- the first key of a flag that is neither true nor false
 unfoldable pub wrong_flags : Members → Option Fault
 wrong_flags top = first_fault (wrong_flag (codes "journal_parts") top ∷ wrong_flag (codes "reuse") top ∷ [])
+
+-- `record` is there, and is no file's name
+unfoldable pub wrong_record : Members → Option Fault
+wrong_record top = wrong_if (not (is_file (get_member (codes "record") top))) (codes "record")
 
 -- `hosts` is no table, or one of its entries is wrong
 unfoldable pub wrong_host_in : Option Members → Option Fault
@@ -179,6 +184,7 @@ top_fault Range top = first_fault (
     ∷ wrong_text is_salt (codes "salt") top
     ∷ wrong_numbers top
     ∷ wrong_flags top
+    ∷ wrong_record top
     ∷ wrong_hosts (get_member (codes "hosts") top)
     ∷ wrong_apps top
     ∷ [])

@@ -1,7 +1,7 @@
 -- The value of each key: what it has to be, and what stands where it is absent.
 use Rattle.std.specs.Prelude.{ℕ, ℤ, pos, negsuc, Bool, true, false, not, ◌||◌, ◌&&◌, ◌==◌, Option, Some, None, [], ◌∷◌, length, nat_le, nat_lt, if◌then◌else◌, is_some, slice_index}
 use Rattle.std.specs.List.{list_all, before_first, after_first}
-use Rattle.std.specs.Option.{option_and_then}
+use Rattle.std.specs.Option.{option_and_then, option_map_or}
 use Rattle.std.specs.Char.{is_ascii_alphanumeric, is_ascii_digit}
 use Rattle.std.specs.Str.Parse.{digits_value}
 use Rattle.std.specs.Net.Reader.{read_ipv4}
@@ -98,6 +98,15 @@ listen_in value = option_and_then listen_text (option_and_then as_str value)
 -- the text of a key, where it is one and passes the test
 abbrev pub text_in : (Bytes → Bool) → Option Data → Option Bytes
 text_in test value = text_if test (option_and_then as_str value)
+
+-- the name of a file: 1 to 4,096 bytes, none of them 0
+unfoldable pub is_file_name : Bytes → Bool
+is_file_name text = not (length text == 0) && nat_le (length text) 4096 && list_all (λ b. not (b == 0)) text
+
+-- the name of a file, or nothing
+unfoldable pub is_file : Option Data → Bool
+is_file None = true
+is_file (Some value) = option_map_or is_file_name (as_str value) false
 
 -- the address of an entry of `hosts`
 unfoldable pub host_ip : Data → Option Bytes

@@ -83,6 +83,7 @@ config_of kinds top = record {
   epoch_steps = number_at 0 1000000 0 (codes "epoch_steps") top;
   journal_parts = flag_at (codes "journal_parts") top;
   reuse = flag_at (codes "reuse") top;
+  recording = option_and_then as_str (get_member (codes "record") top);
   hosts = hosts_in (get_member (codes "hosts") top);
   app = map (app_entry kinds) (apps_in top);
 }

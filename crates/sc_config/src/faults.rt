@@ -2,12 +2,12 @@
 
 ghost use Rattle.std.specs.Prelude.{◌≡◌, ◌≤◌, not, map, position, is_some, codes};
 ghost use Rattle.std.specs.List.{list_all, list_any};
-ghost use Rattle.std.specs.Option.{option_map, option_map_or, option_copied, option_and_then, is_none};
+ghost use Rattle.std.specs.Option.{option_map, option_copied, is_none};
 ghost use Rattle.toml.specs.Data.{as_str, as_table, get_member};
 ghost use Rattle.sc_tokens.specs.Names.{same_bytes};
 ghost use Rattle.toml.specs.View.{view, table_view};
-ghost use Rattle.sc_config.specs.Faults.{fault_if, missing, wrong_if, wrong_text, wrong_listen, wrong_number, wrong_flag, wrong_flags, wrong_params, wrong_expires, app_fault, top_fault, is_app_key, is_top_key, is_any, is_wrong, item_fault, apps_in, apps_fault, are_some_tables, wrong_apps, wrong_hosts, wrong_numbers, table_fault, app_text, is_kind, unknown_kind, double_name, first_refusal, first_fault};
-ghost use Rattle.sc_config.specs.KeyValues.{is_wrong_host, text_in, text_if, is_salt, is_app_name, listen_in, is_params};
+ghost use Rattle.sc_config.specs.Faults.{fault_if, missing, wrong_text, wrong_listen, wrong_number, wrong_flag, wrong_flags, wrong_record, wrong_params, wrong_expires, app_fault, top_fault, is_app_key, is_top_key, is_any, is_wrong, item_fault, apps_in, apps_fault, are_some_tables, wrong_apps, wrong_hosts, wrong_numbers, table_fault, app_text, is_kind, unknown_kind, double_name, first_refusal, first_fault};
+ghost use Rattle.sc_config.specs.KeyValues.{is_wrong_host, is_salt, is_app_name, listen_in, is_file, is_params};
 ghost use Rattle.sc_tokens.specs.Hosts.{is_host};
 ghost use Rattle.sc_config.specs.declared.faults.Check.TheVariants.{UnknownKeys, Missing, Range};
 ghost use Rattle.sc_config.specs.Documents.{first_key, first_given};
@@ -15,7 +15,8 @@ ghost use Rattle.sc_config.specs.Documents.{first_key, first_given};
 use crate::config_refused::{DOUBLE_NAME, MISSING, RANGE, UNKNOWN_KEY, UNKNOWN_KIND};
 use crate::texts::{is_app_name, is_salt};
 use crate::values::{
-    elements, expires_in, flag_in, host_ip, is_params, listen_in, number_in, text_at, value_at,
+    elements, expires_in, flag_in, host_ip, is_file, is_params, listen_in, number_in, text_at,
+    value_at,
 };
 use sc_terms::Within;
 use sc_uri_text::is_host;
@@ -198,6 +199,7 @@ fn is_top_key(key: &str) -> bool
         || key == "epoch_steps"
         || key == "journal_parts"
         || key == "reuse"
+        || key == "record"
         || key == "hosts"
         || key == "app"
 }
@@ -372,10 +374,20 @@ fn range_at_top(table: &Table) -> Option<Fault<'_>>
     if let Some(fault) = wrong_flags(table) {
         return Some(fault);
     }
+    if let Some(fault) = wrong_record(table) {
+        return Some(fault);
+    }
     if let Some(fault) = wrong_hosts(table) {
         return Some(fault);
     }
     wrong_apps(table)
+}
+
+#[tactic(auto, unfolding(crate::specs::Faults::wrong_record))]
+fn wrong_record(table: &Table) -> Option<Fault<'_>>
+    ensures { result ≡ wrong_record (table_view table.now) }
+{
+    fault_if(!is_file(value_at(table, "record")), RANGE, "record")
 }
 
 #[tactic(auto, unfolding(crate::specs::Faults::first_fault, crate::specs::Faults::wrong_flags))]

@@ -1,7 +1,7 @@
 //! The settings of a document without fault.
 
 ghost use Rattle.std.specs.Prelude.{◌≡◌, ◌++◌, [], true, map, codes, position, IfOk, OnOk};
-ghost use Rattle.std.specs.Option.{option_map, option_copied, option_map_or, option_and_then, unwrap_or};
+ghost use Rattle.std.specs.Option.{option_map, option_map_or, option_and_then, unwrap_or};
 ghost use Rattle.sc_tokens.specs.Names.{same_bytes};
 ghost use Rattle.toml.specs.Data.{as_str, as_table, get_member};
 ghost use Rattle.toml.specs.View.{view, table_view};
@@ -110,6 +110,16 @@ fn top_text(alloc: Global, key: &str, top: &Table) -> Result<Text, NoMemory>
     }
 }
 
+/// The name of the file of `record`, where the key is there.
+fn recording_of(alloc: Global, top: &Table) -> Result<Option<Text>, NoMemory>
+    ensures { IfOk result (λ name. name ≡ option_and_then as_str (get_member (codes "record") (table_view top.now))) }
+{
+    match text_at(top, "record") {
+        Some(text) => Ok(Some(Text::from_slice(alloc, text.as_bytes())?)),
+        None => Ok(None),
+    }
+}
+
 /// The parameters of an application.
 #[tactic(auto, unfolding(crate::specs::ReadSettings::params_in), using(crate::proofs::DocumentLaws::map_view))]
 fn params_in(alloc: Global, value: Option<&Value>) -> Result<List<Text>, NoMemory>
@@ -212,6 +222,7 @@ pub(crate) fn config_of(alloc: Global, kinds: &[Text], top: &Table) -> Result<Co
 {
     let domain = top_text(alloc, "domain", top)?;
     let salt = salt_of(alloc, top)?;
+    let recording = recording_of(alloc, top)?;
     let hosts = hosts_in(alloc, value_at(top, "hosts"))?;
     let app = apps_of(alloc, kinds, top)?;
     Ok(Config {
@@ -225,6 +236,7 @@ pub(crate) fn config_of(alloc: Global, kinds: &[Text], top: &Table) -> Result<Co
         epoch_steps: number_at(Within::of(0), "epoch_steps", top),
         journal_parts: flag_at("journal_parts", top),
         reuse: flag_at("reuse", top),
+        recording,
         hosts,
         app,
     })

@@ -17,9 +17,10 @@ use toml::Table;
 /// The keys are `listen` (`a.b.c.d:port`), `domain` (a host's name, or an IPv6 literal in brackets) and
 /// `salt`, which are required; `workers` (1 to 32, else 2), `stop_after` and `epoch_steps` (0 to
 /// 1,000,000, else 0), `journal_steps` (1 to 1,000,000, the default) and `journal_bytes` (1 to
-/// 67,108,864, the default); `journal_parts` and `reuse` (true or false, the default); the table `hosts`
-/// from names to IPv4 addresses; and the array `app` of 1 to 64 tables with `name` and `kind`, which are
-/// required, `params`, an array of texts, and `expires`, -1 to 10,080 minutes, else 3.
+/// 67,108,864, the default); `journal_parts` and `reuse` (true or false, the default); `record` (the name
+/// of a file, 1 to 4,096 bytes without 0, else none); the table `hosts` from names to IPv4 addresses; and
+/// the array `app` of 1 to 64 tables with `name` and `kind`, which are required, `params`, an array of
+/// texts, and `expires`, -1 to 10,080 minutes, else 3.
 ///
 /// # Errors
 ///

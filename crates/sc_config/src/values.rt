@@ -1,16 +1,16 @@
 //! The values of single keys.
 
-ghost use Rattle.std.specs.Prelude.{◌≡◌, ◌≤◌, IfSome, map, Some, is_some};
+ghost use Rattle.std.specs.Prelude.{◌≡◌, map, Some, is_some};
 ghost use Rattle.std.specs.Option.{option_map, option_copied, option_and_then};
 ghost use Rattle.toml.specs.Data.{as_str, as_integer, as_bool, get_member};
 ghost use Rattle.toml.specs.View.{view, table_view};
 ghost use Rattle.sc_config.specs.KeyValues.{number_within, number_in, flag_in, expires_in, expiry_of};
-ghost use Rattle.sc_config.specs.KeyValues.{host_ip, ip_of, is_params, listen_in, listen_text};
-ghost use Rattle.sc_config.specs.Documents.{elements, items_in};
+ghost use Rattle.sc_config.specs.KeyValues.{host_ip, ip_of, is_file, is_file_name, is_params, listen_in};
+ghost use Rattle.sc_config.specs.Documents.{elements};
 ghost use Rattle.std.specs.List.{list_all};
-ghost use Rattle.toml.specs.View.{array_view};
 
 use crate::addresses::{ip_of, listen_of};
+use crate::texts::is_file_name;
 use sc_terms::{Expires, Port, Within};
 use toml::{Table, Value};
 
@@ -105,6 +105,20 @@ pub(crate) fn listen_in(value: Option<&Value>) -> Option<([u8; 4], Port)>
             None => None,
         },
         None => None,
+    }
+}
+
+/// Whether the value can be that of `record`: the name of a file, or nothing.
+#[tactic(auto, unfolding(crate::specs::KeyValues::is_file))]
+pub(crate) fn is_file(value: Option<&Value>) -> bool
+    ensures { result ≡ is_file (option_map (λ v. view v.now) value.entry) }
+{
+    match value {
+        Some(value) => match value.as_str() {
+            Some(name) => is_file_name(name.as_bytes()),
+            None => false,
+        },
+        None => true,
     }
 }
 

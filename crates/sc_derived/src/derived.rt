@@ -11,10 +11,11 @@ ghost use Rattle.sc_hosts.specs.DerivedSessions.{Handling};
 ghost use Rattle.sc_hosts.specs.PreparingResponses.{is_invalid};
 ghost use Rattle.sc_derived.specs.Claims.{claims_of, with_peer_tag};
 
-use sc_effects::{is_subscribe, is_success, is_uac};
+use sc_effects::is_uac;
 use sc_legs::{first_got, is_invalid, is_overtaken_leg, leg_of, same_tag};
+use sc_looking::session_place;
 use sc_messages::makes_dialog;
-use sc_refusals::{is_invite, session_place};
+use sc_methods::{is_invite, is_subscribe, is_success};
 use sc_state::{Got, Known, Leg, Session};
 use sc_terms::{SessionView, State, View};
 use sc_value::{

@@ -7,9 +7,10 @@ ghost use Rattle.sc_hosts.specs.Looking.{is_request, is_session, request_in};
 ghost use Rattle.sc_hosts.specs.Refusals.{begun_by};
 ghost use Rattle.sc_hosts.specs.ViewChanges.{with_answer, with_response, answered_in, answered};
 
-use crate::states::{after_response, is_final};
+use crate::states::after_response;
 use crate::tidying::tidy;
-use sc_refusals::{begun_by, request_in, request_place, session_place};
+use sc_looking::{begun_by, request_in, request_place, session_place};
+use sc_methods::is_final;
 use sc_terms::{RequestView, SessionView, View};
 use sc_value::{CloneIn, NoMemory, ReqId, SessId};
 use std::alloc::Global;

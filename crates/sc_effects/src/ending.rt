@@ -8,7 +8,7 @@ ghost use Rattle.sc_hosts.specs.ViewChanges.{invalidated, is_owed, settled_reque
 use crate::answering::answer_in;
 use crate::looking::removed;
 use crate::tidying::tidy;
-use sc_refusals::is_ack;
+use sc_methods::is_ack;
 use sc_terms::{RequestView, View};
 use sc_value::{ReqId, SessId};
 

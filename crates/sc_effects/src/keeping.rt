@@ -11,7 +11,7 @@ ghost use Rattle.sc_hosts.specs.Refusals.{is_set};
 ghost use Rattle.sc_hosts.specs.Effects.{proxied_request, proxying, proxied, with_timer, with_attribute, flagged};
 ghost use Rattle.sc_effects.specs.Elements.{proxied_at, with_flag, with_value};
 
-use sc_refusals::{is_proxy, is_set, request_in, request_place, session_place, timer_place};
+use sc_looking::{is_proxy, is_set, request_in, request_place, session_place, timer_place};
 use sc_terms::{Period, RequestView, Role, SessionView, Target, TimerView, View};
 use sc_value::{CloneIn, Field, List, NoMemory, ReqId, SessId, Text, TimerId, sum, sum_u32};
 use std::alloc::Global;

@@ -6,7 +6,7 @@ ghost use Rattle.std.specs.Option.{option_copied};
 ghost use Rattle.sc_hosts.specs.Looking.{same_request};
 ghost use Rattle.sc_hosts.specs.Preparing.{kept_of, own_tag_of, proxy_of};
 
-use sc_refusals::session_in;
+use sc_looking::session_in;
 use sc_state::{Kept, Known, Proxy};
 use sc_terms::View;
 use sc_value::{ReqId, SessId};

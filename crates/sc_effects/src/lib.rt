@@ -21,8 +21,5 @@ pub use known::{kept_of, own_tag_of, proxy_of, proxy_place};
 pub use looking::{in_state, is_confirmed, is_early, is_uac, linked, removed, unlinked};
 pub use making::{new_call_id, new_session, new_tag};
 pub use sending::awaiting;
-pub use states::{
-    after_initial, after_response, ends_subscription, is_failure, is_final, is_subscribe,
-    is_success,
-};
+pub use states::{after_initial, after_response, ends_subscription};
 pub use tidying::tidy;

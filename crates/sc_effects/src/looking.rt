@@ -6,7 +6,7 @@ ghost use Rattle.sc_hosts.specs.Looking.{is_early, is_confirmed, is_uac, is_sess
 ghost use Rattle.sc_hosts.specs.ViewChanges.{linked};
 ghost use Rattle.sc_effects.specs.Elements.{as_gone};
 
-use sc_refusals::{partner, session_place};
+use sc_looking::{partner, session_place};
 use sc_terms::{Role, SessionView, State, View};
 use sc_value::SessId;
 

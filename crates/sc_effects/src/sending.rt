@@ -12,7 +12,7 @@ ghost use Rattle.sc_hosts.specs.Effects.{sent_view, with_view, sent, discarded, 
 
 use crate::looking::removed;
 use crate::tidying::tidy;
-use sc_refusals::{awaits_ack, draft_place};
+use sc_looking::{awaits_ack, draft_place};
 use sc_state::{Draft, Play};
 use sc_terms::{RequestView, View};
 use sc_value::{List, NoMemory, ReqId, SessId, sum, sum_u32};

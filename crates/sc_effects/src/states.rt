@@ -11,7 +11,7 @@ ghost use Rattle.sc_model.specs.SessionStates.{bye, is_final, ended_state};
 ghost use Rattle.sc_model.specs.Transactions.{is_success, is_failure};
 ghost use Rattle.sc_hosts.specs.States.{failed_state, is_ringing, invited_state, subscribed_state, after_initial, unsubscribed_state, after_later, after_response, subscription_state, terminated_word, begins_token, ends_subscription};
 
-use sc_refusals::is_invite;
+use sc_methods::{is_bye, is_failure, is_final, is_invite, is_notify, is_subscribe, is_success};
 use sc_terms::{RequestView, Role, State};
 use sc_value::{Field, same_name};
 
@@ -23,27 +23,6 @@ fn failed_state(role: Role) -> State
         Role::Uac => State::Initial,
         Role::Uas | Role::Proxy => State::Terminated,
     }
-}
-
-/// Whether the code is final (RFC 3261 section 7.2).
-pub fn is_final(code: u16) -> bool
-    ensures { result ≡ is_final code }
-{
-    199 < code
-}
-
-/// Whether the code is 2xx.
-pub fn is_success(code: u16) -> bool
-    ensures { result ≡ is_success code }
-{
-    199 < code && code < 300
-}
-
-/// Whether the code is 300 or more.
-pub fn is_failure(code: u16) -> bool
-    ensures { result ≡ is_failure code }
-{
-    300 <= code
 }
 
 // Provisional and told: 101 to 199.
@@ -102,28 +81,6 @@ fn subscribed_state(state: State, code: u16) -> State
         return State::Confirmed;
     }
     State::Initial
-}
-
-/// Whether a method is SUBSCRIBE.
-#[tactic(auto, unfolding(sc_model::specs::Dialogs::subscribe))]
-pub fn is_subscribe(method: &[u8]) -> bool
-    ensures { result ≡ same_bytes method.now subscribe }
-{
-    method == b"SUBSCRIBE".as_slice()
-}
-
-#[tactic(auto, unfolding(sc_model::specs::Dialogs::notify))]
-fn is_notify(method: &[u8]) -> bool
-    ensures { result ≡ same_bytes method.now notify }
-{
-    method == b"NOTIFY".as_slice()
-}
-
-#[tactic(auto, unfolding(sc_model::specs::SessionStates::bye))]
-fn is_bye(method: &[u8]) -> bool
-    ensures { result ≡ same_bytes method.now bye }
-{
-    method == b"BYE".as_slice()
 }
 
 #[tactic(auto, unfolding(sc_hosts::specs::States::after_initial))]

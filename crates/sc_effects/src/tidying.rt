@@ -6,7 +6,7 @@ ghost use Rattle.std.specs.Option.{option_copied};
 ghost use Rattle.sc_hosts.specs.ViewChanges.{tidy};
 ghost use Rattle.sc_effects.specs.Tidied.{is_there, with_there_in, stands_in, tidied};
 
-use sc_refusals::session_place;
+use sc_looking::session_place;
 use sc_terms::{RequestView, SessionView, View};
 use sc_value::{List, SessId};
 

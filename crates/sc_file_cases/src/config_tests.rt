@@ -12,6 +12,7 @@ journal_bytes = 65536
 epoch_steps = 9
 journal_parts = true
 reuse = true
+record = \"steps.rec\"
 hosts = { \"b.test\" = \"10.0.0.2\", \"a.test\" = \"10.0.0.1\" }
 [[app]]
 name = \"first\"
@@ -23,7 +24,7 @@ name = \"second\"
 kind = \"answer\"
 ";
 
-const REFUSED: [(&[u8], u8, &[u8]); 18] = [
+const REFUSED: [(&[u8], u8, &[u8]); 20] = [
     (b"listen = ", 1, b""),
     (b"\xff", 1, b""),
     (b"zone = 1\nport = 2\n[[app]]\nage = 3\n", 7, b"port"),
@@ -68,6 +69,16 @@ const REFUSED: [(&[u8], u8, &[u8]); 18] = [
         b"listen = \"1.2.3.4:1\"\ndomain = \"a\"\nsalt = \"s\"\napp = []\nhosts = 1\nreuse = 1\n",
         3,
         b"reuse",
+    ),
+    (
+        b"listen = \"1.2.3.4:1\"\ndomain = \"a\"\nsalt = \"s\"\napp = []\nhosts = 1\nrecord = \"\"\n",
+        3,
+        b"record",
+    ),
+    (
+        b"listen = \"1.2.3.4:1\"\ndomain = \"a\"\nsalt = \"s\"\napp = []\nrecord = \"a\\u0000b\"\n",
+        3,
+        b"record",
     ),
     (
         b"listen = \"1.2.3.4:1\"\ndomain = \"a\"\nsalt = \"s\"\napp = []\nhosts = { b = 1, a = \"1.2.3\" }\n",
@@ -116,6 +127,12 @@ fn reads_all_keys(rt: HostRuntime) -> Result<(), Fail> {
     assert!(rt; config.workers.get() == 4 && config.stop_after.get() == 7);
     assert!(rt; config.journal_steps.get() == 1000 && config.journal_bytes.get() == 65536);
     assert!(rt; config.epoch_steps.get() == 9 && config.journal_parts && config.reuse);
+    assert!(rt;
+        config
+            .recording
+            .as_ref()
+            .is_some_and(|name| name.as_bytes() == b"steps.rec".as_slice())
+    );
     let hosts = config.hosts.as_slice();
     assert!(rt; hosts.len() == 2);
     assert!(rt; hosts[0].name.as_bytes() == b"a.test".as_slice() && hosts[0].ip == [10, 0, 0, 1]);

@@ -17,7 +17,7 @@ use sc_branches::new_proxy;
 use sc_effects::{answered, is_owed, kept_of};
 use sc_legs::is_invalid;
 use sc_messages::{on_branch, passed_request};
-use sc_refusals::is_ack;
+use sc_methods::is_ack;
 use sc_sending::{answering, event_of, next_branch};
 use sc_state::{Branch, Kept, Known, Order, Proxy, Queued, Working};
 use sc_terms::{Answer, Config, RequestView, View};

@@ -11,7 +11,7 @@ ghost use Rattle.sc_finish.specs.Partings.{gone_order};
 
 use sc_effects::own_tag_of;
 use sc_messages::own_response;
-use sc_refusals::is_ack;
+use sc_methods::is_ack;
 use sc_state::{Order, Queued, Session, Waiting};
 use sc_terms::{Config, View};
 use sc_value::{List, NoMemory, Request, Response, SessId, Shared};

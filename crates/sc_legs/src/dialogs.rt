@@ -9,9 +9,8 @@ ghost use Rattle.sc_hosts.specs.Legs.{answered_leg, as_answer, change_leg, in_di
 use crate::legs::leg_place;
 use crate::tags::{from_tag, with_got};
 use sc_dialog::Dialog;
-use sc_effects::{is_subscribe, is_success};
 use sc_messages::makes_dialog;
-use sc_refusals::is_invite;
+use sc_methods::{is_invite, is_subscribe, is_success};
 use sc_state::{Known, Leg};
 use sc_value::{CloneIn, Discard, NoMemory, Request, Response, SessId, tag};
 use std::alloc::Global;

@@ -7,7 +7,7 @@ ghost use Rattle.sc_hosts.specs.Legs.{between_peers, in_dialog_by, session_for, 
 
 use crate::legs::caller_of;
 use crate::tags::{from_tag, same_tag, to_tag};
-use sc_refusals::{is_open_state, is_proxy};
+use sc_looking::{is_open_state, is_proxy};
 use sc_state::{Known, Session};
 use sc_terms::SessionView;
 use sc_value::{Request, SessId, Text};

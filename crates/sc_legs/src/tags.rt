@@ -7,7 +7,7 @@ ghost use Rattle.sc_value.specs.Lists.{change_first};
 ghost use Rattle.sc_hosts.specs.Legs.{from_tag, greatest_got, is_low, same_tag, to_tag, with_got};
 ghost use Rattle.sc_legs.specs.Numbers.{is_from, raised};
 
-use sc_refusals::is_ack;
+use sc_methods::is_ack;
 use sc_state::{Got, Leg};
 use sc_value::{CloneIn, List, NoMemory, Request, Text, tag};
 use std::alloc::Global;

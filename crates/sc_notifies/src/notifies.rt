@@ -19,7 +19,7 @@ use crate::rules::{Rule, rule_in};
 use crate::standing::subscription_of;
 use crate::sub_texts::{Subscribed, first_sub};
 use sc_apps::{ended, memory_of, reply_200, reply_500, reply_ok, shown};
-use sc_effects::{is_failure, is_subscribe};
+use sc_methods::{is_failure, is_notify, is_subscribe};
 use sc_servlets::SipServlet;
 use sc_terms::{Call, Charter, End, Event};
 use sc_turn::Turn;
@@ -175,13 +175,6 @@ fn take_later(t: &mut Turn, req: ReqId, sess: SessId, request: &Request) -> Resu
         return change(t, req, sess, request);
     }
     reply_ok(t, req, request)
-}
-
-#[tactic(auto, unfolding(sc_model::specs::Dialogs::notify))]
-fn is_notify(method: &[u8]) -> bool
-    ensures { result ≡ same_bytes method.now notify }
-{
-    method == b"NOTIFY".as_slice()
 }
 
 fn is_failed_notify(response: &Response) -> bool

@@ -18,7 +18,7 @@ use crate::offering::first_offer;
 use crate::pracks::take_prack;
 use sc_apps::{ended, reply_180, reply_200, reply_ok};
 use sc_helpers::{lists_option, number_after};
-use sc_refusals::is_invite;
+use sc_methods::is_invite;
 use sc_servlets::SipServlet;
 use sc_terms::{Charter, End, Event};
 use sc_turn::Turn;

@@ -18,7 +18,7 @@ use crate::pending::{note_acknowledged, pending_offer};
 use crate::words::three_words;
 use sc_apps::{memory_of, reply_200, reply_only, shown};
 use sc_helpers::{cancel_some, field_of, reply_first, timer_named};
-use sc_refusals::is_invite;
+use sc_methods::is_invite;
 use sc_terms::{Call, RequestView, View};
 use sc_turn::Turn;
 use sc_value::{NoMemory, ReqId, Request, SessId, TimerId};

@@ -5,7 +5,7 @@ ghost use Rattle.sc_state.specs.declared.session.Way.{Way};
 ghost use Rattle.sc_hosts.specs.PreparingRequests.{next_id, numbered, received, request_view, with_invited};
 
 use sc_effects::ends_subscription;
-use sc_refusals::is_invite;
+use sc_methods::is_invite;
 use sc_state::{Invited, Kept, Known, Session, Way};
 use sc_terms::{RequestView, View};
 use sc_value::{CloneIn, List, NoMemory, ReqId, Request, SessId, Shared, sum_u32};

@@ -19,7 +19,7 @@ use crate::refreshing::{refreshed, time_out};
 use crate::stopping::{Stop, stop_of, stop_only, timed_in};
 use crate::timed_texts::Refresh;
 use sc_apps::{ended, memory_of, reply_200, reply_first_200, reply_ok, shown};
-use sc_refusals::is_invite;
+use sc_methods::{is_bye, is_invite};
 use sc_servlets::SipServlet;
 use sc_terms::{Charter, End, Event};
 use sc_turn::Turn;
@@ -90,13 +90,6 @@ fn is_update(method: &[u8]) -> bool
     ensures { result ≡ same_bytes method.now update }
 {
     method == b"UPDATE".as_slice()
-}
-
-#[tactic(auto, unfolding(sc_model::specs::SessionStates::bye))]
-fn is_bye(method: &[u8]) -> bool
-    ensures { result ≡ same_bytes method.now bye }
-{
-    method == b"BYE".as_slice()
 }
 
 #[tactic(auto, unfolding(sc_hosts::specs::SessionTimers::is_granting))]

@@ -1,19 +1,15 @@
 //! Refusals of answers and of requests that are made.
 
-ghost use Rattle.std.specs.Prelude.{◌≡◌, ◌∷◌, [], not, ◌&&◌, ◌||◌, Some, None, Option};
-ghost use Rattle.std.specs.List.{find};
-ghost use Rattle.std.specs.Option.{option_copied};
+ghost use Rattle.std.specs.Prelude.{◌≡◌, ◌&&◌, ◌||◌, Some, None, Option};
 ghost use Rattle.sc_hosts.specs.Looking.{request_in, session_in};
 ghost use Rattle.sc_hosts.specs.Refusals.{respond_refusal, is_new, is_origin, is_sent_origin, create_refusal, dialog_refusal, linked_refusal, b2b_refusal, directive_refusal, send_refusal};
 ghost use Rattle.sc_hosts.specs.RefusalParts.{draft_in};
 
-use crate::looking::{
-    is_ended, is_open_state, is_proxy, partner, request_in, session_count, session_in,
+use crate::texts::{answer_text, asked_text, has_system_answer, has_system_ask, has_system_name};
+use sc_looking::{
+    draft_in, is_ended, is_open_state, is_proxy, partner, request_in, session_count, session_in,
 };
-use crate::named::draft_in;
-use crate::texts::{
-    answer_text, asked_text, has_system_answer, has_system_ask, has_system_name, is_ack,
-};
+use sc_methods::is_ack;
 use sc_state::{Draft, Play};
 use sc_terms::{Answer, Ask, Inside, Refusal, RequestView, SessionView, State};
 use sc_value::{Directive, ReqId, SessId};

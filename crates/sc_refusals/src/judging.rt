@@ -1,5 +1,4 @@
 ghost use Rattle.std.specs.Prelude.{◌≡◌, ◌∷◌, [], ◌+◌, nat_lt, length, Some, None};
-ghost use Rattle.std.specs.Option.{option_or};
 ghost use Rattle.sc_terms.specs.declared.calls.Refusal.TheVariants.{Limit};
 ghost use Rattle.sc_hosts.specs.Looking.{request_in};
 ghost use Rattle.sc_hosts.specs.RefusalParts.{first_of};
@@ -13,10 +12,10 @@ use crate::linking::{
     ack_refusal, b2b_respond_refusal, cancel_refusal, cancel_timer_refusal, link_refusal,
     remove_refusal, timer_refusal, unlink_refusal,
 };
-use crate::looking::request_in;
 use crate::named::named_refusal;
 use crate::proxying::{proxy_cancel_refusal, proxy_refusal};
 use crate::sums::passes_attributes;
+use sc_looking::request_in;
 use sc_state::Play;
 use sc_terms::{Answer, Call, Refusal, View};
 use sc_value::ReqId;

@@ -1,26 +1,20 @@
 //! Refusals of ACK, CANCEL, links, timers and attributes.
 
-ghost use Rattle.std.specs.Prelude.{◌≡◌, ◌∷◌, [], ◌+◌, ◌==◌, ◌≤◌, ◌&&◌, not, position, nat_lt, nat_le, length, filter, sum_by, min, take, Some, None, is_none};
-ghost use Rattle.std.specs.List.{find, list_any};
-ghost use Rattle.std.specs.Option.{option_copied, option_or};
+ghost use Rattle.std.specs.Prelude.{◌≡◌, ◌∷◌, [], ◌==◌, not, nat_le, length, take, Some, None, is_none};
+ghost use Rattle.std.specs.List.{list_any};
+ghost use Rattle.std.specs.Option.{option_or};
 ghost use Rattle.sc_terms.specs.declared.calls.Refusal.TheVariants.{NotLinked, NotSent, NotYours, BadText, Limit};
-ghost use Rattle.sc_tokens.specs.Names.{same_bytes};
-ghost use Rattle.sc_hosts.specs.Looking.{request_in, session_in, partner, timer_in, same_session};
+ghost use Rattle.sc_hosts.specs.Looking.{request_in, session_in, partner, timer_in};
 ghost use Rattle.sc_hosts.specs.RefusalParts.{first_of};
-ghost use Rattle.sc_hosts.specs.Refusals.{awaits_ack, cancel_refusal, begun_by, b2b_respond_refusal, link_refusal, linked_refusal, is_zero_period, is_set, own_refusal};
+ghost use Rattle.sc_hosts.specs.Refusals.{awaits_ack, cancel_refusal, begun_by, b2b_respond_refusal, link_refusal, linked_refusal, is_zero_period, is_set};
 
 use crate::asking::respond_refusal;
-use crate::looking::{has_session, is_ended, partner, request_in, session_in, timer_in};
-use crate::texts::is_invite;
+use sc_looking::{
+    awaits_ack, begun_by, is_ended, is_set, partner, request_in, session_in, timer_in,
+};
+use sc_methods::is_invite;
 use sc_terms::{Answer, Period, Refusal, RequestView, State, View};
 use sc_value::{Field, ReqId, SessId, TimerId};
-
-/// Whether a request is a sent INVITE whose 2xx in this SipSession has no ACK.
-pub fn awaits_ack(request: &RequestView, sess: SessId) -> bool
-    ensures { result ≡ awaits_ack sess request.now }
-{
-    has_session(request.unacked.as_slice(), sess)
-}
 
 /// Whether a sent INVITE waits for an ACK to its 2xx in this SipSession.
 pub fn is_unacked(view: &View, sess: SessId) -> bool
@@ -57,36 +51,6 @@ pub fn cancel_refusal(view: &View, req: ReqId) -> Option<Refusal>
         Some(request) => cancelled(view, request),
         None => Some(Refusal::NotYours),
     }
-}
-
-fn begins(request: &RequestView, sess: SessId) -> bool
-    ensures { result ≡ (request.now.received && request.now.initial && same_session request.now.sess sess) }
-{
-    request.received && request.initial && request.sess.0 == sess.0
-}
-
-fn begun_place(requests: &[RequestView], sess: SessId) -> Option<usize>
-    ensures { result ≡ position (λ request. request.received && request.initial && same_session request.sess sess) requests.now }
-{
-    requests.iter().position(|request| begins(request, sess))
-}
-
-#[tactic(auto, using(sc_value::proofs::ListFacts::find_position, sc_value::proofs::ListFacts::find_none))]
-fn begun_among(requests: &[RequestView], sess: SessId) -> Option<&RequestView>
-    ensures { option_copied result ≡ find (λ request. request.received && request.initial && same_session request.sess sess) requests.now }
-{
-    match begun_place(requests, sess) {
-        Some(at) => Some(&requests[at]),
-        None => None,
-    }
-}
-
-/// The received request that began a SipSession.
-#[tactic(auto, unfolding(sc_hosts::specs::Refusals::begun_by))]
-pub fn begun_by(view: &View, sess: SessId) -> Option<&RequestView>
-    ensures { option_copied result ≡ begun_by view.entry.now sess }
-{
-    begun_among(view.requests.as_slice(), sess)
 }
 
 /// The refusal of an answer to the received initial request of a SipSession.
@@ -186,14 +150,6 @@ pub fn cancel_timer_refusal(view: &View, id: TimerId) -> Option<Refusal>
         return Some(Refusal::NotYours);
     }
     None
-}
-
-/// Whether a field has this name.
-#[tactic(auto, unfolding(sc_hosts::specs::Refusals::is_set))]
-pub fn is_set(name: &[u8], fields: &[Field]) -> bool
-    ensures { result ≡ is_set name.now fields.now }
-{
-    fields.iter().any(|field| field.name.as_bytes() == name)
 }
 
 /// The refusal to remove an attribute.

@@ -1,38 +1,12 @@
 //! What a call names: SipSessions, by themselves, by a request or by a draft.
 
-ghost use Rattle.std.specs.Prelude.{◌≡◌, ◌∷◌, [], ◌==◌, position, option_map, None, Some};
-ghost use Rattle.std.specs.List.{find};
-ghost use Rattle.std.specs.Option.{option_copied};
+ghost use Rattle.std.specs.Prelude.{◌≡◌, ◌∷◌, [], None, Some};
 ghost use Rattle.sc_hosts.specs.RefusalParts.{draft_in, session_of_request, session_of_draft, known_session, name_refusal, of_origin, named};
 
-use crate::looking::{is_gone_in, request_in, session_in};
-use sc_state::{Draft, Play};
+use sc_looking::{draft_in, is_gone_in, request_in, session_in};
+use sc_state::Play;
 use sc_terms::{Call, Refusal, Target, View};
 use sc_value::{ReqId, SessId};
-
-/// The place of the draft of this number.
-pub fn draft_place(drafts: &[Draft], number: u32) -> Option<usize>
-    ensures { result ≡ position (λ draft. draft.number == number) drafts.now }
-{
-    drafts.iter().position(|draft| draft.number == number)
-}
-
-#[tactic(auto, using(sc_value::proofs::ListFacts::find_position, sc_value::proofs::ListFacts::find_none))]
-fn draft_among(drafts: &[Draft], number: u32) -> Option<&Draft>
-    ensures { option_copied result ≡ find (λ draft. draft.number == number) drafts.now }
-{
-    match draft_place(drafts, number) {
-        Some(at) => Some(&drafts[at]),
-        None => None,
-    }
-}
-
-/// The draft of this number, where it is neither sent nor discarded.
-pub fn draft_in(play: &Play, number: u32) -> Option<&Draft>
-    ensures { option_copied result ≡ draft_in play.now number }
-{
-    draft_among(play.drafts.as_slice(), number)
-}
 
 #[tactic(auto, unfolding(sc_hosts::specs::RefusalParts::session_of_request))]
 fn session_of_request(play: &Play, req: ReqId) -> Option<SessId>

@@ -1,14 +1,14 @@
 //! Refusals of `proxy_to` and `proxy_cancel`.
 
 ghost use Rattle.std.specs.Prelude.{◌≡◌, ◌∷◌, [], ◌+◌, ◌==◌, ◌||◌, ◌&&◌, not, nat_lt, Some, None, is_some, if◌then◌else◌};
-ghost use Rattle.std.specs.Option.{option_copied, option_or};
+ghost use Rattle.std.specs.Option.{option_or};
 ghost use Rattle.sc_hosts.specs.Looking.{request_in, session_in};
 ghost use Rattle.sc_terms.specs.declared.calls.Refusal.TheVariants.{NotYours, NotInitial, AlreadyAnswered, AlreadyProxy, NoHops, BadText, Limit};
 ghost use Rattle.sc_hosts.specs.Refusals.{branch_count, is_begun, state_refusal, proxy_refusal, proxy_cancel_refusal};
 ghost use Rattle.sc_hosts.specs.RefusalParts.{first_of};
 
-use crate::looking::{is_begun, request_in, session_in};
 use crate::sums::passes_branches;
+use sc_looking::{is_begun, request_in, session_in};
 use sc_state::Play;
 use sc_terms::{ProxyOptions, Refusal, RequestView, View};
 use sc_value::{ReqId, SessId};

@@ -1,40 +1,15 @@
 //! Whether the texts that a call brings are in form, and their headers the application's to set.
 
-ghost use Rattle.std.specs.Prelude.{◌≡◌, ◌+◌, ◌∷◌, [], min, not, position, option_map, Some};
-ghost use Rattle.std.specs.List.{list_any};
-ghost use Rattle.std.specs.Option.{option_or};
+ghost use Rattle.std.specs.Prelude.{◌≡◌, ◌+◌, min, position, Some};
 ghost use Rattle.sc_tokens.specs.HeaderNames.{is_system_name};
 ghost use Rattle.sc_tokens.specs.Names.{same_bytes};
-ghost use Rattle.sc_model.specs.SessionStates.{invite, ack};
 ghost use Rattle.sc_hosts.specs.Words.{options, register};
 ghost use Rattle.sc_hosts.specs.RefusalParts.{bad_field, has_system_name, answer_text, is_bad_method, asked_text, may_have_contact, has_system_answer, has_system_ask};
-ghost use Rattle.sc_model.specs.DialogRequests.{cancel, is_bad_field};
+ghost use Rattle.sc_model.specs.DialogRequests.{is_bad_field};
 
+use sc_methods::{is_ack, is_cancel};
 use sc_terms::{Answer, Ask, Refusal};
 use sc_value::{Field, is_one_line, is_system_name, is_token, is_value};
-
-/// Whether a method is ACK.
-#[tactic(auto, unfolding(sc_model::specs::SessionStates::ack))]
-pub fn is_ack(method: &[u8]) -> bool
-    ensures { result ≡ same_bytes method.now ack }
-{
-    method == b"ACK".as_slice()
-}
-
-#[tactic(auto, unfolding(sc_model::specs::DialogRequests::cancel))]
-fn is_cancel(method: &[u8]) -> bool
-    ensures { result ≡ same_bytes method.now cancel }
-{
-    method == b"CANCEL".as_slice()
-}
-
-/// Whether a method is INVITE.
-#[tactic(auto, unfolding(sc_model::specs::SessionStates::invite))]
-pub fn is_invite(method: &[u8]) -> bool
-    ensures { result ≡ same_bytes method.now invite }
-{
-    method == b"INVITE".as_slice()
-}
 
 #[tactic(auto, unfolding(sc_hosts::specs::Words::options))]
 fn is_options(method: &[u8]) -> bool

@@ -66,11 +66,12 @@ third_fifth a b c d e none =
     let fifth = fault_head d (e ∷ []) fourth.1 in
     (fourth.0, (fault_head e [] fifth.1).0)
 
-seventh_of : (a b c d e f g : Option Fault) → first_fault (a ∷ b ∷ c ∷ d ∷ e ∷ f ∷ g ∷ []) ≡ None → g ≡ None
-seventh_of a b c d e f g none =
-    let second = fault_head a (b ∷ c ∷ d ∷ e ∷ f ∷ g ∷ []) none in
-    let third = fault_head b (c ∷ d ∷ e ∷ f ∷ g ∷ []) second.1 in
-    (third_fifth c d e f g third.1).1
+eighth_of : (a b c d e f g h : Option Fault) → first_fault (a ∷ b ∷ c ∷ d ∷ e ∷ f ∷ g ∷ h ∷ []) ≡ None → h ≡ None
+eighth_of a b c d e f g h none =
+    let second = fault_head a (b ∷ c ∷ d ∷ e ∷ f ∷ g ∷ h ∷ []) none in
+    let third = fault_head b (c ∷ d ∷ e ∷ f ∷ g ∷ h ∷ []) second.1 in
+    let fourth = fault_head c (d ∷ e ∷ f ∷ g ∷ h ∷ []) third.1 in
+    (third_fifth d e f g h fourth.1).1
 
 fault_none : (t : Bool) (kind : ℕ) (key : Bytes) → fault_if t kind key ≡ None → t ≡ false
 fault_none true kind key none = absurd (none-some _ (sym none))
@@ -146,7 +147,7 @@ no_faults : (names : List Bytes) (top : Members) → first_refusal names top ≡
 unfolding first_refusal table_fault top_fault
 no_faults names top none =
     let found = third_fifth _ _ _ _ _ none in
-    (seventh_of _ _ _ _ _ _ _ (first_of _ _ found.0), found.1)
+    (eighth_of _ _ _ _ _ _ _ _ (first_of _ _ found.0), found.1)
 
 made_in_range : (names : List Bytes) (top : Members) → first_refusal names top ≡ None → IsInRange names (config_of names top)
 unfolding config_of unknown_kind

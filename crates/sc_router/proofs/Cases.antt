@@ -38,6 +38,7 @@ config = record {
   epoch_steps = 0;
   journal_parts = false;
   reuse = false;
+  recording = None;
   hosts = [];
   app = [];
 }

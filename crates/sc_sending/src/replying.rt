@@ -9,8 +9,8 @@ ghost use Rattle.sc_hosts.specs.Preparing.{kept_of};
 ghost use Rattle.sc_hosts.specs.Giving.{giving, answer_order, answers, answering};
 
 use sc_effects::{kept_of, own_tag_of};
+use sc_looking::{begun_by, request_in};
 use sc_messages::given_response;
-use sc_refusals::{begun_by, request_in};
 use sc_state::{Kept, Order, Way, Working};
 use sc_terms::{Answer, Config, RequestView, View};
 use sc_value::{List, NoMemory, ReqId, Request, Response, SessId, Shared};

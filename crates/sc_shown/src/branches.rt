@@ -16,7 +16,7 @@ use sc_branches::{added_targets, heard, is_told_whole};
 use sc_derived::handled;
 use sc_effects::{proxy_of, proxy_place};
 use sc_legs::{is_invalid, leg_of, take_answer};
-use sc_refusals::request_place;
+use sc_looking::request_place;
 use sc_state::{Known, Proxy, Session};
 use sc_terms::{Event, ProxyOptions, RequestView, SessionView, View};
 use sc_value::{CloneIn, List, NoMemory, ReqId, Response, SessId, Shared};

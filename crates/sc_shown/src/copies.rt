@@ -10,7 +10,7 @@ ghost use Rattle.sc_hosts.specs.PreparingResponses.{is_sent_on};
 
 use sc_branches::has_branch;
 use sc_effects::{kept_of, proxy_of};
-use sc_refusals::{session_in, timer_in};
+use sc_looking::{session_in, timer_in};
 use sc_state::{Invited, Kept, Known, Proxy, Way};
 use sc_terms::{SessionView, TimerView, View};
 use sc_value::{CloneIn, NoMemory, ReqId, SessId, TimerId};

@@ -2,7 +2,7 @@ ghost use Rattle.std.specs.Prelude.{◌≡◌, ◌∷◌, [], None, Some, if◌t
 ghost use Rattle.sc_state.specs.declared.orders.Order.{Order};
 ghost use Rattle.sc_hosts.specs.Looking.{is_gone_in};
 
-use sc_refusals::is_gone_in;
+use sc_looking::is_gone_in;
 use sc_state::Order;
 use sc_terms::{Event, View};
 use sc_value::{List, NoMemory, ReqId, Response, SessId, Shared};

@@ -6,8 +6,8 @@ ghost use Rattle.sc_hosts.specs.Looking.{is_request};
 ghost use Rattle.sc_hosts.specs.PreparingResponses.{insert_session, with_success};
 ghost use Rattle.sc_shown.specs.Shown.{follows};
 
-use sc_effects::is_success;
-use sc_refusals::{is_invite, request_place};
+use sc_looking::request_place;
+use sc_methods::{is_invite, is_success};
 use sc_terms::RequestView;
 use sc_value::{List, NoMemory, ReqId, Response, SessId};
 

@@ -7,7 +7,8 @@ ghost use Rattle.sc_model.specs.Transactions.{client_state, client_due, reaches,
 ghost use Rattle.sc_model.specs.TransactionTables.{decided_state, next_waiting, next_state, is_calling, is_proceeding};
 ghost use Rattle.sc_stages.specs.Stages.{due_since, decided_begun, provisional_begun, next_waiting_begun, next_begun, client_next, ClientStands};
 
-use crate::moments::{due_since, is_reached, is_success};
+use crate::moments::{due_since, is_reached};
+use sc_methods::is_success;
 use sc_parts::{ClientItem, TxnState};
 use sc_value::NoMemory;
 

@@ -8,27 +8,6 @@ ghost use Rattle.sc_stages.specs.Requests.{method_of};
 
 use sc_value::Request;
 
-#[tactic(auto, unfolding(sc_model::specs::SessionStates::invite))]
-fn is_invite_method(method: &[u8]) -> bool
-    ensures { result ≡ same_bytes method.now invite }
-{
-    method == b"INVITE".as_slice()
-}
-
-#[tactic(auto, unfolding(sc_model::specs::DialogRequests::cancel))]
-fn is_cancel_method(method: &[u8]) -> bool
-    ensures { result ≡ same_bytes method.now cancel }
-{
-    method == b"CANCEL".as_slice()
-}
-
-#[tactic(auto, unfolding(sc_model::specs::SessionStates::ack))]
-fn is_ack_method(method: &[u8]) -> bool
-    ensures { result ≡ same_bytes method.now ack }
-{
-    method == b"ACK".as_slice()
-}
-
 /// The method of a request, as its CSeq tells it.
 pub fn method_of(request: &Request) -> &[u8]
     ensures { result.now ≡ method_of request.now }
@@ -40,21 +19,21 @@ pub fn method_of(request: &Request) -> &[u8]
 pub fn is_invite(request: &Request) -> bool
     ensures { result ≡ same_bytes (method_of request.now) invite }
 {
-    is_invite_method(method_of(request))
+    sc_methods::is_invite(method_of(request))
 }
 
 /// Whether a request is a CANCEL.
 pub fn is_cancel(request: &Request) -> bool
     ensures { result ≡ same_bytes (method_of request.now) cancel }
 {
-    is_cancel_method(method_of(request))
+    sc_methods::is_cancel(method_of(request))
 }
 
 /// Whether a request is an ACK.
 pub fn is_ack(request: &Request) -> bool
     ensures { result ≡ same_bytes (method_of request.now) ack }
 {
-    is_ack_method(method_of(request))
+    sc_methods::is_ack(method_of(request))
 }
 
 /// Whether two texts have the same bytes.

@@ -29,10 +29,3 @@ pub fn due_since(begun: Option<u64>) -> Result<Option<u64>, NoMemory>
         None => Ok(None),
     }
 }
-
-/// Whether a code is a 2xx.
-pub fn is_success(code: u16) -> bool
-    ensures { result ≡ is_success code }
-{
-    199 < code && code < 300
-}

@@ -6,7 +6,8 @@ ghost use Rattle.sc_model.specs.TransactionTables.{sends_cancel, output, waiting
 ghost use Rattle.sc_stages.specs.Stages.{due_since};
 
 use crate::client_stage::{ClientStage, client_stage, is_calling, is_proceeding};
-use crate::moments::{is_reached, is_success};
+use crate::moments::is_reached;
+use sc_methods::is_success;
 use sc_parts::{ClientItem, ClientOut, TxnState};
 
 #[tactic(auto, unfolding(sc_model::specs::Transactions::brings_provisional))]

@@ -8,7 +8,8 @@ ghost use Rattle.sc_model.specs.ServerTransactions.{server_state, server_due, is
 ghost use Rattle.sc_model.specs.TransactionTables.{answered_state, next_undecided, ends, next_server_state};
 ghost use Rattle.sc_stages.specs.Stages.{due_since, answered_begun, undecided_begun, next_server_begun, server_next, ServerStands};
 
-use crate::moments::{due_since, is_reached, is_success};
+use crate::moments::{due_since, is_reached};
+use sc_methods::is_success;
 use sc_parts::{ServerItem, TxnState};
 use sc_value::NoMemory;
 

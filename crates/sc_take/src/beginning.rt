@@ -14,6 +14,7 @@ ghost use Rattle.sc_inboxes.specs.TakenParts.{taken_by};
 
 use sc_inboxes::{Told, quiet, refuse_full, refuse_unknown, with_server, with_trying};
 use sc_legs::fresh;
+use sc_methods::is_bye;
 use sc_names::tag;
 use sc_state::{Host, Live, Note, Peer, Queued, Session, Waiting};
 use sc_terms::Config;
@@ -151,13 +152,6 @@ fn take_initial(
     )
 }
 
-#[tactic(auto, unfolding(sc_model::specs::SessionStates::bye))]
-fn is_bye(request: &Request) -> bool
-    ensures { result ≡ same_bytes (method_of request.now) bye }
-{
-    method_of(request) == b"BYE".as_slice()
-}
-
 #[tactic(auto, unfolding(sc_hosts::specs::Words::prack))]
 fn is_prack(request: &Request) -> bool
     ensures { result ≡ same_bytes (method_of request.now) prack }
@@ -177,7 +171,7 @@ fn is_update(request: &Request) -> bool
 pub fn is_never_initial(request: &Request) -> bool
     ensures { result ≡ is_never_initial request.now }
 {
-    is_bye(request) || is_prack(request) || is_update(request)
+    is_bye(method_of(request)) || is_prack(request) || is_update(request)
 }
 
 /// A request without To tag begins a session where it has its note.

@@ -7,7 +7,8 @@ ghost use Rattle.sc_model.specs.Transactions.{client_state, client_due, client_o
 ghost use Rattle.sc_model.specs.TransactionTables.{decided_state, decided_due, provisional_due, is_calling, is_proceeding, sends_cancel, output};
 ghost use Rattle.sc_txn.specs.Stands.{ClientStands, ClientTakes, ClientDoes};
 
-use crate::codes::{TIMEOUT, is_reached, is_success, is_undecided};
+use crate::codes::{TIMEOUT, is_reached, is_undecided};
+use sc_methods::is_success;
 use sc_parts::{ClientOut, TxnState};
 use std::marker::Model;
 

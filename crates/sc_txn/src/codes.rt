@@ -8,13 +8,6 @@ use sc_parts::TxnState;
 /// 64*T1 in milliseconds: timers B, F, H, L and M, and the time after a CANCEL.
 pub const TIMEOUT: u64 = 32_000;
 
-/// Whether a code is a 2xx.
-pub fn is_success(code: u16) -> bool
-    ensures { result ≡ is_success code }
-{
-    199 < code && code < 300
-}
-
 /// Whether a state is one in which nothing has decided the transaction.
 pub fn is_undecided(state: TxnState) -> bool
     ensures { result ≡ is_undecided state }

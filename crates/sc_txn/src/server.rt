@@ -8,7 +8,8 @@ ghost use Rattle.sc_model.specs.ServerTransactions.{server_state, server_due, is
 ghost use Rattle.sc_model.specs.TransactionTables.{answered_state, answered_due};
 ghost use Rattle.sc_txn.specs.Stands.{ServerStands, ServerTakes};
 
-use crate::codes::{TIMEOUT, is_reached, is_success, is_undecided};
+use crate::codes::{TIMEOUT, is_reached, is_undecided};
+use sc_methods::is_success;
 use sc_parts::TxnState;
 use std::marker::Model;
 

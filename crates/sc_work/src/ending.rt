@@ -139,7 +139,7 @@ fn branch_of(way: Way, numbers: &mut Vec<u64>) -> Result<(), NoMemory>
 fn kept_branches(whose: Option<SessId>, kept: &Kept, numbers: &mut Vec<u64>) -> Result<(), NoMemory>
     ensures { OnOk result (numbers.new.items ≡ numbers.old.items ++ kept_branches whose kept.now) }
 {
-    if is_whose(whose, kept.sess) && sc_refusals::is_invite(kept.request.get().method.as_bytes()) {
+    if is_whose(whose, kept.sess) && sc_methods::is_invite(kept.request.get().method.as_bytes()) {
         return branch_of(kept.way, numbers);
     }
     Ok(())

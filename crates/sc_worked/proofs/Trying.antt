@@ -48,6 +48,7 @@ settings apps = record {
   epoch_steps = 0;
   journal_parts = false;
   reuse = false;
+  recording = None;
   hosts = [];
   app = apps;
 }
