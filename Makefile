@@ -15,6 +15,7 @@ install: $(program)
 	install -D -m 644 -t $(to)/share/doc/sipd README.md SECURITY.md CONTRIBUTING.md CHANGELOG.md
 	install -D -m 644 -t $(to)/share/doc/sipd/docs docs/*.md
 	install -D -m 644 -t $(to)/share/doc/sipd/docs/calling docs/calling/*.md
+	{ git describe --always --dirty 2>/dev/null || echo unknown; } >$(to)/share/doc/sipd/REVISION
 	find examples -type f | while read -r file; do install -D -m 644 $$file $(to)/share/doc/sipd/$$file; done
 
 # Runs an example from the program's sources, before any proof: make try EXAMPLE=options COMMAND=replay
