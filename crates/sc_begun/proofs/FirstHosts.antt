@@ -2,119 +2,27 @@
 -- that begins so does.
 use Rattle.std.proofs.Common.{◌≡◌, ℕ, ◌+◌, ◌++◌, refl, [], ◌∷◌, Bool, true, false, Option, None, Some}
 use Rattle.std.specs.Prelude.{cond, is_some}
-use Rattle.sc_value.specs.declared.ids.AppId.{AppId}
 use Rattle.sc_value.specs.declared.message.Message.{Message}
 use Rattle.sc_value.specs.declared.message.Message.TheVariants as messages
 use Rattle.sc_value.specs.declared.message.Request.{Request}
-use Rattle.sc_value.specs.declared.message.Response.{Response}
 use Rattle.sc_terms.specs.declared.settings.Config.{Config}
-use Rattle.sc_parts.specs.declared.transactions.ClientItem.{ClientItem}
-use Rattle.sc_parts.specs.declared.transactions.ClientOut.{ClientOut}
-use Rattle.sc_parts.specs.declared.transactions.ServerItem.{ServerItem}
-use Rattle.sc_state.specs.declared.host.Client.{Client}
 use Rattle.sc_state.specs.Hosts.{Host}
-use Rattle.sc_state.specs.declared.host.Live.{Live}
 use Rattle.sc_state.specs.declared.host.Peer.{Peer}
-use Rattle.sc_state.specs.declared.host.Server.{Server}
 use Rattle.sc_state.specs.declared.host.Taken.{Taken}
 use Rattle.sc_state.specs.declared.net.Note.{Note}
-use Rattle.sc_grammar.specs.Written.{Bytes}
 use Rattle.sc_model.specs.Dialogs.{tag_of}
 use Rattle.sc_hosts.specs.Inboxes.{quiet}
 use Rattle.sc_hosts.specs.Sessions.{Form}
-use Rattle.sc_hosts.specs.Taking.{cancelled, last_again, again_if, repeated, Claim, Cancels, Acks, Repeats, Unclaimed, refuse, with_server, with_trying, queue_later, later_by, take_later, begun, begun_live, take_initial, take_begun, take_new, take_unclaimed, take_claimed, take_request, takes}
-use Rattle.sc_hosts.specs.TakingResponses.{told, told_by, with_reply, response_for, response_to, take_response}
-use Rattle.sc_hosts.specs.Transacting.{tidied, pass_client, pass_server}
-use Rattle.sc_walks.specs.Walks.{HostLaws, IsLate}
+use Rattle.sc_hosts.specs.Taking.{Claim, Cancels, Acks, Repeats, Unclaimed, take_later, begun, begun_live, take_initial, take_begun, take_new, take_unclaimed, take_claimed, take_request, takes}
+use Rattle.sc_hosts.specs.TakingResponses.{take_response}
+use Rattle.sc_walks.specs.Walks.{HostLaws}
+use Rattle.sc_walks.proofs.WalkHosts.{if-took, response_to-walks, cancelled-walks, repeated-walks, pass_server-walks, refuse-walks, with_server-walks, with_trying-walks, take_later-walks}
 use Rattle.sc_begun.specs.Begun.{IsFirst}
 
 module _ {S : Type 0} (number now : ℕ) (H : ℕ → Host S → ℕ → Host S → Type 0) (law : HostLaws {S = S} (λ (form : Form S). ⊥) number now H) where
   -- the host took it
   abbrev Took : ℕ → Host S → Taken S → Type 0
   Took count host taken = H count host taken.count taken.host
-
-  if-took : (b : Bool) (count : ℕ) (host : Host S) (x y : Taken S) → Took count host x → Took count host y → Took count host (cond b x y)
-  if-took true count host x y p q = p
-  if-took false count host x y p q = q
-
-  if-host : (b : Bool) (count : ℕ) (host x y : Host S) → H count host count x → H count host count y → H count host count (cond b x y)
-  if-host true count host x y p q = p
-  if-host false count host x y p q = q
-
-  -- ## Transactions
-
-  pass_client-walks : (app : AppId) (branch : ℕ) (cancelling : Bool) (item : ClientItem) (count : ℕ) (host : Host S) → H count host count (pass_client app branch cancelling item host)
-  unfolding pass_client tidied
-  pass_client-walks app branch cancelling item count host = law.passes count host _ _
-
-  pass_server-walks : (event : ℕ) (item : ServerItem) (count : ℕ) (host : Host S) → H count host count (pass_server event item host)
-  unfolding pass_server tidied
-  pass_server-walks event item count host = law.passes count host _ _
-
-  -- ## Responses
-
-  told_by-walks : (tell : Option ℕ) (client : Client) (response : Response) (count : ℕ) (host : Host S) → Took count host (told_by tell now client response count host)
-  unfolding told_by told quiet IsLate
-  told_by-walks None client response count host = law.same count host
-  told_by-walks (Some code) client response count host = if-took _ count host _ _ (law.same count host) (law.queues client.app.serial _ tt count host)
-
-  with_reply-walks : (out : ClientOut) (client : Client) (response : Response) (count : ℕ) (host : Host S) (taken : Taken S) → Took count host taken
-      → Took count host (with_reply out now client response taken)
-  unfolding with_reply
-  with_reply-walks out client response count host taken took =
-      if-took out.ack count host _ _ took (if-took out.cancel count host _ taken (law.after _ _ _ _ _ _ took (law.passes taken.count taken.host _ taken.host.servers)) took)
-
-  response_to-walks : (client : Option Client) (response : Response) (count : ℕ) (host : Host S) → Took count host (response_to now client response count host)
-  unfolding response_to response_for quiet
-  response_to-walks None response count host = law.same count host
-  response_to-walks (Some client) response count host =
-      with_reply-walks _ client response count host _ (law.after _ _ _ _ _ _ (pass_client-walks client.app client.branch _ _ count host) (told_by-walks _ client response count _))
-
-  -- ## CANCEL, ACK and repeated requests
-
-  cancelled-walks : (from : Peer) (server : Server) (request : Request) (count : ℕ) (host : Host S) → Took count host (cancelled from now server request count host)
-  unfolding cancelled quiet IsLate
-  cancelled-walks from server request count host = if-took _ count host _ _ (law.same count host) (law.queues server.app.serial _ tt count host)
-
-  last_again-walks : (server : Server) (last : Option Response) (count : ℕ) (host : Host S) (taken : Taken S) → Took count host taken → Took count host (last_again server last taken)
-  unfolding last_again
-  last_again-walks server None count host taken took = took
-  last_again-walks server (Some response) count host taken took = took
-
-  again_if-walks : (b : Bool) (server : Server) (count : ℕ) (host : Host S) (taken : Taken S) → Took count host taken → Took count host (again_if b server taken)
-  unfolding again_if
-  again_if-walks true server count host taken took = last_again-walks server server.last count host taken took
-  again_if-walks false server count host taken took = took
-
-  repeated-walks : (server : Server) (count : ℕ) (host : Host S) → Took count host (repeated server count host)
-  unfolding repeated quiet
-  repeated-walks server count host = again_if-walks _ server count host _ (pass_server-walks server.event _ count host)
-
-  -- ## Requests with a To tag
-
-  refuse-walks : (config : Config) (from : Peer) (code : ℕ) (reason : Bytes) (request : Request) (count : ℕ) (host : Host S) → Took count host (refuse config from code reason request count host)
-  unfolding refuse quiet
-  refuse-walks config from code reason request count host = if-took _ count host _ _ (law.same count host) (law.same count host)
-
-  with_server-walks : (app : AppId) (event : ℕ) (peer : Peer) (tag : Bytes) (request : Request) (count : ℕ) (host : Host S) → H count host count (with_server app event peer tag request host)
-  unfolding with_server
-  with_server-walks app event peer tag request count host = if-host _ count host host _ (law.same count host) (law.passes count host host.clients _)
-
-  with_trying-walks : (from : Peer) (request : Request) (count : ℕ) (host : Host S) (taken : Taken S) → Took count host taken → Took count host (with_trying from now request taken)
-  unfolding with_trying
-  with_trying-walks from request count host taken took =
-      if-took _ count host _ taken (law.after _ _ _ _ _ _ took (law.passes taken.count taken.host taken.host.clients _)) took
-
-  later_by-walks : (config : Config) (epoch : ℕ) (from : Peer) (request : Request) (count : ℕ) (live : Option (Live S)) (host : Host S) → Took count host (later_by config epoch number from now request count live host)
-  unfolding later_by queue_later IsLate
-  later_by-walks config epoch from request count None host = refuse-walks config from 481 _ request count host
-  later_by-walks config epoch from request count (Some live) host =
-      if-took _ count host _ _ (refuse-walks config from 503 _ request count host)
-      (with_trying-walks from request count host _ (law.after _ _ _ _ _ _ (with_server-walks _ _ from _ _ count host) (law.queues live.serial _ tt count _)))
-
-  take_later-walks : (config : Config) (epoch : ℕ) (from : Peer) (request : Request) (count : ℕ) (host : Host S) → Took count host (take_later config epoch number from now request count host)
-  unfolding take_later
-  take_later-walks config epoch from request count host = later_by-walks config epoch from request count _ host
 
   -- ## Requests that begin a session
 
@@ -126,38 +34,38 @@ module _ {S : Type 0} (number now : ℕ) (H : ℕ → Host S → ℕ → Host S 
         → Took count host (begun form config epoch number from now noted request count host)
     unfolding begun quiet
     begun-goes config epoch from noted request first count host =
-        with_trying-walks from request count host _ (law.after _ _ _ _ _ _ (begins config epoch noted request first count host) (with_server-walks _ _ from _ request (count + 1) _))
+        with_trying-walks number now H law from request count host _ (law.after _ _ _ _ _ _ (begins config epoch noted request first count host) (with_server-walks number now H law _ _ from _ request (count + 1) _))
 
     take_initial-goes : (config : Config) (epoch : ℕ) (from : Peer) (noted : Note) (request : Request) → IsFirst request → (count : ℕ) (host : Host S)
         → Took count host (take_initial form config epoch number from now noted request count host)
     unfolding take_initial
     take_initial-goes config epoch from noted request first count host =
-        if-took _ count host _ _ (refuse-walks config from 503 _ request count host) (begun-goes config epoch from noted request first count host)
+        if-took number now H law _ count host _ _ (refuse-walks number now H law config from 503 _ request count host) (begun-goes config epoch from noted request first count host)
 
     take_begun-goes : (config : Config) (epoch : ℕ) (from : Peer) (noted : Option Note) (request : Request) → IsFirst request → (count : ℕ) (host : Host S)
         → Took count host (take_begun form config epoch number from now noted request count host)
     unfolding take_begun
-    take_begun-goes config epoch from None request first count host = refuse-walks config from 481 _ request count host
+    take_begun-goes config epoch from None request first count host = refuse-walks number now H law config from 481 _ request count host
     take_begun-goes config epoch from (Some noted) request first count host =
-        if-took _ count host _ _ (refuse-walks config from 481 _ request count host) (take_initial-goes config epoch from noted request first count host)
+        if-took number now H law _ count host _ _ (refuse-walks number now H law config from 481 _ request count host) (take_initial-goes config epoch from noted request first count host)
 
     take_new-by : (config : Config) (epoch : ℕ) (from : Peer) (noted : Option Note) (request : Request) (count : ℕ) (host : Host S) (b : Bool) → is_some (tag_of request.head.to) ≡ b
         → Took count host (cond b (take_later config epoch number from now request count host) (take_begun form config epoch number from now noted request count host))
-    take_new-by config epoch from noted request count host true is = take_later-walks config epoch from request count host
+    take_new-by config epoch from noted request count host true is = take_later-walks number now H law config epoch from request count host
     take_new-by config epoch from noted request count host false is = take_begun-goes config epoch from noted request is count host
 
     take_unclaimed-goes : (config : Config) (epoch : ℕ) (from : Peer) (noted : Option Note) (request : Request) (count : ℕ) (host : Host S)
         → Took count host (take_unclaimed form config epoch number from now noted request count host)
     unfolding take_unclaimed take_new
     take_unclaimed-goes config epoch from noted request count host =
-        if-took _ count host _ _ (refuse-walks config from 481 _ request count host) (take_new-by config epoch from noted request count host _ refl)
+        if-took number now H law _ count host _ _ (refuse-walks number now H law config from 481 _ request count host) (take_new-by config epoch from noted request count host _ refl)
 
     take_claimed-goes : (config : Config) (epoch : ℕ) (from : Peer) (noted : Option Note) (request : Request) (claim : Claim) (count : ℕ) (host : Host S)
         → Took count host (take_claimed form config epoch number from now noted request claim count host)
     unfolding take_claimed quiet
-    take_claimed-goes config epoch from noted request (Cancels server) count host = cancelled-walks from server request count host
-    take_claimed-goes config epoch from noted request (Acks server) count host = pass_server-walks server.event _ count host
-    take_claimed-goes config epoch from noted request (Repeats server) count host = repeated-walks server count host
+    take_claimed-goes config epoch from noted request (Cancels server) count host = cancelled-walks number now H law from server request count host
+    take_claimed-goes config epoch from noted request (Acks server) count host = pass_server-walks number now H law server.event _ count host
+    take_claimed-goes config epoch from noted request (Repeats server) count host = repeated-walks number now H law server count host
     take_claimed-goes config epoch from noted request Unclaimed count host = take_unclaimed-goes config epoch from noted request count host
 
     -- all that a host takes
@@ -165,4 +73,4 @@ module _ {S : Type 0} (number now : ℕ) (H : ℕ → Host S → ℕ → Host S 
         → Took count host (takes form config epoch number from now noted message count host)
     unfolding takes take_request take_response
     takes-goes config epoch from noted (messages.Request request) count host = take_claimed-goes config epoch from noted request _ count host
-    takes-goes config epoch from noted (messages.Response response) count host = response_to-walks _ response count host
+    takes-goes config epoch from noted (messages.Response response) count host = response_to-walks number now H law _ response count host

@@ -1,9 +1,6 @@
 -- Within a step all later requests of a kind that are on their way, or are queued, are those that it began with.
-use Rattle.std.proofs.Common.{◌≡◌, ℕ, zero, suc, Bool, true, false, Option, None, Some, List, [], ◌∷◌, refl, sym, subst, ◌∙◌, arith}
-use Rattle.std.specs.Prelude.{◌==◌, cond, drop, is_some, option_map, slice_get}
-use Rattle.std.proofs.lemmas.Bool.Decides.{nat_tests}
-use Rattle.sc_value.specs.Lists.{change_nth}
-use Rattle.sc_value.proofs.ListFacts.{slice_get-change_nth}
+use Rattle.std.proofs.Common.{◌≡◌, ℕ, zero, suc, Bool, true, false, Option, None, Some, List, [], ◌∷◌, refl, subst}
+use Rattle.std.specs.Prelude.{◌==◌, cond, drop, is_some, slice_get}
 use Rattle.sc_value.specs.declared.ids.AppId.{AppId}
 use Rattle.sc_value.specs.declared.ids.Place.{Place}
 use Rattle.sc_value.specs.declared.message.Message.{Message}
@@ -48,23 +45,9 @@ use Rattle.sc_hosts.specs.Transacting.{is_client, tidied, pass_client, with_clie
 use Rattle.sc_lasting.specs.Lasting.{All}
 use Rattle.sc_lasting.proofs.Began.{test-found}
 use Rattle.sc_lasting.proofs.Parts.{all-append, all-filter, all-found}
-use Rattle.sc_once.proofs.Finding.{slice_get-other}
+use Rattle.sc_once.proofs.ChangedHosts.{changed_hosts}
 use Rattle.sc_hops.specs.Hops.{AreFit, AreKinds, IsFit, IsOnWay, IsOrdered, IsPlain, IsReplied}
 use Rattle.sc_hops.proofs.Taken.{Ok, pass_client-good, queue-ok, take_request-ok, take_response-ok}
-
-equal : (a b : ℕ) → (a == b) ≡ true → a ≡ b
-equal a b is = grind (arith, nat_tests, is)
-
-differ : (a b : ℕ) → (a == b) ≡ false → b ≡ a → ⊥
-differ a b at same = grind (arith, nat_tests, at, same)
-
-mapped : {A : Type 0} (change : A → A) (found : Option A) (x : A) → option_map change found ≡ Some x
-    → (a : A) × (found ≡ Some a) × (change a ≡ x)
-mapped change None x is = cc
-mapped {A = A} change (Some a) x is = (a, refl, some-is (change a) x is)
-  where
-    some-is : (y x : A) → Some y ≡ Some x → y ≡ x
-    some-is y x is = cc
 
 pub plain-fit : (Told Sent : Request → Type 0) (config : Config) (epoch : ℕ) (app : AppId) (event : Queued) → IsPlain event
     → IsFit Told Sent config epoch app event
@@ -118,22 +101,11 @@ module _ {S : Type 0} (Way Sound Told Sent : Request → Type 0) (setup : Setup)
 
   -- ## A host changes
 
-  changed-by : (number : ℕ) (change : Host S → Host S) (net : Net S) → ((host : Host S) → host_at number net ≡ Some host → Good number host → Good number (change host))
-      → ((number : ℕ) (host : Host S) → host_at number net ≡ Some host → Good number host)
-      → (n : ℕ) (host : Host S) (b : Bool) → (n == number) ≡ b → slice_get (change_nth number change net.hosts) n ≡ Some host → Good n host
-  changed-by number change net keeps all n host true at is =
-      let same : n ≡ number = equal n number at in
-      let found : option_map change (host_at number net) ≡ Some host = sym (slice_get-change_nth number change net.hosts) ∙ subst (λ (m : ℕ). slice_get (change_nth number change net.hosts) m ≡ Some host) same is in
-      let was = mapped change (host_at number net) host found in
-      subst (λ (m : ℕ). Good m host) (sym same) (subst (λ (h : Host S). Good number h) was.2 (keeps was.0 was.1 (all number was.0 was.1)))
-  changed-by number change net keeps all n host false at is =
-      all n host (sym (slice_get-other net.hosts number n change (differ n number at)) ∙ is)
-
   pub changes : (number : ℕ) (change : Host S → Host S) (net : Net S) → ((host : Host S) → host_at number net ≡ Some host → Good number host → Good number (change host))
       → Holds net → Holds (change_host number change net)
   changes number change net keeps holds = record {
     same = holds.same;
-    hosts = λ n host is. changed-by number change net keeps holds.hosts n host (n == number) refl is;
+    hosts = λ n host is. changed_hosts Good number change net keeps holds.hosts n host (n == number) refl is;
     wire = holds.wire;
   }
 

@@ -30,7 +30,7 @@ module _ {S : Type 0} {Begins : Form S → Type 0} (number now : ℕ) (H : ℕ �
   abbrev Took : ℕ → Host S → Taken S → Type 0
   Took count host taken = H count host taken.count taken.host
 
-  if-took : (b : Bool) (count : ℕ) (host : Host S) (x y : Taken S) → Took count host x → Took count host y → Took count host (cond b x y)
+  pub if-took : (b : Bool) (count : ℕ) (host : Host S) (x y : Taken S) → Took count host x → Took count host y → Took count host (cond b x y)
   if-took true count host x y p q = p
   if-took false count host x y p q = q
 
@@ -61,7 +61,7 @@ module _ {S : Type 0} {Begins : Form S → Type 0} (number now : ℕ) (H : ℕ �
   with_reply-walks out client response count host taken took =
       if-took out.ack count host _ _ took (if-took out.cancel count host _ taken (law.after _ _ _ _ _ _ took (law.passes taken.count taken.host _ taken.host.servers)) took)
 
-  response_to-walks : (client : Option Client) (response : Response) (count : ℕ) (host : Host S) → Took count host (response_to now client response count host)
+  pub response_to-walks : (client : Option Client) (response : Response) (count : ℕ) (host : Host S) → Took count host (response_to now client response count host)
   unfolding response_to response_for quiet
   response_to-walks None response count host = law.same count host
   response_to-walks (Some client) response count host =
@@ -69,7 +69,7 @@ module _ {S : Type 0} {Begins : Form S → Type 0} (number now : ℕ) (H : ℕ �
 
   -- ## CANCEL, ACK and repeated requests
 
-  cancelled-walks : (from : Peer) (server : Server) (request : Request) (count : ℕ) (host : Host S) → Took count host (cancelled from now server request count host)
+  pub cancelled-walks : (from : Peer) (server : Server) (request : Request) (count : ℕ) (host : Host S) → Took count host (cancelled from now server request count host)
   unfolding cancelled quiet IsLate
   cancelled-walks from server request count host = if-took _ count host _ _ (law.same count host) (law.queues server.app.serial _ tt count host)
 
@@ -83,21 +83,21 @@ module _ {S : Type 0} {Begins : Form S → Type 0} (number now : ℕ) (H : ℕ �
   again_if-walks true server count host taken took = last_again-walks server server.last count host taken took
   again_if-walks false server count host taken took = took
 
-  repeated-walks : (server : Server) (count : ℕ) (host : Host S) → Took count host (repeated server count host)
+  pub repeated-walks : (server : Server) (count : ℕ) (host : Host S) → Took count host (repeated server count host)
   unfolding repeated quiet
   repeated-walks server count host = again_if-walks _ server count host _ (pass_server-walks server.event _ count host)
 
   -- ## Requests with a To tag
 
-  refuse-walks : (config : Config) (from : Peer) (code : ℕ) (reason : Bytes) (request : Request) (count : ℕ) (host : Host S) → Took count host (refuse config from code reason request count host)
+  pub refuse-walks : (config : Config) (from : Peer) (code : ℕ) (reason : Bytes) (request : Request) (count : ℕ) (host : Host S) → Took count host (refuse config from code reason request count host)
   unfolding refuse quiet
   refuse-walks config from code reason request count host = if-took _ count host _ _ (law.same count host) (law.same count host)
 
-  with_server-walks : (app : AppId) (event : ℕ) (peer : Peer) (tag : Bytes) (request : Request) (count : ℕ) (host : Host S) → H count host count (with_server app event peer tag request host)
+  pub with_server-walks : (app : AppId) (event : ℕ) (peer : Peer) (tag : Bytes) (request : Request) (count : ℕ) (host : Host S) → H count host count (with_server app event peer tag request host)
   unfolding with_server
   with_server-walks app event peer tag request count host = if-host _ count host host _ (law.same count host) (law.passes count host host.clients _)
 
-  with_trying-walks : (from : Peer) (request : Request) (count : ℕ) (host : Host S) (taken : Taken S) → Took count host taken → Took count host (with_trying from now request taken)
+  pub with_trying-walks : (from : Peer) (request : Request) (count : ℕ) (host : Host S) (taken : Taken S) → Took count host taken → Took count host (with_trying from now request taken)
   unfolding with_trying
   with_trying-walks from request count host taken took =
       if-took _ count host _ taken (law.after _ _ _ _ _ _ took (law.passes taken.count taken.host taken.host.clients _)) took
@@ -109,7 +109,7 @@ module _ {S : Type 0} {Begins : Form S → Type 0} (number now : ℕ) (H : ℕ �
       if-took _ count host _ _ (refuse-walks config from 503 _ request count host)
       (with_trying-walks from request count host _ (law.after _ _ _ _ _ _ (with_server-walks _ _ from _ _ count host) (law.queues live.serial _ tt count _)))
 
-  take_later-walks : (config : Config) (epoch : ℕ) (from : Peer) (request : Request) (count : ℕ) (host : Host S) → Took count host (take_later config epoch number from now request count host)
+  pub take_later-walks : (config : Config) (epoch : ℕ) (from : Peer) (request : Request) (count : ℕ) (host : Host S) → Took count host (take_later config epoch number from now request count host)
   unfolding take_later
   take_later-walks config epoch from request count host = later_by-walks config epoch from request count _ host
 
