@@ -1,5 +1,5 @@
 -- What a recorder wrote in two turns.
-use Rattle.std.proofs.Common.{◌≡◌, List, ℕ, [], ◌++◌, refl, sym, subst, ◌∙◌}
+use Rattle.std.proofs.Common.{◌≡◌, [], ◌++◌, refl, sym, subst, ◌∙◌}
 use Rattle.std.proofs.lemmas.Bool.{false≢true}
 use Rattle.std.specs.Prelude.{Option, None, Some, Result, Ok, Err, ⊤, OnOk, OnErr, is_none, true, false}
 use Rattle.std.proofs.lemmas.Option.{none-some}

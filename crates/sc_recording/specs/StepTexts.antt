@@ -1,5 +1,5 @@
 -- The steps of a journal as text: a line for each, behind which stands what a line can't hold.
-use Rattle.std.specs.Prelude.{ℕ, List, [], ◌∷◌, ◌++◌, Option, None, Some, codes, decimal, length}
+use Rattle.std.specs.Prelude.{ℕ, List, [], ◌∷◌, ◌++◌, Option, None, Some, codes, length}
 use Rattle.std.specs.List.{flat_map}
 use Rattle.sc_tokens.specs.HeaderNames.{from_name, to_name, call_id_name, cseq_name}
 use Rattle.sc_value.specs.AnswerableValues.{AnswerableValue}

@@ -1,18 +1,21 @@
 //! The command `serve` over sockets.
 
 use crate::operating::operate;
+use crate::recording::{begun, recorded, recording_of};
 use sc_console::Operator;
 use sc_desk::{Desk, DeskOrders};
 use sc_edge::{FileShelf, Notice, OpenGate, Orders};
 use sc_journal::Journal;
 use sc_limit::{Stream, fitting, room_of};
-use sc_replay::Status;
+use sc_recorder::{ClosingEdge, Recorder};
+use sc_replay::{Ran, Status};
 use sc_serve::{listening_at, serve};
 use sc_servlets::Catalogue;
 use sc_sockets::{MioEdge, WallClock};
 use sc_terms::Step;
 use sc_value::{NoMemory, Text, write_u64};
 use sc_watch::{Watch, WatchNotice};
+use std::cell::Cell;
 use std::io::Write;
 use std::sync::{Arc, Wait};
 use std::thread::{self, Threads};
@@ -53,22 +56,77 @@ fn serve_watched<W: Threads + Wait + Copy + Send + Sync + 'static>(
         .pop()
         .map(|reading| Operator::new(theirs, poster, reading));
     let mut orders = DeskOrders::new(threads, &*desk, taker);
-    let mut notice = WatchNotice::new(threads, watch);
-    let status = serve_edge(
+    let notice = WatchNotice::new(threads, watch);
+    let (status, notice) = serve_told(
         rt,
         threads,
         words,
         shelf,
         operator,
         &mut orders,
-        &mut notice,
+        notice,
         apps,
     );
     notice.into_watch().end(threads);
     Ok(status)
 }
 
-/// Serves the connections of the address that the settings name. The console begins once it listens.
+/// Serves, and writes the recording that the settings name, where they name one.
+fn serve_told<
+    W: Threads + Wait + Copy + Send + Sync + 'static,
+    O: Orders,
+    N: Notice<Journal<Step>>,
+>(
+    rt: &HostRuntime,
+    threads: &W,
+    words: &[String],
+    shelf: &mut FileShelf<HostRuntime>,
+    operator: Option<Operator>,
+    orders: &mut O,
+    mut notice: N,
+    apps: &Catalogue,
+) -> (Status, N) {
+    let over = Cell::new(false);
+    match recording_of(rt.alloc(), words, shelf, apps) {
+        Some(name) => match begun(rt, &name) {
+            Some(file) => {
+                let mut recorder = Recorder::new(rt.alloc(), notice, file, &over);
+                let ran = serve_edge(
+                    rt,
+                    threads,
+                    words,
+                    shelf,
+                    operator,
+                    orders,
+                    &mut recorder,
+                    &over,
+                    apps,
+                );
+                let status = recorded(ran, &mut recorder);
+                let (notice, _file) = recorder.into_parts();
+                (status, notice)
+            }
+            None => (Status::Write, notice),
+        },
+        None => {
+            let ran = serve_edge(
+                rt,
+                threads,
+                words,
+                shelf,
+                operator,
+                orders,
+                &mut notice,
+                &over,
+                apps,
+            );
+            (ran.status, notice)
+        }
+    }
+}
+
+/// Serves the connections of the address that the settings name, until the flag is set. The console begins once it
+/// listens.
 fn serve_edge<
     W: Threads + Wait + Copy + Send + Sync + 'static,
     O: Orders,
@@ -81,13 +139,19 @@ fn serve_edge<
     operator: Option<Operator>,
     orders: &mut O,
     notice: &mut N,
+    over: &Cell<bool>,
     apps: &Catalogue,
-) -> Status {
+) -> Ran {
     let alloc = rt.alloc();
     let Ok(mut clock) = WallClock::new(rt) else {
-        return Status::Edge;
+        return Ran {
+            status: Status::Edge,
+            epoch: 0,
+            began: 0,
+            journal: None,
+        };
     };
-    let mut edge = match listening_at(alloc, words, shelf, apps) {
+    let edge = match listening_at(alloc, words, shelf, apps) {
         Some(at) => {
             let mut edge = MioEdge::new_or_deaf(rt, alloc, at.ip, at.port);
             edge.set_reuse(at.reuse);
@@ -98,10 +162,10 @@ fn serve_edge<
     if tell_listening(rt, &edge) {
         begin_console(rt, threads, operator);
     }
+    let mut edge = ClosingEdge::new(edge, over);
     serve(
         threads, alloc, words, shelf, &mut edge, &OpenGate, &mut clock, orders, notice, apps,
     )
-    .status
 }
 
 /// Begins the thread of the console, which isn't waited for: it ends with standard input, or with the program. Where

@@ -7,6 +7,7 @@ mod explaining;
 mod help;
 mod kinds;
 mod operating;
+mod recording;
 mod warning;
 
 use endings::{exit_status, write_line};

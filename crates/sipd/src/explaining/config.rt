@@ -40,8 +40,9 @@ quotes, texts in them:
 
 workers is 1 to 32, stop_after and epoch_steps 0 to 1000000, journal_steps 1 to
 1000000, journal_bytes 1 to 67108864, expires -1 to 10080; journal_parts and
-reuse are true or false; salt has 1 to 16 letters and digits. Of a wrong entry
-of [hosts] the line names the host itself.
+reuse are true or false; record is the name of a file, not empty; salt has 1 to
+16 letters and digits. Of a wrong entry of [hosts] the line names the host
+itself.
 ",
     ),
     (

@@ -94,7 +94,8 @@ status 10: sipd: write
 
 Standard output could not be written: the disk is full, a limit on the size of a
 file is reached, or whoever read it is gone. A part from the front of the output
-was written.
+was written. Of serve: the file that record names in the configuration could not
+be written; it has a part from the front of the recording.
 ",
     ),
 ];

@@ -1,5 +1,5 @@
-use Rattle.std.proofs.Common.{◌≡◌, ◌≤◌, arith}
-use Rattle.sc_recorder.proofs.StepLists.{on_either, steps_all, steps_next, steps_none, steps_part}
+use Rattle.std.proofs.Common.{arith}
+use Rattle.sc_recorder.proofs.StepLists.{on_either, steps_next, steps_none, steps_part}
 use Rattle.sc_recorder.proofs.writing.put_steps.Goals as goal
 
 pub loop-at-init : goal.loop-at-init

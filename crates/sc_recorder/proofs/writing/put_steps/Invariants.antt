@@ -1,4 +1,4 @@
-use Rattle.std.proofs.Common.{◌≡◌, ◌≤◌, take}
+use Rattle.std.proofs.Common.{◌≤◌, take}
 use Rattle.sc_edge.specs.Taking.{Takes}
 use Rattle.sc_recording.specs.StepTexts.{steps_text}
 use Rattle.sc_recorder.proofs.writing.put_steps.Given as goal
