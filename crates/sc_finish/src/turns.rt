@@ -2,7 +2,7 @@
 
 ghost use Rattle.std.specs.Prelude.{◌≡◌, IfOk, OnOk};
 ghost use Rattle.sc_hosts.specs.Finishing.{is_expiry, is_ready_event, session_in_play, finished, outcome_of, outcome};
-ghost use Rattle.sc_finish.specs.Ends.{ends, left_by};
+ghost use Rattle.sc_finish.specs.Ends.{ends, left_by, outcome_from};
 
 use crate::faults::{drafts_ended, faulted};
 use crate::later::passes_later;
@@ -10,7 +10,7 @@ use crate::readiness::is_ready;
 use crate::sweeping::{lightened, swept, without_acks};
 use sc_acting::all_act;
 use sc_prepare::{has_expired, prepared};
-use sc_state::{Outcome, Queued, Session, Waiting, Working};
+use sc_state::{Outcome, Prepared, Queued, Session, Waiting, Working};
 use sc_terms::{CallRecord, Config, End};
 use sc_value::{NoMemory, ReqId};
 use sc_work::worked_all;
@@ -102,9 +102,28 @@ fn outcome_of(alloc: Global, event: &Queued, working: Working) -> Result<Outcome
     })
 }
 
+/// The outcome of a turn that begins with this: what the application session is afterwards, what it
+/// sends, and whether it is invalidated.
+#[tactic(auto, unfolding(crate::specs::Ends::outcome_from))]
+pub fn outcome_from(
+    alloc: Global,
+    config: &Config,
+    shown: Prepared,
+    waiting: &Waiting,
+    made: &[CallRecord],
+    end: End,
+) -> Result<Outcome, NoMemory>
+    ensures { IfOk result (λ o. o ≡ outcome_from config.now shown waiting.now made.now end) }
+{
+    let req = shown.req;
+    let mut working = worked_all(alloc, config, shown, made)?;
+    finished(alloc, config, &waiting.event, req, end, &mut working)?;
+    outcome_of(alloc, &waiting.event, working)
+}
+
 /// The outcome of a turn: what the application session is afterwards, what it sends, and whether it is
 /// invalidated. The branches are given whose INVITE has had a provisional response.
-#[tactic(auto, unfolding(sc_hosts::specs::Finishing::outcome))]
+#[tactic(auto, unfolding(sc_hosts::specs::Finishing::outcome, crate::specs::Ends::outcome_from))]
 pub fn outcome(
     alloc: Global,
     config: &Config,
@@ -118,8 +137,5 @@ pub fn outcome(
     ensures { IfOk result (λ o. o ≡ outcome config.now ringing.now session waiting.now now made.now end) }
 {
     let shown = prepared(alloc, config, ringing, session, waiting, now)?;
-    let req = shown.req;
-    let mut working = worked_all(alloc, config, shown, made)?;
-    finished(alloc, config, &waiting.event, req, end, &mut working)?;
-    outcome_of(alloc, &waiting.event, working)
+    outcome_from(alloc, config, shown, waiting, made, end)
 }

@@ -1,11 +1,12 @@
 -- What a turn leaves of a net, in parts by the values that they take.
-use Rattle.std.specs.Prelude.{ℕ, ◌==◌, List, Bool, true, false, ◌&&◌, Option, None, Some, if◌then◌else◌, length, slice_get, drop}
+use Rattle.std.specs.Prelude.{◌≡◌, ℕ, ◌==◌, List, Bool, true, false, ◌&&◌, Option, None, Some, if◌then◌else◌, length, slice_get, drop}
 use Rattle.std.specs.List.{list_any}
 use Rattle.std.specs.Option.{option_map_or}
 use Rattle.sc_value.specs.declared.ids.AppId.{AppId}
 use Rattle.sc_value.specs.Lists.{change_first, remove_first}
 use Rattle.sc_terms.specs.declared.calls.CallRecord.{CallRecord}
 use Rattle.sc_terms.specs.declared.calls.End.{End}
+use Rattle.sc_terms.specs.declared.settings.Config.{Config}
 use Rattle.sc_parts.specs.declared.setup.Setup.{Setup}
 use Rattle.sc_state.specs.declared.host.Fired.{Fired}
 use Rattle.sc_state.specs.Hosts.{Host}
@@ -15,9 +16,11 @@ use Rattle.sc_state.specs.declared.orders.Outcome.{Outcome}
 use Rattle.sc_state.specs.declared.queue.Queued.TheVariants as queued
 use Rattle.sc_state.specs.declared.queue.Waiting.{Waiting}
 use Rattle.sc_state.specs.declared.session.Session.{Session}
+use Rattle.sc_state.specs.declared.working.Prepared.{Prepared}
 use Rattle.sc_hosts.specs.Finishing.{is_ready}
 use Rattle.sc_hosts.specs.Histories.{as_session}
 use Rattle.sc_hosts.specs.Nets.{change_host, obeyed, queue_for}
+use Rattle.sc_hosts.specs.Preparing.{prepared}
 use Rattle.sc_hosts.specs.Sessions.{entries_of}
 use Rattle.sc_hosts.specs.Steps.{inbox_of, invalidated, live_at, outcome_by, still_fired, turn_of}
 use Rattle.sc_hosts.specs.Inboxes.{is_live}
@@ -74,3 +77,15 @@ first_by setup app session (Some waiting) now made end net =
 unfoldable pub turns_by : Setup → AppId → Option (Live Session) → ℕ → List CallRecord → End → Net Session → Net Session
 turns_by setup app None now made end net = net
 turns_by setup app (Some live) now made end net = first_by setup app live.session (slice_get live.inbox 0) now made end net
+
+-- ## What a turn begins with
+
+-- the turn of this event at this moment begins with it, where an event waits
+unfoldable pub FirstBegins : Config → List ℕ → Session → Option Waiting → ℕ → Prepared → Type 0
+FirstBegins config ringing session None now begun = Unit {0}
+FirstBegins config ringing session (Some waiting) now begun = prepared config ringing session waiting now ≡ begun
+
+-- so does the turn of the first event of this session, where it lives
+unfoldable pub Begins : Config → List ℕ → Option (Live Session) → ℕ → Prepared → Type 0
+Begins config ringing None now begun = Unit {0}
+Begins config ringing (Some live) now begun = FirstBegins config ringing live.session (slice_get live.inbox 0) now begun

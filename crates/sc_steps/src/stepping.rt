@@ -1,18 +1,20 @@
 //! Each step.
 
-ghost use Rattle.std.specs.Prelude.{◌≡◌, [], OnOk};
+ghost use Rattle.std.specs.Prelude.{◌≡◌, [], IfSome, OnOk};
 ghost use Rattle.sc_terms.specs.declared.steps.Step.TheVariants as steps;
 ghost use Rattle.sc_hosts.specs.Histories.{as_session};
 ghost use Rattle.sc_hosts.specs.Runs.{after_step};
 ghost use Rattle.sc_hosts.specs.Arrivals.{bad_by};
-ghost use Rattle.sc_hosts.specs.Steps.{stepped};
+ghost use Rattle.sc_hosts.specs.Nets.{host_at};
+ghost use Rattle.sc_hosts.specs.Steps.{live_at, ringing_at, stepped};
+ghost use Rattle.sc_steps.specs.TurnParts.{Begins};
 
 use crate::endings::withdrawn;
 use crate::turning::turns;
 use sc_arrivals::{answer_bad, arrived};
 use sc_net::delivered;
 use sc_parts::Setup;
-use sc_state::{Net, Session};
+use sc_state::{Net, Prepared, Session};
 use sc_terms::{Bad, CallRecord, Config, End, Step};
 use sc_ticks::{lost, ticked};
 use sc_value::{AppId, List, NoMemory, Place};
@@ -61,7 +63,7 @@ fn stepped(
             calls,
             end,
             ..
-        } => turns(alloc, setup, *app, *now, calls.as_slice(), *end, net),
+        } => turns(alloc, setup, *app, None, *now, calls.as_slice(), *end, net),
         Step::Withdraw(app) => withdrawn(alloc, setup, *app, net),
     }
 }
@@ -83,7 +85,6 @@ pub fn after_step(
 }
 
 /// What a turn of an event makes of a net, as `after_step`.
-#[tactic(auto, unfolding(sc_hosts::specs::Runs::after_step, sc_hosts::specs::Steps::stepped))]
 pub fn after_turn(
     alloc: Global,
     setup: &Setup,
@@ -96,8 +97,27 @@ pub fn after_turn(
 ) -> Result<(), NoMemory>
     ensures { OnOk result (net.new ≡ after_step as_session setup.now net.old (Step.Turn app event now made.now end)) }
 {
+    after_begun(alloc, setup, app, event, None, now, made, end, net)
+}
+
+/// The same, where it may be known already what the turn begins with.
+#[tactic(auto, unfolding(sc_hosts::specs::Runs::after_step, sc_hosts::specs::Steps::stepped))]
+pub fn after_begun(
+    alloc: Global,
+    setup: &Setup,
+    app: AppId,
+    event: u64,
+    begun: Option<Prepared>,
+    now: u64,
+    made: &[CallRecord],
+    end: End,
+    net: &mut Net<Session>,
+) -> Result<(), NoMemory>
+    requires { IfSome begun (λ shown. Begins setup.now.config (ringing_at app (host_at app.host net.old)) (live_at app net.old) now shown) }
+    ensures { OnOk result (net.new ≡ after_step as_session setup.now net.old (Step.Turn app event now made.now end)) }
+{
     let _ = event;
     nothing_sent(alloc, net);
-    turns(alloc, setup, app, now, made, end, net)?;
+    turns(alloc, setup, app, begun, now, made, end, net)?;
     delivered(alloc, setup, net)
 }

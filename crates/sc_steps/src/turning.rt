@@ -1,18 +1,20 @@
 //! A session takes a turn.
 
-ghost use Rattle.std.specs.Prelude.{◌≡◌, IfOk, OnOk};
+ghost use Rattle.std.specs.Prelude.{◌≡◌, IfOk, IfSome, OnOk};
 ghost use Rattle.std.specs.Option.{option_copied};
 ghost use Rattle.sc_hosts.specs.Histories.{as_session};
-ghost use Rattle.sc_hosts.specs.Steps.{outcome_by, turn_of, turns, live_at};
-ghost use Rattle.sc_steps.specs.TurnParts.{turned_by, first_by, turns_by};
+ghost use Rattle.sc_hosts.specs.Nets.{host_at};
+ghost use Rattle.sc_hosts.specs.Preparing.{prepared};
+ghost use Rattle.sc_hosts.specs.Steps.{outcome_by, ringing_at, turn_of, turns, live_at};
+ghost use Rattle.sc_steps.specs.TurnParts.{Begins, FirstBegins, turned_by, first_by, turns_by};
 
 use crate::leaving::net_after;
 use crate::lives::{live_copy, ringing_at};
 use crate::waking::closed_turn;
-use sc_finish::outcome;
+use sc_finish::{outcome, outcome_from};
 use sc_net::obeyed;
 use sc_parts::Setup;
-use sc_state::{Live, Net, Outcome, Session, Waiting};
+use sc_state::{Live, Net, Outcome, Prepared, Session, Waiting};
 use sc_terms::{CallRecord, Config, End};
 use sc_value::{AppId, CloneIn, NoMemory, Shared};
 use std::alloc::Global;
@@ -68,11 +70,39 @@ fn outcome_by(
     )
 }
 
-#[tactic(auto, unfolding(crate::specs::TurnParts::first_by))]
+// The same, where it may be known already what the turn begins with.
+#[tactic(auto, unfolding(sc_hosts::specs::Steps::outcome_by, sc_hosts::specs::Steps::turn_of, sc_hosts::specs::Histories::as_session, sc_hosts::specs::Finishing::outcome, sc_finish::specs::Ends::outcome_from))]
+fn outcome_begun(
+    alloc: Global,
+    config: &Config,
+    app: AppId,
+    begun: Option<Prepared>,
+    session: &Session,
+    waiting: &Waiting,
+    now: u64,
+    made: &[CallRecord],
+    end: End,
+    net: &Net<Session>,
+) -> Result<Outcome, NoMemory>
+    requires { IfSome begun (λ shown. prepared config.now (ringing_at app (host_at app.host net.now)) session.now waiting.now now ≡ shown) }
+    ensures { IfOk result (λ done. done ≡ outcome_by as_session config.now session.now (turn_of net.now app waiting.now now made.now end)) }
+{
+    match begun {
+        Some(shown) => outcome_from(alloc, config, shown, waiting, made, end),
+        None => outcome_by(alloc, config, app, session, waiting, now, made, end, net),
+    }
+}
+
+fn let_go(begun: Option<Prepared>) {
+    drop(begun);
+}
+
+#[tactic(auto, unfolding(crate::specs::TurnParts::first_by, crate::specs::TurnParts::FirstBegins))]
 fn first_by(
     alloc: Global,
     setup: &Setup,
     app: AppId,
+    begun: Option<Prepared>,
     session: &Session,
     waiting: Option<&Waiting>,
     now: u64,
@@ -80,37 +110,45 @@ fn first_by(
     end: End,
     net: &mut Net<Session>,
 ) -> Result<(), NoMemory>
+    requires { IfSome begun (λ shown. FirstBegins setup.now.config (ringing_at app (host_at app.host net.old)) session.now (option_copied waiting) now shown) }
     ensures { OnOk result (net.new ≡ first_by setup.now app session.now (option_copied waiting.entry) now made.now end net.old) }
 {
-    let waiting = match waiting {
-        Some(waiting) => waiting,
-        None => return Ok(()),
-    };
-    let done = outcome_by(
-        alloc,
-        &setup.config,
-        app,
-        session,
-        waiting,
-        now,
-        made,
-        end,
-        net,
-    )?;
-    turned(alloc, setup, app, done, net)
+    match waiting {
+        Some(waiting) => {
+            let done = outcome_begun(
+                alloc,
+                &setup.config,
+                app,
+                begun,
+                session,
+                waiting,
+                now,
+                made,
+                end,
+                net,
+            )?;
+            turned(alloc, setup, app, done, net)
+        }
+        None => {
+            let_go(begun);
+            Ok(())
+        }
+    }
 }
 
-#[tactic(auto, unfolding(crate::specs::TurnParts::turns_by))]
+#[tactic(auto, unfolding(crate::specs::TurnParts::turns_by, crate::specs::TurnParts::Begins))]
 fn turns_by(
     alloc: Global,
     setup: &Setup,
     app: AppId,
+    begun: Option<Prepared>,
     live: &Option<Shared<Live<Session>>>,
     now: u64,
     made: &[CallRecord],
     end: End,
     net: &mut Net<Session>,
 ) -> Result<(), NoMemory>
+    requires { IfSome begun (λ shown. Begins setup.now.config (ringing_at app (host_at app.host net.old)) live.now now shown) }
     ensures { OnOk result (net.new ≡ turns_by setup.now app live.now now made.now end net.old) }
 {
     match live {
@@ -120,6 +158,7 @@ fn turns_by(
                 alloc,
                 setup,
                 app,
+                begun,
                 live.session.get(),
                 live.inbox.as_slice().get(0),
                 now,
@@ -128,23 +167,34 @@ fn turns_by(
                 net,
             )
         }
-        None => Ok(()),
+        None => {
+            let_go(begun);
+            Ok(())
+        }
     }
 }
 
-/// A session takes a turn with its first event, where it lives and one waits.
+/// A session takes a turn with its first event, where it lives and one waits. What the turn begins with
+/// may be known already.
 #[tactic(auto, using(crate::proofs::LiveTurns::turns_taken))]
 pub fn turns(
     alloc: Global,
     setup: &Setup,
     app: AppId,
+    begun: Option<Prepared>,
     now: u64,
     made: &[CallRecord],
     end: End,
     net: &mut Net<Session>,
 ) -> Result<(), NoMemory>
+    requires { IfSome begun (λ shown. Begins setup.now.config (ringing_at app (host_at app.host net.old)) (live_at app net.old) now shown) }
     ensures { OnOk result (net.new ≡ turns as_session setup.now app (live_at app net.old) now made.now end net.old) }
 {
-    let live = live_copy(alloc, app, net)?;
-    turns_by(alloc, setup, app, &live, now, made, end, net)
+    match live_copy(alloc, app, net) {
+        Ok(live) => turns_by(alloc, setup, app, begun, &live, now, made, end, net),
+        Err(NoMemory) => {
+            let_go(begun);
+            Err(NoMemory)
+        }
+    }
 }

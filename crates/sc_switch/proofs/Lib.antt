@@ -1,3 +1,4 @@
+pub mod Beginnings
 pub mod Epochs
 pub mod Firsts
 pub mod Fitting

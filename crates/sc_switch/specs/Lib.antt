@@ -1,4 +1,5 @@
 pub mod Answers
+pub mod Beginnings
 pub mod Counting
 pub mod Ledger
 pub mod Offering

@@ -5,6 +5,7 @@ ghost use Rattle.sc_hosts.specs.Runs.{live_count, waiting_count};
 ghost use Rattle.sc_switch.specs.Counting.{busy_at, busy_count, is_busy_client, is_busy_server};
 ghost use Rattle.sc_switch.specs.Stepping.{waiting_at};
 
+use crate::readied::Readied;
 use sc_state::{Host, Net, Session};
 use sc_value::{NoMemory, sum};
 
@@ -53,10 +54,10 @@ fn waiting_at(host: &Host<Session>) -> u64
 
 /// How many transactions live.
 #[tactic(auto, unfolding(crate::specs::Counting::busy_count))]
-pub fn busy_count(net: &Net<Session>) -> u64
+pub fn busy_count(net: &Readied) -> u64
     ensures { result ≡ min (busy_count net.now) u64.MAX }
 {
-    busy_among(net.hosts.as_slice())
+    busy_among(net.get().hosts.as_slice())
 }
 
 fn busy_among(hosts: &[Host<Session>]) -> u64

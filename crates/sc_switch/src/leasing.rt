@@ -1,29 +1,66 @@
 //! Lending out turns, and whether a lease still shows what there is.
 
-ghost use Rattle.std.specs.Prelude.{◌≡◌, ◌≤◌, ◌<◌, ◌^◌, ◌↔◌, IfOk, IfSome, IsTrue, Option, Some, is_some, length, option_map, slice_get, true};
+ghost use Rattle.std.specs.Prelude.{◌≡◌, ◌≤◌, ◌<◌, ◌^◌, ◌↔◌, IfOk, IfSome, IsTrue, Option, Some, is_some, length, option_map, slice_get, false, true};
 ghost use Rattle.std.specs.Option.{option_copied};
 ghost use Rattle.sc_hosts.specs.Histories.{as_session};
 ghost use Rattle.sc_hosts.specs.Runs.{shown};
-ghost use Rattle.sc_hosts.specs.Steps.{live_at};
+ghost use Rattle.sc_hosts.specs.Nets.{host_at};
+ghost use Rattle.sc_hosts.specs.Steps.{live_at, ringing_at};
 ghost use Rattle.sc_model.specs.Settings.{app_of};
 ghost use Rattle.sc_servlets.specs.Ranges.{is_numbered_below};
 ghost use Rattle.sc_leases.specs.Leases.{IsLeaseOf, ShowsFirst, IsTimely, IsShown};
+ghost use Rattle.sc_switch.specs.Beginnings.{BeginsAnyhow, IsOfferBegun, OffersBegun, is_branch_timer};
 ghost use Rattle.sc_switch.specs.Offering.{Offers, IsOffer, IsMade};
 
+use crate::readied::Readied;
 use sc_parts::Setup;
 use sc_prepare::prepared;
 use sc_servlets::Lease;
-use sc_state::{Live, Net, Prepared, Session, Waiting};
+use sc_state::{Live, Net, Prepared, Queued, Session, Waiting};
 use sc_steps::{live_at, ringing_at};
 use sc_terms::{AppEntry, SessionView, View};
-use sc_value::{AppId, CloneIn, NoMemory, Same};
+use sc_value::{AppId, CloneIn, List, NoMemory, Same};
 use std::alloc::Global;
+
+/// A lease that is offered, and what its turn begins with, where the session and its event alone tell it.
+#[derive(Drop)]
+pub struct Offered {
+    pub lease: Lease,
+    pub begun: Option<Prepared>,
+}
 
 /// The application of a host.
 pub fn app_of(setup: &Setup, host: u32) -> Option<&AppEntry>
     ensures { option_copied result ≡ app_of setup.now.config host }
 {
     setup.config.app.as_slice().get(host as usize)
+}
+
+/// Whether the event is the timer of a branch.
+#[tactic(auto, unfolding(crate::specs::Beginnings::is_branch_timer))]
+fn is_branch_timer(event: &Queued) -> bool
+    ensures { result ≡ is_branch_timer event.now }
+{
+    match event {
+        Queued::BranchTimer { .. } => true,
+        _ => false,
+    }
+}
+
+/// The branches that ring, where the turn of this event asks for them.
+fn ringing_for(
+    alloc: Global,
+    app: AppId,
+    event: &Queued,
+    net: &Net<Session>,
+) -> Result<List<u64>, NoMemory>
+    ensures { IfOk result (λ ringing. is_branch_timer event.now ≡ true → ringing ≡ ringing_at app (host_at app.host net.now)) }
+{
+    if is_branch_timer(event) {
+        let ringing = ringing_at(alloc, app, net)?;
+        return Ok(ringing);
+    }
+    Ok(List::new(alloc))
 }
 
 /// What the first event of a session shows at a moment.
@@ -39,7 +76,7 @@ fn shown(
 ) -> Result<Prepared, NoMemory>
     ensures { IfOk result (λ p. p ≡ shown as_session setup.now net.now app live.now waiting.now now) }
 {
-    let ringing = ringing_at(alloc, app, net)?;
+    let ringing = ringing_for(alloc, app, &waiting.event, net)?;
     let session = live.session.get().clone_in(alloc)?;
     prepared(
         alloc,
@@ -77,51 +114,90 @@ fn is_in_range(view: &View) -> bool
 /// The lease that shows this, at this moment. `NoMemory` too where its numbers are out of the ranges
 /// of a lease.
 fn lease_of(
+    alloc: Global,
     number: u64,
     app: AppId,
     kind: usize,
     event_number: u64,
     now: u64,
-    shown: Prepared,
+    shown: &Prepared,
 ) -> Result<Lease, NoMemory>
-    ensures { IfOk result (λ lease. IsMade number app kind event_number now shown lease) }
+    ensures { IfOk result (λ lease. IsMade number app kind event_number now shown.now lease) }
 {
     if shown.view.now != now || !is_in_range(&shown.view) {
-        drop(shown);
         return Err(NoMemory);
     }
-    let Prepared {
-        view,
-        known,
-        event,
-        orders,
-        ..
-    } = shown;
-    drop(known);
-    drop(orders);
+    let event = shown.event.clone_in(alloc)?;
+    let shown = shown.view.clone_in(alloc)?;
     Ok(Lease {
         number,
         app,
         kind,
         event_number,
-        shown: view,
+        shown,
         event,
     })
 }
 
+fn let_go(shown: Prepared) {
+    drop(shown);
+}
+
+/// What is shown, but for the timer of a branch.
+fn begun_of(event: &Queued, shown: Prepared) -> Option<Prepared>
+    ensures { IfSome result (λ begun. (begun ≡ shown) × (is_branch_timer event.now ≡ false)) }
+{
+    if is_branch_timer(event) {
+        let_go(shown);
+        return None;
+    }
+    Some(shown)
+}
+
 /// The lease of the first event of a session, at the last moment; None exactly where the session
-/// doesn't live or no event waits for it.
-#[tactic(auto, unfolding(crate::specs::Offering::Offers, sc_runs::specs::Following::first_number), using(crate::proofs::Firsts::past_there, crate::proofs::Firsts::kind_there))]
+/// doesn't live or no event waits for it. What its turn begins with is kept.
+#[tactic(auto, unfolding(crate::specs::Beginnings::IsOfferBegun, crate::specs::Beginnings::OffersBegun, crate::specs::Offering::Offers))]
 pub fn offer(
+    alloc: Global,
+    setup: &Setup,
+    net: &mut Readied,
+    app: AppId,
+    number: u64,
+) -> Result<Option<Lease>, NoMemory>
+    requires past { IfSome (live_at app net.old) (λ live. live.since ≤ net.old.moment) }
+    requires hosts { length net.old.hosts ≡ length setup.now.config.app }
+    ensures offers { IfOk result (λ lease. Offers setup.now net.old app number lease) }
+    ensures same { net.new ≡ net.old }
+{
+    let now = net.moment();
+    match offer_begun(alloc, setup, net.get(), app, number)? {
+        Some(offered) => Ok(Some(keep_begun(app, now, offered, net))),
+        None => Ok(None),
+    }
+}
+
+/// Keeps what the turn of an offered lease begins with.
+fn keep_begun(app: AppId, now: u64, offered: Offered, net: &mut Readied) -> Lease
+    requires { IfSome offered.begun (λ shown. BeginsAnyhow net.old app now shown) }
+    ensures lease { result ≡ offered.lease }
+    ensures same { net.new ≡ net.old }
+{
+    let Offered { lease, begun } = offered;
+    net.keep(app, now, begun);
+    lease
+}
+
+#[tactic(auto, unfolding(crate::specs::Beginnings::OffersBegun, sc_runs::specs::Following::first_number), using(crate::proofs::Firsts::past_there, crate::proofs::Firsts::kind_there))]
+fn offer_begun(
     alloc: Global,
     setup: &Setup,
     net: &Net<Session>,
     app: AppId,
     number: u64,
-) -> Result<Option<Lease>, NoMemory>
+) -> Result<Option<Offered>, NoMemory>
     requires past { IfSome (live_at app net.now) (λ live. live.since ≤ net.now.moment) }
     requires hosts { length net.now.hosts ≡ length setup.now.config.app }
-    ensures { IfOk result (λ lease. Offers setup.now net.now app number lease) }
+    ensures { IfOk result (λ offered. OffersBegun setup.now net.now app number offered) }
 {
     match live_at(app, net) {
         Some(live) => offer_of(alloc, setup, net, app, live, number),
@@ -129,7 +205,7 @@ pub fn offer(
     }
 }
 
-#[tactic(auto, unfolding(crate::specs::Offering::Offers, sc_runs::specs::Following::first_number))]
+#[tactic(auto, unfolding(crate::specs::Beginnings::OffersBegun, sc_runs::specs::Following::first_number))]
 fn offer_of(
     alloc: Global,
     setup: &Setup,
@@ -137,15 +213,43 @@ fn offer_of(
     app: AppId,
     live: &Live<Session>,
     number: u64,
-) -> Result<Option<Lease>, NoMemory>
+) -> Result<Option<Offered>, NoMemory>
     requires live { live_at app net.now ≡ Some live.now }
     requires past { live.now.since ≤ net.now.moment }
     requires kind { is_some (app_of setup.now.config app.host) ≡ true }
-    ensures { IfOk result (λ lease. Offers setup.now net.now app number lease) }
+    ensures { IfOk result (λ offered. OffersBegun setup.now net.now app number offered) }
 {
     match live.inbox.as_slice().first() {
-        Some(waiting) => Ok(Some(offer_first(alloc, setup, net, app, live, waiting, number)?)),
+        Some(waiting) => Ok(Some(offer_waiting(alloc, setup, net, app, live, waiting, number)?)),
         None => Ok(None),
+    }
+}
+
+fn offer_waiting(
+    alloc: Global,
+    setup: &Setup,
+    net: &Net<Session>,
+    app: AppId,
+    live: &Live<Session>,
+    waiting: &Waiting,
+    number: u64,
+) -> Result<Offered, NoMemory>
+    requires live { live_at app net.now ≡ Some live.now }
+    requires first { slice_get live.now.inbox 0 ≡ Some waiting.now }
+    requires past { live.now.since ≤ net.now.moment }
+    requires kind { is_some (app_of setup.now.config app.host) ≡ true }
+    ensures { IfOk result (λ offered. IsOfferBegun setup.now net.now app number offered) }
+{
+    let shown = shown(alloc, setup, net, app, live, waiting, net.moment)?;
+    match offer_first(alloc, setup, net, app, live, waiting, number, &shown) {
+        Ok(lease) => {
+            let begun = begun_of(&waiting.event, shown);
+            Ok(Offered { lease, begun })
+        }
+        Err(NoMemory) => {
+            let_go(shown);
+            Err(NoMemory)
+        }
     }
 }
 
@@ -157,17 +261,18 @@ fn offer_first(
     live: &Live<Session>,
     waiting: &Waiting,
     number: u64,
+    begun: &Prepared,
 ) -> Result<Lease, NoMemory>
     requires live { live_at app net.now ≡ Some live.now }
     requires first { slice_get live.now.inbox 0 ≡ Some waiting.now }
     requires past { live.now.since ≤ net.now.moment }
     requires kind { is_some (app_of setup.now.config app.host) ≡ true }
+    requires begun { begun.now ≡ shown as_session setup.now net.now app live.now waiting.now net.now.moment }
     ensures { IfOk result (λ lease. IsOffer setup.now net.now app number lease) }
 {
     let kind = match app_of(setup, app.host) {
         Some(entry) => entry.kind,
         None => unreachable!(),
     };
-    let shown = shown(alloc, setup, net, app, live, waiting, net.moment)?;
-    lease_of(number, app, kind, waiting.number, net.moment, shown)
+    lease_of(alloc, number, app, kind, waiting.number, net.moment, begun)
 }

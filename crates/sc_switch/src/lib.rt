@@ -10,6 +10,7 @@ mod leasing;
 mod listing;
 mod next;
 mod ran;
+mod readied;
 mod refused;
 mod sizes;
 mod starting;

@@ -4,15 +4,16 @@ ghost use Rattle.std.specs.Prelude.{◌≡◌, ◌++◌, map, IfOk, OnOk};
 ghost use Rattle.sc_value.specs.declared.ids.AppId.{AppId};
 ghost use Rattle.sc_hosts.specs.EventLists.{live_from};
 
-use sc_state::{Host, Live, Net, Session};
+use crate::readied::Readied;
+use sc_state::{Host, Live, Session};
 use sc_value::{AppId, List, NoMemory, Shared, sum_u32};
 use std::alloc::Global;
 
 /// The sessions that live, by host and serial.
-pub fn list_net(alloc: Global, net: &Net<Session>) -> Result<List<AppId>, NoMemory>
+pub fn list_net(alloc: Global, net: &Readied) -> Result<List<AppId>, NoMemory>
     ensures { IfOk result (λ live. live ≡ live_from 0 net.now.hosts) }
 {
-    list_hosts(alloc, net.hosts.as_slice())
+    list_hosts(alloc, net.get().hosts.as_slice())
 }
 
 #[tactic(auto, using(crate::proofs::Listings::one_more, crate::proofs::Listings::none_more))]

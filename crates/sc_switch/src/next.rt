@@ -7,8 +7,9 @@ ghost use Rattle.sc_hosts.specs.Transacting.{is_same_app};
 ghost use Rattle.sc_leases.specs.Leases.{is_leased, is_of, next_free};
 ghost use Rattle.sc_switch.specs.Offering.{better, leased_at, with_host, with_hosts};
 
+use crate::readied::Readied;
 use sc_servlets::Lease;
-use sc_state::{Host, Net, Session};
+use sc_state::{Host, Session};
 use sc_transact::is_same_app;
 use sc_value::{AppId, List, NoMemory, sum_u32};
 use std::alloc::Global;
@@ -42,14 +43,10 @@ pub fn is_leased(kept: &[Lease], app: AppId) -> bool
 /// The event with the lowest number among the first ones of the sessions without a lease. `NoMemory` too
 /// where a step's changes aren't settled yet.
 #[tactic(auto, using(crate::proofs::Nexts::next_of_hosts))]
-pub fn next_free(
-    alloc: Global,
-    net: &Net<Session>,
-    kept: &[Lease],
-) -> Result<Option<Next>, NoMemory>
+pub fn next_free(alloc: Global, net: &Readied, kept: &[Lease]) -> Result<Option<Next>, NoMemory>
     ensures { IfOk result (λ next. next ≡ next_free net.now kept.now) }
 {
-    next_among(alloc, net.hosts.as_slice(), kept)
+    next_among(alloc, net.get().hosts.as_slice(), kept)
 }
 
 #[tactic(auto, using(crate::proofs::Nexts::with_later, crate::proofs::Nexts::with_none))]

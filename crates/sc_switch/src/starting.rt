@@ -66,7 +66,7 @@ fn quiet_host(alloc: Global) -> Host<Session>
 }
 
 /// Hosts without sessions in place of these, in this epoch, at the moment that is.
-pub fn begin_net(epoch: u32, net: &mut Net<Session>)
+pub fn quiet_net(epoch: u32, net: &mut Net<Session>)
     ensures { net.new ≡ record { hosts = map (λ host. quiet_host) net.old.hosts; wire = []; epoch = epoch; moment = net.old.moment; count = 0; sent = [] } }
 {
     quiet_all(&mut net.hosts.items);

@@ -1,21 +1,23 @@
 //! Taking a step: it is taken on a copy of the net, and room is made for all that it changes, before the
 //! first change.
 
-ghost use Rattle.std.specs.Prelude.{◌≡◌, ◌+◌, ◌≤◌, ◌++◌, [], length, IfOk, OnOk, IfErr};
+ghost use Rattle.std.specs.Prelude.{◌≡◌, ◌+◌, ◌≤◌, ◌++◌, [], length, IfOk, IfSome, OnOk, IfErr};
 ghost use Rattle.std.specs.VecDeque.{deque_len, deque_capacity};
 ghost use Rattle.sc_hosts.specs.Histories.{as_session};
 ghost use Rattle.sc_hosts.specs.Runs.{after_step, live_count, waiting_count};
+ghost use Rattle.sc_switch.specs.Beginnings.{BeginsAnyhow};
 ghost use Rattle.sc_switch.specs.Standing.{IsNet, step_of};
 ghost use Rattle.sc_switch.specs.Stepping.{IsStepped, HasRoom, Refuses};
 
 use crate::StepRefused;
 use crate::copying::copy_net;
 use crate::counting::{live_count, waiting_count};
+use crate::readied::Readied;
 use sc_journal::Journal;
 use sc_parts::Setup;
 use sc_servlets::Done;
-use sc_state::{Net, Session};
-use sc_steps::{after_step, after_turn};
+use sc_state::{Net, Prepared, Session};
+use sc_steps::{after_begun, after_step};
 use sc_terms::Step;
 use sc_value::{List, NoMemory, Sent};
 use std::alloc::Global;
@@ -38,7 +40,7 @@ pub struct Stepped {
 pub fn plan_step(
     alloc: Global,
     setup: &Setup,
-    net: &Net<Session>,
+    net: &Readied,
     journal: &mut Journal<Step>,
     left: &mut VecDeque<Sent>,
     step: &Step,
@@ -53,7 +55,7 @@ pub fn plan_step(
     ensures same_left { left.new.items ≡ left.old.items }
 {
     make_room(journal, bytes)?;
-    match step_made(alloc, setup, net, step) {
+    match step_made(alloc, setup, net.get(), step) {
         Ok(stepped) => with_room(left, stepped),
         Err(NoMemory) => Err(StepRefused::NoMemory),
     }
@@ -63,19 +65,20 @@ pub fn plan_step(
 pub fn plan_turn(
     alloc: Global,
     setup: &Setup,
-    net: &Net<Session>,
+    net: &mut Readied,
     journal: &mut Journal<Step>,
     left: &mut VecDeque<Sent>,
     done: &Done,
     bytes: u64,
 ) -> Result<Stepped, StepRefused>
     requires within { length journal.old.items ≤ journal.old.most_items }
-    ensures stepped { IfOk result (λ s. IsStepped setup.now net.now (step_of done.now) s) }
+    ensures stepped { IfOk result (λ s. IsStepped setup.now net.old (step_of done.now) s) }
     ensures room { IfOk result (λ s. HasRoom journal.new bytes) }
     ensures left_room { IfOk result (λ s. deque_len left.new + length s.sent ≤ deque_capacity left.new) }
     ensures refused { IfErr result (λ cause. Refuses journal.old bytes cause) }
     ensures same { journal.new ≡ record journal.old { room = journal.new.room } }
     ensures same_left { left.new.items ≡ left.old.items }
+    ensures same_net { net.new ≡ net.old }
 {
     make_room(journal, bytes)?;
     match turn_made(alloc, setup, net, done) {
@@ -137,30 +140,55 @@ fn next_net(
 fn turn_made(
     alloc: Global,
     setup: &Setup,
-    net: &Net<Session>,
+    net: &mut Readied,
     done: &Done,
 ) -> Result<Stepped, NoMemory>
-    ensures { IfOk result (λ s. IsStepped setup.now net.now (step_of done.now) s) }
+    ensures made { IfOk result (λ s. IsStepped setup.now net.old (step_of done.now) s) }
+    ensures same { net.new ≡ net.old }
 {
-    let next = turned_net(alloc, setup, net, done)?;
+    let begun = net.begun(done.lease.app, done.lease.shown.now);
+    let next = turned_net(alloc, setup, net.get(), begun, done)?;
     counted(alloc, next)
 }
 
-#[tactic(auto, unfolding(crate::specs::Standing::step_of, sc_hosts::specs::Runs::after_step))]
+#[tactic(auto, unfolding(sc_hosts::specs::Runs::after_step, crate::specs::Standing::step_of, crate::specs::Beginnings::BeginsAnyhow))]
 fn turned_net(
     alloc: Global,
     setup: &Setup,
     net: &Net<Session>,
+    begun: Option<Prepared>,
     done: &Done,
 ) -> Result<Net<Session>, NoMemory>
+    requires { IfSome begun (λ shown. BeginsAnyhow net.now done.now.lease.app done.now.lease.shown.now shown) }
     ensures { IfOk result (λ next. next ≡ after_step as_session setup.now net.now (step_of done.now)) }
 {
-    let mut next = copy_net(alloc, net)?;
-    match after_turn(
+    match copy_net(alloc, net) {
+        Ok(next) => turned_copy(alloc, setup, begun, done, next),
+        Err(NoMemory) => {
+            drop(begun);
+            Err(NoMemory)
+        }
+    }
+}
+
+#[tactic(auto, unfolding(crate::specs::Standing::step_of), using(crate::proofs::Beginnings::begun_here))]
+fn turned_copy(
+    alloc: Global,
+    setup: &Setup,
+    begun: Option<Prepared>,
+    done: &Done,
+    net: Net<Session>,
+) -> Result<Net<Session>, NoMemory>
+    requires { IfSome begun (λ shown. BeginsAnyhow net done.now.lease.app done.now.lease.shown.now shown) }
+    ensures { IfOk result (λ next. next ≡ after_step as_session setup.now net (step_of done.now)) }
+{
+    let mut next = net;
+    match after_begun(
         alloc,
         setup,
         done.lease.app,
         done.lease.event_number,
+        begun,
         done.lease.shown.now,
         done.calls.as_slice(),
         done.end,

@@ -12,6 +12,7 @@ ghost use Rattle.sc_hosts.specs.Runs.{HasVia, IsAllowed, IsLawful, all_sent, liv
 ghost use Rattle.sc_leases.specs.Leases.{AreLeases, IsLeaseOf, is_leased, next_free};
 ghost use Rattle.sc_switch.specs.Standing.{Known, AreKept, net_of, whole, Fits, step_of};
 ghost use Rattle.sc_switch.specs.Answers.{IsGiven, Leased, LeasedOf, Received, RefusesRight, RefusesTurn, IsFullFor, Withdraws, with_step, LAST_LEASE, IsListing, IsReady, IsTurned, LAST_EPOCH, RefusesEpoch, handing};
+ghost use Rattle.sc_hosts.specs.Runs.{quiet_host};
 ghost use Rattle.sc_switch.specs.Offering.{Judges, Offers};
 
 use crate::called::{Judged, end_lease, end_leases, end_own, judge};
@@ -19,9 +20,10 @@ use crate::counting::busy_count;
 use crate::leasing::offer;
 use crate::listing::list_net;
 use crate::next::{Next, is_leased, next_free};
+use crate::readied::Readied;
 use crate::refused::{CommitRefused, Committed, Epoch, EpochRefused, StepRefused};
 use crate::sizes::total;
-use crate::starting::{begin_net, kinds_of, start_net};
+use crate::starting::{kinds_of, start_net};
 use crate::stepping::{Stepped, plan_step, plan_turn, send_all};
 use sc_edge::Listing;
 use sc_handed::Handed;
@@ -29,7 +31,7 @@ use sc_journal::Journal;
 use sc_message_text::text_of;
 use sc_parts::Setup;
 use sc_servlets::{Catalogue, Done, Lease};
-use sc_state::{Host, Net, Session};
+use sc_state::{Net, Session};
 use sc_steps::live_at;
 use sc_terms::{Bad, Config, Dar, End, Step};
 use sc_value::{AppId, CloneIn, Discard, List, Message, NoMemory, Place, Sent};
@@ -53,8 +55,8 @@ pub struct Switch {
     before: u64,
     /// The steps of this epoch that weren't handed on.
     journal: Journal<Step>,
-    /// The net after all steps of the epoch, with nothing sent.
-    net: Net<Session>,
+    /// The net after all steps of the epoch, with nothing sent, and what the last turn begins with.
+    net: Readied,
     /// How many application sessions live.
     live: u64,
     /// How many events wait.
@@ -290,11 +292,12 @@ impl Switch {
     }
 
     /// The lease of the first event of a session, with the next number.
-    fn offered(&self, alloc: Global, app: AppId) -> Result<Option<Lease>, NoMemory>
-        requires { self.now.leases < LAST_LEASE }
-        ensures { IfOk result (λ lease. Offers self.now.setup (net_of self.now) app (self.now.leases + 1) lease) }
+    fn offered(&mut self, alloc: Global, app: AppId) -> Result<Option<Lease>, NoMemory>
+        requires { self.old.leases < LAST_LEASE }
+        ensures offers { IfOk result (λ lease. Offers self.old.setup (net_of self.old) app (self.old.leases + 1) lease) }
+        ensures same { self.new ≡ self.old }
     {
-        offer(alloc, &self.setup, &self.net, app, self.leases + 1)
+        offer(alloc, &self.setup, &mut self.net, app, self.leases + 1)
     }
 
     /// Keeps a copy of a lease that is given.
@@ -390,7 +393,7 @@ impl Switch {
         match plan_turn(
             alloc,
             &self.setup,
-            &self.net,
+            &mut self.net,
             &mut self.journal,
             &mut self.left,
             &done,
@@ -539,8 +542,9 @@ impl Switch {
         let journal = replace(&mut self.journal, fresh);
         let number = self.epoch;
         let began = self.began;
+        let moment = self.net.moment();
         self.epoch += 1;
-        self.began = self.net.moment;
+        self.began = moment;
         self.handed = Handed::new();
         self.before = 0;
         begin_net(self.epoch, &mut self.net);
@@ -575,7 +579,7 @@ impl Switch {
     pub fn now(&self) -> u64
         ensures { result ≡ (net_of self.now).moment }
     {
-        self.net.moment
+        self.net.moment()
     }
 
     /// How many application sessions live.
@@ -622,10 +626,10 @@ impl Switch {
 }
 
 /// Whether the application session lives in a net.
-fn lives_in(app: AppId, net: &Net<Session>) -> bool
+fn lives_in(app: AppId, net: &Readied) -> bool
     ensures { result ≡ is_some (live_at app net.now) }
 {
-    live_at(app, net).is_some()
+    live_at(app, net.get()).is_some()
 }
 
 /// How many bytes the written text of a message has.
@@ -651,21 +655,16 @@ fn told(taken: Result<(), Untaken>) -> Result<(), StepRefused>
     }
 }
 
-/// Puts a net in place of another. What a step changed goes where a look-up costs least, as nobody else
-/// holds it now.
-fn set_net(alloc: Global, net: &mut Net<Session>, next: Net<Session>)
+fn set_net(alloc: Global, net: &mut Readied, next: Net<Session>)
     ensures { net.new ≡ next }
 {
-    *net = next;
-    settle_all(alloc, &mut net.hosts.items);
+    net.set(alloc, next);
 }
 
-fn settle_all(alloc: Global, hosts: &mut [Host<Session>])
-    ensures { hosts.new ≡ hosts.old }
+fn begin_net(epoch: u32, net: &mut Readied)
+    ensures { net.new ≡ record { hosts = map (λ host. quiet_host) net.old.hosts; wire = []; epoch = epoch; moment = net.old.moment; count = 0; sent = [] } }
 {
-    for host in hosts {
-        host.settle(alloc);
-    }
+    net.begin_epoch(epoch);
 }
 
 fn keep_copy(alloc: Global, lease: &Lease, kept: &mut List<Lease>) -> Result<(), NoMemory>
@@ -733,7 +732,7 @@ fn switch_of(alloc: Global, setup: Setup) -> Result<Switch, NoMemory>
             handed: Handed::new(),
             before: 0,
             journal,
-            net,
+            net: Readied::new(net),
             live: 0,
             waiting: 0,
             left: VecDeque::new(alloc),

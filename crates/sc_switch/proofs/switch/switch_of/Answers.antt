@@ -8,9 +8,9 @@ use Rattle.sc_switch.proofs.switch.switch_of.Goals as goal
 pub invariant_of-result : goal.invariant_of-result
 unfolding steps_of
 invariant_of-result c =
-    rw (c.new-journal.ensures, c.get.ensures.same, c.get-2.ensures.same, c.new.ensures, c.new-in-Ok.ensures.items, c.new-in-Ok-2.ensures)
+    rw (c.new-in-Ok.ensures, c.new-journal.ensures, c.get.ensures.same, c.get-2.ensures.same, c.new.ensures, c.new-in-Ok-2.ensures.items, c.new-in-Ok-3.ensures)
     (IsSwitch-begun c.args.setup 0 0 0 (record { items = []; used = 0; room = c.new-journal.result.room; most_items = c.args.setup.config.journal_steps; most_bytes = c.args.setup.config.journal_bytes }) c.in-Ok.net c.requires refl refl refl refl c.in-Ok.ensures)
 
 pub returns-in-Ok : goal.returns-in-Ok
 unfolding steps_of
-returns-in-Ok c = rw (c.new.ensures, ap (λ (j : Kept Step). j.items) c.new-journal.ensures, c.new-in-Ok.ensures.items, c.new-in-Ok-2.ensures) refl
+returns-in-Ok c = rw (c.new.ensures, ap (λ (j : Kept Step). j.items) c.new-journal.ensures, c.new-in-Ok-2.ensures.items, c.new-in-Ok-3.ensures) refl

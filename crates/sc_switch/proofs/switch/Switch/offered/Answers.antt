@@ -3,8 +3,11 @@ use Rattle.sc_switch.proofs.Firsts.{past_on, hosts_on}
 use Rattle.sc_switch.proofs.Sames.{offered_on}
 use Rattle.sc_switch.proofs.switch.Switch.offered.Goals as goal
 
-pub returns : goal.returns
-returns c = rw (← c.self.view_is) (offered_on _ _ _ c.args.app _ c.offer.result c.self.invariant.net_is.net_is c.offer.ensures)
+pub invariant_of-self : goal.invariant_of-self
+invariant_of-self c = rw c.offer.ensures.same c.self.invariant
+
+pub returns-clause-offers : goal.returns-clause-offers
+returns-clause-offers c = rw (← c.self.view_is) (offered_on _ _ _ c.args.app _ c.offer.result c.self.invariant.net_is.net_is c.offer.ensures.offers)
 
 pub offer-requires-clause-past : goal.offer-requires-clause-past
 unfolding net_of
