@@ -4,3 +4,4 @@ pub mod HeardLaws
 pub mod ListingLaws
 pub mod OnLaws
 pub mod OrderingLaws
+pub mod ReportLaws

@@ -4,3 +4,4 @@ pub mod Due
 pub mod Listings
 pub mod Marks
 pub mod Ordering
+pub mod Reports

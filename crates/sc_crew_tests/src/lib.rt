@@ -6,6 +6,8 @@ mod crew_tests;
 #[cfg(test)]
 mod kinds;
 #[cfg(test)]
+mod listing_tests;
+#[cfg(test)]
 mod meeting;
 #[cfg(test)]
 mod setting_tests;

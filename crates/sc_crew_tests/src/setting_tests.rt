@@ -1,8 +1,8 @@
 //! Words and settings that are refused, and settings of the journal.
 
 use crate::kinds::catalogue;
-use sc_serve_rows::Come::All;
-use sc_serve_rows::Letter::{First, Second};
+use sc_serve_rows::Come::{All, NotYet};
+use sc_serve_rows::Letter::{First, Invite, Second};
 use sc_serve_rows::{EMPTY, Row, hold, shelf_of, table_text, told_over, words_of};
 use std::alloc::Global;
 use std::process::Abort;
@@ -114,6 +114,48 @@ const PART_ROWS: [Row; 1] = [Row {
     ..EMPTY
 }];
 
+const RECORD_ROWS: [Row; 2] = [
+    Row {
+        name: "each second what is kept is handed on, while a session lives",
+        settings: b"record = \"steps\"\n",
+        coming: &[All(1, Invite), NotYet, NotYet, NotYet, NotYet],
+        moments: &[10, 999, 1_000, 1_500, 2_100],
+        told: b"Done epoch 0 from 0 steps 0\n\
+              polls 6\n\
+              c1 100 of c5; 200 of c5 by 0-1;\n\
+              step 1\n\
+              step 2\n\
+              step 3\n\
+              list of epoch 0 steps 3 live 1 waiting 0\n\
+              step 4\n\
+              list of epoch 0 steps 4 live 1 waiting 0\n\
+              step 5\n\
+              part of 5\n\
+              list of epoch 0 steps 5 live 1 waiting 0\n\
+              step 6\n\
+              list of epoch 0 steps 6 live 1 waiting 0\n\
+              step 7\n\
+              part of 2\n\
+              list of epoch 0 steps 7 live 1 waiting 0\n",
+        ..EMPTY
+    },
+    Row {
+        name: "what isn't recorded is kept",
+        coming: &[All(1, Invite), NotYet],
+        moments: &[10, 1_500],
+        told: b"Done epoch 0 from 0 steps 4\n\
+              polls 3\n\
+              c1 100 of c5; 200 of c5 by 0-1;\n\
+              step 1\n\
+              step 2\n\
+              step 3\n\
+              list of epoch 0 steps 3 live 1 waiting 0\n\
+              step 4\n\
+              list of epoch 0 steps 4 live 1 waiting 0\n",
+        ..EMPTY
+    },
+];
+
 // A command line over a shelf, and the status without a journal.
 #[derive(Clone, Copy)]
 struct Refusal {
@@ -223,4 +265,9 @@ fn epochs(rt: HostRuntime) -> Result<(), Fail> {
 #[test]
 fn parts(rt: HostRuntime) -> Result<(), Fail> {
     hold(&rt, rt.alloc(), &PART_ROWS)
+}
+
+#[test]
+fn records(rt: HostRuntime) -> Result<(), Fail> {
+    hold(&rt, rt.alloc(), &RECORD_ROWS)
 }

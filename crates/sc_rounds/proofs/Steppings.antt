@@ -1,8 +1,9 @@
 -- A step of a server: the switch takes it, and what it sends is taken from the switch.
 use Rattle.std.proofs.Common.{◌≡◌, ℕ, ◌+◌, ◌≤◌, ◌<◌, ◌≢◌, Bool, true, false, Option, None, Some, List, [], ◌∷◌, ◌++◌, refl, ap, sym, ◌∙◌, subst, append_assoc, inl, inr}
-use Rattle.std.specs.Prelude.{Result, Ok, Err, OnOk, OnErr, IfOk}
+use Rattle.std.specs.Prelude.{Result, Ok, Err, OnOk, OnErr, IfOk, length, min}
 use Rattle.std.specs.Option.{is_some}
 use Rattle.std.proofs.lemmas.List.{append-nil}
+use Rattle.std.proofs.Math.Nat.{zero-min}
 use Rattle.sc_journal.specs.Kept.{Kept}
 use Rattle.sc_value.specs.declared.ids.Place.{Place}
 use Rattle.sc_value.specs.declared.message.Sent.{Sent}
@@ -13,6 +14,7 @@ use Rattle.sc_edge.specs.Edges.{EdgeState}
 use Rattle.sc_edge.specs.Telling.{Notes}
 use Rattle.sc_edge.specs.declared.listing.Listing.{Listing}
 use Rattle.sc_edge.specs.declared.notice.Noted.TheVariants as noted
+use Rattle.sc_hosts.specs.EventLists.{listing_of}
 use Rattle.sc_hosts.specs.Histories.{as_session}
 use Rattle.sc_edge.specs.declared.orders.Order.{Order}
 use Rattle.sc_hosts.specs.Steps.{live_at}
@@ -40,7 +42,9 @@ use Rattle.sc_rounds.specs.Stepping.{Ordered, StoppedAt, Unordered, order_at}
 use Rattle.sc_rounds.specs.declared.stepping.Core.{Core}
 use Rattle.sc_courses.specs.Asking.{Ticked, TickedPart}
 use Rattle.sc_courses.proofs.AskingLaws.{ticked_early, ticked_part}
-use Rattle.sc_rounds.specs.Serving.{Ends, Runs, RunsOn, Same, SameAt, Settles, Stands, Stopped, Took, deed, moments_after, running, timed}
+use Rattle.sc_courses.specs.Reports.{Reports}
+use Rattle.sc_courses.proofs.ReportLaws.{counts_step, reports_listed, reports_part, reports_step, reports_turned, untold}
+use Rattle.sc_rounds.specs.Serving.{Counted, Ends, Reported, Runs, RunsOn, Same, SameAt, Settles, Stands, Stopped, Took, Unreported, deed, moments_after, running, timed}
 use Rattle.sc_rounds.proofs.Timings.{IsLater, left_moment, lease_moment, none_withdrawn, runs_timed, taken_ticked, ticked_at, untaken_part, withdrawn_ticked}
 
 on_ok : {A E P Q : Type 0} (r : Result A E) → (P → Q) → OnOk r P → OnOk r Q
@@ -79,10 +83,29 @@ pub runs-left : (from : Beginning) (told : Told) (old new : Known) (deeds : List
 runs-left from told old new deeds same runs =
     subst (λ (known : Known). Runs from told known deeds) (sym same) (record { setup_is = runs.setup_is; course = runs.course })
 
+-- ## What the notice was told of it
+
+-- a step was taken
+unreported : (from : Beginning) (told : Told) (core : Core) (switch : Known) (step : Step) → switch ≡ with_step core.switch step → Reported from told core.handed core.unlisted core.switch → Unreported from told core.handed switch
+unreported from told core switch step e r =
+    subst (λ (known : Known). Unreported from told core.handed known) (sym e)
+    (untold from.setup from.told told core.handed core.unlisted core.switch.epoch core.switch.began core.switch.handed core.switch.journal step r)
+
+counted-at : (from : Beginning) (told : Told) (old new : Known) → new ≡ old → Counted from told old → Counted from told new
+counted-at from told old new e counts = subst (λ (known : Known). Counted from told known) (sym e) counts
+
+-- the same steps
+reported-at : (from : Beginning) (told : Told) (count count2 unlisted unlisted2 : ℕ) (old new : Known) → count2 ≡ count → unlisted2 ≡ unlisted → new.handed ≡ old.handed → running new ≡ running old → Reported from told count unlisted old → Reported from told count2 unlisted2 new
+reported-at from told count count2 unlisted unlisted2 old new a b c d r =
+    subst (λ (n : ℕ). Reports from.setup from.told told n unlisted2 new.handed (running new)) (sym a)
+    (subst (λ (n : ℕ). Reports from.setup from.told told count n new.handed (running new)) (sym b)
+    (subst (λ (steps : List Step). Reports from.setup from.told told count unlisted steps (running new)) (sym c)
+    (subst (λ (epoch : Epoch). Reports from.setup from.told told count unlisted old.handed epoch) (sym d) r)))
+
 -- ## Where a run ends
 
 ends-of : (from : Beginning) (edge : EdgeState) (told : Told) (core : Core) (deeds : List Deed) → Stands from edge told core deeds → Ends from edge told core.switch deeds
-ends-of from edge told core deeds s = record { runs = s.runs; cut = cut_of from.edge edge deeds core.outs [] s.puts; ticked = ticked_part from.moments deeds (net_of core.switch).moment s.ticked }
+ends-of from edge told core deeds s = record { runs = s.runs; cut = cut_of from.edge edge deeds core.outs [] s.puts; ticked = ticked_part from.moments deeds (net_of core.switch).moment s.ticked; counts = s.reports.counts }
 
 pub same_ends : (from : Beginning) (edge : EdgeState) (told : Told) (core : Core) (deeds : List Deed) → Stands from edge told core deeds → Ends from edge told core.switch deeds
 same_ends = ends-of
@@ -104,7 +127,8 @@ step-stands step mid switch new told told2 e later settles from edge deeds s =
           (subst (λ (left : List Sent). Puts from.edge edge (deeds ++ deed step sent false ∷ []) mid.outs left)
           (sym (ap (λ (known : Known). known.left) e ∙ left-sent from mid.switch step s.runs.setup_is s.left_is))
           (puts_step from.edge edge deeds mid.outs (deed step sent false) refl s.puts))
-          (taken_ticked step sent false from.moments deeds mid.switch switch e later s.ticked),
+          (taken_ticked step sent false from.moments deeds mid.switch switch e later s.ticked)
+          (unreported from told mid switch step e s.reports),
     )
 
 pub took : (step : Step) (old mid : Core) (switch : Known) (new : Core) (told told1 told2 : Told) → Same old mid told told1 → switch ≡ with_step mid.switch step → IsLater (net_of mid.switch).moment step → Settles (record mid { switch = switch }) new told1 told2 → Took step false old new told told2
@@ -121,13 +145,17 @@ unfolding Same Stopped RunsOn
 cut_behind step old mid switch new told told1 told2 same e later on from edge deeds s =
     let s1 : Stands from edge told1 mid deeds = same from edge deeds s in
     let sent : List Sent = sends from mid.switch step in
+    let on1 : Runs from told2 new.switch (deeds ++ deed step sent false ∷ []) × Counted from told2 new.switch =
+    on from (deeds ++ deed step sent false ∷ []) (subst (λ (known : Known). Runs from told1 known (deeds ++ deed step sent false ∷ [])) (sym e) (runs-step from told1 mid.switch deeds step false (none_withdrawn (net_of mid.switch).moment step later) s1.runs))
+    (unreported from told1 mid switch step e s1.reports)
+    in
     inr (
       sent,
       record {
-        runs = runs_timed from (moments_after step from.moments) told2 new.switch (deeds ++ deed step sent false ∷ [])
-            (on from (deeds ++ deed step sent false ∷ []) (subst (λ (known : Known). Runs from told1 known (deeds ++ deed step sent false ∷ [])) (sym e) (runs-step from told1 mid.switch deeds step false (none_withdrawn (net_of mid.switch).moment step later) s1.runs)));
+        runs = runs_timed from (moments_after step from.moments) told2 new.switch (deeds ++ deed step sent false ∷ []) on1.0;
         cut = cut_more from.edge edge deeds (deed step sent false) (cut_of from.edge edge deeds mid.outs [] s1.puts);
         ticked = ticked_part (moments_after step from.moments) (deeds ++ deed step sent false ∷ []) (net_of switch).moment (taken_ticked step sent false from.moments deeds mid.switch switch e later s1.ticked);
+        counts = on1.1;
       },
     )
 
@@ -144,6 +172,7 @@ none_taken step failed old mid new told told1 same e from edge deeds s =
       runs = runs_timed from (moments_after step from.moments) told1 new.switch deeds (subst (λ (known : Known). Runs from told1 known deeds) (sym e) s1.runs);
       cut = cut_of from.edge edge deeds mid.outs [] s1.puts;
       ticked = untaken_part step from.moments deeds (net_of mid.switch).moment s1.ticked;
+      counts = counted-at from told1 mid.switch new.switch e s1.reports.counts;
     })
 
 -- ## An order
@@ -173,7 +202,8 @@ withdraw-stands app mid switch new told told2 e lives settles from edge deeds s 
           (subst (λ (left : List Sent). Puts from.edge edge (deeds ++ deed step sent false ∷ []) mid.outs left)
           (sym (ap (λ (known : Known). known.left) e ∙ left-sent from mid.switch step s.runs.setup_is s.left_is))
           (puts_step from.edge edge deeds mid.outs (deed step sent false) refl s.puts))
-          (withdrawn_ticked app sent from.moments deeds mid.switch switch e s.ticked),
+          (withdrawn_ticked app sent from.moments deeds mid.switch switch e s.ticked)
+          (unreported from told mid switch step e s.reports),
     )
 
 -- at another core of the same epoch
@@ -199,10 +229,15 @@ withdrew_behind app old mid switch new told told1 told2 same epoch e lives on fr
       sent,
       subst (λ (order : Order). Ends (ordered from (Some order ∷ [])) edge told2 new.switch (deeds ++ deed step sent false ∷ [])) (order-same old mid app epoch)
           (let from2 : Beginning = ordered from (Some (order_at mid app) ∷ []) in
+          let on1 : Runs from2 told2 new.switch (deeds ++ deed step sent false ∷ []) × Counted from2 told2 new.switch =
+          on from2 (deeds ++ deed step sent false ∷ []) (subst (λ (known : Known). Runs from2 told1 known (deeds ++ deed step sent false ∷ [])) (sym e) (runs-withdrawn from told1 mid.switch deeds app lives s1.runs))
+          (unreported from told1 mid switch step e s1.reports)
+          in
           record {
-            runs = on from2 (deeds ++ deed step sent false ∷ []) (subst (λ (known : Known). Runs from2 told1 known (deeds ++ deed step sent false ∷ [])) (sym e) (runs-withdrawn from told1 mid.switch deeds app lives s1.runs));
+            runs = on1.0;
             cut = cut_more from.edge edge deeds (deed step sent false) (cut_of from.edge edge deeds mid.outs [] s1.puts);
             ticked = ticked_part from.moments (deeds ++ deed step sent false ∷ []) (net_of switch).moment (withdrawn_ticked app sent from.moments deeds mid.switch switch e s1.ticked);
+            counts = on1.1;
           }),
     )
 
@@ -215,6 +250,7 @@ none_withdrew app old mid new told told1 same e from edge deeds s =
       runs = subst (λ (known : Known). Runs from told1 known deeds) (sym e) s1.runs;
       cut = cut_of from.edge edge deeds mid.outs [] s1.puts;
       ticked = ticked_part from.moments deeds (net_of mid.switch).moment s1.ticked;
+      counts = counted-at from told1 mid.switch new.switch e s1.reports.counts;
     })
 
 -- an order that names no session which lives in the epoch that runs
@@ -225,6 +261,7 @@ unordered-by order core told none from edge deeds s = record {
   left_is = s.left_is;
   puts = s.puts;
   ticked = s.ticked;
+  reports = s.reports;
 }
 
 -- it is of another epoch
@@ -254,6 +291,7 @@ no_order core told from edge deeds s = record {
   left_is = s.left_is;
   puts = s.puts;
   ticked = s.ticked;
+  reports = s.reports;
 }
 
 -- ## A place that failed
@@ -269,7 +307,8 @@ fall-stands at mid switch outs new told told2 e lost settles from edge deeds s =
           (subst (λ (left : List Sent). Puts from.edge edge (deeds ++ deed (steps.Lost at) sent true ∷ []) outs left)
           (sym (ap (λ (known : Known). known.left) e ∙ left-sent from mid.switch (steps.Lost at) s.runs.setup_is s.left_is))
           (puts_failed from.edge edge deeds mid.outs outs at sent s.puts lost))
-          (taken_ticked (steps.Lost at) sent true from.moments deeds mid.switch switch e tt s.ticked),
+          (taken_ticked (steps.Lost at) sent true from.moments deeds mid.switch switch e tt s.ticked)
+          (unreported from told mid switch (steps.Lost at) e s.reports),
     )
 
 fell : (at : Place) (old mid : Core) (switch : Known) (outs : Owing) (new : Core) (told told1 told2 : Told) → Same old mid told told1 → switch ≡ with_step mid.switch (steps.Lost at) → IsLostAt at mid.outs outs
@@ -281,53 +320,61 @@ pub fell_ok : {A E : Type 0} (r : Result A E) (at : Place) (old mid : Core) (swi
     → OnOk r (Settles (record mid { switch = switch; outs = outs }) new told1 told2) → OnOk r (Took (steps.Lost at) true old new told told2)
 fell_ok r at old mid switch outs new told told1 told2 same e lost = on_ok r (fell at old mid switch outs new told told1 told2 same e lost)
 
-fell-behind : (at : Place) (old mid : Core) (switch : Known) (outs : Owing) (new : Core) (told told1 told2 : Told) → Same old mid told told1 → switch ≡ with_step mid.switch (steps.Lost at)
+pub fell_behind : (at : Place) (old mid : Core) (switch : Known) (outs : Owing) (new : Core) (told told1 told2 : Told) → Same old mid told told1 → switch ≡ with_step mid.switch (steps.Lost at)
     → RunsOn (record mid { switch = switch; outs = outs }) new told1 told2 → Stopped (steps.Lost at) true old new told told2
 unfolding Same Stopped RunsOn
-fell-behind at old mid switch outs new told told1 told2 same e on from edge deeds s =
+fell_behind at old mid switch outs new told told1 told2 same e on from edge deeds s =
     let s1 : Stands from edge told1 mid deeds = same from edge deeds s in
     let sent : List Sent = sends from mid.switch (steps.Lost at) in
+    let on1 : Runs from told2 new.switch (deeds ++ deed (steps.Lost at) sent true ∷ []) × Counted from told2 new.switch =
+    on from (deeds ++ deed (steps.Lost at) sent true ∷ []) (subst (λ (known : Known). Runs from told1 known (deeds ++ deed (steps.Lost at) sent true ∷ [])) (sym e) (runs-step from told1 mid.switch deeds (steps.Lost at) true refl s1.runs))
+    (unreported from told1 mid switch (steps.Lost at) e s1.reports)
+    in
     inr (
       sent,
       record {
-        runs = on from (deeds ++ deed (steps.Lost at) sent true ∷ []) (subst (λ (known : Known). Runs from told1 known (deeds ++ deed (steps.Lost at) sent true ∷ [])) (sym e) (runs-step from told1 mid.switch deeds (steps.Lost at) true refl s1.runs));
+        runs = on1.0;
         cut = cut_more from.edge edge deeds (deed (steps.Lost at) sent true) (cut_of from.edge edge deeds mid.outs [] s1.puts);
         ticked = ticked_part from.moments (deeds ++ deed (steps.Lost at) sent true ∷ []) (net_of switch).moment (taken_ticked (steps.Lost at) sent true from.moments deeds mid.switch switch e tt s1.ticked);
+        counts = on1.1;
       },
     )
 
 pub fell_err : {A E : Type 0} (r : Result A E) (at : Place) (old mid : Core) (switch : Known) (outs : Owing) (new : Core) (told told1 told2 : Told) → Same old mid told told1 → switch ≡ with_step mid.switch (steps.Lost at)
     → RunsOn (record mid { switch = switch; outs = outs }) new told1 told2 → OnErr r (Stopped (steps.Lost at) true old new told told2)
-fell_err r at old mid switch outs new told told1 told2 same e on = on_err r (fell-behind at old mid switch outs new told told1 told2 same e on)
-
--- the step was taken, but not what is left of its place
-pub fell_starved : (at : Place) (old mid : Core) (new : Core) (told told1 : Told) → Same old mid told told1 → new.switch ≡ with_step mid.switch (steps.Lost at) → Stopped (steps.Lost at) true old new told told1
-unfolding Same Stopped
-fell_starved at old mid new told told1 same e from edge deeds s =
-    let s1 : Stands from edge told1 mid deeds = same from edge deeds s in
-    let sent : List Sent = sends from mid.switch (steps.Lost at) in
-    inr (
-      sent,
-      record {
-        runs = subst (λ (known : Known). Runs from told1 known (deeds ++ deed (steps.Lost at) sent true ∷ [])) (sym e) (runs-step from told1 mid.switch deeds (steps.Lost at) true refl s1.runs);
-        cut = cut_more from.edge edge deeds (deed (steps.Lost at) sent true) (cut_of from.edge edge deeds mid.outs [] s1.puts);
-        ticked = ticked_part from.moments (deeds ++ deed (steps.Lost at) sent true ∷ []) (net_of new.switch).moment (taken_ticked (steps.Lost at) sent true from.moments deeds mid.switch new.switch e tt s1.ticked);
-      },
-    )
+fell_err r at old mid switch outs new told told1 told2 same e on = on_err r (fell_behind at old mid switch outs new told told1 told2 same e on)
 
 -- ## Taking what was sent
 
-pub settled : (old new : Core) (told told2 : Told) (count : ℕ) → Notes told told2 (noted.Step count) → new.switch ≡ record old.switch { left = new.switch.left } → new.switch.left ≡ []
+told-runs : (from : Beginning) (told told2 : Told) (known : Known) (deeds : List Deed) (count : ℕ) → Notes told told2 (noted.Step count) → Runs from told known deeds → Runs from told2 known deeds
+told-runs from told told2 known deeds count notes runs = record { setup_is = runs.setup_is; course = course_counted from told told2 known.handed (running known) deeds count notes runs.course }
+
+count-notes : (told told2 : Told) (count count2 : ℕ) → count ≡ count2 → Notes told told2 (noted.Step count) → Notes told told2 (noted.Step count2)
+count-notes told told2 count count2 e notes = subst (λ (n : ℕ). Notes told told2 (noted.Step n)) e notes
+
+pub settled : (old new : Core) (told told2 : Told) (count : ℕ) → Notes told told2 (noted.Step count) → count ≡ min (old.handed + length old.switch.journal) 18446744073709551615 → new.switch ≡ record old.switch { left = new.switch.left } → new.switch.left ≡ []
+    → new.handed ≡ old.handed → new.unlisted ≡ min (old.unlisted + 1) 18446744073709551615
     → ((first now : EdgeState) (deeds : List Deed) → Puts first now deeds old.outs old.switch.left → Puts first now deeds new.outs []) → Settles old new told told2
 unfolding Settles
-settled old new told told2 count notes same all keeps from edge deeds runs puts ticked =
-    let told_runs : Runs from told2 old.switch deeds = record { setup_is = runs.setup_is; course = course_counted from told told2 old.switch.handed (running old.switch) deeds count notes runs.course } in
-    record { runs = runs-left from told2 old.switch new.switch deeds same told_runs; left_is = all; puts = keeps from.edge edge deeds puts; ticked = ticked_at from.moments deeds (net_of old.switch).moment (net_of new.switch).moment (left_moment old.switch new.switch same) ticked }
+settled old new told told2 count notes count_is same all handed unlisted keeps from edge deeds runs puts ticked last = record {
+  runs = runs-left from told2 old.switch new.switch deeds same (told-runs from told told2 old.switch deeds count notes runs);
+  left_is = all;
+  puts = keeps from.edge edge deeds puts;
+  ticked = ticked_at from.moments deeds (net_of old.switch).moment (net_of new.switch).moment (left_moment old.switch new.switch same) ticked;
+  reports = reported-at from told2 old.handed new.handed new.unlisted new.unlisted old.switch new.switch handed refl (ap (λ (known : Known). known.handed) same) (ap (λ (known : Known). running known) same)
+      (reports_step from.setup from.told told told2 old.handed old.unlisted new.unlisted old.switch.epoch old.switch.began old.switch.handed old.switch.journal unlisted last (count-notes told told2 count _ count_is notes));
+}
 
-pub settled_runs : (old new : Core) (told told2 : Told) (count : ℕ) → Notes told told2 (noted.Step count) → new.switch ≡ record old.switch { left = new.switch.left } → RunsOn old new told told2
+counted-left : (from : Beginning) (told : Told) (old new : Known) → new ≡ record old { left = new.left } → Counted from told old → Counted from told new
+counted-left from told old new same counts = subst (λ (known : Known). Counted from told known) (sym same) counts
+
+pub settled_runs : (old new : Core) (told told2 : Told) (count : ℕ) → Notes told told2 (noted.Step count) → count ≡ min (old.handed + length old.switch.journal) 18446744073709551615 → new.switch ≡ record old.switch { left = new.switch.left } → RunsOn old new told told2
 unfolding RunsOn
-settled_runs old new told told2 count notes same from deeds runs =
-    runs-left from told2 old.switch new.switch deeds same (record { setup_is = runs.setup_is; course = course_counted from told told2 old.switch.handed (running old.switch) deeds count notes runs.course })
+settled_runs old new told told2 count notes count_is same from deeds runs last = (
+  runs-left from told2 old.switch new.switch deeds same (told-runs from told told2 old.switch deeds count notes runs),
+  counted-left from told2 old.switch new.switch same
+      (counts_step from.told told told2 old.handed old.switch.epoch old.switch.began old.switch.handed old.switch.journal last (count-notes told told2 count _ count_is notes)),
+)
 
 pub owed_on : (outs outs2 : Owing) (sent : Sent) (before left : List Sent) → before ≡ sent ∷ left → IsOwed sent outs outs2
     → (first now : EdgeState) (deeds : List Deed) → Puts first now deeds outs before → Puts first now deeds outs2 left
@@ -361,13 +408,20 @@ pub turned_moment : (old new : Known) (ended : Ended) → IsTurned old new ended
 unfolding net_of chained chained_from start
 turned_moment old new ended turned = rw turned.new_is refl
 
-pub turned_same : (old new : Core) (told told2 : Told) (ended : Ended) → IsTurned old.switch new.switch ended → new.outs ≡ old.outs → Notes told told2 (noted.Epoch ended.number ended.began ended.journal) → Same old new told told2
+turned-reported : (from : Beginning) (told told2 : Told) (count unlisted : ℕ) (old new : Known) (ended : Ended) → IsTurned old new ended → Notes told told2 (noted.Epoch ended.number ended.began ended.journal) → Reported from told count unlisted old → Reported from told2 0 unlisted new
+turned-reported from told told2 count unlisted old new ended turned notes r =
+    subst (λ (known : Known). Reported from told2 0 unlisted known) (sym turned.new_is)
+    (reports_turned from.setup from.told told told2 count unlisted old.handed (running old) (record { number = old.epoch + 1; began = (net_of old).moment; journal = [] }) ended.journal (ap (λ (j : List Step). old.handed ++ j) turned.journal_is) refl
+    (same-notes told told2 ended.number old.epoch ended.began old.began ended.journal turned.number_is turned.began_is notes) r)
+
+pub turned_same : (old : Core) (switch : Known) (told told2 : Told) (ended : Ended) → IsTurned old.switch switch ended → Notes told told2 (noted.Epoch ended.number ended.began ended.journal) → Same old (record old { switch = switch; handed = 0 }) told told2
 unfolding Same
-turned_same old new told told2 ended turned outs notes from edge deeds s = record {
-  runs = runs-turned from told told2 old.switch new.switch deeds ended turned notes s.runs;
+turned_same old switch told told2 ended turned notes from edge deeds s = record {
+  runs = runs-turned from told told2 old.switch switch deeds ended turned notes s.runs;
   left_is = ap (λ (known : Known). known.left) turned.new_is;
-  puts = subst (λ (o : Owing). Puts from.edge edge deeds o []) (sym outs) s.puts;
-  ticked = ticked_at from.moments deeds (net_of old.switch).moment (net_of new.switch).moment (turned_moment old.switch new.switch ended turned) s.ticked;
+  puts = s.puts;
+  ticked = ticked_at from.moments deeds (net_of old.switch).moment (net_of switch).moment (turned_moment old.switch switch ended turned) s.ticked;
+  reports = turned-reported from told told2 old.handed old.unlisted old.switch switch ended turned notes s.reports;
 }
 
 runs-handed : (from : Beginning) (told told2 : Told) (old : Known) (deeds : List Deed) (journal : Kept Step) → journal.items ≡ old.journal → Notes told told2 (noted.Part journal) → Runs from told old deeds → Runs from told2 (handing old) deeds
@@ -381,13 +435,23 @@ handing-moment : (old : Known) → (net_of (handing old)).moment ≡ (net_of old
 unfolding net_of
 handing-moment old = ap (λ (journal : List Step). (chained as_session old.setup old.epoch old.began journal).moment) (append-nil (whole old))
 
-pub handed_same : (old new : Core) (told told2 : Told) (journal : Kept Step) → new.switch ≡ handing old.switch → new.outs ≡ old.outs → journal.items ≡ old.switch.journal → Notes told told2 (noted.Part journal) → Same old new told told2
+handed-reported : (from : Beginning) (told told2 : Told) (count count2 unlisted : ℕ) (old : Known) (journal : Kept Step) → count2 ≡ min (count + length journal.items) 18446744073709551615 → journal.items ≡ old.journal → Notes told told2 (noted.Part journal)
+    → Reported from told count unlisted old → Reported from told2 count2 unlisted (handing old)
+handed-reported from told told2 count count2 unlisted old journal e items notes r =
+    subst (λ (whole2 : List Step). Reports from.setup from.told told2 count2 unlisted (whole old) (record { number = old.epoch; began = old.began; journal = whole2 })) (sym (append-nil (whole old)))
+    (subst (λ (items2 : List Step). Reports from.setup from.told told2 count2 unlisted (old.handed ++ items2) (running old)) items
+    (reports_part from.setup from.told told told2 count count2 unlisted old.handed (running old) journal e notes r))
+
+pub handed_same : (old new : Core) (told told2 : Told) (journal : Kept Step) → new.switch ≡ handing old.switch → new.outs ≡ old.outs → new.unlisted ≡ old.unlisted → new.handed ≡ min (old.handed + length journal.items) 18446744073709551615
+    → journal.items ≡ old.switch.journal → Notes told told2 (noted.Part journal) → Same old new told told2
 unfolding Same
-handed_same old new told told2 journal e outs items notes from edge deeds s = record {
+handed_same old new told told2 journal e outs unlisted handed items notes from edge deeds s = record {
   runs = subst (λ (known : Known). Runs from told2 known deeds) (sym e) (runs-handed from told told2 old.switch deeds journal items notes s.runs);
   left_is = ap (λ (known : Known). known.left) e ∙ s.left_is;
   puts = subst (λ (o : Owing). Puts from.edge edge deeds o []) (sym outs) s.puts;
   ticked = ticked_at from.moments deeds (net_of old.switch).moment (net_of new.switch).moment (ap (λ (known : Known). (net_of known).moment) e ∙ handing-moment old.switch) s.ticked;
+  reports = reported-at from told2 new.handed new.handed old.unlisted new.unlisted (handing old.switch) new.switch refl unlisted (ap (λ (known : Known). known.handed) e) (ap (λ (known : Known). running known) e)
+      (handed-reported from told told2 old.handed new.handed old.unlisted old.switch journal handed items notes s.reports);
 }
 
 -- what the switch lists is of the point to which its run came
@@ -395,9 +459,14 @@ listing-at : (known : Known) (setup : Setup) (listing : Listing) → known.setup
 listing-at known setup listing e is ended =
     subst (λ (s : Setup). IsListingAt s (record { ended = ended; running = running known }) listing) e (record { epoch_is = is.epoch_is; steps_is = is.steps_is; live_is = is.live_is; waiting_is = is.waiting_is })
 
-pub listed_same : (core : Core) (told told2 : Told) (listing : Listing) → IsListing core.switch listing → Notes told told2 (noted.List listing) → Same core core told told2
+-- a listing with steps is of an epoch that has one
+pub some_listed : (known : Known) (listing : Listing) → IsListing known listing → (listing.steps ≡ 0 → ⊥) → whole known ≡ [] → ⊥
+unfolding listing_of
+some_listed known listing is some none = some (is.steps_is ∙ (ap (λ (steps : List Step). min (length steps) 18446744073709551615) none ∙ zero-min 18446744073709551615))
+
+pub listed_same : (core : Core) (told told2 : Told) (listing : Listing) → IsListing core.switch listing → (listing.steps ≡ 0 → ⊥) → Notes told told2 (noted.List listing) → Same core (record core { unlisted = 0 }) told told2
 unfolding Same
-listed_same core told told2 listing is notes from edge deeds s = record {
+listed_same core told told2 listing is some notes from edge deeds s = record {
   runs = record {
     setup_is = s.runs.setup_is;
     course = course_listed from told told2 core.switch.handed (running core.switch) deeds listing (listing-at core.switch from.setup listing s.runs.setup_is is) notes s.runs.course;
@@ -405,26 +474,30 @@ listed_same core told told2 listing is notes from edge deeds s = record {
   left_is = s.left_is;
   puts = s.puts;
   ticked = s.ticked;
+  reports = reports_listed from.setup from.told told told2 core.handed core.unlisted s.runs.course.ended core.switch.handed (running core.switch) listing (listing-at core.switch from.setup listing s.runs.setup_is is [])
+      (some_listed core.switch listing is some) s.runs.course.tells notes s.reports;
 }
 
 -- only leases changed
-pub leased_same : (old new : Core) (told : Told) → new.switch ≡ record old.switch { kept = new.switch.kept; leases = new.switch.leases } → new.outs ≡ old.outs → Same old new told told
+pub leased_same : (old new : Core) (told : Told) → new.switch ≡ record old.switch { kept = new.switch.kept; leases = new.switch.leases } → new.outs ≡ old.outs → new.handed ≡ old.handed → new.unlisted ≡ old.unlisted → Same old new told told
 unfolding Same
-leased_same old new told e outs from edge deeds s = record {
+leased_same old new told e outs handed unlisted from edge deeds s = record {
   runs = subst (λ (known : Known). Runs from told known deeds) (sym e) (record { setup_is = s.runs.setup_is; course = s.runs.course });
   left_is = ap (λ (known : Known). known.left) e ∙ s.left_is;
   puts = subst (λ (o : Owing). Puts from.edge edge deeds o []) (sym outs) s.puts;
   ticked = ticked_at from.moments deeds (net_of old.switch).moment (net_of new.switch).moment (lease_moment old.switch new.switch e) s.ticked;
+  reports = reported-at from told old.handed new.handed old.unlisted new.unlisted old.switch new.switch handed unlisted (ap (λ (known : Known). known.handed) e) (ap (λ (known : Known). running known) e) s.reports;
 }
 
 -- nothing changed
-pub moved_same : (old new : Core) (told : Told) → new.switch ≡ old.switch → new.outs ≡ old.outs → Same old new told told
+pub moved_same : (old new : Core) (told : Told) → new.switch ≡ old.switch → new.outs ≡ old.outs → new.handed ≡ old.handed → new.unlisted ≡ old.unlisted → Same old new told told
 unfolding Same
-moved_same old new told e outs from edge deeds s = record {
+moved_same old new told e outs handed unlisted from edge deeds s = record {
   runs = subst (λ (known : Known). Runs from told known deeds) (sym e) s.runs;
   left_is = ap (λ (known : Known). known.left) e ∙ s.left_is;
   puts = subst (λ (o : Owing). Puts from.edge edge deeds o []) (sym outs) s.puts;
   ticked = ticked_at from.moments deeds (net_of old.switch).moment (net_of new.switch).moment (ap (λ (known : Known). (net_of known).moment) e) s.ticked;
+  reports = reported-at from told old.handed new.handed old.unlisted new.unlisted old.switch new.switch handed unlisted (ap (λ (known : Known). known.handed) e) (ap (λ (known : Known). running known) e) s.reports;
 }
 
 -- the clock answered a moment that is no later one
@@ -435,6 +508,7 @@ same_at now core told early from edge deeds s = record {
   left_is = s.left_is;
   puts = s.puts;
   ticked = ticked_early from.moments deeds (net_of core.switch).moment now early s.ticked;
+  reports = s.reports;
 }
 
 -- ## What the switch answers

@@ -1,5 +1,5 @@
 -- Where a server stands: between two steps, within an answer of its edge, and where its run ends.
-use Rattle.std.specs.Prelude.{◌≡◌, ◌⊎◌, ℕ, Bool, true, false, List, [], ◌∷◌, ◌++◌}
+use Rattle.std.specs.Prelude.{◌≡◌, ◌⊎◌, ℕ, Bool, true, false, List, [], ◌∷◌, ◌++◌, length}
 use Rattle.sc_tokens.specs.Bytes.{Bytes}
 use Rattle.sc_value.specs.declared.ids.Place.{Place}
 use Rattle.sc_value.specs.declared.message.Sent.{Sent}
@@ -13,6 +13,7 @@ use Rattle.sc_outs.specs.Puts.{IsCut, Puts}
 use Rattle.sc_courses.specs.Asking.{Ticked, TickedPart}
 use Rattle.sc_courses.specs.Courses.{Beginning, Course, Told}
 use Rattle.sc_courses.specs.Marks.{Hearing, HearingPart, HearsOn}
+use Rattle.sc_courses.specs.Reports.{Counts, Reports, TellsSuch, Untold}
 use Rattle.sc_rounds.specs.declared.stepping.Core.{Core}
 use Rattle.sc_rounds.specs.declared.streams.Pending.{Pending}
 use Rattle.sc_rounds.specs.Streaming.{bytes_of}
@@ -38,6 +39,18 @@ moments_after (steps.Withdraw app) moments = moments
 abbrev pub timed : Step → Beginning → Beginning
 timed step from = record from { moments = moments_after step from.moments }
 
+-- what the notice was told of the run's steps and of what lives
+abbrev pub Reported : Beginning → Told → ℕ → ℕ → Known → Type 0
+Reported from told count unlisted known = Reports from.setup from.told told count unlisted known.handed (running known)
+
+-- the same, but for the last step, of which it isn't told yet
+abbrev pub Unreported : Beginning → Told → ℕ → Known → Type 0
+Unreported from told count known = Untold from.told told count known.handed (running known)
+
+-- it was told of each step
+abbrev pub Counted : Beginning → Told → Known → Type 0
+Counted from told known = TellsSuch from.told told (Counts known.handed (length (whole known)))
+
 -- the switch has run this course
 pub record Runs (from : Beginning) (told : Told) (known : Known) (deeds : List Deed) : Type 0 where
   pub setup_is : known.setup ≡ from.setup
@@ -49,12 +62,14 @@ pub record Stands (from : Beginning) (edge : EdgeState) (told : Told) (core : Co
   pub left_is : core.switch.left ≡ []
   pub puts : Puts from.edge edge deeds core.outs []
   pub ticked : Ticked from.moments deeds (net_of core.switch).moment
+  pub reports : Reported from told core.handed core.unlisted core.switch
 
 -- where a run ends, whatever is left to be put
 pub record Ends (from : Beginning) (edge : EdgeState) (told : Told) (known : Known) (deeds : List Deed) : Type 0 where
   pub runs : Runs from told known deeds
   pub cut : IsCut from.edge edge deeds
   pub ticked : TickedPart from.moments deeds
+  pub counts : Counted from told known
 
 -- ## What a step does
 
@@ -85,11 +100,11 @@ Stopped step failed old new told told2 =
 -- what the last step sent was taken from the switch
 unfoldable pub Settles : Core → Core → Told → Told → Type 0
 Settles old new told told2 =
-    (from : Beginning) (edge : EdgeState) (deeds : List Deed) → Runs from told old.switch deeds → Puts from.edge edge deeds old.outs old.switch.left → Ticked from.moments deeds (net_of old.switch).moment → Stands from edge told2 new deeds
+    (from : Beginning) (edge : EdgeState) (deeds : List Deed) → Runs from told old.switch deeds → Puts from.edge edge deeds old.outs old.switch.left → Ticked from.moments deeds (net_of old.switch).moment → Unreported from told old.handed old.switch → Stands from edge told2 new deeds
 
--- the switch goes on in the same course
+-- the switch goes on in the same course, and the notice was told of its last step
 unfoldable pub RunsOn : Core → Core → Told → Told → Type 0
-RunsOn old new told told2 = (from : Beginning) (deeds : List Deed) → Runs from told old.switch deeds → Runs from told2 new.switch deeds
+RunsOn old new told told2 = (from : Beginning) (deeds : List Deed) → Runs from told old.switch deeds → Unreported from told old.handed old.switch → Runs from told2 new.switch deeds × Counted from told2 new.switch
 
 -- ## With what was heard
 

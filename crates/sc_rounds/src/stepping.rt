@@ -1,6 +1,6 @@
 //! The switch with what is left to be put of what it sent: each step of a server.
 
-ghost use Rattle.std.specs.Prelude.{◌≡◌, ◌≤◌, ◌<◌, ◌⊎◌, List, [], true, false, IfOk, IfErr, OnOk, OnErr};
+ghost use Rattle.std.specs.Prelude.{◌≡◌, ◌≤◌, ◌<◌, ◌⊎◌, ◌+◌, List, [], length, min, true, false, IfOk, IfErr, OnOk, OnErr};
 ghost use Rattle.sc_terms.specs.declared.steps.Step.TheVariants as steps;
 ghost use Rattle.sc_edge.specs.Edges.{EdgeState};
 ghost use Rattle.sc_hosts.specs.Runs.{HasVia};
@@ -13,7 +13,7 @@ ghost use Rattle.sc_rounds.specs.Dues.{HasDue};
 ghost use Rattle.sc_rounds.specs.Serving.{RunsOn, Same, Settles, Stopped, Took};
 ghost use Rattle.sc_rounds.specs.Stepping.{Commits, StoppedAt, Ticks, Withdraws};
 
-use sc_edge::Notice;
+use sc_edge::{Listing, Notice};
 use sc_journal::Journal;
 use sc_outs::Outs;
 use sc_servlets::{Done, Lease};
@@ -29,7 +29,15 @@ pub struct Turning {
     pub epoch_steps: u64,
     /// Whether it hands on what it has, once its journal is half full.
     pub parts: bool,
+    /// Whether it hands on each second what it has.
+    pub recording: bool,
 }
+
+/// After so many milliseconds the steps that are kept are handed on, where they are recorded.
+const RECORD_EVERY: u64 = 1_000;
+
+/// A listing walks over all that lives. So where there is work one is told after as many steps as are this part of it.
+const LISTED_PART: u64 = 8;
 
 /// A switch, and what is left to be put of what it sent. Between two steps nothing is left in the switch.
 #[derive(Drop)]
@@ -40,6 +48,10 @@ pub struct Core {
     pub outs: Outs,
     /// How many steps of the epoch were handed on; it stays at its greatest value.
     pub handed: u64,
+    /// At which moment steps were handed on last, 0 where none were.
+    pub handed_at: u64,
+    /// How many steps were taken since the notice was told what lives; it stays at its greatest value.
+    pub unlisted: u64,
 }
 
 impl Core {
@@ -47,6 +59,8 @@ impl Core {
     pub fn new(alloc: Global, turning: Turning, switch: Switch) -> Core
         ensures switch { result.switch ≡ switch }
         ensures outs { result.outs ≡ nothing }
+        ensures handed { result.handed ≡ 0 }
+        ensures unlisted { result.unlisted ≡ 0 }
     {
         Core {
             alloc,
@@ -54,11 +68,15 @@ impl Core {
             switch,
             outs: Outs::new(alloc),
             handed: 0,
+            handed_at: 0,
+            unlisted: 0,
         }
     }
 
     /// How many steps the running epoch has, those that were handed on too.
-    pub fn steps(&self) -> u64 {
+    pub fn steps(&self) -> u64
+        ensures { result ≡ min (self.now.handed + length self.now.switch.journal) 18446744073709551615 }
+    {
         self.handed.saturating_add(self.switch.journal().len())
     }
 
@@ -66,6 +84,7 @@ impl Core {
     pub fn end_epoch<N: Notice<Journal<Step>>>(&mut self, notice: &mut N)
         ensures same { Same self.old self.new (N.noted notice.old) (N.noted notice.new) }
         ensures outs { self.new.outs ≡ self.old.outs }
+        ensures unlisted { self.new.unlisted ≡ self.old.unlisted }
         ensures moment { (net_of self.new.switch).moment ≡ (net_of self.old.switch).moment }
     {
         if !self.is_epoch_due() {
@@ -101,13 +120,38 @@ impl Core {
         if !self.is_part_due() {
             return;
         }
-        let journal = self.switch.hand_on();
-        self.handed = self.handed.saturating_add(journal.len());
-        notice.part(journal);
+        self.hand_all(notice);
     }
 
     fn is_part_due(&self) -> bool {
         self.turning.parts && is_half_full(self.switch.journal())
+    }
+
+    /// Hands on the steps that are kept, where they are recorded and steps were handed on a second ago or before.
+    pub fn hand_old<N: Notice<Journal<Step>>>(&mut self, notice: &mut N)
+        ensures { Same self.old self.new (N.noted notice.old) (N.noted notice.new) }
+    {
+        if self.is_record_due() {
+            self.hand_all(notice);
+        }
+    }
+
+    fn is_record_due(&self) -> bool {
+        self.turning.recording
+            && !self.switch.journal().is_empty()
+            && self.switch.now().saturating_sub(self.handed_at) >= RECORD_EVERY
+    }
+
+    /// Hands on the steps that are kept.
+    fn hand_all<N: Notice<Journal<Step>>>(&mut self, notice: &mut N)
+        ensures same { Same self.old self.new (N.noted notice.old) (N.noted notice.new) }
+        ensures moment { (net_of self.new.switch).moment ≡ (net_of self.old.switch).moment }
+        ensures epoch { self.new.switch.epoch ≡ self.old.switch.epoch }
+    {
+        self.handed_at = self.switch.now();
+        let journal = self.switch.hand_on();
+        self.handed = self.handed.saturating_add(journal.len());
+        notice.part(journal);
     }
 
     /// Makes room for a step: ends the epoch or hands on its steps, where that is due.
@@ -125,6 +169,7 @@ impl Core {
         ensures err { RunsOn self.old self.new (N.noted notice.old) (N.noted notice.new) }
         ensures due { IfErr result (λ cause. HasDue self.new.switch cause) }
     {
+        self.unlisted = self.unlisted.saturating_add(1);
         notice.step(self.steps());
         match self.drain() {
             Ok(()) => Ok(()),
@@ -135,6 +180,8 @@ impl Core {
     /// Takes all that was sent from the switch, and puts each text behind what is left of its place.
     fn drain(&mut self) -> Result<(), NoMemory>
         ensures same { self.new.switch ≡ record self.old.switch { left = self.new.switch.left } }
+        ensures handed { self.new.handed ≡ self.old.handed }
+        ensures unlisted { self.new.unlisted ≡ self.old.unlisted }
         ensures all { OnOk result (self.new.switch.left ≡ []) }
         ensures keeps { OnOk result ((first now : EdgeState) (deeds : List Deed) → Puts first now deeds self.old.outs self.old.switch.left → Puts first now deeds self.new.outs []) }
     {
@@ -229,7 +276,10 @@ impl Core {
         match self.switch.lost(self.alloc, at) {
             Ok(()) => match self.outs.lose(at) {
                 Ok(()) => self.settle(notice),
-                Err(NoMemory) => Err(StepRefused::NoMemory),
+                Err(NoMemory) => {
+                    notice.step(self.steps());
+                    Err(StepRefused::NoMemory)
+                }
             },
             Err(cause) => Err(cause),
         }
@@ -346,14 +396,38 @@ impl Core {
         self.switch.lease(self.alloc)
     }
 
-    /// Tells the notice what lives.
-    pub fn list<N: Notice<Journal<Step>>>(&self, notice: &mut N) -> Result<(), NoMemory>
-        ensures { Same self.now self.now (N.noted notice.old) (N.noted notice.new) }
+    /// Whether the notice is to be told what lives: a step was taken since it was told, and there is nothing to do, or
+    /// so many steps were taken as an eighth of the application sessions that live. So a step pays for eight of them.
+    pub fn is_list_due(&self, is_busy: bool) -> bool {
+        self.unlisted > 0 && (!is_busy || self.unlisted >= self.switch.live().div_ceil(LISTED_PART))
+    }
+
+    /// Whether no step was taken since the notice was told what lives.
+    pub fn is_listed(&self) -> bool
+        ensures { result ≡ true → self.now.unlisted ≡ 0 }
+    {
+        self.unlisted == 0
+    }
+
+    /// Tells the notice what lives, where the epoch has a step.
+    pub fn list<N: Notice<Journal<Step>>>(&mut self, notice: &mut N) -> Result<(), NoMemory>
+        ensures { Same self.old self.new (N.noted notice.old) (N.noted notice.new) }
     {
         let listing = self.switch.listing(self.alloc)?;
+        if is_unstepped(&listing) {
+            return Ok(());
+        }
+        self.unlisted = 0;
         notice.list(listing);
         Ok(())
     }
+}
+
+/// Whether the listing is of an epoch without steps.
+fn is_unstepped(listing: &Listing) -> bool
+    ensures { result ≡ false → listing.now.steps ≡ 0 → ⊥ }
+{
+    listing.steps == 0
 }
 
 /// Why a turn was refused that ended so: where it starved, for want of memory.

@@ -75,7 +75,7 @@ halts_then a b c e e1 e2 t t1 t2 first later from s = later from (first from s)
 ended-of : (from : Beginning) (edge : EdgeState) (told : Told) (core : Core) (streams : List Pending) → Serves from edge told core streams → Ended from edge told core.switch
 ended-of from edge told core streams s = record {
   deeds = s.deeds;
-  ends = record { runs = s.stands.runs; cut = cut_of from.edge edge s.deeds core.outs [] s.stands.puts; ticked = ticked_part from.moments s.deeds (net_of core.switch).moment s.stands.ticked };
+  ends = record { runs = s.stands.runs; cut = cut_of from.edge edge s.deeds core.outs [] s.stands.puts; ticked = ticked_part from.moments s.deeds (net_of core.switch).moment s.stands.ticked; counts = s.stands.reports.counts };
   hearing = hearing_part from.edge.polled edge.polled s.deeds (bytes_of streams) s.hearing;
 }
 
@@ -113,7 +113,7 @@ pub rests_goes : (a : Server) (old new : EdgeState) (told : Told) → Rests old 
 unfolding Goes
 rests_goes a old new told rests from s = record {
   deeds = s.deeds;
-  stands = record { runs = s.stands.runs; left_is = s.stands.left_is; puts = puts_stand from.edge old new s.deeds a.core.outs [] rests.took s.stands.puts; ticked = s.stands.ticked };
+  stands = record { runs = s.stands.runs; left_is = s.stands.left_is; puts = puts_stand from.edge old new s.deeds a.core.outs [] rests.took s.stands.puts; ticked = s.stands.ticked; reports = s.stands.reports };
   hearing = subst (λ polled. Hearing from.edge.polled polled s.deeds (bytes_of a.streams)) (sym rests.polled) s.hearing;
 }
 
@@ -262,7 +262,8 @@ pub rest_goes_on : (a b : Server) (e e1 e2 : EdgeState) (t t1 : Told) (k k1 : So
 rest_goes_on a b e e1 e2 t t1 k k1 same goes = rw same goes
 
 -- the run is over, once the epoch was ended where that was due
-pub over_on : (a b c : Server) (e e1 : EdgeState) (t t1 t2 : Told) (k k1 : Sources) → GoesOn a b e e1 t t1 k k1 → c.streams ≡ b.streams → Moves b.core c.core t1 t2 → c.core.outs ≡ b.core.outs → ((place : Place) → left_at b.core.outs place ≡ []) → FinishesOn a c e e1 t t2 k k1
+pub over_on : (a b c : Server) (e e1 : EdgeState) (t t1 t2 : Told) (k k1 : Sources) → GoesOn a b e e1 t t1 k k1 → c.streams ≡ b.streams → Moves b.core c.core t1 t2 → c.core.outs ≡ b.core.outs → ((place : Place) → left_at b.core.outs place ≡ [])
+    → c.core.unlisted ≡ b.core.unlisted → b.core.unlisted ≡ 0 → FinishesOn a c e e1 t t2 k k1
 unfolding FinishesOn
-over_on a b c e e1 t t1 t2 k k1 goes streams moves outs none =
-    (goes_on_goes a b c e e1 e1 t t1 t2 k k1 goes (moves_goes b c e1 t1 t2 streams moves), λ place. ap (λ (o : Owing). left_at o place) outs ∙ none place)
+over_on a b c e e1 t t1 t2 k k1 goes streams moves outs none unlisted listed =
+    (goes_on_goes a b c e e1 e1 t t1 t2 k k1 goes (moves_goes b c e1 t1 t2 streams moves), (λ place. ap (λ (o : Owing). left_at o place) outs ∙ none place), unlisted ∙ listed)

@@ -54,9 +54,9 @@ unfoldable pub HaltsOn : Server → Server → EdgeState → EdgeState → Told 
 HaltsOn old new edge edge2 told told2 sources sources2 =
     (given : Given) × Asked sources sources2 given × ((from : Beginning) → Serves from edge told old.core old.streams → EndedAfter from given edge2 told2 new.core.switch)
 
--- it stands behind its last round, with nothing left to be put
+-- it stands behind its last round, with nothing left to be put, and the notice was told what lived behind the last step
 unfoldable pub FinishesOn : Server → Server → EdgeState → EdgeState → Told → Told → Sources → Sources → Type 0
-FinishesOn old new edge edge2 told told2 sources sources2 = GoesOn old new edge edge2 told told2 sources sources2 × ((place : Place) → left_at new.core.outs place ≡ [])
+FinishesOn old new edge edge2 told told2 sources sources2 = GoesOn old new edge edge2 told told2 sources sources2 × ((place : Place) → left_at new.core.outs place ≡ []) × (new.core.unlisted ≡ 0)
 
 -- a switch that took no step
 abbrev pub fresh : Setup → Known
@@ -66,6 +66,8 @@ fresh setup = record { setup = setup; epoch = 0; began = 0; handed = []; journal
 pub record IsNew (server : Server) : Type 0 where
   pub switch : server.core.switch ≡ fresh server.core.switch.setup
   pub outs : server.core.outs ≡ nothing
+  pub handed : server.core.handed ≡ 0
+  pub unlisted : server.core.unlisted ≡ 0
   pub streams : server.streams ≡ []
 
 -- the status of a run that couldn't go on

@@ -1,5 +1,5 @@
 -- What `serve` promises: when each status comes, and what was heard, taken, put and told until then.
-use Rattle.std.specs.Prelude.{◌≡◌, ℕ, List, [], ◌∷◌, ◌++◌, Option, None, Some, codes, if◌then◌else◌}
+use Rattle.std.specs.Prelude.{◌≡◌, ℕ, List, [], ◌∷◌, ◌++◌, Option, None, Some, codes, if◌then◌else◌, length}
 use Rattle.sc_tokens.specs.Names.{same_bytes}
 use Rattle.sc_terms.specs.declared.steps.Step.{Step}
 use Rattle.sc_parts.specs.declared.setup.Setup.{Setup}
@@ -22,6 +22,7 @@ use Rattle.sc_courses.specs.Courses.{AreDeeds, Beginning, TellsEpochs, TellsList
 use Rattle.sc_courses.specs.Ordering.{Obeys, ObeysPart, beginning_point}
 use Rattle.sc_courses.specs.Due.{IsDue}
 use Rattle.sc_courses.specs.Marks.{Hearing, HearingPart}
+use Rattle.sc_courses.specs.Reports.{TellsLast, TellsLengths}
 
 -- CONFIG and DAR of `serve CONFIG DAR`, none of other words
 unfoldable pub served_names : List Bytes → Option (Bytes × Bytes)
@@ -62,8 +63,9 @@ last_epoch ran handed journal = record { number = ran.epoch; began = ran.began; 
 -- what a run leaves: its epochs are lawful; the notice was told of all but the last, and what lived at points on the
 -- way; the steps that were heard are a beginning of what the edge's answers make; of what each step sends parts were
 -- taken, place by place; each moment of the clock that was later than all before is a Tick step, and each order for a
--- session that lived then is its withdrawal, at `Done` the last ones too, and no other is; and at `JournalFull` a step is
--- due that the journal has no room for
+-- session that lived then is its withdrawal, at `Done` the last ones too, and no other is; at `Done` the last listing that
+-- was told is of the last step; each length of each epoch's journal was told once, in order; and at `JournalFull` a step
+-- is due that the journal has no room for
 pub record Leaves (from : Beginning) (now : EdgeState) (told : Told) (ran : Ran) (journal : Kept Step) : Type 0 where
   pub ended : List Epoch
   pub handed : List Step
@@ -79,6 +81,8 @@ pub record Leaves (from : Beginning) (now : EdgeState) (told : Told) (ran : Ran)
   pub orders : ObeysPart from.setup beginning_point from.orders (record { ended = ended; running = last_epoch ran handed journal })
   pub ordered : ran.status ≡ statuses.Done → Obeys from.setup beginning_point from.orders (record { ended = ended; running = last_epoch ran handed journal })
   pub listings : TellsListings from.setup from.told told (record { ended = ended; running = last_epoch ran handed journal })
+  pub listed : ran.status ≡ statuses.Done → TellsLast from.setup from.told told (ended ++ last_epoch ran handed journal ∷ [])
+  pub lengths : TellsLengths from.told told ended (length (handed ++ journal.items))
   pub due : ran.status ≡ statuses.JournalFull → IsDue from.setup (last_epoch ran handed journal) journal.items
 
 -- ## How a call ends

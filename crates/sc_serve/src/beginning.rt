@@ -81,6 +81,7 @@ fn begin_over(alloc: Global, settings: Settings, apps: &Catalogue) -> Result<Beg
     let turning = Turning {
         epoch_steps: settings.config.epoch_steps.get(),
         parts: settings.config.journal_parts,
+        recording: settings.config.recording.is_some(),
     };
     let stop_after = settings.config.stop_after.get();
     let workers = Within::of(settings.config.workers.get());

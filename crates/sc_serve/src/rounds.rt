@@ -11,14 +11,15 @@ use crate::stop::{Stop, stop_of};
 use sc_edge::{Clock, Edge, Got, Notice, Orders};
 use sc_journal::Journal;
 use sc_lending::{Seat, work_once};
-use sc_rounds::{Went, list, put_place, take_got, take_moment, take_order};
+use sc_rounds::{Went, hand_old, list, put_place, take_got, take_moment, take_order};
 use sc_servlets::Catalogue;
 use sc_terms::Step;
 use sc_value::NoMemory;
 use std::sync::Wait;
 
 /// A round: what came is heard, an order and the clock are asked, turns are lent out, those that were made are
-/// taken, and what was sent is put. Whether anything came, was lent, was taken or was put.
+/// taken, and what was sent is put. Then steps are handed on that are recorded, and the notice is told what lives, each
+/// where it is due. Whether anything came, was lent, was taken or was put.
 ///
 /// # Errors
 ///
@@ -39,16 +40,15 @@ pub fn round<R: Wait, E: Edge, T: Clock, O: Orders, N: Notice<Journal<Step>>>(
     ensures later { CountsOn (E.state edge.old) (E.state edge.new) }
     ensures blames { IfErr result (λ cause. Blames (E.state edge.old) (E.state edge.new) cause) }
 {
-    let steps = server.core.steps();
-    let epoch = server.core.switch.epoch();
     match poll_once(server, edge, notice) {
         Ok(came) => {
             match step_once(rt, server, seat, clock, orders, notice, apps) {
                 Ok(turned) => {
                     match put_once(server, edge, notice) {
                         Ok(went) => {
-                            match list_once(server, notice, steps, epoch) {
-                                Ok(()) => Ok(came || turned || went),
+                            let busy = is_any(came, turned, went);
+                            match tell_once(server, notice, busy) {
+                                Ok(()) => Ok(busy),
                                 Err(stop) => Err(stop),
                             }
                         }
@@ -60,6 +60,10 @@ pub fn round<R: Wait, E: Edge, T: Clock, O: Orders, N: Notice<Journal<Step>>>(
         }
         Err(stop) => Err(stop),
     }
+}
+
+fn is_any(came: bool, turned: bool, went: bool) -> bool {
+    came || turned || went
 }
 
 /// Polls the edge once, and takes the steps of what came: whether anything did.
@@ -208,19 +212,20 @@ fn put_at<E: Edge, N: Notice<Journal<Step>>>(
     }
 }
 
-/// Tells the notice what lives, where a step was taken since there were so many in this epoch.
-fn list_once<N: Notice<Journal<Step>>>(
+/// Hands on the steps that are recorded, and tells the notice what lives, each where it is due. `busy` is whether
+/// anything came, was lent, was taken or was put.
+fn tell_once<N: Notice<Journal<Step>>>(
     server: &mut Server,
     notice: &mut N,
-    steps: u64,
-    epoch: u32,
+    busy: bool,
 ) -> Result<(), Stop>
     ensures ok { OnOk result ((edge : EdgeState) → Goes server.old server.new edge edge (N.noted notice.old) (N.noted notice.new)) }
     ensures err { OnErr result ((edge : EdgeState) → Halts server.old server.new edge edge (N.noted notice.old) (N.noted notice.new)) }
     ensures due { IfErr result (λ cause. IsDueAt server.new.core.switch cause) }
     ensures blames { IfErr result (λ cause. (edge : EdgeState) → Blames edge edge cause) }
 {
-    if server.core.steps() == steps && server.core.switch.epoch() == epoch {
+    hand_old(&mut server.core, notice);
+    if !server.core.is_list_due(busy) {
         return Ok(());
     }
     match list(&mut server.core, notice) {

@@ -86,16 +86,18 @@ impl Server {
         }
     }
 
-    /// Whether the run is over: no more is waited for, no event waits, no turn is lent out, and nothing is left to be
-    /// put.
+    /// Whether the run is over: no more is waited for, no event waits, no turn is lent out, nothing is left to be put,
+    /// and the notice was told what lives behind the last step.
     pub fn is_done(&self) -> bool
-        ensures { result ≡ true → (place : Place) → left_at self.now.core.outs place ≡ [] }
+        ensures left { result ≡ true → (place : Place) → left_at self.now.core.outs place ≡ [] }
+        ensures listed { result ≡ true → self.now.core.unlisted ≡ 0 }
     {
         self.watch.is_over()
             && self.core.switch.waiting() == 0
             && self.core.switch.leases() == 0
             && self.broken.is_empty()
             && self.core.outs.is_empty()
+            && self.core.is_listed()
     }
 }
 

@@ -32,7 +32,10 @@ use std::thread::Threads;
 /// A round polls the edge once and makes a step of each message that is whole (RFC 3261 section 18.3), takes one
 /// order, asks the clock, lends out up to 64 turns, takes up to 64 that were made, and puts what was sent to each
 /// place once. An order withdraws the session that it names, where it names the epoch that runs and the session
-/// lives there; any other does nothing. After a round with a step the notice is told what lives.
+/// lives there; any other does nothing. Once a step was taken the notice is told what lives: after a round in which
+/// there was nothing to do, and after one where as many steps were taken since it was told last as an eighth of the
+/// application sessions that live. Where the setting `record` names a file, the steps that are kept are handed on
+/// after a round at whose end the clock is at least 1,000 ms past the last hand-on, or past 0.
 ///
 /// The turns that are lent out are made by as many threads as the settings' `workers` says, 1 to 32. Each passes the
 /// gate before it calls a servlet. The rounds begin with the first of these threads, or after 2 seconds without one;
@@ -42,7 +45,7 @@ use std::thread::Threads;
 /// The status says how it ended:
 ///
 /// - `Done`: all that came was heard, no event waits, and all that was sent was put, but for what went to places
-///   that failed.
+///   that failed. The last listing that the notice was told is that of the last step.
 /// - `Usage`: the words have another form.
 /// - `Config`, `Dar`: the configuration is refused; it is accepted, and the routing table is refused.
 /// - `JournalFull`: a step was due that the journal had no room for.

@@ -1,17 +1,14 @@
 use Rattle.sc_serve.proofs.Roundings.{blames_after, counts_then, goes_on_goes, goes_on_halts, goes_then_on, halts_on, halts_then_on}
 use Rattle.sc_serve.proofs.rounds.round.Goals as goal
 
-pub returns-then-turned-clause-ok : goal.returns-then-turned-clause-ok
-returns-then-turned-clause-ok g c = goes_on_goes _ _ _ _ _ _ _ _ _ _ _ (goes_on_goes _ _ _ _ _ _ _ _ _ _ _ (goes_then_on _ _ _ _ _ _ _ _ _ _ _ c.in-Ok.ensures.ok (c.in-Ok-step_once.ensures.ok _)) c.in-Ok-put_once.ensures.ok) (c.in-Ok-list_once.ensures.ok _)
+pub returns-in-Ok-tell_once-clause-ok : goal.returns-in-Ok-tell_once-clause-ok
+returns-in-Ok-tell_once-clause-ok g c = goes_on_goes _ _ _ _ _ _ _ _ _ _ _ (goes_on_goes _ _ _ _ _ _ _ _ _ _ _ (goes_then_on _ _ _ _ _ _ _ _ _ _ _ c.in-Ok.ensures.ok (c.in-Ok-step_once.ensures.ok _)) c.in-Ok-put_once.ensures.ok) (c.in-Ok-tell_once.ensures.ok _)
 
-pub returns-else-turned-clause-ok : goal.returns-else-turned-clause-ok
-returns-else-turned-clause-ok g c = goes_on_goes _ _ _ _ _ _ _ _ _ _ _ (goes_on_goes _ _ _ _ _ _ _ _ _ _ _ (goes_then_on _ _ _ _ _ _ _ _ _ _ _ c.in-Ok.ensures.ok (c.in-Ok-step_once.ensures.ok _)) c.in-Ok-put_once.ensures.ok) (c.in-Ok-list_once.ensures.ok _)
+pub returns-in-Err-tell_once-clause-err : goal.returns-in-Err-tell_once-clause-err
+returns-in-Err-tell_once-clause-err g c = goes_on_halts _ _ _ _ _ _ _ _ _ _ _ (goes_on_goes _ _ _ _ _ _ _ _ _ _ _ (goes_then_on _ _ _ _ _ _ _ _ _ _ _ c.in-Ok.ensures.ok (c.in-Ok-step_once.ensures.ok _)) c.in-Ok-put_once.ensures.ok) (c.in-Err-tell_once.ensures.err _)
 
-pub returns-in-Err-list_once-clause-err : goal.returns-in-Err-list_once-clause-err
-returns-in-Err-list_once-clause-err g c = goes_on_halts _ _ _ _ _ _ _ _ _ _ _ (goes_on_goes _ _ _ _ _ _ _ _ _ _ _ (goes_then_on _ _ _ _ _ _ _ _ _ _ _ c.in-Ok.ensures.ok (c.in-Ok-step_once.ensures.ok _)) c.in-Ok-put_once.ensures.ok) (c.in-Err-list_once.ensures.err _)
-
-pub returns-in-Err-list_once-clause-blames : goal.returns-in-Err-list_once-clause-blames
-returns-in-Err-list_once-clause-blames g c = blames_after _ _ _ _ (counts_then (g.E.Edge.state c.args.edge.now) (g.E.Edge.state c.poll_once.new.edge) (g.E.Edge.state c.put_once.new.edge) c.poll_once.ensures.later c.put_once.ensures.later) (c.in-Err-list_once.ensures.blames _)
+pub returns-in-Err-tell_once-clause-blames : goal.returns-in-Err-tell_once-clause-blames
+returns-in-Err-tell_once-clause-blames g c = blames_after _ _ _ _ (counts_then (g.E.Edge.state c.args.edge.now) (g.E.Edge.state c.poll_once.new.edge) (g.E.Edge.state c.put_once.new.edge) c.poll_once.ensures.later c.put_once.ensures.later) (c.in-Err-tell_once.ensures.blames _)
 
 pub returns-in-Err-put_once-clause-err : goal.returns-in-Err-put_once-clause-err
 returns-in-Err-put_once-clause-err g c = goes_on_halts _ _ _ _ _ _ _ _ _ _ _ (goes_then_on _ _ _ _ _ _ _ _ _ _ _ c.in-Ok.ensures.ok (c.in-Ok-step_once.ensures.ok _)) c.in-Err-put_once.ensures.err

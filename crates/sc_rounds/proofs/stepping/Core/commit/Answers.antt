@@ -14,11 +14,11 @@ returns-in-Err-settle-clause-err g c = cut_behind _ _ _ _ _ _ _ _ c.hand_on.ensu
 
 pub returns-in-Ok-Gone-clause-ok : goal.returns-in-Ok-Gone-clause-ok
 unfolding Commits
-returns-in-Ok-Gone-clause-ok g c = same_then _ _ _ _ _ _ c.hand_on.ensures.same (moved_same _ _ _ (gone _ _ c.args.done _ _ c.in-Ok-Gone.field-0-is c.in-Ok-Gone.ensures.ok) refl)
+returns-in-Ok-Gone-clause-ok g c = same_then _ _ _ _ _ _ c.hand_on.ensures.same (moved_same _ _ _ (gone _ _ c.args.done _ _ c.in-Ok-Gone.field-0-is c.in-Ok-Gone.ensures.ok) refl refl refl)
 
 pub returns-in-Ok-Other-clause-ok : goal.returns-in-Ok-Other-clause-ok
 unfolding Commits
-returns-in-Ok-Other-clause-ok g c = same_then _ _ _ _ _ _ c.hand_on.ensures.same (leased_same _ _ _ (other _ _ c.args.done _ _ c.in-Ok-Other.field-0-is c.in-Ok-Other.ensures.ok) refl)
+returns-in-Ok-Other-clause-ok g c = same_then _ _ _ _ _ _ c.hand_on.ensures.same (leased_same _ _ _ (other _ _ c.args.done _ _ c.in-Ok-Other.field-0-is c.in-Ok-Other.ensures.ok) refl refl refl)
 
 pub returns-in-Err-clause-err : goal.returns-in-Err-clause-err
 returns-in-Err-clause-err g c = none_taken _ _ _ _ _ _ _ c.hand_on.ensures.same c.in-Err.ensures.err

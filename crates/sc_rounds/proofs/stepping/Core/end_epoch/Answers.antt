@@ -6,10 +6,10 @@ pub returns-then-not-is_epoch_due-clause-same : goal.returns-then-not-is_epoch_d
 returns-then-not-is_epoch_due-clause-same g c = same_core _ _
 
 pub returns-in-Ok-clause-same : goal.returns-in-Ok-clause-same
-returns-in-Ok-clause-same g c = turned_same _ _ _ _ c.in-Ok.field-0 c.in-Ok.ensures.turned refl c.epoch.ensures
+returns-in-Ok-clause-same g c = turned_same c.args.self.now _ _ _ c.in-Ok.field-0 c.in-Ok.ensures.turned c.epoch.ensures
 
 pub returns-in-Ok-clause-moment : goal.returns-in-Ok-clause-moment
 returns-in-Ok-clause-moment g c = turned_moment _ _ _ c.in-Ok.ensures.turned
 
 pub returns-in-Err-clause-same : goal.returns-in-Err-clause-same
-returns-in-Err-clause-same g c = moved_same _ _ _ c.in-Err.ensures.err refl
+returns-in-Err-clause-same g c = moved_same _ _ _ c.in-Err.ensures.err refl refl refl

@@ -1,0 +1,6 @@
+use Rattle.std.proofs.Common.{refl}
+use Rattle.sc_rounds.proofs.Steppings.{handed_same}
+use Rattle.sc_rounds.proofs.stepping.Core.hand_all.Goals as goal
+
+pub returns-clause-same : goal.returns-clause-same
+returns-clause-same g c = handed_same _ _ _ _ _ c.hand_on-journal.ensures.handed refl refl (rw c.len.ensures at c.saturating_add-self.ensures) c.hand_on-journal.ensures.journal c.part.ensures
