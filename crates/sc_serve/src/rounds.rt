@@ -40,7 +40,7 @@ pub fn round<R: Wait, E: Edge, T: Clock, O: Orders, N: Notice<Journal<Step>>>(
     ensures later { CountsOn (E.state edge.old) (E.state edge.new) }
     ensures blames { IfErr result (λ cause. Blames (E.state edge.old) (E.state edge.new) cause) }
 {
-    match poll_once(server, edge, notice) {
+    match hear_once(server, edge, notice) {
         Ok(came) => {
             match step_once(rt, server, seat, clock, orders, notice, apps) {
                 Ok(turned) => {
@@ -64,6 +64,27 @@ pub fn round<R: Wait, E: Edge, T: Clock, O: Orders, N: Notice<Journal<Step>>>(
 
 fn is_any(came: bool, turned: bool, went: bool) -> bool {
     came || turned || went
+}
+
+/// Polls the edge once, unless the server has enough to work on: whether anything came.
+fn hear_once<E: Edge, N: Notice<Journal<Step>>>(
+    server: &mut Server,
+    edge: &mut E,
+    notice: &mut N,
+) -> Result<bool, Stop>
+    ensures ok { OnOk result (Goes server.old server.new (E.state edge.old) (E.state edge.new) (N.noted notice.old) (N.noted notice.new)) }
+    ensures err { OnErr result (Halts server.old server.new (E.state edge.old) (E.state edge.new) (N.noted notice.old) (N.noted notice.new)) }
+    ensures due { IfErr result (λ cause. IsDueAt server.new.core.switch cause) }
+    ensures later { CountsOn (E.state edge.old) (E.state edge.new) }
+    ensures blames { IfErr result (λ cause. Blames (E.state edge.old) (E.state edge.new) cause) }
+{
+    if !server.takes_more() {
+        return Ok(false);
+    }
+    match poll_once(server, edge, notice) {
+        Ok(came) => Ok(came),
+        Err(stop) => Err(stop),
+    }
 }
 
 /// Polls the edge once, and takes the steps of what came: whether anything did.
@@ -225,7 +246,8 @@ fn tell_once<N: Notice<Journal<Step>>>(
     ensures blames { IfErr result (λ cause. (edge : EdgeState) → Blames edge edge cause) }
 {
     hand_old(&mut server.core, notice);
-    if !server.core.is_list_due(busy) {
+    let is_put_off = server.puts_off_listing(busy);
+    if !server.core.is_list_due(is_put_off) {
         return Ok(());
     }
     match list(&mut server.core, notice) {

@@ -10,6 +10,9 @@ use std::alloc::Global;
 /// How many bytes a poll brings at most.
 const ROOM: usize = 4_096;
 
+/// So many rounds in a row go by at most without a poll.
+const MOST_UNPOLLED: u32 = 15;
+
 /// What a server holds between two rounds.
 #[derive(Drop)]
 pub struct Server {
@@ -18,6 +21,12 @@ pub struct Server {
     pub watch: Watch,
     /// The places that gave what is no message, until they are closed.
     pub broken: List<Place>,
+    /// How many rounds in a row went by without a poll.
+    pub unpolled: u32,
+    /// The moment at which the last round began, in milliseconds.
+    pub moment: u64,
+    /// Whether the clock had gone on when it began.
+    pub ticked: bool,
     /// Where the edge puts what came.
     pub room: [u8; 4096],
 }
@@ -33,8 +42,34 @@ impl Server {
             streams: Streams::new(alloc),
             watch: Watch::new(alloc, stop_after),
             broken: List::new(alloc),
+            unpolled: 0,
+            moment: 0,
+            ticked: true,
             room: [0; ROOM],
         }
+    }
+
+    /// Begins a round: whether it polls the edge. It doesn't while a turn is due, so that what came is worked on before
+    /// more is heard; but one of 16 rounds does in any case.
+    pub fn takes_more(&mut self) -> bool
+        ensures core { self.new.core ≡ self.old.core }
+        ensures streams { self.new.streams ≡ self.old.streams }
+    {
+        let now = self.core.switch.now();
+        self.ticked = now != self.moment;
+        self.moment = now;
+        if self.core.is_turn_due() && self.unpolled < MOST_UNPOLLED {
+            self.unpolled += 1;
+            return false;
+        }
+        self.unpolled = 0;
+        true
+    }
+
+    /// Whether telling what lives waits for more steps, as there is other work, or it would come more often than the
+    /// clock goes on. At the end nothing is waited for.
+    pub fn puts_off_listing(&self, is_busy: bool) -> bool {
+        is_busy || self.core.switch.leases() > 0 || !(self.ticked || self.watch.is_over())
     }
 
     /// Remembers what came: whether anything did.

@@ -8,19 +8,19 @@ pub returns-in-Err-tell_once-clause-err : goal.returns-in-Err-tell_once-clause-e
 returns-in-Err-tell_once-clause-err g c = goes_on_halts _ _ _ _ _ _ _ _ _ _ _ (goes_on_goes _ _ _ _ _ _ _ _ _ _ _ (goes_then_on _ _ _ _ _ _ _ _ _ _ _ c.in-Ok.ensures.ok (c.in-Ok-step_once.ensures.ok _)) c.in-Ok-put_once.ensures.ok) (c.in-Err-tell_once.ensures.err _)
 
 pub returns-in-Err-tell_once-clause-blames : goal.returns-in-Err-tell_once-clause-blames
-returns-in-Err-tell_once-clause-blames g c = blames_after _ _ _ _ (counts_then (g.E.Edge.state c.args.edge.now) (g.E.Edge.state c.poll_once.new.edge) (g.E.Edge.state c.put_once.new.edge) c.poll_once.ensures.later c.put_once.ensures.later) (c.in-Err-tell_once.ensures.blames _)
+returns-in-Err-tell_once-clause-blames g c = blames_after _ _ _ _ (counts_then (g.E.Edge.state c.args.edge.now) (g.E.Edge.state c.hear_once.new.edge) (g.E.Edge.state c.put_once.new.edge) c.hear_once.ensures.later c.put_once.ensures.later) (c.in-Err-tell_once.ensures.blames _)
 
 pub returns-in-Err-put_once-clause-err : goal.returns-in-Err-put_once-clause-err
 returns-in-Err-put_once-clause-err g c = goes_on_halts _ _ _ _ _ _ _ _ _ _ _ (goes_then_on _ _ _ _ _ _ _ _ _ _ _ c.in-Ok.ensures.ok (c.in-Ok-step_once.ensures.ok _)) c.in-Err-put_once.ensures.err
 
 pub returns-in-Err-put_once-clause-blames : goal.returns-in-Err-put_once-clause-blames
-returns-in-Err-put_once-clause-blames g c = blames_after _ _ _ _ c.poll_once.ensures.later c.in-Err-put_once.ensures.blames
+returns-in-Err-put_once-clause-blames g c = blames_after _ _ _ _ c.hear_once.ensures.later c.in-Err-put_once.ensures.blames
 
 pub returns-in-Err-step_once-clause-err : goal.returns-in-Err-step_once-clause-err
 returns-in-Err-step_once-clause-err g c = halts_then_on _ _ _ _ _ _ _ _ _ _ _ c.in-Ok.ensures.ok (c.in-Err-step_once.ensures.err _)
 
 pub returns-in-Err-step_once-clause-blames : goal.returns-in-Err-step_once-clause-blames
-returns-in-Err-step_once-clause-blames g c = blames_after _ _ _ _ c.poll_once.ensures.later (c.in-Err-step_once.ensures.blames _)
+returns-in-Err-step_once-clause-blames g c = blames_after _ _ _ _ c.hear_once.ensures.later (c.in-Err-step_once.ensures.blames _)
 
 pub returns-in-Err-clause-err : goal.returns-in-Err-clause-err
 returns-in-Err-clause-err g c = halts_on _ _ _ _ _ _ _ c.in-Err.ensures.err
