@@ -1,4 +1,4 @@
-//! A watch on a server that runs: what lives is put there after each round, and readers in other threads take it,
+//! A watch on a server that runs: what lives is put there as the server tells it, and readers in other threads take it,
 //! never an older listing after a newer one.
 #![tactic(auto)]
 
