@@ -42,12 +42,25 @@ fn still_fired(alloc: Global, session: &Session, fired: &[Fired]) -> Result<List
     Ok(running)
 }
 
-fn drop_first(inbox: &mut List<Waiting>)
-    ensures { inbox.new ≡ drop 1 inbox.old }
+fn add_waiting(alloc: Global, events: &[Waiting], inbox: &mut List<Waiting>) -> Result<(), NoMemory>
+    ensures { OnOk result (inbox.new ≡ inbox.old ++ events.now) }
 {
-    if !inbox.is_empty() {
-        inbox.items.remove(0);
+    for waiting in events {
+        let own = waiting.clone_in(alloc)?;
+        inbox.push(own)?;
     }
+    Ok(())
+}
+
+// The events that wait behind the first.
+fn behind_first(alloc: Global, inbox: &[Waiting]) -> Result<List<Waiting>, NoMemory>
+    ensures { IfOk result (λ behind. behind ≡ drop 1 inbox.now) }
+{
+    let mut behind = List::new(alloc);
+    if let [_, rest @ ..] = inbox {
+        add_waiting(alloc, rest, &mut behind)?;
+    }
+    Ok(behind)
 }
 
 #[tactic(auto, unfolding(crate::specs::TurnParts::live_after))]
@@ -59,12 +72,16 @@ fn live_after(
 ) -> Result<Shared<Live<Session>>, NoMemory>
     ensures { IfOk result (λ own. own ≡ live_after now session.now live.now) }
 {
-    let running = still_fired(alloc, session.get(), live.fired.as_slice())?;
-    let mut own = live.clone_in(alloc)?;
-    own.session = session.clone_in(alloc)?;
-    drop_first(&mut own.inbox);
-    own.since = now;
-    own.fired = running;
+    let fired = still_fired(alloc, session.get(), live.fired.as_slice())?;
+    let inbox = behind_first(alloc, live.inbox.as_slice())?;
+    let session = session.clone_in(alloc)?;
+    let own = Live {
+        serial: live.serial,
+        session,
+        inbox,
+        since: now,
+        fired,
+    };
     Shared::new(alloc, own)
 }
 
