@@ -11,6 +11,7 @@ usage: sipd replay CONFIG DAR SCRIPT
        sipd trial N
        sipd serve CONFIG DAR
        sipd trace [--svg] CONFIG DAR SCRIPT
+       sipd play CONFIG DAR RECORDING
        sipd explain WHAT NUMBER
        sipd --help
        sipd --version
@@ -39,6 +40,11 @@ error has the line `sipd: listening A.B.C.D:PORT` once it does. On standard inpu
 takes the lines `list`, which is answered with the sessions that live, and
 `drop H S`, which ends one of them.
 
+Where the configuration has `record = \"FILE\"`, serve writes each step there; play
+takes these steps again, with the servlets' turns, and writes a record for each
+message that is sent, as replay does. It ends where another step is made than the
+recorded one.
+
 explain writes what a refusal means and how to mend it: WHAT is config, dar,
 script or status, and NUMBER a kind, or the exit status.
 
@@ -54,7 +60,7 @@ The exit status, and the line on standard error:
    5  sipd: journal full      a step was due that the journal had no room for
    6  sipd: edge              the server could not listen
    7  sipd: no memory         want of memory
-   8  sipd: script AT KIND    the script is refused, at this byte
+   8  sipd: script AT KIND    the script or recording is refused, at this byte
    9  sipd: read              a file could not be read
-  10  sipd: write             standard output could not be written
+  10  sipd: write             the output or the recording could not be written
 ";

@@ -6,6 +6,7 @@ use sc_apps::ExtendsOnce;
 use sc_edge::FileShelf;
 use sc_kinds::BuiltIn;
 use sc_limit::output;
+use sc_play::play;
 use sc_replay::{Command, Status, check, replay, trial};
 use sc_servlets::{Catalogue, Listener};
 use sc_trace::trace;
@@ -18,6 +19,8 @@ use std::thread::Threads;
 pub enum Job {
     /// `trace`, of either form.
     Trace,
+    /// `play`.
+    Play,
     /// `check -v`.
     Warn,
     /// A command of the container.
@@ -62,6 +65,7 @@ fn run_with<W: Threads + Wait + Copy + Send + Sync + 'static>(
     let mut shelf = FileShelf::new(rt, alloc);
     match job {
         Job::Trace => trace(alloc, words, &mut shelf, apps, &mut out),
+        Job::Play => play(alloc, words, &mut shelf, apps, &mut out),
         Job::Warn => check_and_warn(alloc, words, &mut shelf, apps, &mut out),
         Job::Run(Command::Check) => check(alloc, words, &mut shelf, apps, &mut out).status,
         Job::Run(Command::Trial) => trial(alloc, words, apps, &mut out).status,

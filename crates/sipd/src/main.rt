@@ -57,6 +57,7 @@ fn run<W: Threads + Wait + Copy + Send + Sync + 'static>(
             number.as_str(),
         ),
         [word, ..] if word.as_str() == "trace" => run_job(rt, threads, words, Job::Trace),
+        [word, ..] if word.as_str() == "play" => run_job(rt, threads, words, Job::Play),
         [word, flag, _, _] if word.as_str() == "check" && flag.as_str() == "-v" => {
             run_job(rt, threads, words, Job::Warn)
         }

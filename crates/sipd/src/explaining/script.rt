@@ -1,6 +1,6 @@
 //! The kinds of `sipd: script AT KIND`.
 
-pub const TEXTS: [(&str, &str); 7] = [
+pub const TEXTS: [(&str, &str); 8] = [
     (
         "1",
         "\
@@ -77,6 +77,18 @@ script 7: too long
 The script has more than 67108864 bytes, and nothing of it was read.
 
 Cut it in two.
+",
+    ),
+    (
+        "8",
+        "\
+script 8: the recording goes on otherwise
+
+play took the steps before this byte as they stand there, and then another step
+was made than the recorded one, or none. What they send was written until there.
+
+The configuration, the routing table or the program isn't the one that made the
+recording, or its text was changed. Play it with the files that served then.
 ",
     ),
 ];
