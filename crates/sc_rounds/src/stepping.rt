@@ -36,9 +36,6 @@ pub struct Turning {
 /// After so many milliseconds the steps that are kept are handed on, where they are recorded.
 const RECORD_EVERY: u64 = 1_000;
 
-/// A listing walks over all that lives. So where there is work one is told after as many steps as are this part of it.
-const LISTED_PART: u64 = 8;
-
 /// A switch, and what is left to be put of what it sent. Between two steps nothing is left in the switch.
 #[derive(Drop)]
 pub struct Core {
@@ -397,9 +394,9 @@ impl Core {
     }
 
     /// Whether the notice is to be told what lives: a step was taken since it was told, and there is nothing to do, or
-    /// so many steps were taken as an eighth of the application sessions that live. So a step pays for eight of them.
+    /// as many steps were taken as application sessions live. A listing walks over these, so a step pays for one.
     pub fn is_list_due(&self, is_busy: bool) -> bool {
-        self.unlisted > 0 && (!is_busy || self.unlisted >= self.switch.live().div_ceil(LISTED_PART))
+        self.unlisted > 0 && (!is_busy || self.unlisted >= self.switch.live())
     }
 
     /// Whether no step was taken since the notice was told what lives.

@@ -10,4 +10,4 @@ mod turning;
 mod waking;
 
 pub use lives::{live_at, ringing_at};
-pub use stepping::{after_begun, after_step, after_turn};
+pub use stepping::{after_begun, after_step};

@@ -84,23 +84,7 @@ pub fn after_step(
     delivered(alloc, setup, net)
 }
 
-/// What a turn of an event makes of a net, as `after_step`.
-pub fn after_turn(
-    alloc: Global,
-    setup: &Setup,
-    app: AppId,
-    event: u64,
-    now: u64,
-    made: &[CallRecord],
-    end: End,
-    net: &mut Net<Session>,
-) -> Result<(), NoMemory>
-    ensures { OnOk result (net.new ≡ after_step as_session setup.now net.old (Step.Turn app event now made.now end)) }
-{
-    after_begun(alloc, setup, app, event, None, now, made, end, net)
-}
-
-/// The same, where it may be known already what the turn begins with.
+/// What a turn of an event makes of a net, as `after_step`; it may be known already what the turn begins with.
 #[tactic(auto, unfolding(sc_hosts::specs::Runs::after_step, sc_hosts::specs::Steps::stepped))]
 pub fn after_begun(
     alloc: Global,

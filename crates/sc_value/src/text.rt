@@ -147,6 +147,13 @@ fn longer(alloc: Global, short: &ShortText, bytes: &[u8]) -> Result<Text, NoMemo
 
 impl CloneIn for Text {
     fn clone_in(&self, alloc: Global) -> Result<Text, NoMemory> {
+        if self.long.is_empty() {
+            return Ok(Text {
+                short: self.short.copied(),
+                long: Vec::new(alloc),
+                alloc,
+            });
+        }
         Text::from_slice(alloc, self.as_bytes())
     }
 }
