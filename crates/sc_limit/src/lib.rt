@@ -10,5 +10,5 @@ mod standard;
 
 pub use limited_sink::LimitedSink;
 pub use measure::fitting;
-pub use room::{Stream, room_of};
+pub use room::{Stream, room_behind, room_of};
 pub use standard::output;

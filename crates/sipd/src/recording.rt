@@ -2,6 +2,7 @@
 
 use sc_edge::{FileShelf, Notice, Sink};
 use sc_journal::Journal;
+use sc_limit::{LimitedSink, room_behind};
 use sc_recorder::{Recorder, Unrecorded, WriteSink};
 use sc_replay::{Ran, Status, read_settings};
 use sc_servlets::Catalogue;
@@ -31,11 +32,11 @@ pub fn recording_of(
     }
 }
 
-/// The file of this name, without what it had: None where it can't be written.
-pub fn begun(rt: &HostRuntime, name: &Text) -> Option<WriteSink<File>> {
+/// The file of this name, without what it had, up to the limit on its size: None where it can't be written.
+pub fn begun(rt: &HostRuntime, name: &Text) -> Option<LimitedSink<WriteSink<File>>> {
     let name = str::from_utf8(name.as_bytes()).ok()?;
     let file = fs::create(rt, name).ok()?;
-    Some(WriteSink::new(file))
+    Some(LimitedSink::new(WriteSink::new(file), room_behind(rt, name)))
 }
 
 /// Writes what a run left, and says how it ended: `Write` where the recording couldn't be written, `NoMemory` where
