@@ -7,7 +7,9 @@ use std::alloc::Global;
 /// A turn that was lent out at this moment, and made at a later one.
 #[derive(Clone, Copy)]
 pub struct Early {
+    /// The moment at which it was lent out, in milliseconds.
     pub now: u64,
+    /// Its application session.
     pub app: AppId,
 }
 
@@ -15,11 +17,16 @@ pub struct Early {
 pub enum Unread {
     /// The place of a row, and what is wrong with it.
     Refused { at: usize, kind: u8 },
+    /// There was no memory.
     NoMemory,
 }
 
 /// The turns of a recording that were lent out at an earlier moment than that at which they were made, by the moments of
-/// their lending.
+/// their lending. So each row of the recording is read once before anything is played.
+///
+/// # Errors
+///
+/// `Refused` at the first row that is none, or at which the clock goes back, and `NoMemory`.
 pub fn early_turns(alloc: Global, text: &[u8]) -> Result<Vec<Early>, Unread> {
     let mut early = Vec::new(alloc);
     let mut moment = 0;

@@ -24,7 +24,8 @@ const LONGEST: usize = 1_073_741_824;
 /// of three texts on the shelf, which are read in this order.
 ///
 /// Each step that is taken is told again, and has to have just the bytes that stand in the recording; the servlets are
-/// called anew. So what is put is what these settings make of the recorded messages and moments.
+/// called anew. So what is put is what these settings make of the recorded messages and moments: at `Done` the records
+/// of all that the recorded run sends, epoch by epoch, and the line with its counts, each of 64 bits at most.
 ///
 /// The status says how it ended:
 ///
@@ -44,7 +45,7 @@ pub fn play<F: Shelf, K: Sink>(
     apps: &Catalogue,
     out: &mut K,
 ) -> Status
-    ensures done { result ≡ Status.Done → PlaysBack apps.now.names (map (λ k. both_charters (stated (k.servlet.vtable, k.servlet.value)) (option_map (λ l. listens (l.vtable, l.value)) k.listener)) apps.now.kinds) (told_by (λ name. F.holds shelf.old name) (map string_bytes words.now)) }
+    ensures done { result ≡ Status.Done → PlaysBack apps.now.names (map (λ k. both_charters (stated (k.servlet.vtable, k.servlet.value)) (option_map (λ l. listens (l.vtable, l.value)) k.listener)) apps.now.kinds) (told_by (λ name. F.holds shelf.old name) (map string_bytes words.now)) (K.took out.old) (K.took out.new) }
 {
     match texts_of(words) {
         Some((config, dar, recording)) => {
@@ -84,7 +85,7 @@ fn play_texts<F: Shelf, K: Sink>(
     apps: &Catalogue,
     out: &mut K,
 ) -> Status
-    ensures done { result ≡ Status.Done → PlaysBack apps.now.names (map (λ k. both_charters (stated (k.servlet.vtable, k.servlet.value)) (option_map (λ l. listens (l.vtable, l.value)) k.listener)) apps.now.kinds) (record { config = F.holds shelf.old (string_bytes config.now); dar = F.holds shelf.old (string_bytes dar.now); script = F.holds shelf.old (string_bytes recording.now) }) }
+    ensures done { result ≡ Status.Done → PlaysBack apps.now.names (map (λ k. both_charters (stated (k.servlet.vtable, k.servlet.value)) (option_map (λ l. listens (l.vtable, l.value)) k.listener)) apps.now.kinds) (record { config = F.holds shelf.old (string_bytes config.now); dar = F.holds shelf.old (string_bytes dar.now); script = F.holds shelf.old (string_bytes recording.now) }) (K.took out.old) (K.took out.new) }
 {
     match read_settings(alloc, config, dar, shelf, apps.names()) {
         Ok(settings) => play_over(alloc, settings, recording, shelf, apps, out),
@@ -102,7 +103,7 @@ fn play_over<F: Shelf, K: Sink>(
     out: &mut K,
 ) -> Status
     requires { IsSetup (record { config = settings.config; dar = settings.dar; kinds = map (λ k. both_charters (stated (k.servlet.vtable, k.servlet.value)) (option_map (λ l. listens (l.vtable, l.value)) k.listener)) apps.now.kinds }) }
-    ensures done { result ≡ Status.Done → IsRecorded (record { config = settings.config; dar = settings.dar; kinds = map (λ k. both_charters (stated (k.servlet.vtable, k.servlet.value)) (option_map (λ l. listens (l.vtable, l.value)) k.listener)) apps.now.kinds }) (F.holds shelf.old (string_bytes recording.now)) }
+    ensures done { result ≡ Status.Done → IsRecorded (record { config = settings.config; dar = settings.dar; kinds = map (λ k. both_charters (stated (k.servlet.vtable, k.servlet.value)) (option_map (λ l. listens (l.vtable, l.value)) k.listener)) apps.now.kinds }) (F.holds shelf.old (string_bytes recording.now)) (K.took out.old) (K.took out.new) }
 {
     let Settings { config, dar } = settings;
     match Switch::new(alloc, config, dar, apps) {
@@ -124,8 +125,9 @@ fn play_on<F: Shelf, K: Sink>(
     requires began { switch.began ≡ 0 }
     requires handed { switch.handed ≡ [] }
     requires journal { switch.journal ≡ [] }
+    requires left { switch.left ≡ [] }
     ensures later { F.faults shelf.old ≤ F.faults shelf.new }
-    ensures done { result ≡ Status.Done → IsRecorded switch.setup (F.holds shelf.old (string_bytes recording.now)) }
+    ensures done { result ≡ Status.Done → IsRecorded switch.setup (F.holds shelf.old (string_bytes recording.now)) (K.took out.old) (K.took out.new) }
 {
     match read_recording(alloc, recording, shelf) {
         Ok(text) => run(alloc, text.as_bytes(), switch, apps, out),
@@ -136,8 +138,13 @@ fn play_on<F: Shelf, K: Sink>(
     }
 }
 
+/// The recording that the shelf holds under a name, of 1 GiB at most.
+///
+/// # Errors
+///
+/// `Read` where it can't be read, `Script` with kind 7 where it has more bytes, and `NoMemory`.
 #[tactic(auto, unfolding(sc_edge::specs::Shelving::Gives))]
-fn read_recording<F: Shelf>(alloc: Global, name: &String, shelf: &mut F) -> Result<Text, Status>
+pub fn read_recording<F: Shelf>(alloc: Global, name: &String, shelf: &mut F) -> Result<Text, Status>
     ensures later { F.faults shelf.old ≤ F.faults shelf.new }
     ensures told { IfOk result (λ text. GivesAll text (F.holds shelf.old (string_bytes name.now))) }
     ensures unread { IfErr result (λ status. status ≡ Status.Done → ⊥) }

@@ -1,30 +1,33 @@
 //! The rows of a recording, one after the other: each step is taken, told again, compared, and what it sends is put.
 
-ghost use Rattle.std.specs.Prelude.{◌≡◌, ◌≤◌, ◌<◌, ◌++◌, ◌∷◌, [], IfOk, OnOk, drop, length, take, true};
+ghost use Rattle.std.specs.Prelude.{◌≡◌, ◌≤◌, ◌<◌, ◌+◌, ◌++◌, ◌∷◌, [], IfOk, OnOk, Option, drop, length, take, true};
 ghost use Rattle.sc_parts.specs.declared.setup.Setup.{Setup};
 ghost use Rattle.sc_grammar.specs.Written.{Bytes};
+ghost use Rattle.sc_edge.specs.Taking.{Takes};
+ghost use Rattle.sc_model.specs.Records.{end_text, records};
+ghost use Rattle.sc_hosts.specs.Runs.{live_count};
 ghost use Rattle.sc_recording.specs.StepTexts.{epoch_text, step_text};
 ghost use Rattle.sc_switch.specs.Answers.{handing};
-ghost use Rattle.sc_play.specs.Played.{IsPlayed, IsRecording};
+ghost use Rattle.sc_switch.specs.Standing.{net_of};
+ghost use Rattle.sc_play.specs.Played.{IsEnd, IsPlayed, IsRecording, IsRow, counted, uncounted};
 
-use crate::early::{Early, Unread, early_turns};
+use crate::early::{Unread, early_turns};
 use crate::rows::{APART, Entry, Row, row_at};
 use crate::stepping::{Player, Untaken, take_step};
-use sc_edge::{Sink, put_all};
+use sc_edge::Sink;
 use sc_recording::{epoch_text, step_text};
-use sc_replay::Status;
-use sc_script::{write_end, write_sent};
+use sc_replay::{Status, WriteRefused, put_end, put_sent};
 use sc_servlets::Catalogue;
 use sc_switch::{Epoch, Switch};
 use sc_terms::Step;
-use sc_value::{Discard, List, NoMemory, Sent, Text};
+use sc_value::{Discard, NoMemory};
 use std::alloc::Global;
 
-/// How many steps were taken and messages sent.
+/// How many steps were taken and messages sent; each stays at its greatest value.
 #[derive(Clone, Copy)]
-struct Counts {
-    steps: u64,
-    sent: u64,
+pub struct Counts {
+    pub steps: u64,
+    pub sent: u64,
 }
 
 /// Plays a recording on a switch that took no step, and puts what it sends.
@@ -39,10 +42,11 @@ pub fn run<K: Sink>(
     requires began { switch.began ≡ 0 }
     requires handed { switch.handed ≡ [] }
     requires journal { switch.journal ≡ [] }
-    ensures done { result ≡ Status.Done → IsRecording switch.setup text.now }
+    requires left { switch.left ≡ [] }
+    ensures done { result ≡ Status.Done → IsRecording switch.setup text.now (K.took out.old) (K.took out.new) }
 {
     match early_turns(alloc, text) {
-        Ok(early) => run_with(alloc, text, player_of(alloc, switch, early), apps, out),
+        Ok(early) => run_with(alloc, text, Player::new(alloc, switch, early), apps, out),
         Err(Unread::Refused { at, kind }) => {
             drop(switch);
             Status::Script { at, kind }
@@ -51,17 +55,6 @@ pub fn run<K: Sink>(
             drop(switch);
             Status::NoMemory
         }
-    }
-}
-
-fn player_of(alloc: Global, switch: Switch, early: Vec<Early>) -> Player
-    ensures { result.switch ≡ switch }
-{
-    Player {
-        switch,
-        lent: List::new(alloc),
-        early,
-        done: 0,
     }
 }
 
@@ -76,24 +69,16 @@ fn run_with<K: Sink>(
     requires began { player.switch.began ≡ 0 }
     requires handed { player.switch.handed ≡ [] }
     requires journal { player.switch.journal ≡ [] }
-    ensures done { result ≡ Status.Done → IsRecording player.switch.setup text.now }
+    requires left { player.switch.left ≡ [] }
+    ensures done { result ≡ Status.Done → IsRecording player.switch.setup text.now (K.took out.old) (K.took out.new) }
 {
     let status = play_rows(alloc, text, &mut player, apps, out);
-    let _ = player.switch.journal();
-    let Player {
-        switch,
-        lent,
-        early,
-        done: _,
-    } = player;
-    drop(switch);
-    drop(lent);
-    drop(early);
+    player.discard();
     status
 }
 
 /// Plays all rows and puts the last line.
-#[tactic(auto, using(crate::proofs::PlayLaws::rows_none, crate::proofs::PlayLaws::rows_next, crate::proofs::PlayLaws::rows_all))]
+#[tactic(auto, using(crate::proofs::PlayLaws::rows_none, crate::proofs::PlayLaws::rows_next))]
 fn play_rows<K: Sink>(
     alloc: Global,
     text: &[u8],
@@ -101,7 +86,7 @@ fn play_rows<K: Sink>(
     apps: &Catalogue,
     out: &mut K,
 ) -> Status
-    ensures done { result ≡ Status.Done → (setup : Setup) → IsPlayed setup [] player.old.switch → IsPlayed setup text.now player.new.switch }
+    ensures done { result ≡ Status.Done → (setup : Setup) → IsPlayed setup [] player.old.switch uncounted (K.took out.old) (K.took out.old) → IsRecording setup text.now (K.took out.old) (K.took out.new) }
 {
     let mut counts = Counts { steps: 0, sent: 0 };
     let mut at = 0;
@@ -111,11 +96,12 @@ fn play_rows<K: Sink>(
             Err(stop) => return status_of(at, stop),
         }
     }
-    put_end(alloc, counts, &player.switch, out)
+    let _ = player.switch.journal();
+    put_last(alloc, counts, &player.switch, out)
 }
 
-/// How a run ends at this byte.
-fn status_of(at: usize, stop: Unplayed) -> Status
+/// How a run ends, where the row at this byte isn't played.
+pub fn status_of(at: usize, stop: Unplayed) -> Status
     ensures { result ≡ Status.Done → ⊥ }
 {
     match stop {
@@ -139,7 +125,7 @@ fn play_at<K: Sink>(
     requires { at ≤ length text.now }
     ensures later { IfOk result (λ next. at < next) }
     ensures within { IfOk result (λ next. next ≤ length text.now) }
-    ensures played { IfOk result (λ next. (setup : Setup) → IsPlayed setup (take at text.now) player.old.switch → IsPlayed setup (take next text.now) player.new.switch) }
+    ensures played { IfOk result (λ next. (setup : Setup) (first : Option Bytes) → IsPlayed setup (take at text.now) player.old.switch counts.old first (K.took out.old) → IsPlayed setup (take next text.now) player.new.switch counts.new first (K.took out.new)) }
 {
     let rest = rest_at(text, at);
     match row_at(rest) {
@@ -177,11 +163,12 @@ fn front_of(text: &[u8], len: usize) -> &[u8]
 
 /// Why a row isn't played.
 #[derive(Clone, Copy, Debug, PartialEq, Eq)]
-enum Unplayed {
-    /// What is wrong there, by its number.
+pub enum Unplayed {
+    /// What is wrong there, by its number, as of the status `Script`.
     Refused(u8),
     /// The journal has no room for the step.
     JournalFull,
+    /// There was no memory.
     NoMemory,
     /// The sink failed.
     Write,
@@ -203,7 +190,17 @@ impl From<Untaken> for Unplayed {
     }
 }
 
+impl From<WriteRefused> for Unplayed {
+    fn from(cause: WriteRefused) -> Unplayed {
+        match cause {
+            WriteRefused::NoMemory => Unplayed::NoMemory,
+            WriteRefused::Failed => Unplayed::Write,
+        }
+    }
+}
+
 /// Plays a row, of these bytes.
+#[tactic(auto, using(crate::proofs::PlayLaws::played_row, crate::proofs::PlayLaws::played_end))]
 fn play_row<K: Sink>(
     alloc: Global,
     row: &Row<'_>,
@@ -213,22 +210,25 @@ fn play_row<K: Sink>(
     counts: &mut Counts,
     out: &mut K,
 ) -> Result<(), Unplayed>
-    ensures { OnOk result ((setup : Setup) (before : Bytes) → IsPlayed setup before player.old.switch → IsPlayed setup (before ++ bytes.now) player.new.switch) }
+    ensures { OnOk result ((setup : Setup) (before : Bytes) (first : Option Bytes) → IsPlayed setup before player.old.switch counts.old first (K.took out.old) → IsPlayed setup (before ++ bytes.now) player.new.switch counts.new first (K.took out.new)) }
 {
     match row.entry {
-        Entry::Epoch => end_epoch(alloc, bytes, &mut player.switch),
+        Entry::Epoch => match end_epoch(alloc, bytes, &mut player.switch) {
+            Ok(()) => Ok(()),
+            Err(cause) => Err(cause),
+        },
         _ => match play_step(alloc, &row.entry, bytes, player, apps) {
-            Ok(()) => {
-                counts.steps = counts.steps.saturating_add(1);
-                put_sent(alloc, &mut player.switch, counts, out)
-            }
+            Ok(()) => match put_row(alloc, &mut player.switch, counts, out) {
+                Ok(()) => Ok(()),
+                Err(cause) => Err(cause),
+            },
             Err(cause) => Err(cause),
         },
     }
 }
 
 /// Takes a step, and hands it on, where its text has these bytes.
-#[tactic(auto, unfolding(crate::specs::Played::Took), using(crate::proofs::PlayLaws::played_step, crate::proofs::PlayLaws::step_alone))]
+#[tactic(auto, unfolding(crate::specs::Played::Took), using(crate::proofs::PlayLaws::row_of))]
 fn play_step(
     alloc: Global,
     entry: &Entry<'_>,
@@ -236,7 +236,7 @@ fn play_step(
     player: &mut Player,
     apps: &Catalogue,
 ) -> Result<(), Unplayed>
-    ensures { OnOk result ((setup : Setup) (before : Bytes) → IsPlayed setup before player.old.switch → IsPlayed setup (before ++ bytes.now) player.new.switch) }
+    ensures { OnOk result (player.old.switch.journal ≡ [] → IsRow player.old.switch player.new.switch bytes.now) }
 {
     match take_step(alloc, apps, entry, player) {
         Ok(()) => match is_last_step(alloc, bytes, &mut player.switch) {
@@ -248,8 +248,36 @@ fn play_step(
     }
 }
 
-/// Hands the last step on, and whether its text has these bytes.
-fn is_last_step(alloc: Global, bytes: &[u8], switch: &mut Switch) -> Result<bool, NoMemory>
+/// Puts the records of what a step sent, and counts both.
+fn put_row<K: Sink>(
+    alloc: Global,
+    switch: &mut Switch,
+    counts: &mut Counts,
+    out: &mut K,
+) -> Result<(), Unplayed>
+    ensures same { switch.new ≡ record switch.old { left = switch.new.left } }
+    ensures left { OnOk result (switch.new.left ≡ []) }
+    ensures takes { OnOk result (Takes (K.took out.old) (K.took out.new) (records switch.old.left)) }
+    ensures steps { OnOk result (counts.new.steps ≡ counted (counts.old.steps + 1)) }
+    ensures sent { OnOk result (counts.new.sent ≡ counted (counts.old.sent + length switch.old.left)) }
+{
+    let sent = switch.untaken();
+    match put_sent(alloc, switch, out) {
+        Ok(()) => {
+            counts.steps = counts.steps.saturating_add(1);
+            counts.sent = counts.sent.saturating_add(sent);
+            Ok(())
+        }
+        Err(cause) => Err(Unplayed::from(cause)),
+    }
+}
+
+/// Hands the last step on, and whether its text has these bytes: false where there is none.
+///
+/// # Errors
+///
+/// `NoMemory`; the step is handed on.
+pub fn is_last_step(alloc: Global, bytes: &[u8], switch: &mut Switch) -> Result<bool, NoMemory>
     ensures handed { switch.new ≡ handing switch.old }
     ensures same { IfOk result (λ same. same ≡ true → (step : Step) → switch.old.journal ≡ step ∷ [] → bytes.now ≡ step_text step) }
 {
@@ -268,10 +296,14 @@ fn is_text(alloc: Global, bytes: &[u8], step: &Step) -> Result<bool, NoMemory>
     Ok(text.as_bytes() == bytes)
 }
 
-/// Ends the epoch, where the line says so.
-#[tactic(auto, using(crate::proofs::PlayLaws::played_turn))]
-fn end_epoch(alloc: Global, bytes: &[u8], switch: &mut Switch) -> Result<(), Unplayed>
-    ensures { OnOk result ((setup : Setup) (before : Bytes) → IsPlayed setup before switch.old → IsPlayed setup (before ++ bytes.now) switch.new) }
+/// Ends the epoch, whose line has these bytes.
+///
+/// # Errors
+///
+/// `Refused` with [`APART`] where no epoch ends here, as something lives, or where another one does, and `NoMemory`.
+#[tactic(auto, using(crate::proofs::PlayLaws::end_of))]
+pub fn end_epoch(alloc: Global, bytes: &[u8], switch: &mut Switch) -> Result<(), Unplayed>
+    ensures { OnOk result (IsEnd switch.old switch.new bytes.now) }
 {
     match switch.turn_epoch() {
         Ok(ended) => match is_end(alloc, bytes, &ended) {
@@ -291,56 +323,13 @@ fn is_end(alloc: Global, bytes: &[u8], ended: &Epoch) -> Result<bool, NoMemory>
     Ok(text.as_bytes() == bytes)
 }
 
-/// Puts the records of what was sent.
-#[tactic(auto, using(crate::proofs::PlayLaws::played_sent))]
-fn put_sent<K: Sink>(
-    alloc: Global,
-    switch: &mut Switch,
-    counts: &mut Counts,
-    out: &mut K,
-) -> Result<(), Unplayed>
-    ensures { (setup : Setup) (before : Bytes) → IsPlayed setup before switch.old → IsPlayed setup before switch.new }
-{
-    for _ in 0..switch.untaken() {
-        if let Some(sent) = take_sent(switch) {
-            let put = put_record(alloc, &sent, out);
-            sent.discard();
-            put?;
-            counts.sent = counts.sent.saturating_add(1);
-        }
-    }
-    Ok(())
-}
-
-/// Takes the oldest message that was sent.
-#[tactic(auto, using(crate::proofs::PlayLaws::played_sent))]
-fn take_sent(switch: &mut Switch) -> Option<Sent>
-    ensures { (setup : Setup) (before : Bytes) → IsPlayed setup before switch.old → IsPlayed setup before switch.new }
-{
-    switch.take_sent()
-}
-
-fn put_record<K: Sink>(alloc: Global, sent: &Sent, out: &mut K) -> Result<(), Unplayed> {
-    let mut text = Text::new(alloc);
-    write_sent(alloc, sent, &mut text)?;
-    put_text(&text, out)
-}
-
-fn put_text<K: Sink>(text: &Text, out: &mut K) -> Result<(), Unplayed> {
-    match put_all(out, text.as_bytes()) {
-        Ok(()) => Ok(()),
-        Err(_) => Err(Unplayed::Write),
-    }
-}
-
 /// Puts the last line.
-fn put_end<K: Sink>(alloc: Global, counts: Counts, switch: &Switch, out: &mut K) -> Status {
-    let mut text = Text::new(alloc);
-    match write_end(alloc, counts.steps, counts.sent, switch.live(), &mut text) {
-        Ok(()) => match put_text(&text, out) {
-            Ok(()) => Status::Done,
-            Err(_) => Status::Write,
-        },
-        Err(NoMemory) => Status::NoMemory,
+fn put_last<K: Sink>(alloc: Global, counts: Counts, switch: &Switch, out: &mut K) -> Status
+    ensures { result ≡ Status.Done → Takes (K.took out.old) (K.took out.new) (end_text counts.steps counts.sent (live_count (net_of switch.now))) }
+{
+    match put_end(alloc, counts.steps, counts.sent, switch.live(), out) {
+        Ok(()) => Status::Done,
+        Err(WriteRefused::NoMemory) => Status::NoMemory,
+        Err(WriteRefused::Failed) => Status::Write,
     }
 }

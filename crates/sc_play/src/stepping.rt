@@ -20,6 +20,7 @@ pub enum Untaken {
     Apart,
     /// The journal has no room for it.
     JournalFull,
+    /// There was no memory.
     NoMemory,
 }
 
@@ -47,6 +48,34 @@ pub struct Player {
     pub early: Vec<Early>,
     /// How many of them were lent out.
     pub done: usize,
+}
+
+impl Player {
+    /// A player that lent out none of these turns, which stand by their moments.
+    pub fn new(alloc: Global, switch: Switch, early: Vec<Early>) -> Player
+        ensures { result.switch ≡ switch }
+    {
+        Player {
+            switch,
+            lent: List::new(alloc),
+            early,
+            done: 0,
+        }
+    }
+}
+
+impl Discard for Player {
+    fn discard(self) {
+        let Player {
+            switch,
+            lent,
+            early,
+            done: _,
+        } = self;
+        drop(switch);
+        drop(lent);
+        drop(early);
+    }
 }
 
 /// Takes the step of a row other than the end of an epoch.
@@ -166,8 +195,12 @@ fn go_on(alloc: Global, now: u64, switch: &mut Switch) -> Result<(), Untaken>
 
 /// Lends out the turns of which the recording says that they were lent out at the last moment or before, and made
 /// later.
+///
+/// # Errors
+///
+/// `NoMemory`; those before it are lent out.
 #[tactic(auto, using(crate::proofs::PlayLaws::lent_none, crate::proofs::PlayLaws::lent_then))]
-fn lend_early(alloc: Global, player: &mut Player) -> Result<(), NoMemory>
+pub fn lend_early(alloc: Global, player: &mut Player) -> Result<(), NoMemory>
     ensures { OnOk result (Lent player.old.switch player.new.switch) }
 {
     for _ in player.done..player.early.len() {
@@ -235,9 +268,13 @@ fn take_turn(
     }
 }
 
-/// The turn of a session that was lent out, or that is lent out now.
+/// The turn of a session that was lent out, or that is lent out now; none where no event waits for it.
+///
+/// # Errors
+///
+/// `NoMemory`; nothing is lent out.
 #[tactic(auto, using(crate::proofs::PlayLaws::lent_none, crate::proofs::PlayLaws::lent_of))]
-fn lease_for(alloc: Global, app: AppId, player: &mut Player) -> Result<Option<Lease>, NoMemory>
+pub fn lease_for(alloc: Global, app: AppId, player: &mut Player) -> Result<Option<Lease>, NoMemory>
     ensures { OnOk result (Lent player.old.switch player.new.switch) }
 {
     match lent_of(app, &mut player.lent) {
@@ -291,12 +328,17 @@ fn withdraw(alloc: Global, app: AppId, player: &mut Player) -> Result<(), Untake
 {
     match end_session(alloc, app, &mut player.switch) {
         Ok(()) => {
-            if let Some(lease) = lent_of(app, &mut player.lent) {
-                lease.discard();
-            }
+            forget(app, &mut player.lent);
             Ok(())
         }
         Err(cause) => Err(cause),
+    }
+}
+
+/// Forgets the turn of a session that was lent out, and isn't made any more.
+pub fn forget(app: AppId, lent: &mut List<Lease>) {
+    if let Some(lease) = lent_of(app, lent) {
+        lease.discard();
     }
 }
 

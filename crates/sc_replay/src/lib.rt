@@ -20,3 +20,4 @@ pub use replaying::replay;
 pub use sc_switch::{Ran, Status};
 pub use settings::{Settings, read_settings};
 pub use trying::trial;
+pub use writing::{WriteRefused, put_end, put_sent};

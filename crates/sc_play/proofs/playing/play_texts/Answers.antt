@@ -10,8 +10,8 @@ play_over-requires g c = is_setup _ _ _ _ _ _ (c.args.apps.now.paired ∙ sym (l
 pub returns-in-Ok : goal.returns-in-Ok
 returns-in-Ok g c = record {
   done = λ done.
-      plays_back _ _ _ _ _ _ _ (rw c.names.ensures at c.in-Ok.ensures.config) c.in-Ok.ensures.table
-      (recorded_as _ _ _ (c.read_settings.ensures.same _) (c.play_over.ensures.done done));
+      plays_back _ _ _ _ _ _ _ _ _ (rw c.names.ensures at c.in-Ok.ensures.config) c.in-Ok.ensures.table
+      (recorded_as _ _ _ _ _ (c.read_settings.ensures.same _) (c.play_over.ensures.done done));
 }
 
 pub returns-in-Err : goal.returns-in-Err

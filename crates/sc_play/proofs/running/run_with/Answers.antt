@@ -1,10 +1,9 @@
-use Rattle.sc_play.proofs.PlayLaws.{played_all, played_none}
+use Rattle.sc_play.proofs.PlayLaws.{played_none}
 use Rattle.sc_play.proofs.running.run_with.Goals as goal
 
 pub returns : goal.returns
 returns g c = record {
   done = λ done.
-      played_all c.args.player.switch.setup c.args.text.now c.play_rows-status.new.player.switch
-      (c.play_rows-status.ensures.done done c.args.player.switch.setup (played_none c.args.player.switch c.requires.epoch c.requires.began c.requires.handed c.requires.journal))
-      c.journal.ensures.lawful;
+      c.play_rows-status.ensures.done done c.args.player.switch.setup
+      (played_none c.args.player.switch _ c.requires.epoch c.requires.began c.requires.handed c.requires.journal c.requires.left);
 }
