@@ -82,7 +82,8 @@ fn hear(
     }
 }
 
-fn take_message(
+/// A message comes from a place.
+pub fn take_message(
     alloc: Global,
     place: Place,
     message: Message,
@@ -127,13 +128,25 @@ fn end_bad(
     switch: &mut Switch,
     story: &mut Story,
 ) -> Result<bool, StepRefused> {
+    take_bad(alloc, place, bad, switch, story)?;
+    lose(alloc, place, stream, switch, story)?;
+    Ok(false)
+}
+
+/// A text comes from a place that is no message.
+pub fn take_bad(
+    alloc: Global,
+    place: Place,
+    bad: Bad,
+    switch: &mut Switch,
+    story: &mut Story,
+) -> Result<(), StepRefused> {
     let at = bad.at;
     let kind = bad.kind;
     switch.hear_bad(alloc, place, bad)?;
     tell_bad(alloc, switch.now(), place, at, kind, story)?;
     tell_sent(alloc, switch, Stop::Edge, story)?;
-    lose(alloc, place, stream, switch, story)?;
-    Ok(false)
+    Ok(())
 }
 
 /// A text is too long, and nothing behind it is heard.

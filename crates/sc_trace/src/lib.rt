@@ -1,5 +1,5 @@
-//! The command `trace`: a run of a script as a ladder diagram. The run is that of `replay`, by the same calls
-//! of the switch. What is drawn (`sc_ladder`) is outside of the promises: every function is proved to be
+//! The command `trace`: a run of a script, or of a recording, as a ladder diagram. The run is that of `replay`, or that
+//! of `play`, by the same calls of the switch. What is drawn (`sc_ladder`) is outside of the promises: every function is proved to be
 //! safe and to end, and no clause says what the picture shows.
 #![tactic(auto)]
 
@@ -7,6 +7,7 @@ mod hearing;
 mod lines;
 mod putting;
 mod reading;
+mod recorded;
 mod streams;
 mod telling;
 mod tracing;

@@ -80,7 +80,7 @@ fn do_lost(
 }
 
 /// An application session is ended, where it lives.
-fn do_drop(
+pub fn do_drop(
     alloc: Global,
     app: AppId,
     switch: &mut Switch,

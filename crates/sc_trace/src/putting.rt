@@ -61,18 +61,17 @@ fn put_rows<K: Sink>(
     Ok(())
 }
 
-/// The lines below the picture: the sessions that live, and the last line of `replay`.
-pub fn closing_of(alloc: Global, switch: &Switch, story: &Story) -> Result<Text, NoMemory> {
+/// The lines below the picture of so many steps: the sessions that live, and the last line of `replay`.
+pub fn closing_of(
+    alloc: Global,
+    steps: u64,
+    switch: &Switch,
+    story: &Story,
+) -> Result<Text, NoMemory> {
     let listing = switch.listing(alloc)?;
     let mut text = Text::new(alloc);
     write_living(&listing.live, story.names.as_slice(), &mut text)?;
-    write_end(
-        alloc,
-        switch.journal().len(),
-        story.sent,
-        switch.live(),
-        &mut text,
-    )?;
+    write_end(alloc, steps, story.sent, switch.live(), &mut text)?;
     Ok(text)
 }
 

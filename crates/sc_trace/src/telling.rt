@@ -87,6 +87,12 @@ pub fn tell_tick(alloc: Global, now: u64, story: &mut Story) -> Result<(), NoMem
     add_row(now, Mark::Blank, text, story)
 }
 
+/// An epoch ended: from here on sessions are numbered anew.
+pub fn tell_epoch(alloc: Global, now: u64, story: &mut Story) -> Result<(), NoMemory> {
+    let text = Text::from_slice(alloc, b"the epoch ends")?;
+    add_row(now, Mark::Blank, text, story)
+}
+
 /// A session was ended from outside, or didn't live.
 pub fn tell_withdrawn(
     alloc: Global,

@@ -61,7 +61,7 @@ pub fn take_turn_of(
 
 /// Makes the turn of a lease and commits it: false where the catalogue hasn't the lease's kind, which no
 /// switch over that catalogue lends.
-fn bring(
+pub fn bring(
     alloc: Global,
     apps: &Catalogue,
     lease: Lease,

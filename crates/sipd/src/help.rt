@@ -11,6 +11,7 @@ usage: sipd replay CONFIG DAR SCRIPT
        sipd trial N
        sipd serve CONFIG DAR
        sipd trace [--svg] CONFIG DAR SCRIPT
+       sipd trace [--svg] --recording CONFIG DAR RECORDING
        sipd play CONFIG DAR RECORDING
        sipd explain WHAT NUMBER
        sipd --help
@@ -25,7 +26,7 @@ application sessions live on.
 trace runs a script as replay does, and writes a picture of the run in place
 of the records: a column for each place and application, an arrow for each
 message from outside or to it, and a row for each turn and call. With --svg the
-picture is an SVG file for a browser.
+picture is an SVG file for a browser; with --recording it is that of a recording.
 
 check reads a configuration and a routing table, and writes `ok A T`: how many
 applications and how many tuples they have. With -v a line `warning: ..` follows
