@@ -13,6 +13,9 @@ const ROOM: usize = 4_096;
 /// So many rounds in a row go by at most without a poll.
 const MOST_UNPOLLED: u32 = 15;
 
+/// Where more application sessions live, what lives is told each second at most while nothing else is to do.
+const FEW: u64 = 256;
+
 /// What a server holds between two rounds.
 #[derive(Drop)]
 pub struct Server {
@@ -25,7 +28,7 @@ pub struct Server {
     pub unpolled: u32,
     /// The moment at which the last round began, in milliseconds.
     pub moment: u64,
-    /// Whether the clock had gone on when it began.
+    /// Whether the clock has gone on so far that what lives is to be told.
     pub ticked: bool,
     /// Where the edge puts what came.
     pub room: [u8; 4096],
@@ -56,7 +59,8 @@ impl Server {
         ensures streams { self.new.streams ≡ self.old.streams }
     {
         let now = self.core.switch.now();
-        self.ticked = now != self.moment;
+        let is_untold = self.ticked && !self.core.is_listed();
+        self.ticked = is_untold || goes_on(self.moment, now, self.core.switch.live());
         self.moment = now;
         if self.core.is_turn_due() && self.unpolled < MOST_UNPOLLED {
             self.unpolled += 1;
@@ -139,4 +143,14 @@ impl Server {
 /// Whether the server makes the connections of a place itself.
 fn is_made_here(place: Place) -> bool {
     matches!(place, Place::To(..))
+}
+
+/// Whether the clock goes on from one moment to another so far that what lives is to be told, where so many sessions
+/// live. A listing walks over them, so many are told each second and not at each moment.
+fn goes_on(before: u64, now: u64, live: u64) -> bool {
+    if live > FEW {
+        now / 1_000 != before / 1_000
+    } else {
+        now != before
+    }
 }

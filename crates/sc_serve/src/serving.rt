@@ -35,8 +35,9 @@ use std::thread::Threads;
 /// that it names, where it names the epoch that runs and the session lives there; any other does nothing. Once a step
 /// was taken the notice is told what lives: after a round where as many steps were taken since it was told last as
 /// application sessions live; and where there was nothing to do and no turn is lent out, once for each moment of the
-/// clock, and at the end. Where the setting `record` names a file, the steps that are kept are handed on
-/// after a round at whose end the clock is at least 1,000 ms past the last hand-on, or past 0.
+/// clock, but once a second where more than 256 sessions live, and at the end. Where the setting `record` names a
+/// file, the steps that are kept are handed on after a round at whose end the clock is at least 1,000 ms past the last
+/// hand-on, or past 0.
 ///
 /// The turns that are lent out are made by as many threads as the settings' `workers` says, 1 to 32. Each passes the
 /// gate before it calls a servlet. The rounds begin with the first of these threads, or after 2 seconds without one;
