@@ -1,0 +1,37 @@
+-- Answers, and what goes away, leave the attributes and the moment.
+use Rattle.std.proofs.Common.{◌≡◌, ℕ, Bool, true, false, Option, None, Some, refl, ap, ◌∙◌}
+use Rattle.std.specs.Prelude.{cond}
+use Rattle.sc_value.specs.declared.ids.SessId.{SessId}
+use Rattle.sc_terms.specs.declared.views.RequestView.{RequestView}
+use Rattle.sc_terms.specs.declared.views.View.{View}
+use Rattle.sc_hosts.specs.Looking.{removed}
+use Rattle.sc_hosts.specs.ViewChanges.{answered, answered_in, tidy}
+use Rattle.sc_lasting.proofs.Parts.{removed-only}
+
+pub if-same : {A : Type 0} {B : Type 0} (part : A → B) (b : Bool) (x y : A) (z : B) → part x ≡ z → part y ≡ z → part (cond b x y) ≡ z
+if-same part true x y z p q = p
+if-same part false x y z p q = q
+
+-- of the one view the other has the moment and the attributes
+abbrev pub IsAside : View → View → Type 0
+IsAside before after = (after.now ≡ before.now) × (after.attributes ≡ before.attributes)
+
+pub if-aside : {A : Type 0} (part : A → View) (b : Bool) (x y : A) (view : View) → IsAside view (part x) → IsAside view (part y) → IsAside view (part (cond b x y))
+if-aside part true x y view p q = p
+if-aside part false x y view p q = q
+
+pub then-aside : (u v w : View) → IsAside u v → IsAside v w → IsAside u w
+then-aside u v w p q = (q.0 ∙ p.0, q.1 ∙ p.1)
+
+pub answered-aside : (request : Option RequestView) (code : ℕ) (view : View) → IsAside view (answered request code view)
+unfolding answered answered_in tidy
+answered-aside None code view = (refl, refl)
+answered-aside (Some request) code view = (refl, refl)
+
+pub answered-kept : (request : Option RequestView) (code : ℕ) (view : View) → (answered request code view).attributes ≡ view.attributes
+unfolding answered answered_in tidy
+answered-kept None code view = refl
+answered-kept (Some request) code view = refl
+
+pub removed-kept : (sess : SessId) (view : View) → (removed sess view).attributes ≡ view.attributes
+removed-kept sess view = ap (λ (v : View). v.attributes) (removed-only sess view)
