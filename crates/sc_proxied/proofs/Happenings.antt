@@ -17,7 +17,7 @@ use Rattle.sc_model.specs.SessionStates.{is_final}
 use Rattle.sc_model.specs.Transactions.{first_in_time, is_success}
 use Rattle.sc_hosts.specs.Acting.{rested, rested_branch, with_forwarded}
 use Rattle.sc_hosts.specs.Branches.{added_targets, after_end, cancelled_branch, ended_branch, ended_by, heard, is_branch, is_global, is_open, new_branch, new_proxy, passing_on, recurses, rung, stopped, to_cancel, with_candidate, with_end, with_targets}
-use Rattle.sc_proxied.specs.ProxyLists.{Asked, Expired, Forwarded, Heard, IsHad, IsOfList, ProxyEvent, Rested, Started, Stopped, TimedOut, added_by, added_since, candidate_by, candidates_of, cancelled_of, counts, ends_all, final_by, final_of, followed, forwarded_by, forwarded_of, happens, is_cancelled, is_expiry_of, is_open_at, is_open_in, is_rest, is_settled, proxy_after, started_by, started_of, started_since, stops, targets_of, tried_of, was_started}
+use Rattle.sc_proxied.specs.ProxyLists.{Asked, Expired, Forwarded, Heard, IsHad, IsOfList, PassedOn, ProxyEvent, Rested, Started, Stopped, TimedOut, added_by, added_since, candidate_by, candidates_of, cancelled_of, counts, ends_all, final_by, final_of, followed, forwarded_by, forwarded_of, happens, is_cancelled, is_expiry_of, is_open_at, is_open_in, is_rest, is_settled, proxy_after, started_by, started_of, stops, taken_by, taken_since, targets_of, tried_of, was_started}
 use Rattle.sc_proxied.proofs.Lists.{AllOf, AreApart, AreOf, IsBranchOf, NumbersApart, all-of, append-none, append-numbers, apart-of, closed-final, drop-more, drop-next, each-number, each-of, equal, final-same, first-numbers, first-of, forwarded-next, kept-numbers, longer, more-of, never-both, number-itself, number_of, numbers-more, open-final, open-is, or-none, other-way, settled-next, started-next, unstarted-cancelled, unstarted-final}
 
 -- what the proxy is as the list says, with what the list leaves room for
@@ -28,7 +28,7 @@ record Stands (first proxy : Proxy) (events : List ProxyEvent) : Type 0 where
   settled : proxy.settled ≡ is_settled events
   candidates : proxy.candidates ≡ candidates_of first events
   forwarded : proxy.forwarded ≡ forwarded_of events
-  room : started_since events ≤ length (added_since first events)
+  room : taken_since events ≤ length (added_since first events)
   numbers : map number_of proxy.branches ≡ started_of events
   apart : NumbersApart (started_of events)
   are : AreOf events proxy.branches
@@ -60,6 +60,19 @@ room-by : (stop : Bool) (since : ℕ) (added new : List Uri) → since ≤ lengt
 room-by true since added new room = omega arith
 room-by false since added new room = subst (λ (n : ℕ). n ≤ length (added ++ new)) (sym (no-more since)) (longer since added new room)
 
+-- what starts no branch takes no target
+none-taken : (event : ProxyEvent) → started_by event ≡ [] → taken_by event ≡ 0
+unfolding started_by taken_by
+none-taken (Asked uris) none = refl
+none-taken Stopped none = refl
+none-taken (Started number now) none = cc
+none-taken (PassedOn number) none = refl
+none-taken (Heard number sess response now) none = refl
+none-taken (TimedOut number sess response) none = refl
+none-taken (Expired number) none = refl
+none-taken (Forwarded code) none = refl
+none-taken Rested none = refl
+
 module _ (first : Proxy) where
   stands-next : (proxy after : Proxy) (event : ProxyEvent) (events : List ProxyEvent) → Stands first proxy events → started_by event ≡ []
       → after.options ≡ proxy.options → after.tried ≡ proxy.tried ++ added_by first (tried_of first events) events event
@@ -67,18 +80,18 @@ module _ (first : Proxy) where
       → after.settled ≡ (proxy.settled || stops events event) → after.candidates ≡ proxy.candidates ++ candidate_by first events event
       → after.forwarded ≡ option_or proxy.forwarded (forwarded_by event) → map number_of after.branches ≡ map number_of proxy.branches
       → AreOf (event ∷ events) after.branches → Stands first after (event ∷ events)
-  unfolding tried_of targets_of candidates_of started_of started_since added_since
+  unfolding tried_of targets_of candidates_of started_of taken_since added_since
   stands-next proxy after event events stands none options tried targets settled candidates forwarded numbers are = record {
     options = options ∙ stands.options;
     tried = tried ∙ ap (λ (us : List Uri). us ++ added_by first (tried_of first events) events event) stands.tried;
     targets = targets ∙ ap (λ (us : List Uri). cond (stops events event) [] (us ++ added_by first (tried_of first events) events event)) stands.targets
-        ∙ sym (targets-by (stops events event) (started_since events) (added_since first events) (added_by first (tried_of first events) events event) stands.room)
-        ∙ ap (λ (ns : List ℕ). drop (cond (stops events event) 0 (started_since events + length ns)) (cond (stops events event) [] (added_since first events ++ added_by first (tried_of first events) events event))) (sym none);
+        ∙ sym (targets-by (stops events event) (taken_since events) (added_since first events) (added_by first (tried_of first events) events event) stands.room)
+        ∙ ap (λ (n : ℕ). drop (cond (stops events event) 0 (taken_since events + n)) (cond (stops events event) [] (added_since first events ++ added_by first (tried_of first events) events event))) (sym (none-taken event none));
     settled = settled ∙ ap (λ b. b || stops events event) stands.settled ∙ sym (settled-next event events);
     candidates = candidates ∙ ap (λ (rs : List Response). rs ++ candidate_by first events event) stands.candidates;
     forwarded = forwarded ∙ ap (λ (f : Option ℕ). option_or f (forwarded_by event)) stands.forwarded ∙ sym (forwarded-next event events);
-    room = subst (λ (ns : List ℕ). cond (stops events event) 0 (started_since events + length ns) ≤ length (cond (stops events event) [] (added_since first events ++ added_by first (tried_of first events) events event))) (sym none)
-        (room-by (stops events event) (started_since events) (added_since first events) (added_by first (tried_of first events) events event) stands.room);
+    room = subst (λ (n : ℕ). cond (stops events event) 0 (taken_since events + n) ≤ length (cond (stops events event) [] (added_since first events ++ added_by first (tried_of first events) events event))) (sym (none-taken event none))
+        (room-by (stops events event) (taken_since events) (added_since first events) (added_by first (tried_of first events) events event) stands.room);
     numbers = numbers ∙ stands.numbers ∙ sym (append-none (started_of events)) ∙ ap (λ (ns : List ℕ). started_of events ++ ns) (sym none);
     apart = subst NumbersApart (sym (append-none (started_of events)) ∙ ap (λ (ns : List ℕ). started_of events ++ ns) (sym none)) stands.apart;
     are = are;
@@ -188,17 +201,17 @@ module _ (first : Proxy) where
   -- ## A branch is started, or its time is up
 
   started-stands : (number now : ℕ) (proxy : Proxy) (events : List ProxyEvent) → was_started number events ≡ false
-      → started_since events < length (added_since first events) → Stands first proxy events
+      → taken_since events < length (added_since first events) → Stands first proxy events
       → Stands first (happens (Started number now) proxy) (Started number now ∷ events)
-  unfolding happens new_branch added_by candidate_by stops started_by forwarded_by final_by is_rest is_expiry_of tried_of targets_of candidates_of started_of started_since added_since
+  unfolding happens new_branch added_by candidate_by stops started_by taken_by forwarded_by final_by is_rest is_expiry_of tried_of targets_of candidates_of started_of taken_since added_since
   started-stands number now proxy events fresh below stands = record {
     options = stands.options;
     tried = stands.tried ∙ sym (append-none (tried_of first events));
-    targets = ap (λ (us : List Uri). drop 1 us) stands.targets ∙ drop-next (started_since events) (added_since first events) ∙ ap (λ (us : List Uri). drop (started_since events + 1) us) (sym (append-none (added_since first events)));
+    targets = ap (λ (us : List Uri). drop 1 us) stands.targets ∙ drop-next (taken_since events) (added_since first events) ∙ ap (λ (us : List Uri). drop (taken_since events + 1) us) (sym (append-none (added_since first events)));
     settled = stands.settled ∙ sym (or-none (is_settled events)) ∙ sym (settled-next (Started number now) events);
     candidates = stands.candidates ∙ sym (append-none (candidates_of first events));
     forwarded = stands.forwarded ∙ none-or (forwarded_of events) ∙ sym (forwarded-next (Started number now) events);
-    room = subst (λ (us : List Uri). started_since events + 1 ≤ length us) (sym (append-none (added_since first events))) (next (started_since events) (length (added_since first events)) below);
+    room = subst (λ (us : List Uri). taken_since events + 1 ≤ length us) (sym (append-none (added_since first events))) (next (taken_since events) (length (added_since first events)) below);
     numbers = append-numbers proxy.branches (new_branch proxy number now) ∙ ap (λ (ns : List ℕ). ns ++ number ∷ []) stands.numbers;
     apart = numbers-more number (started_of events) stands.apart (unlisted number events fresh);
     are = more-of (IsBranchOf (Started number now ∷ events)) proxy.branches (new_branch proxy number now)
@@ -212,6 +225,29 @@ module _ (first : Proxy) where
     where
       next : (n m : ℕ) → n < m → n + 1 ≤ m
       next n m is = omega (arith, is)
+
+  -- a later request is passed on: its branch takes no target
+  passed-stands : (number : ℕ) (proxy : Proxy) (events : List ProxyEvent) → was_started number events ≡ false → Stands first proxy events
+      → Stands first (happens (PassedOn number) proxy) (PassedOn number ∷ events)
+  unfolding happens added_by candidate_by stops started_by taken_by forwarded_by final_by is_rest is_expiry_of tried_of targets_of candidates_of started_of taken_since added_since
+  passed-stands number proxy events fresh stands = record {
+    options = stands.options;
+    tried = stands.tried ∙ sym (append-none (tried_of first events));
+    targets = stands.targets ∙ sym (append-none (drop (taken_since events) (added_since first events))) ∙ sym (targets-by false (taken_since events) (added_since first events) [] stands.room);
+    settled = stands.settled ∙ sym (or-none (is_settled events)) ∙ sym (settled-next (PassedOn number) events);
+    candidates = stands.candidates ∙ sym (append-none (candidates_of first events));
+    forwarded = stands.forwarded ∙ none-or (forwarded_of events) ∙ sym (forwarded-next (PassedOn number) events);
+    room = room-by false (taken_since events) (added_since first events) [] stands.room;
+    numbers = append-numbers proxy.branches _ ∙ ap (λ (ns : List ℕ). ns ++ number ∷ []) stands.numbers;
+    apart = numbers-more number (started_of events) stands.apart (unlisted number events fresh);
+    are = more-of (IsBranchOf (PassedOn number ∷ events)) proxy.branches _
+        (all-same (PassedOn number) events proxy.branches (λ n. final-same n (PassedOn number) events refl) (λ n. cancel-quiet n (PassedOn number) events refl refl refl) stands.are)
+        (record {
+          started = started-next number (PassedOn number) events ∙ rw (fresh, number-itself number) refl;
+          ended = sym (final-same number (PassedOn number) events refl ∙ unstarted-final number events fresh);
+          cancelled = sym (cancel-quiet number (PassedOn number) events refl refl refl ∙ unstarted-cancelled number events fresh);
+        });
+  }
 
   apart-in : (proxy : Proxy) (events : List ProxyEvent) → Stands first proxy events → AreApart proxy.branches
   apart-in proxy events stands = apart-of proxy.branches (subst NumbersApart (sym stands.numbers) stands.apart)
@@ -608,6 +644,7 @@ module _ (first : Proxy) where
   all-stands (Asked uris ∷ events) start had = asked-stands uris (proxy_after first events) events (all-stands events start had)
   all-stands (Stopped ∷ events) start had = stopped-stands (proxy_after first events) events (all-stands events start had)
   all-stands (Started number now ∷ events) start had = started-stands number now (proxy_after first events) events had.0 had.1 (all-stands events start had.2)
+  all-stands (PassedOn number ∷ events) start had = passed-stands number (proxy_after first events) events had.0 (all-stands events start had.1)
   all-stands (Heard number sess response now ∷ events) start had = heard-stands number sess response now (proxy_after first events) events (all-stands events start had)
   all-stands (TimedOut number sess response ∷ events) start had = timed-stands number sess response (proxy_after first events) events (all-stands events start had)
   all-stands (Expired number ∷ events) start had = expired-stands number (proxy_after first events) events (all-stands events start had)
@@ -642,7 +679,7 @@ module _ (first : Proxy) where
 -- a request as it becomes proxied
 start-stands : (req : ReqId) (sess : SessId) (event : ℕ) (request : Request) (how : Option ProxyOptions)
     → Stands (new_proxy req sess event request how) (new_proxy req sess event request how) []
-unfolding new_proxy tried_of targets_of is_settled candidates_of forwarded_of started_of started_since added_since NumbersApart AllOf first_in_time
+unfolding new_proxy tried_of targets_of is_settled candidates_of forwarded_of started_of taken_since added_since NumbersApart AllOf first_in_time
 start-stands req sess event request how = record {
   options = refl;
   tried = refl;

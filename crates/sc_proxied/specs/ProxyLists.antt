@@ -24,6 +24,8 @@ pub data ProxyEvent : Type 0 where
   Stopped : ProxyEvent
   -- its next target gets the branch of this number at this moment
   Started : (number : ℕ) → (now : ℕ) → ProxyEvent
+  -- it is a later request, which goes on along its dialog, on the branch of this number
+  PassedOn : (number : ℕ) → ProxyEvent
   -- a response came on this branch, handled in this SipSession at this moment
   Heard : (number : ℕ) → (sess : SessId) → (response : Response) → (now : ℕ) → ProxyEvent
   -- the time of this branch was up, and it ends by this response
@@ -44,6 +46,7 @@ unfoldable pub happens : ProxyEvent → Proxy → Proxy
 happens (Asked uris) proxy = with_targets uris proxy
 happens Stopped proxy = stopped proxy
 happens (Started number now) proxy = record proxy { branches = proxy.branches ++ new_branch proxy number now ∷ []; targets = drop 1 proxy.targets }
+happens (PassedOn number) proxy = record proxy { branches = proxy.branches ++ record { number = number; ended = None; cancelled = false; due = None } ∷ [] }
 happens (Heard number sess response now) proxy = heard number sess response now proxy
 happens (TimedOut number sess response) proxy = if is_open_in number proxy then ended_by number sess response proxy else proxy
 happens (Expired number) proxy = if is_open_in number proxy then to_cancel number proxy else proxy
@@ -60,6 +63,7 @@ proxy_after first (event ∷ earlier) = happens event (proxy_after first earlier
 -- the branch that the event starts
 unfoldable pub started_by : ProxyEvent → List ℕ
 started_by (Started number now) = number ∷ []
+started_by (PassedOn number) = number ∷ []
 started_by event = []
 
 -- the branches, in the order in which they were started
@@ -97,6 +101,7 @@ unfoldable pub stops : List ProxyEvent → ProxyEvent → Bool
 stops earlier (Asked uris) = false
 stops earlier Stopped = true
 stops earlier (Started number now) = false
+stops earlier (PassedOn number) = false
 stops earlier (Heard number sess response now) = is_success response.code || (is_global response.code && is_open_at number earlier)
 stops earlier (TimedOut number sess response) = is_open_at number earlier && ends_all response.code
 stops earlier (Expired number) = false
@@ -132,14 +137,19 @@ unfoldable pub added_since : Proxy → List ProxyEvent → List Uri
 added_since first [] = []
 added_since first (event ∷ earlier) = if stops earlier event then [] else added_since first earlier ++ added_by first (tried_of first earlier) earlier event
 
--- how many branches were started since then
-unfoldable pub started_since : List ProxyEvent → ℕ
-started_since [] = 0
-started_since (event ∷ earlier) = if stops earlier event then 0 else started_since earlier + length (started_by event)
+-- how many targets the event takes, for a branch that it starts
+unfoldable pub taken_by : ProxyEvent → ℕ
+taken_by (Started number now) = 1
+taken_by event = 0
+
+-- how many were taken since then
+unfoldable pub taken_since : List ProxyEvent → ℕ
+taken_since [] = 0
+taken_since (event ∷ earlier) = if stops earlier event then 0 else taken_since earlier + taken_by event
 
 -- the targets that wait
 unfoldable pub targets_of : Proxy → List ProxyEvent → List Uri
-targets_of first events = drop (started_since events) (added_since first events)
+targets_of first events = drop (taken_since events) (added_since first events)
 
 -- ## Responses
 
@@ -194,10 +204,11 @@ cancelled_of events = filter (λ number. is_open_at number events && is_cancelle
 
 -- ## Which lists there are
 
--- each branch that is started is a new one, and takes a target that waits
+-- each branch that is started is a new one, and takes a target that waits, where it isn't that of a later request
 unfoldable pub IsHad : Proxy → List ProxyEvent → Type 0
 IsHad first [] = Unit {0}
-IsHad first (Started number now ∷ earlier) = (was_started number earlier ≡ false) × (started_since earlier < length (added_since first earlier)) × IsHad first earlier
+IsHad first (Started number now ∷ earlier) = (was_started number earlier ≡ false) × (taken_since earlier < length (added_since first earlier)) × IsHad first earlier
+IsHad first (PassedOn number ∷ earlier) = (was_started number earlier ≡ false) × IsHad first earlier
 IsHad first (event ∷ earlier) = IsHad first earlier
 
 -- the proxy is what these functions say

@@ -1,0 +1,12 @@
+pub mod Runs
+pub mod Places
+pub mod Came
+pub mod Given
+pub mod Rising
+pub mod Later
+pub mod Moments
+pub mod Ended
+pub mod Requests
+pub mod Passed
+pub mod Turns
+pub mod Listed
