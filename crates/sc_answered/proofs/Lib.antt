@@ -1,0 +1,12 @@
+mod StateAfter
+mod Needs
+mod Standing
+mod Shown
+mod Called
+mod Forwarded
+mod Proxied
+mod AllActed
+mod Ended
+mod Whole
+mod Caused
+mod Live

@@ -1,0 +1,5 @@
+pub mod StateOf
+pub mod Happened
+pub mod Needed
+pub mod Causes
+pub mod LiveStates
