@@ -103,7 +103,7 @@ fn list<R: Wait + Abort>(rt: &R, alloc: Global) -> Result<(), Fail> {
         Some(noted) => {
             let found = count(noted);
             assert!(rt;
-                found == (21, 50, 25),
+                found == (6, 50, 25),
                 "{} listings, the last of {} steps and {} sessions",
                 found.0,
                 found.1,
@@ -115,7 +115,8 @@ fn list<R: Wait + Abort>(rt: &R, alloc: Global) -> Result<(), Fail> {
     }
 }
 
-// Each call makes two steps. Up to 16 sessions each round is listed, then each second one, and the last step.
+// Each call makes two steps and lives on. A listing comes once as many steps were taken as sessions live: after the calls 1, 2,
+// 4, 8 and 16, and after the last step.
 #[test]
 fn listings(rt: HostRuntime) -> Result<(), Fail> {
     list(&rt, rt.alloc())
