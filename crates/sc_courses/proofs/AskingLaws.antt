@@ -1,6 +1,6 @@
 -- What is asked one after the other, and what a step more makes of it.
 use Rattle.std.proofs.Common.{◌≡◌, ℕ, suc, ◌+◌, ◌≤◌, ◌<◌, Bool, true, false, Option, None, List, [], ◌∷◌, ◌++◌, length, refl, ap, sym, ◌∙◌, subst, length-append, inl, inr, arith, if◌then◌else◌}
-use Rattle.std.specs.Prelude.{map}
+use Rattle.std.specs.Prelude.{◌⊎◌, map}
 use Rattle.std.specs.Bool.{nat_lt}
 use Rattle.std.proofs.lemmas.Bool.Decides.{nat_tests}
 use Rattle.std.proofs.lemmas.List.{append-nil, map-append}
@@ -11,7 +11,7 @@ use Rattle.sc_edge.specs.Telling.{IsTold}
 use Rattle.sc_moments.specs.Moments.{tick_of, ticks_of}
 use Rattle.sc_moments.proofs.FollowTicks.{both-ticks}
 use Rattle.sc_outs.specs.Deeds.{Deed, step_of}
-use Rattle.sc_courses.specs.Asking.{Answered, AreTold, Asked, Given, Source, Sources, Ticked, TickedPart, count_after, given_then, latest, none_given, raised, ticks_taken}
+use Rattle.sc_courses.specs.Asking.{Answered, AreAlmostEven, AreAnswers, AreEven, AreTold, Asked, Given, Source, Sources, Ticked, TickedPart, count_after, given_then, latest, none_given, raised, ticks_taken}
 
 -- ## Answers, one after the other
 
@@ -139,6 +139,39 @@ unfolding TickedPart
 ticked_cut moments deeds now moment ticked = inr (moments, moment, refl, ticked.ticks)
 
 -- ## Clock and orders
+
+pub answers_none : AreAnswers 0 0 none_given
+answers_none = record { orders_are = refl; moments_are = refl }
+
+both-lengths : {A : Type 0} (xs ys : List A) (m n : ℕ) → length xs ≡ m → length ys ≡ n → length (xs ++ ys) ≡ m + n
+both-lengths xs ys m n x y = let both = length-append xs ys in omega (arith, both, x, y)
+
+pub answers_then : (a b m n : ℕ) (xs ys : Given) → AreAnswers a m xs → AreAnswers b n ys → AreAnswers (a + b) (m + n) (given_then xs ys)
+answers_then a b m n xs ys first later = record { orders_are = both-lengths xs.orders ys.orders a b first.orders_are later.orders_are; moments_are = both-lengths xs.moments ys.moments m n first.moments_are later.moments_are }
+
+-- where both answered as often
+pub answers_even : (n : ℕ) (given : Given) → AreAnswers n n given → AreEven given
+answers_even n given are = are.orders_are ∙ sym are.moments_are
+
+pub answers_almost : (m n : ℕ) (given : Given) → (m ≡ n) ⊎ (m ≡ suc n) → AreAnswers m n given → AreAlmostEven given
+unfolding AreAlmostEven
+answers_almost m n given (inl same) are = inl (are.orders_are ∙ (same ∙ sym are.moments_are))
+answers_almost m n given (inr more) are = inr (are.orders_are ∙ (more ∙ ap suc (sym are.moments_are)))
+
+pub even_then : (xs ys : Given) → AreEven xs → AreEven ys → AreEven (given_then xs ys)
+even_then xs ys first later = both-lengths xs.orders ys.orders (length xs.moments) (length ys.moments) first later ∙ sym (length-append xs.moments ys.moments)
+
+pub even_almost : (given : Given) → AreEven given → AreAlmostEven given
+unfolding AreAlmostEven
+even_almost given even = inl even
+
+one-more : (a b : ℕ) → a + suc b ≡ suc (a + b)
+one-more a b = omega arith
+
+pub almost_then : (xs ys : Given) → AreEven xs → AreAlmostEven ys → AreAlmostEven (given_then xs ys)
+unfolding AreAlmostEven
+almost_then xs ys first (inl later) = inl (even_then xs ys first later)
+almost_then xs ys first (inr later) = inr (both-lengths xs.orders ys.orders (length xs.moments) (suc (length ys.moments)) first later ∙ (one-more (length xs.moments) (length ys.moments) ∙ ap suc (sym (length-append xs.moments ys.moments))))
 
 pub asked_none : (sources : Sources) → Asked sources sources none_given
 asked_none sources = record { moments = answered_none sources.0; orders = answered_none sources.1 }

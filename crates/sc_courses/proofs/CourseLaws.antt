@@ -22,6 +22,8 @@ use Rattle.sc_hosts.specs.Steps.{live_at}
 use Rattle.sc_outs.specs.Deeds.{Deed, step_of}
 use Rattle.sc_courses.specs.Ordering.{Obeys, Point, beginning_point, is_for, order_in, withdrawn_by}
 use Rattle.sc_courses.proofs.OrderingLaws.{comes_step, is_for_living, obeys_begin, obeys_more, obeys_none, obeys_order, ordered_none, ordered_step, quiet_step, quiet_turn}
+use Rattle.sc_courses.specs.Endings.{HasToEnd, waits_for_end}
+use Rattle.sc_courses.proofs.EndingLaws.{are_in_time_begin, are_in_time_next, are_in_time_step, withdrawal_waits}
 use Rattle.sc_courses.specs.Listings.{IsListingAt}
 use Rattle.sc_courses.proofs.ListingLaws.{listings_none, listings_on, listings_told, lists_one, lists_other}
 use Rattle.sc_courses.specs.Courses.{AreDeeds, AreSent, Beginning, Course, IsRun, Telling, TellsEpochs, TellsListings, Told, ordered, told_by, with_item}
@@ -48,9 +50,9 @@ run-snoc setup epoch mine step failed run = (
 )
 
 -- a step by which none is withdrawn
-pub course_step : (from : Beginning) (told : Told) (handed : List Step) (running : Epoch) (deeds : List Deed) (step : Step) (failed : Bool) → withdrawn_by step ≡ [] → Course from told handed running deeds
+pub course_step : (from : Beginning) (told : Told) (handed : List Step) (running : Epoch) (deeds : List Deed) (step : Step) (failed : Bool) → withdrawn_by step ≡ [] → (waits_for_end step ≡ true → HasToEnd from.setup running → ⊥) → Course from told handed running deeds
     → Course from told handed (with_one running step) (deeds ++ deed_at from.setup running step failed ∷ [])
-course_step from told handed running deeds step failed none c = record {
+course_step from told handed running deeds step failed none ready c = record {
   ended = c.ended;
   before = c.before;
   mine = c.mine ++ deed_at from.setup running step failed ∷ [];
@@ -61,6 +63,7 @@ course_step from told handed running deeds step failed none c = record {
   run = run-snoc from.setup running c.mine step failed c.run;
   obeys = obeys_more from.setup beginning_point (record { ended = c.ended; running = running }) (record { ended = c.ended; running = with_one running step }) from.orders c.obeys (quiet_step c.ended running step none);
   listings = listings_on from.setup from.told told (record { ended = c.ended; running = running }) (record { ended = c.ended; running = with_one running step }) c.listings (comes_step c.ended running step);
+  in_time = are_in_time_step from.setup c.ended running step ready c.in_time;
 }
 
 -- the withdrawal of a session that lives, as it was ordered
@@ -80,6 +83,7 @@ course_withdrawn from told handed running deeds app lives c = record {
       subst (λ (after : Point). Obeys from.setup beginning_point (from.orders ++ Some (order_in running app) ∷ []) after) (ordered_step from.setup point (order_in running app) (is_for_living from.setup point app lives))
       (obeys_order from.setup beginning_point point from.orders (order_in running app) c.obeys);
   listings = listings_on from.setup from.told told (record { ended = c.ended; running = running }) (record { ended = c.ended; running = with_one running (steps.Withdraw app) }) c.listings (comes_step c.ended running (steps.Withdraw app));
+  in_time = are_in_time_step from.setup c.ended running (steps.Withdraw app) (λ waits. absurd (withdrawal_waits app waits)) c.in_time;
 }
 
 -- the same course, as more orders were answered
@@ -96,6 +100,7 @@ obeyed-more from told handed running deeds orders c obeys = record {
   run = c.run;
   obeys = obeys;
   listings = c.listings;
+  in_time = c.in_time;
 }
 
 -- an order that names no session which lives in the epoch that runs
@@ -147,6 +152,7 @@ course-told from told told2 handed handed2 running deeds c tells listings = reco
   run = c.run;
   obeys = c.obeys;
   listings = listings;
+  in_time = c.in_time;
 }
 
 -- the length of a journal says nothing of epochs
@@ -196,14 +202,14 @@ epoch-told from told told2 handed running deeds journal c items notes =
     (tells-more from.told told told2 _ (noted.Epoch running.number running.began journal) c.tells notes)
 
 pub course_next : (from : Beginning) (told told2 : Told) (handed : List Step) (running : Epoch) (deeds : List Deed) (journal : Kept Step) → handed ++ journal.items ≡ running.journal → Notes told told2 (noted.Epoch running.number running.began journal)
-    → IsLawful as_session from.setup running.number running.began running.journal → is_idle (net_of as_session from.setup running) ≡ true → Course from told handed running deeds → Course from told2 [] (next_of from.setup running) deeds
-course_next from told told2 handed running deeds journal items notes lawful idle c = record {
+    → IsLawful as_session from.setup running.number running.began running.journal → HasToEnd from.setup running → Course from told handed running deeds → Course from told2 [] (next_of from.setup running) deeds
+course_next from told told2 handed running deeds journal items notes lawful ends c = record {
   ended = c.ended ++ running ∷ [];
   before = deeds;
   mine = [];
   deeds_are = sym (append-nil deeds);
   tells = epoch-told from told told2 handed running deeds journal c items notes;
-  lawful = λ later after. subst (λ (es : List Epoch). AreLawful as_session from.setup es) (sym (append_assoc c.ended (running ∷ []) later)) (c.lawful (running ∷ later) (lawful-next from.setup running later lawful idle after));
+  lawful = λ later after. subst (λ (es : List Epoch). AreLawful as_session from.setup es) (sym (append_assoc c.ended (running ∷ []) later)) (c.lawful (running ∷ later) (lawful-next from.setup running later lawful ends.idle after));
   are = λ later rest are.
       subst (λ (es : List Epoch). AreDeeds from.setup es (deeds ++ rest)) (sym (append_assoc c.ended (running ∷ []) later))
       (subst (λ (ds : List Deed). AreDeeds from.setup (c.ended ++ running ∷ later) ds) (sym (ap (λ (ds : List Deed). ds ++ rest) c.deeds_are ∙ append_assoc c.before c.mine rest))
@@ -214,6 +220,7 @@ course_next from told told2 handed running deeds journal items notes lawful idle
   listings = listings_on from.setup from.told told2 (record { ended = c.ended; running = running }) (record { ended = c.ended ++ running ∷ []; running = next_of from.setup running })
       (listings_told from.setup from.told told told2 (record { ended = c.ended; running = running }) (noted.Epoch running.number running.began journal) (lists_other from.setup beginning_point (record { ended = c.ended; running = running })) c.listings notes)
       (quiet_turn c.ended running (next_of from.setup running) refl).comes;
+  in_time = are_in_time_next from.setup c.ended running (next_of from.setup running) ends refl c.in_time;
 }
 
 -- ## Beginning and end
@@ -242,6 +249,7 @@ course_begin from none = record {
   run = no-run from.setup first_epoch refl;
   obeys = subst (λ (orders : List (Option Order)). Obeys from.setup beginning_point orders beginning_point) (sym none) (obeys_begin from.setup beginning_point);
   listings = listings_none from.setup from.told;
+  in_time = are_in_time_begin from.setup first_epoch refl;
 }
 
 last-lawful : (setup : Setup) (running : Epoch) → IsLawful as_session setup running.number running.began running.journal → IsLawfulAfter as_session setup running.number running.began (running ∷ [])

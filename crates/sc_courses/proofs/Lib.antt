@@ -1,6 +1,8 @@
 pub mod AskingLaws
 pub mod CourseLaws
+pub mod EndingLaws
 pub mod HeardLaws
+pub mod IdleLaws
 pub mod ListingLaws
 pub mod OnLaws
 pub mod OrderingLaws

@@ -1,5 +1,5 @@
 -- What was asked of the outside beside its edge, and which steps that made.
-use Rattle.std.specs.Prelude.{◌≡◌, ◌+◌, ◌⊎◌, ℕ, List, [], ◌∷◌, ◌++◌, Option, length, map, if◌then◌else◌}
+use Rattle.std.specs.Prelude.{◌≡◌, ◌+◌, ◌⊎◌, ℕ, suc, List, [], ◌∷◌, ◌++◌, Option, length, map, if◌then◌else◌}
 use Rattle.std.specs.Bool.{nat_lt}
 use Rattle.sc_edge.specs.Faults.{one_more}
 use Rattle.sc_edge.specs.Telling.{IsTold}
@@ -68,6 +68,19 @@ none_given = record { moments = []; orders = [] }
 -- the one's answers, and then the other's
 abbrev pub given_then : Given → Given → Given
 given_then first later = record { moments = first.moments ++ later.moments; orders = first.orders ++ later.orders }
+
+-- so often orders answered, and so often the clock
+pub record AreAnswers (orders moments : ℕ) (given : Given) : Type 0 where
+  pub orders_are : length given.orders ≡ orders
+  pub moments_are : length given.moments ≡ moments
+
+-- both were asked once each round: the one as often as the other
+abbrev pub AreEven : Given → Type 0
+AreEven given = length given.orders ≡ length given.moments
+
+-- the same, but in the last round the clock maybe wasn't asked any more
+unfoldable pub AreAlmostEven : Given → Type 0
+AreAlmostEven given = AreEven given ⊎ (length given.orders ≡ suc (length given.moments))
 
 -- they were asked so often, and these were their answers
 pub record Asked (old new : Sources) (given : Given) : Type 0 where

@@ -14,6 +14,7 @@ use Rattle.sc_hosts.specs.Histories.{as_session}
 use Rattle.sc_hosts.specs.Runs.{AreLawful, Epoch, IsLawfulAfter, after_step, start}
 use Rattle.sc_outs.specs.Deeds.{Deed, step_of}
 use Rattle.sc_courses.specs.Asking.{Given}
+use Rattle.sc_courses.specs.Endings.{AreInTime}
 use Rattle.sc_courses.specs.Listings.{Lists, listings_in}
 use Rattle.sc_courses.specs.Ordering.{Obeys, Point, beginning_point}
 
@@ -79,7 +80,7 @@ abbrev pub after : Beginning → Given → Beginning
 after from given = record from { moments = from.moments ++ given.moments; orders = from.orders ++ given.orders }
 
 -- how far it came: the epochs that ended, their deeds, and those of the epoch that runs, of which so much was
--- handed on; what was withdrawn was ordered; and each listing that the notice was told is of a point on the way
+-- handed on; what was withdrawn was ordered; each listing that the notice was told is of a point on the way; and epochs ended in time
 pub record Course (from : Beginning) (told : Told) (handed : List Step) (running : Epoch) (deeds : List Deed) : Type 0 where
   pub ended : List Epoch
   pub before : List Deed
@@ -91,3 +92,4 @@ pub record Course (from : Beginning) (told : Told) (handed : List Step) (running
   pub run : IsRun from.setup running mine
   pub obeys : Obeys from.setup beginning_point from.orders (record { ended = ended; running = running })
   pub listings : TellsListings from.setup from.told told (record { ended = ended; running = running })
+  pub in_time : AreInTime from.setup (record { ended = ended; running = running })

@@ -1,5 +1,5 @@
 -- Steps that aren't heard leave what was heard as it is.
-use Rattle.std.proofs.Common.{◌≡◌, ◌≤◌, ℕ, Bool, true, false, Option, None, Some, List, [], ◌∷◌, ◌++◌, refl, sym, ap, ◌∙◌, subst, append_assoc, inl, inr}
+use Rattle.std.proofs.Common.{◌≡◌, ◌≤◌, ◌+◌, ℕ, Bool, true, false, Option, None, Some, List, [], ◌∷◌, ◌++◌, refl, sym, ap, ◌∙◌, subst, append_assoc, inl, inr}
 use Rattle.std.specs.Prelude.{◌⊎◌, Result, Ok, Err, OnOk, OnErr, IfOk}
 use Rattle.std.proofs.lemmas.List.{append-nil}
 use Rattle.sc_value.specs.declared.ids.AppId.{AppId}
@@ -16,7 +16,7 @@ use Rattle.sc_switch.specs.Standing.{Known, net_of, step_of}
 use Rattle.sc_outs.specs.Deeds.{Deed}
 use Rattle.sc_outs.proofs.Laws.{cut_of}
 use Rattle.sc_courses.specs.Asking.{Answered, Asked, Given, Source, Sources, given_then, none_given}
-use Rattle.sc_courses.proofs.AskingLaws.{answered_none, asked_none, asked_then, ticked_part}
+use Rattle.sc_courses.proofs.AskingLaws.{answered_none, answers_none, answers_then, asked_none, asked_then, ticked_part}
 use Rattle.sc_courses.specs.Courses.{Beginning, Told, after, ordered}
 use Rattle.sc_courses.specs.Marks.{Hearing, is_heard}
 use Rattle.sc_courses.proofs.HeardLaws.{hearing_part, hearing_same, part_same}
@@ -155,7 +155,7 @@ commit_breaks done old new told told2 stopped = stopped_breaks (step_of done) ol
 pub tick_ok : (now : ℕ) (r : Result Bool StepRefused) (old new : Core) (told told2 : Told) (clock clock2 : Source ℕ) → now ≤ 9223372036854775808 → Answered clock clock2 (now ∷ [])
     → IfOk r (λ later. Ticks now old new told told2 later) → OnOk r (MovesOn old new told told2 clock clock2)
 unfolding MovesOn
-tick_ok now (Ok later) old new told told2 clock clock2 within answered ticks = (now ∷ [], answered, tick-moves now old new told told2 later within ticks)
+tick_ok now (Ok later) old new told told2 clock clock2 within answered ticks = (now, answered, tick-moves now old new told told2 later within ticks)
 tick_ok now (Err cause) old new told told2 clock clock2 within answered ticks = tt
 
 order-is : (order : Order) (old : Core) → order.epoch ≡ old.switch.epoch → order_at old order.app ≡ order
@@ -166,7 +166,7 @@ pub withdraw_ok : (order : Order) (r : Result Bool StepRefused) (old new : Core)
     → IfOk r (λ lived. Withdraws order.app old new told told2 lived) → OnOk r (MovesOrdered old new told told2 orders orders2)
 unfolding MovesOrdered
 withdraw_ok order (Ok lived) old new told told2 orders orders2 e answered is = (
-  Some order ∷ [],
+  Some order,
   answered,
   λ from edge streams s. subst (λ (o : Order). Serves (ordered from (Some o ∷ [])) edge told2 new streams) (order-is order old e) (ordered-serves order.app old new told told2 lived is from edge streams s),
 )
@@ -175,19 +175,19 @@ withdraw_ok order (Err cause) old new told told2 orders orders2 e answered is = 
 -- an order of another epoch, or none
 pub unordered_moves : (answer : Option Order) (old new : Core) (told told2 : Told) (orders orders2 : Source (Option Order)) → Answered orders orders2 (answer ∷ []) → Unordered answer old new told told2 → MovesOrdered old new told told2 orders orders2
 unfolding MovesOrdered
-unordered_moves answer old new told told2 orders orders2 answered none = (answer ∷ [], answered, λ from edge streams s. unordered-serves answer old new told told2 none from edge streams s)
+unordered_moves answer old new told told2 orders orders2 answered none = (answer, answered, λ from edge streams s. unordered-serves answer old new told told2 none from edge streams s)
 
 pub tick_err : (now : ℕ) (r : Result Bool StepRefused) (old new : Core) (told told2 : Told) (clock clock2 : Source ℕ) → Answered clock clock2 (now ∷ []) → OnErr r (Stopped (steps.Tick now) false old new told told2) → OnErr r (BreaksOn old new told told2 clock clock2)
 unfolding BreaksOn
 tick_err now (Ok later) old new told told2 clock clock2 answered stopped = tt
-tick_err now (Err cause) old new told told2 clock clock2 answered stopped = (now ∷ [], answered, tick-breaks now old new told told2 stopped)
+tick_err now (Err cause) old new told told2 clock clock2 answered stopped = (now, answered, tick-breaks now old new told told2 stopped)
 
 pub withdraw_err : (order : Order) (r : Result Bool StepRefused) (old new : Core) (told told2 : Told) (orders orders2 : Source (Option Order)) → order.epoch ≡ old.switch.epoch → Answered orders orders2 (Some order ∷ [])
     → OnErr r (StoppedAt order.app old new told told2) → OnErr r (BreaksOrdered old new told told2 orders orders2)
 unfolding BreaksOrdered
 withdraw_err order (Ok lived) old new told told2 orders orders2 e answered stopped = tt
 withdraw_err order (Err cause) old new told told2 orders orders2 e answered stopped = (
-  Some order ∷ [],
+  Some order,
   answered,
   λ from edge streams s. subst (λ (o : Order). EndedOrdered from (Some o ∷ []) edge told2 new.switch) (order-is order old e) (stopped-serves order.app old new told told2 stopped from edge streams s),
 )
@@ -217,58 +217,64 @@ ended-after : (from : Beginning) (a b : List ℕ) (x y : List (Option Order)) (e
 ended-after from a b x y edge told known moments orders s =
     subst (λ (m : List ℕ). Ended (record from { moments = m; orders = y }) edge told known) moments (subst (λ (o : List (Option Order)). Ended (record from { moments = a; orders = o }) edge told known) orders s)
 
-pub moves_both : (a b : Core) (told told1 : Told) (sources : Sources) → Moves a b told told1 → MovesBoth a b told told1 sources sources
+pub moves_both : (a b : Core) (told told1 : Told) (sources : Sources) → Moves a b told told1 → MovesBoth 0 0 a b told told1 sources sources
 unfolding Moves MovesBoth
 moves_both a b told told1 sources moves =
-    (none_given, asked_none sources, λ from edge streams s. serves-after from from.moments (from.moments ++ []) from.orders (from.orders ++ []) edge told1 b streams (sym (append-nil from.moments)) (sym (append-nil from.orders)) (moves from edge streams s))
+    (none_given, answers_none, asked_none sources, λ from edge streams s. serves-after from from.moments (from.moments ++ []) from.orders (from.orders ++ []) edge told1 b streams (sym (append-nil from.moments)) (sym (append-nil from.orders)) (moves from edge streams s))
 
 -- the clock alone
-pub timed_both : (a b : Core) (told told1 : Told) (clock clock1 : Source ℕ) (orders : Source (Option Order)) → MovesOn a b told told1 clock clock1 → MovesBoth a b told told1 (clock, orders) (clock1, orders)
+pub timed_both : (a b : Core) (told told1 : Told) (clock clock1 : Source ℕ) (orders : Source (Option Order)) → MovesOn a b told told1 clock clock1 → MovesBoth 0 1 a b told told1 (clock, orders) (clock1, orders)
 unfolding MovesOn MovesBoth
-timed_both a b told told1 clock clock1 orders (given, answered, moves) = (
-  record { moments = given; orders = [] },
+timed_both a b told told1 clock clock1 orders (moment, answered, moves) = (
+  record { moments = moment ∷ []; orders = [] },
+  record { orders_are = refl; moments_are = refl },
   record { moments = answered; orders = answered_none orders },
-  λ from edge streams s. serves-after from (from.moments ++ given) (from.moments ++ given) from.orders (from.orders ++ []) edge told1 b streams refl (sym (append-nil from.orders)) (moves from edge streams s),
+  λ from edge streams s. serves-after from (from.moments ++ moment ∷ []) (from.moments ++ moment ∷ []) from.orders (from.orders ++ []) edge told1 b streams refl (sym (append-nil from.orders)) (moves from edge streams s),
 )
 
 -- the orders alone
-pub ordered_both : (a b : Core) (told told1 : Told) (clock : Source ℕ) (orders orders1 : Source (Option Order)) → MovesOrdered a b told told1 orders orders1 → MovesBoth a b told told1 (clock, orders) (clock, orders1)
+pub ordered_both : (a b : Core) (told told1 : Told) (clock : Source ℕ) (orders orders1 : Source (Option Order)) → MovesOrdered a b told told1 orders orders1 → MovesBoth 1 0 a b told told1 (clock, orders) (clock, orders1)
 unfolding MovesOrdered MovesBoth
-ordered_both a b told told1 clock orders orders1 (given, answered, moves) = (
-  record { moments = []; orders = given },
+ordered_both a b told told1 clock orders orders1 (answer, answered, moves) = (
+  record { moments = []; orders = answer ∷ [] },
+  record { orders_are = refl; moments_are = refl },
   record { moments = answered_none clock; orders = answered },
-  λ from edge streams s. serves-after from from.moments (from.moments ++ []) (from.orders ++ given) (from.orders ++ given) edge told1 b streams (sym (append-nil from.moments)) refl (moves from edge streams s),
+  λ from edge streams s. serves-after from from.moments (from.moments ++ []) (from.orders ++ answer ∷ []) (from.orders ++ answer ∷ []) edge told1 b streams (sym (append-nil from.moments)) refl (moves from edge streams s),
 )
 
-pub both_then : (a b c : Core) (told told1 told2 : Told) (sources sources1 sources2 : Sources) → MovesBoth a b told told1 sources sources1 → MovesBoth b c told1 told2 sources1 sources2 → MovesBoth a c told told2 sources sources2
+pub both_then : (m m2 n n2 : ℕ) (a b c : Core) (told told1 told2 : Told) (sources sources1 sources2 : Sources) → MovesBoth m n a b told told1 sources sources1 → MovesBoth m2 n2 b c told1 told2 sources1 sources2 → MovesBoth (m + m2) (n + n2) a c told told2 sources sources2
 unfolding MovesBoth
-both_then a b c told told1 told2 sources sources1 sources2 (xs, asked, first) (ys, asked2, later) = (
+both_then m m2 n n2 a b c told told1 told2 sources sources1 sources2 (xs, are, asked, first) (ys, are2, asked2, later) = (
   given_then xs ys,
+  answers_then m m2 n n2 xs ys are are2,
   asked_then sources sources1 sources2 xs ys asked asked2,
   λ from edge streams s. serves-after from ((from.moments ++ xs.moments) ++ ys.moments) (from.moments ++ (xs.moments ++ ys.moments)) ((from.orders ++ xs.orders) ++ ys.orders) (from.orders ++ (xs.orders ++ ys.orders)) edge told2 c streams
       (append_assoc from.moments xs.moments ys.moments) (append_assoc from.orders xs.orders ys.orders) (later (after from xs) edge streams (first from edge streams s)),
 )
 
-pub breaks_both : (a b : Core) (told told1 : Told) (sources : Sources) → Breaks a b told told1 → BreaksBoth a b told told1 sources sources
+pub breaks_both : (a b : Core) (told told1 : Told) (sources : Sources) → Breaks a b told told1 → BreaksBoth 0 0 a b told told1 sources sources
 unfolding Breaks BreaksBoth
 breaks_both a b told told1 sources breaks = (
   none_given,
+  answers_none,
   asked_none sources,
   λ from edge streams s. ([], inl refl, ended-after from from.moments (from.moments ++ []) from.orders (from.orders ++ []) edge told1 b.switch (sym (append-nil from.moments)) (sym (append-nil from.orders)) (breaks from edge streams s)),
 )
 
-pub timed_breaks : (a b : Core) (told told1 : Told) (clock clock1 : Source ℕ) (orders : Source (Option Order)) → BreaksOn a b told told1 clock clock1 → BreaksBoth a b told told1 (clock, orders) (clock1, orders)
+pub timed_breaks : (a b : Core) (told told1 : Told) (clock clock1 : Source ℕ) (orders : Source (Option Order)) → BreaksOn a b told told1 clock clock1 → BreaksBoth 0 1 a b told told1 (clock, orders) (clock1, orders)
 unfolding BreaksOn BreaksBoth
-timed_breaks a b told told1 clock clock1 orders (given, answered, breaks) = (
-  record { moments = given; orders = [] },
+timed_breaks a b told told1 clock clock1 orders (moment, answered, breaks) = (
+  record { moments = moment ∷ []; orders = [] },
+  record { orders_are = refl; moments_are = refl },
   record { moments = answered; orders = answered_none orders },
-  λ from edge streams s. ([], inl refl, ended-after from (from.moments ++ given) (from.moments ++ given) from.orders (from.orders ++ []) edge told1 b.switch refl (sym (append-nil from.orders)) (breaks from edge streams s)),
+  λ from edge streams s. ([], inl refl, ended-after from (from.moments ++ moment ∷ []) (from.moments ++ moment ∷ []) from.orders (from.orders ++ []) edge told1 b.switch refl (sym (append-nil from.orders)) (breaks from edge streams s)),
 )
 
-pub ordered_breaks : (a b : Core) (told told1 : Told) (clock : Source ℕ) (orders orders1 : Source (Option Order)) → BreaksOrdered a b told told1 orders orders1 → BreaksBoth a b told told1 (clock, orders) (clock, orders1)
+pub ordered_breaks : (a b : Core) (told told1 : Told) (clock : Source ℕ) (orders orders1 : Source (Option Order)) → BreaksOrdered a b told told1 orders orders1 → BreaksBoth 1 0 a b told told1 (clock, orders) (clock, orders1)
 unfolding BreaksOrdered BreaksBoth
-ordered_breaks a b told told1 clock orders orders1 (given, answered, breaks) = (
-  record { moments = []; orders = given },
+ordered_breaks a b told told1 clock orders orders1 (answer, answered, breaks) = (
+  record { moments = []; orders = answer ∷ [] },
+  record { orders_are = refl; moments_are = refl },
   record { moments = answered_none clock; orders = answered },
   λ from edge streams s.
       let (obeyed, almost, ended) = breaks from edge streams s in
@@ -288,7 +294,7 @@ ended_more from xs ys edge told known (obeyed, almost, ended) = (
       (append_assoc from.moments xs.moments ys.moments) (append_assoc from.orders xs.orders obeyed) ended,
 )
 
-pub both_breaks : (a b c : Core) (told told1 told2 : Told) (sources sources1 sources2 : Sources) → MovesBoth a b told told1 sources sources1 → BreaksBoth b c told1 told2 sources1 sources2 → BreaksBoth a c told told2 sources sources2
+pub both_breaks : (m m2 n n2 : ℕ) (a b c : Core) (told told1 told2 : Told) (sources sources1 sources2 : Sources) → MovesBoth m n a b told told1 sources sources1 → BreaksBoth m2 n2 b c told1 told2 sources1 sources2 → BreaksBoth (m + m2) (n + n2) a c told told2 sources sources2
 unfolding MovesBoth BreaksBoth
-both_breaks a b c told told1 told2 sources sources1 sources2 (xs, asked, first) (ys, asked2, later) =
-    (given_then xs ys, asked_then sources sources1 sources2 xs ys asked asked2, λ from edge streams s. ended_more from xs ys edge told2 c.switch (later (after from xs) edge streams (first from edge streams s)))
+both_breaks m m2 n n2 a b c told told1 told2 sources sources1 sources2 (xs, are, asked, first) (ys, are2, asked2, later) =
+    (given_then xs ys, answers_then m m2 n n2 xs ys are are2, asked_then sources sources1 sources2 xs ys asked asked2, λ from edge streams s. ended_more from xs ys edge told2 c.switch (later (after from xs) edge streams (first from edge streams s)))

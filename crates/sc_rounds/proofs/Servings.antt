@@ -35,7 +35,7 @@ use Rattle.sc_rounds.specs.Streaming.{bytes_of}
 
 -- no place took anything meanwhile
 pub stands_on : (from : Beginning) (old new : EdgeState) (told : Told) (core : Core) (deeds : List Deed) → ((place : Place) → new.took place ≡ old.took place) → Stands from old told core deeds → Stands from new told core deeds
-stands_on from old new told core deeds same s = record { runs = s.runs; left_is = s.left_is; puts = puts_stand from.edge old new deeds core.outs [] same s.puts; ticked = s.ticked; reports = s.reports }
+stands_on from old new told core deeds same s = record { runs = s.runs; left_is = s.left_is; puts = puts_stand from.edge old new deeds core.outs [] same s.puts; ticked = s.ticked; reports = s.reports; as_set = s.as_set }
 
 pub stands_ended : (from : Beginning) (edge : EdgeState) (told : Told) (core : Core) (deeds : List Deed) → Stands from edge told core deeds → Ends from edge told core.switch deeds
 stands_ended from edge told core deeds s = record { runs = s.runs; cut = cut_of from.edge edge deeds core.outs [] s.puts; ticked = ticked_part from.moments deeds (net_of core.switch).moment s.ticked; counts = s.reports.counts }
@@ -136,7 +136,7 @@ comes_ended from old new told core streams answer s comes = record {
 -- ## A put
 
 stands-tried : (from : Beginning) (old new : EdgeState) (told : Told) (core : Core) (outs : Owing) (deeds : List Deed) (to : Place) (answer : Put) → Tried old new to core.outs outs answer → Stands from old told core deeds → Stands from new told (record core { outs = outs }) deeds
-stands-tried from old new told core outs deeds to answer tried s = record { runs = s.runs; left_is = s.left_is; puts = puts_tried from.edge old new deeds core.outs outs to answer s.puts tried; ticked = s.ticked; reports = s.reports }
+stands-tried from old new told core outs deeds to answer tried s = record { runs = s.runs; left_is = s.left_is; puts = puts_tried from.edge old new deeds core.outs outs to answer s.puts tried; ticked = s.ticked; reports = s.reports; as_set = s.as_set }
 
 tried-on : (from : Beginning) (old new : EdgeState) (told : Told) (core : Core) (outs : Owing) (streams : List Pending) (to : Place) (answer : Put) → new.polled ≡ old.polled → Tried old new to core.outs outs answer
     → Serves from old told core streams → Serves from new told (record core { outs = outs }) streams

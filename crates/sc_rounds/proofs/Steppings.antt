@@ -2,6 +2,7 @@
 use Rattle.std.proofs.Common.{◌≡◌, ℕ, ◌+◌, ◌≤◌, ◌<◌, ◌≢◌, Bool, true, false, Option, None, Some, List, [], ◌∷◌, ◌++◌, refl, ap, sym, ◌∙◌, subst, append_assoc, inl, inr}
 use Rattle.std.specs.Prelude.{Result, Ok, Err, OnOk, OnErr, IfOk, length, min}
 use Rattle.std.specs.Option.{is_some}
+use Rattle.std.proofs.lemmas.Bool.{false≢true}
 use Rattle.std.proofs.lemmas.List.{append-nil}
 use Rattle.std.proofs.Math.Nat.{zero-min}
 use Rattle.sc_journal.specs.Kept.{Kept}
@@ -18,7 +19,7 @@ use Rattle.sc_hosts.specs.EventLists.{listing_of}
 use Rattle.sc_hosts.specs.Histories.{as_session}
 use Rattle.sc_edge.specs.declared.orders.Order.{Order}
 use Rattle.sc_hosts.specs.Steps.{live_at}
-use Rattle.sc_hosts.specs.Runs.{Epoch, IsLawful, after_step, chained, chained_from, is_idle, start}
+use Rattle.sc_hosts.specs.Runs.{Epoch, IsLawful, after_step, chained, chained_from, start}
 use Rattle.sc_hosts.specs.Runs.{net_of as net_after}
 use Rattle.sc_switch.specs.declared.refused.Epoch.{Epoch as Ended}
 use Rattle.sc_switch.specs.Standing.{Known, net_of, step_of, whole}
@@ -36,15 +37,18 @@ use Rattle.sc_outs.proofs.Laws.{cut_more, cut_of, puts_failed, puts_owed, puts_s
 use Rattle.sc_courses.specs.Courses.{Beginning, Course, Told, ordered}
 use Rattle.sc_courses.specs.Listings.{IsListingAt}
 use Rattle.sc_courses.specs.Ordering.{Point, is_for, withdrawn_by}
+use Rattle.sc_courses.specs.Endings.{HasToEnd, waits_for_end}
 use Rattle.sc_courses.proofs.CourseLaws.{course_counted, course_handed, course_listed, course_next, course_no_order, course_step, course_unordered, course_withdrawn}
 use Rattle.sc_courses.proofs.OrderingLaws.{is_for_gone, is_for_later}
-use Rattle.sc_rounds.specs.Stepping.{Ordered, StoppedAt, Unordered, order_at}
+use Rattle.sc_rounds.specs.Stepping.{IsLong, Ordered, StoppedAt, Unordered, order_at}
 use Rattle.sc_rounds.specs.declared.stepping.Core.{Core}
+use Rattle.sc_rounds.specs.declared.stepping.Turning.{Turning}
 use Rattle.sc_courses.specs.Asking.{Ticked, TickedPart}
 use Rattle.sc_courses.proofs.AskingLaws.{ticked_early, ticked_part}
 use Rattle.sc_courses.specs.Reports.{Reports}
 use Rattle.sc_courses.proofs.ReportLaws.{counts_step, reports_listed, reports_part, reports_step, reports_turned, untold}
-use Rattle.sc_rounds.specs.Serving.{Counted, Ends, Reported, Runs, RunsOn, Same, SameAt, Settles, Stands, Stopped, Took, Unreported, deed, moments_after, running, timed}
+use Rattle.sc_rounds.specs.Serving.{Counted, Ends, EndsAsSet, HasNoEnd, Reported, Runs, RunsOn, Same, SameAt, Settles, Stands, Stopped, Took, Unreported, deed, moments_after, running, timed}
+use Rattle.sc_rounds.proofs.Overs.{long_ends}
 use Rattle.sc_rounds.proofs.Timings.{IsLater, left_moment, lease_moment, none_withdrawn, runs_timed, taken_ticked, ticked_at, untaken_part, withdrawn_ticked}
 
 on_ok : {A E P Q : Type 0} (r : Result A E) → (P → Q) → OnOk r P → OnOk r Q
@@ -71,12 +75,12 @@ left-sent from known step e none =
     ∙ (ap (λ (setup : Setup). (after_step as_session setup (net_of known) step).sent) e ∙ ap (λ net. (after_step as_session from.setup net step).sent) (net-same from known e))
 
 -- a step by which none is withdrawn
-runs-step : (from : Beginning) (told : Told) (known : Known) (deeds : List Deed) (step : Step) (failed : Bool) → withdrawn_by step ≡ [] → Runs from told known deeds
+runs-step : (from : Beginning) (told : Told) (known : Known) (deeds : List Deed) (step : Step) (failed : Bool) → withdrawn_by step ≡ [] → (waits_for_end step ≡ true → HasToEnd from.setup (running known) → ⊥) → Runs from told known deeds
     → Runs from told (with_step known step) (deeds ++ deed step (sends from known step) failed ∷ [])
-runs-step from told known deeds step failed none runs = record {
+runs-step from told known deeds step failed none ready runs = record {
   setup_is = runs.setup_is;
   course = subst (λ (journal : List Step). Course from told known.handed (record { number = known.epoch; began = known.began; journal = journal }) (deeds ++ deed step (sends from known step) failed ∷ []))
-      (append_assoc known.handed known.journal (step ∷ [])) (course_step from told known.handed (running known) deeds step failed none runs.course);
+      (append_assoc known.handed known.journal (step ∷ [])) (course_step from told known.handed (running known) deeds step failed none ready runs.course);
 }
 
 pub runs-left : (from : Beginning) (told : Told) (old new : Known) (deeds : List Deed) → new ≡ record old { left = new.left } → Runs from told old deeds → Runs from told new deeds
@@ -116,37 +120,54 @@ abbrev stepped-core : Core → Known → Core
 stepped-core mid switch = record mid { switch = switch }
 
 step-stands : (step : Step) (mid : Core) (switch : Known) (new : Core) (told told2 : Told) → switch ≡ with_step mid.switch step → IsLater (net_of mid.switch).moment step → Settles (record mid { switch = switch }) new told told2
-    → (from : Beginning) (edge : EdgeState) (deeds : List Deed) → Stands from edge told mid deeds → (sent : List Sent) × Stands (timed step from) edge told2 new (deeds ++ deed step sent false ∷ [])
+    → (from : Beginning) (edge : EdgeState) (deeds : List Deed) → (waits_for_end step ≡ true → HasToEnd from.setup (running mid.switch) → ⊥) → Stands from edge told mid deeds → (sent : List Sent) × Stands (timed step from) edge told2 new (deeds ++ deed step sent false ∷ [])
 unfolding Settles
-step-stands step mid switch new told told2 e later settles from edge deeds s =
+step-stands step mid switch new told told2 e later settles from edge deeds ready s =
     let sent : List Sent = sends from mid.switch step in (
       sent,
       settles (timed step from) edge (deeds ++ deed step sent false ∷ [])
           (runs_timed from (moments_after step from.moments) told switch (deeds ++ deed step sent false ∷ [])
-          (subst (λ (known : Known). Runs from told known (deeds ++ deed step sent false ∷ [])) (sym e) (runs-step from told mid.switch deeds step false (none_withdrawn (net_of mid.switch).moment step later) s.runs)))
+          (subst (λ (known : Known). Runs from told known (deeds ++ deed step sent false ∷ [])) (sym e) (runs-step from told mid.switch deeds step false (none_withdrawn (net_of mid.switch).moment step later) ready s.runs)))
           (subst (λ (left : List Sent). Puts from.edge edge (deeds ++ deed step sent false ∷ []) mid.outs left)
           (sym (ap (λ (known : Known). known.left) e ∙ left-sent from mid.switch step s.runs.setup_is s.left_is))
           (puts_step from.edge edge deeds mid.outs (deed step sent false) refl s.puts))
           (taken_ticked step sent false from.moments deeds mid.switch switch e later s.ticked)
-          (unreported from told mid switch step e s.reports),
+          (unreported from told mid switch step e s.reports)
+          s.as_set,
     )
 
-pub took : (step : Step) (old mid : Core) (switch : Known) (new : Core) (told told1 told2 : Told) → Same old mid told told1 → switch ≡ with_step mid.switch step → IsLater (net_of mid.switch).moment step → Settles (record mid { switch = switch }) new told1 told2 → Took step false old new told told2
+-- the epoch that runs has no end before this step
+abbrev pub IsReady : Step → Core → Told → Known → Type 0
+IsReady step old told known = waits_for_end step ≡ true → HasNoEnd old told known
+
+ready-at : (step : Step) (old : Core) (told : Told) (known : Known) → IsReady step old told known → (from : Beginning) (edge : EdgeState) (deeds : List Deed) → Stands from edge told old deeds → waits_for_end step ≡ true → HasToEnd from.setup (running known) → ⊥
+unfolding HasNoEnd
+ready-at step old told known ready from edge deeds s waits = ready waits from edge deeds s
+
+-- a turn doesn't wait for one
+pub turn_ready : (done : Done) (old : Core) (told : Told) (known : Known) → IsReady (step_of done) old told known
+unfolding step_of waits_for_end
+turn_ready done old told known waits = absurd (false≢true waits)
+
+pub took : (step : Step) (old mid : Core) (switch : Known) (new : Core) (told told1 told2 : Told) → Same old mid told told1 → switch ≡ with_step mid.switch step → IsLater (net_of mid.switch).moment step → IsReady step old told mid.switch → Settles (record mid { switch = switch }) new told1 told2
+    → Took step false old new told told2
 unfolding Same Took
-took step old mid switch new told told1 told2 same e later settles from edge deeds s = step-stands step mid switch new told1 told2 e later settles from edge deeds (same from edge deeds s)
+took step old mid switch new told told1 told2 same e later ready settles from edge deeds s =
+    step-stands step mid switch new told1 told2 e later settles from edge deeds (ready-at step old told mid.switch ready from edge deeds s) (same from edge deeds s)
 
 pub took_ok : {A E : Type 0} (r : Result A E) (step : Step) (old mid : Core) (switch : Known) (new : Core) (told told1 told2 : Told) → Same old mid told told1 → switch ≡ with_step mid.switch step
-    → IsLater (net_of mid.switch).moment step → OnOk r (Settles (record mid { switch = switch }) new told1 told2) → OnOk r (Took step false old new told told2)
-took_ok r step old mid switch new told told1 told2 same e later = on_ok r (took step old mid switch new told told1 told2 same e later)
+    → IsLater (net_of mid.switch).moment step → IsReady step old told mid.switch → OnOk r (Settles (record mid { switch = switch }) new told1 told2) → OnOk r (Took step false old new told told2)
+took_ok r step old mid switch new told told1 told2 same e later ready = on_ok r (took step old mid switch new told told1 told2 same e later ready)
 
 -- the step was taken, and the run ended behind it
-pub cut_behind : (step : Step) (old mid : Core) (switch : Known) (new : Core) (told told1 told2 : Told) → Same old mid told told1 → switch ≡ with_step mid.switch step → IsLater (net_of mid.switch).moment step → RunsOn (record mid { switch = switch }) new told1 told2 → Stopped step false old new told told2
+pub cut_behind : (step : Step) (old mid : Core) (switch : Known) (new : Core) (told told1 told2 : Told) → Same old mid told told1 → switch ≡ with_step mid.switch step → IsLater (net_of mid.switch).moment step → IsReady step old told mid.switch → RunsOn (record mid { switch = switch }) new told1 told2
+    → Stopped step false old new told told2
 unfolding Same Stopped RunsOn
-cut_behind step old mid switch new told told1 told2 same e later on from edge deeds s =
+cut_behind step old mid switch new told told1 told2 same e later ready on from edge deeds s =
     let s1 : Stands from edge told1 mid deeds = same from edge deeds s in
     let sent : List Sent = sends from mid.switch step in
     let on1 : Runs from told2 new.switch (deeds ++ deed step sent false ∷ []) × Counted from told2 new.switch =
-    on from (deeds ++ deed step sent false ∷ []) (subst (λ (known : Known). Runs from told1 known (deeds ++ deed step sent false ∷ [])) (sym e) (runs-step from told1 mid.switch deeds step false (none_withdrawn (net_of mid.switch).moment step later) s1.runs))
+    on from (deeds ++ deed step sent false ∷ []) (subst (λ (known : Known). Runs from told1 known (deeds ++ deed step sent false ∷ [])) (sym e) (runs-step from told1 mid.switch deeds step false (none_withdrawn (net_of mid.switch).moment step later) (ready-at step old told mid.switch ready from edge deeds s) s1.runs))
     (unreported from told1 mid switch step e s1.reports)
     in
     inr (
@@ -160,8 +181,8 @@ cut_behind step old mid switch new told told1 told2 same e later on from edge de
     )
 
 pub took_err : {A E : Type 0} (r : Result A E) (step : Step) (old mid : Core) (switch : Known) (new : Core) (told told1 told2 : Told) → Same old mid told told1 → switch ≡ with_step mid.switch step
-    → IsLater (net_of mid.switch).moment step → RunsOn (record mid { switch = switch }) new told1 told2 → OnErr r (Stopped step false old new told told2)
-took_err r step old mid switch new told told1 told2 same e later on = on_err r (cut_behind step old mid switch new told told1 told2 same e later on)
+    → IsLater (net_of mid.switch).moment step → IsReady step old told mid.switch → RunsOn (record mid { switch = switch }) new told1 told2 → OnErr r (Stopped step false old new told told2)
+took_err r step old mid switch new told told1 told2 same e later ready on = on_err r (cut_behind step old mid switch new told told1 told2 same e later ready on)
 
 -- no step was taken
 pub none_taken : (step : Step) (failed : Bool) (old mid new : Core) (told told1 : Told) → Same old mid told told1 → new.switch ≡ mid.switch → Stopped step failed old new told told1
@@ -203,7 +224,8 @@ withdraw-stands app mid switch new told told2 e lives settles from edge deeds s 
           (sym (ap (λ (known : Known). known.left) e ∙ left-sent from mid.switch step s.runs.setup_is s.left_is))
           (puts_step from.edge edge deeds mid.outs (deed step sent false) refl s.puts))
           (withdrawn_ticked app sent from.moments deeds mid.switch switch e s.ticked)
-          (unreported from told mid switch step e s.reports),
+          (unreported from told mid switch step e s.reports)
+          s.as_set,
     )
 
 -- at another core of the same epoch
@@ -262,6 +284,7 @@ unordered-by order core told none from edge deeds s = record {
   puts = s.puts;
   ticked = s.ticked;
   reports = s.reports;
+  as_set = s.as_set;
 }
 
 -- it is of another epoch
@@ -292,42 +315,45 @@ no_order core told from edge deeds s = record {
   puts = s.puts;
   ticked = s.ticked;
   reports = s.reports;
+  as_set = s.as_set;
 }
 
 -- ## A place that failed
 
 fall-stands : (at : Place) (mid : Core) (switch : Known) (outs : Owing) (new : Core) (told told2 : Told) → switch ≡ with_step mid.switch (steps.Lost at) → IsLostAt at mid.outs outs → Settles (record mid { switch = switch; outs = outs }) new told told2
-    → (from : Beginning) (edge : EdgeState) (deeds : List Deed) → Stands from edge told mid deeds → (sent : List Sent) × Stands from edge told2 new (deeds ++ deed (steps.Lost at) sent true ∷ [])
+    → (from : Beginning) (edge : EdgeState) (deeds : List Deed) → (waits_for_end (steps.Lost at) ≡ true → HasToEnd from.setup (running mid.switch) → ⊥) → Stands from edge told mid deeds → (sent : List Sent) × Stands from edge told2 new (deeds ++ deed (steps.Lost at) sent true ∷ [])
 unfolding Settles
-fall-stands at mid switch outs new told told2 e lost settles from edge deeds s =
+fall-stands at mid switch outs new told told2 e lost settles from edge deeds ready s =
     let sent : List Sent = sends from mid.switch (steps.Lost at) in (
       sent,
       settles from edge (deeds ++ deed (steps.Lost at) sent true ∷ [])
-          (subst (λ (known : Known). Runs from told known (deeds ++ deed (steps.Lost at) sent true ∷ [])) (sym e) (runs-step from told mid.switch deeds (steps.Lost at) true refl s.runs))
+          (subst (λ (known : Known). Runs from told known (deeds ++ deed (steps.Lost at) sent true ∷ [])) (sym e) (runs-step from told mid.switch deeds (steps.Lost at) true refl ready s.runs))
           (subst (λ (left : List Sent). Puts from.edge edge (deeds ++ deed (steps.Lost at) sent true ∷ []) outs left)
           (sym (ap (λ (known : Known). known.left) e ∙ left-sent from mid.switch (steps.Lost at) s.runs.setup_is s.left_is))
           (puts_failed from.edge edge deeds mid.outs outs at sent s.puts lost))
           (taken_ticked (steps.Lost at) sent true from.moments deeds mid.switch switch e tt s.ticked)
-          (unreported from told mid switch (steps.Lost at) e s.reports),
+          (unreported from told mid switch (steps.Lost at) e s.reports)
+          s.as_set,
     )
 
 fell : (at : Place) (old mid : Core) (switch : Known) (outs : Owing) (new : Core) (told told1 told2 : Told) → Same old mid told told1 → switch ≡ with_step mid.switch (steps.Lost at) → IsLostAt at mid.outs outs
-    → Settles (record mid { switch = switch; outs = outs }) new told1 told2 → Took (steps.Lost at) true old new told told2
+    → IsReady (steps.Lost at) old told mid.switch → Settles (record mid { switch = switch; outs = outs }) new told1 told2 → Took (steps.Lost at) true old new told told2
 unfolding Same Took
-fell at old mid switch outs new told told1 told2 same e lost settles from edge deeds s = fall-stands at mid switch outs new told1 told2 e lost settles from edge deeds (same from edge deeds s)
+fell at old mid switch outs new told told1 told2 same e lost ready settles from edge deeds s =
+    fall-stands at mid switch outs new told1 told2 e lost settles from edge deeds (ready-at (steps.Lost at) old told mid.switch ready from edge deeds s) (same from edge deeds s)
 
 pub fell_ok : {A E : Type 0} (r : Result A E) (at : Place) (old mid : Core) (switch : Known) (outs : Owing) (new : Core) (told told1 told2 : Told) → Same old mid told told1 → switch ≡ with_step mid.switch (steps.Lost at) → IsLostAt at mid.outs outs
-    → OnOk r (Settles (record mid { switch = switch; outs = outs }) new told1 told2) → OnOk r (Took (steps.Lost at) true old new told told2)
-fell_ok r at old mid switch outs new told told1 told2 same e lost = on_ok r (fell at old mid switch outs new told told1 told2 same e lost)
+    → IsReady (steps.Lost at) old told mid.switch → OnOk r (Settles (record mid { switch = switch; outs = outs }) new told1 told2) → OnOk r (Took (steps.Lost at) true old new told told2)
+fell_ok r at old mid switch outs new told told1 told2 same e lost ready = on_ok r (fell at old mid switch outs new told told1 told2 same e lost ready)
 
 pub fell_behind : (at : Place) (old mid : Core) (switch : Known) (outs : Owing) (new : Core) (told told1 told2 : Told) → Same old mid told told1 → switch ≡ with_step mid.switch (steps.Lost at)
-    → RunsOn (record mid { switch = switch; outs = outs }) new told1 told2 → Stopped (steps.Lost at) true old new told told2
+    → IsReady (steps.Lost at) old told mid.switch → RunsOn (record mid { switch = switch; outs = outs }) new told1 told2 → Stopped (steps.Lost at) true old new told told2
 unfolding Same Stopped RunsOn
-fell_behind at old mid switch outs new told told1 told2 same e on from edge deeds s =
+fell_behind at old mid switch outs new told told1 told2 same e ready on from edge deeds s =
     let s1 : Stands from edge told1 mid deeds = same from edge deeds s in
     let sent : List Sent = sends from mid.switch (steps.Lost at) in
     let on1 : Runs from told2 new.switch (deeds ++ deed (steps.Lost at) sent true ∷ []) × Counted from told2 new.switch =
-    on from (deeds ++ deed (steps.Lost at) sent true ∷ []) (subst (λ (known : Known). Runs from told1 known (deeds ++ deed (steps.Lost at) sent true ∷ [])) (sym e) (runs-step from told1 mid.switch deeds (steps.Lost at) true refl s1.runs))
+    on from (deeds ++ deed (steps.Lost at) sent true ∷ []) (subst (λ (known : Known). Runs from told1 known (deeds ++ deed (steps.Lost at) sent true ∷ [])) (sym e) (runs-step from told1 mid.switch deeds (steps.Lost at) true refl (ready-at (steps.Lost at) old told mid.switch ready from edge deeds s) s1.runs))
     (unreported from told1 mid switch (steps.Lost at) e s1.reports)
     in
     inr (
@@ -341,8 +367,8 @@ fell_behind at old mid switch outs new told told1 told2 same e on from edge deed
     )
 
 pub fell_err : {A E : Type 0} (r : Result A E) (at : Place) (old mid : Core) (switch : Known) (outs : Owing) (new : Core) (told told1 told2 : Told) → Same old mid told told1 → switch ≡ with_step mid.switch (steps.Lost at)
-    → RunsOn (record mid { switch = switch; outs = outs }) new told1 told2 → OnErr r (Stopped (steps.Lost at) true old new told told2)
-fell_err r at old mid switch outs new told told1 told2 same e on = on_err r (fell_behind at old mid switch outs new told told1 told2 same e on)
+    → IsReady (steps.Lost at) old told mid.switch → RunsOn (record mid { switch = switch; outs = outs }) new told1 told2 → OnErr r (Stopped (steps.Lost at) true old new told told2)
+fell_err r at old mid switch outs new told told1 told2 same e ready on = on_err r (fell_behind at old mid switch outs new told told1 told2 same e ready on)
 
 -- ## Taking what was sent
 
@@ -352,17 +378,22 @@ told-runs from told told2 known deeds count notes runs = record { setup_is = run
 count-notes : (told told2 : Told) (count count2 : ℕ) → count ≡ count2 → Notes told told2 (noted.Step count) → Notes told told2 (noted.Step count2)
 count-notes told told2 count count2 e notes = subst (λ (n : ℕ). Notes told told2 (noted.Step n)) e notes
 
+-- the settings stay
+set-as : (from : Beginning) (old new : Core) → new.turning ≡ old.turning → EndsAsSet from old → EndsAsSet from new
+set-as from old new same as_set = ap (λ (turning : Turning). turning.epoch_steps) same ∙ as_set
+
 pub settled : (old new : Core) (told told2 : Told) (count : ℕ) → Notes told told2 (noted.Step count) → count ≡ min (old.handed + length old.switch.journal) 18446744073709551615 → new.switch ≡ record old.switch { left = new.switch.left } → new.switch.left ≡ []
-    → new.handed ≡ old.handed → new.unlisted ≡ min (old.unlisted + 1) 18446744073709551615
+    → new.handed ≡ old.handed → new.unlisted ≡ min (old.unlisted + 1) 18446744073709551615 → new.turning ≡ old.turning
     → ((first now : EdgeState) (deeds : List Deed) → Puts first now deeds old.outs old.switch.left → Puts first now deeds new.outs []) → Settles old new told told2
 unfolding Settles
-settled old new told told2 count notes count_is same all handed unlisted keeps from edge deeds runs puts ticked last = record {
+settled old new told told2 count notes count_is same all handed unlisted turning keeps from edge deeds runs puts ticked last as_set = record {
   runs = runs-left from told2 old.switch new.switch deeds same (told-runs from told told2 old.switch deeds count notes runs);
   left_is = all;
   puts = keeps from.edge edge deeds puts;
   ticked = ticked_at from.moments deeds (net_of old.switch).moment (net_of new.switch).moment (left_moment old.switch new.switch same) ticked;
   reports = reported-at from told2 old.handed new.handed new.unlisted new.unlisted old.switch new.switch handed refl (ap (λ (known : Known). known.handed) same) (ap (λ (known : Known). running known) same)
       (reports_step from.setup from.told told told2 old.handed old.unlisted new.unlisted old.switch.epoch old.switch.began old.switch.handed old.switch.journal unlisted last (count-notes told told2 count _ count_is notes));
+  as_set = set-as from old new turning as_set;
 }
 
 counted-left : (from : Beginning) (told : Told) (old new : Known) → new ≡ record old { left = new.left } → Counted from told old → Counted from told new
@@ -393,15 +424,15 @@ same_then a b c told told1 told2 first later from edge deeds s = later from edge
 same-notes : (told told2 : Told) (number number2 began began2 : ℕ) (journal : Kept Step) → number ≡ number2 → began ≡ began2 → Notes told told2 (noted.Epoch number began journal) → Notes told told2 (noted.Epoch number2 began2 journal)
 same-notes told told2 number number2 began began2 journal a b notes = subst (λ (n : ℕ). Notes told told2 (noted.Epoch n began2 journal)) a (subst (λ (n : ℕ). Notes told told2 (noted.Epoch number n journal)) b notes)
 
-runs-turned : (from : Beginning) (told told2 : Told) (old new : Known) (deeds : List Deed) (ended : Ended) → IsTurned old new ended → Notes told told2 (noted.Epoch ended.number ended.began ended.journal) → Runs from told old deeds → Runs from told2 new deeds
-runs-turned from told told2 old new deeds ended turned notes runs =
+runs-turned : (from : Beginning) (told told2 : Told) (old new : Known) (deeds : List Deed) (ended : Ended) → IsTurned old new ended → Notes told told2 (noted.Epoch ended.number ended.began ended.journal) → HasToEnd from.setup (running old) → Runs from told old deeds → Runs from told2 new deeds
+runs-turned from told told2 old new deeds ended turned notes ends runs =
     subst (λ (known : Known). Runs from told2 known deeds) (sym turned.new_is) (record {
       setup_is = runs.setup_is;
       course = subst (λ net. Course from told2 [] (record { number = old.epoch + 1; began = net.moment; journal = [] }) deeds) (sym (net-same from old runs.setup_is))
           (course_next from told told2 old.handed (running old) deeds ended.journal (ap (λ (j : List Step). old.handed ++ j) turned.journal_is)
           (same-notes told told2 ended.number old.epoch ended.began old.began ended.journal turned.number_is turned.began_is notes)
           (subst (λ (setup : Setup). IsLawful as_session setup old.epoch old.began (whole old)) runs.setup_is turned.lawful)
-          (subst (λ net. is_idle net ≡ true) (net-same from old runs.setup_is) turned.idle) runs.course);
+          ends runs.course);
     })
 
 pub turned_moment : (old new : Known) (ended : Ended) → IsTurned old new ended → (net_of new).moment ≡ (net_of old).moment
@@ -414,14 +445,16 @@ turned-reported from told told2 count unlisted old new ended turned notes r =
     (reports_turned from.setup from.told told told2 count unlisted old.handed (running old) (record { number = old.epoch + 1; began = (net_of old).moment; journal = [] }) ended.journal (ap (λ (j : List Step). old.handed ++ j) turned.journal_is) refl
     (same-notes told told2 ended.number old.epoch ended.began old.began ended.journal turned.number_is turned.began_is notes) r)
 
-pub turned_same : (old : Core) (switch : Known) (told told2 : Told) (ended : Ended) → IsTurned old.switch switch ended → Notes told told2 (noted.Epoch ended.number ended.began ended.journal) → Same old (record old { switch = switch; handed = 0 }) told told2
+pub turned_same : (old : Core) (switch : Known) (told told2 : Told) (ended : Ended) → IsTurned old.switch switch ended → old.switch.epoch < 4294967295 → ((handed : ℕ) → old.handed ≡ min handed 18446744073709551615 → IsLong old handed)
+    → Notes told told2 (noted.Epoch ended.number ended.began ended.journal) → Same old (record old { switch = switch; handed = 0 }) told told2
 unfolding Same
-turned_same old switch told told2 ended turned notes from edge deeds s = record {
-  runs = runs-turned from told told2 old.switch switch deeds ended turned notes s.runs;
+turned_same old switch told told2 ended turned number long notes from edge deeds s = record {
+  runs = runs-turned from told told2 old.switch switch deeds ended turned notes (long_ends from edge told old deeds s long turned.idle number) s.runs;
   left_is = ap (λ (known : Known). known.left) turned.new_is;
   puts = s.puts;
   ticked = ticked_at from.moments deeds (net_of old.switch).moment (net_of switch).moment (turned_moment old.switch switch ended turned) s.ticked;
   reports = turned-reported from told told2 old.handed old.unlisted old.switch switch ended turned notes s.reports;
+  as_set = s.as_set;
 }
 
 runs-handed : (from : Beginning) (told told2 : Told) (old : Known) (deeds : List Deed) (journal : Kept Step) → journal.items ≡ old.journal → Notes told told2 (noted.Part journal) → Runs from told old deeds → Runs from told2 (handing old) deeds
@@ -435,6 +468,9 @@ handing-moment : (old : Known) → (net_of (handing old)).moment ≡ (net_of old
 unfolding net_of
 handing-moment old = ap (λ (journal : List Step). (chained as_session old.setup old.epoch old.began journal).moment) (append-nil (whole old))
 
+pub handing_running : (old new : Known) → new ≡ handing old → running new ≡ running old
+handing_running old new same = ap (λ (known : Known). running known) same ∙ ap (λ (journal : List Step). let epoch : Epoch = record { number = old.epoch; began = old.began; journal = journal } in epoch) (append-nil (whole old))
+
 handed-reported : (from : Beginning) (told told2 : Told) (count count2 unlisted : ℕ) (old : Known) (journal : Kept Step) → count2 ≡ min (count + length journal.items) 18446744073709551615 → journal.items ≡ old.journal → Notes told told2 (noted.Part journal)
     → Reported from told count unlisted old → Reported from told2 count2 unlisted (handing old)
 handed-reported from told told2 count count2 unlisted old journal e items notes r =
@@ -442,16 +478,17 @@ handed-reported from told told2 count count2 unlisted old journal e items notes 
     (subst (λ (items2 : List Step). Reports from.setup from.told told2 count2 unlisted (old.handed ++ items2) (running old)) items
     (reports_part from.setup from.told told told2 count count2 unlisted old.handed (running old) journal e notes r))
 
-pub handed_same : (old new : Core) (told told2 : Told) (journal : Kept Step) → new.switch ≡ handing old.switch → new.outs ≡ old.outs → new.unlisted ≡ old.unlisted → new.handed ≡ min (old.handed + length journal.items) 18446744073709551615
+pub handed_same : (old new : Core) (told told2 : Told) (journal : Kept Step) → new.switch ≡ handing old.switch → new.turning ≡ old.turning → new.outs ≡ old.outs → new.unlisted ≡ old.unlisted → new.handed ≡ min (old.handed + length journal.items) 18446744073709551615
     → journal.items ≡ old.switch.journal → Notes told told2 (noted.Part journal) → Same old new told told2
 unfolding Same
-handed_same old new told told2 journal e outs unlisted handed items notes from edge deeds s = record {
+handed_same old new told told2 journal e turning outs unlisted handed items notes from edge deeds s = record {
   runs = subst (λ (known : Known). Runs from told2 known deeds) (sym e) (runs-handed from told told2 old.switch deeds journal items notes s.runs);
   left_is = ap (λ (known : Known). known.left) e ∙ s.left_is;
   puts = subst (λ (o : Owing). Puts from.edge edge deeds o []) (sym outs) s.puts;
   ticked = ticked_at from.moments deeds (net_of old.switch).moment (net_of new.switch).moment (ap (λ (known : Known). (net_of known).moment) e ∙ handing-moment old.switch) s.ticked;
   reports = reported-at from told2 new.handed new.handed old.unlisted new.unlisted (handing old.switch) new.switch refl unlisted (ap (λ (known : Known). known.handed) e) (ap (λ (known : Known). running known) e)
       (handed-reported from told told2 old.handed new.handed old.unlisted old.switch journal handed items notes s.reports);
+  as_set = set-as from old new turning s.as_set;
 }
 
 -- what the switch lists is of the point to which its run came
@@ -476,28 +513,31 @@ listed_same core told told2 listing is some notes from edge deeds s = record {
   ticked = s.ticked;
   reports = reports_listed from.setup from.told told told2 core.handed core.unlisted s.runs.course.ended core.switch.handed (running core.switch) listing (listing-at core.switch from.setup listing s.runs.setup_is is [])
       (some_listed core.switch listing is some) s.runs.course.tells notes s.reports;
+  as_set = s.as_set;
 }
 
 -- only leases changed
-pub leased_same : (old new : Core) (told : Told) → new.switch ≡ record old.switch { kept = new.switch.kept; leases = new.switch.leases } → new.outs ≡ old.outs → new.handed ≡ old.handed → new.unlisted ≡ old.unlisted → Same old new told told
+pub leased_same : (old new : Core) (told : Told) → new.switch ≡ record old.switch { kept = new.switch.kept; leases = new.switch.leases } → new.turning ≡ old.turning → new.outs ≡ old.outs → new.handed ≡ old.handed → new.unlisted ≡ old.unlisted → Same old new told told
 unfolding Same
-leased_same old new told e outs handed unlisted from edge deeds s = record {
+leased_same old new told e turning outs handed unlisted from edge deeds s = record {
   runs = subst (λ (known : Known). Runs from told known deeds) (sym e) (record { setup_is = s.runs.setup_is; course = s.runs.course });
   left_is = ap (λ (known : Known). known.left) e ∙ s.left_is;
   puts = subst (λ (o : Owing). Puts from.edge edge deeds o []) (sym outs) s.puts;
   ticked = ticked_at from.moments deeds (net_of old.switch).moment (net_of new.switch).moment (lease_moment old.switch new.switch e) s.ticked;
   reports = reported-at from told old.handed new.handed old.unlisted new.unlisted old.switch new.switch handed unlisted (ap (λ (known : Known). known.handed) e) (ap (λ (known : Known). running known) e) s.reports;
+  as_set = set-as from old new turning s.as_set;
 }
 
 -- nothing changed
-pub moved_same : (old new : Core) (told : Told) → new.switch ≡ old.switch → new.outs ≡ old.outs → new.handed ≡ old.handed → new.unlisted ≡ old.unlisted → Same old new told told
+pub moved_same : (old new : Core) (told : Told) → new.switch ≡ old.switch → new.turning ≡ old.turning → new.outs ≡ old.outs → new.handed ≡ old.handed → new.unlisted ≡ old.unlisted → Same old new told told
 unfolding Same
-moved_same old new told e outs handed unlisted from edge deeds s = record {
+moved_same old new told e turning outs handed unlisted from edge deeds s = record {
   runs = subst (λ (known : Known). Runs from told known deeds) (sym e) s.runs;
   left_is = ap (λ (known : Known). known.left) e ∙ s.left_is;
   puts = subst (λ (o : Owing). Puts from.edge edge deeds o []) (sym outs) s.puts;
   ticked = ticked_at from.moments deeds (net_of old.switch).moment (net_of new.switch).moment (ap (λ (known : Known). (net_of known).moment) e) s.ticked;
   reports = reported-at from told old.handed new.handed old.unlisted new.unlisted old.switch new.switch handed unlisted (ap (λ (known : Known). known.handed) e) (ap (λ (known : Known). running known) e) s.reports;
+  as_set = set-as from old new turning s.as_set;
 }
 
 -- the clock answered a moment that is no later one
@@ -509,6 +549,7 @@ same_at now core told early from edge deeds s = record {
   puts = s.puts;
   ticked = ticked_early from.moments deeds (net_of core.switch).moment now early s.ticked;
   reports = s.reports;
+  as_set = s.as_set;
 }
 
 -- ## What the switch answers

@@ -92,6 +92,7 @@ runs_timed from moments told known deeds runs = record {
     run = runs.course.run;
     obeys = runs.course.obeys;
     listings = runs.course.listings;
+    in_time = runs.course.in_time;
   };
 }
 

@@ -1,7 +1,7 @@
 -- What a server does that isn't heard: turns, moments and orders.
 use Rattle.sc_edge.specs.Edges.{EdgeState}
 use Rattle.std.specs.Prelude.{◌≡◌, ◌⊎◌, ◌++◌, ℕ, List, [], ◌∷◌, Option}
-use Rattle.sc_courses.specs.Asking.{Answered, Asked, Given, Source, Sources}
+use Rattle.sc_courses.specs.Asking.{Answered, AreAnswers, Asked, Given, Source, Sources}
 use Rattle.sc_edge.specs.declared.orders.Order.{Order}
 use Rattle.sc_courses.specs.Courses.{Beginning, Told, after, ordered}
 use Rattle.sc_switch.specs.Standing.{Known}
@@ -17,20 +17,20 @@ Moves old new told told2 = (from : Beginning) (edge : EdgeState) (streams : List
 unfoldable pub Breaks : Core → Core → Told → Told → Type 0
 Breaks old new told told2 = (from : Beginning) (edge : EdgeState) (streams : List Pending) → Serves from edge told old streams → Ended from edge told2 new.switch
 
--- the same, once the clock was asked
+-- the same, once the clock was asked, once
 unfoldable pub MovesOn : Core → Core → Told → Told → Source ℕ → Source ℕ → Type 0
 MovesOn old new told told2 clock clock2 =
-    (given : List ℕ) × Answered clock clock2 given × ((from : Beginning) (edge : EdgeState) (streams : List Pending) → Serves from edge told old streams → Serves (since from given) edge told2 new streams)
+    (moment : ℕ) × Answered clock clock2 (moment ∷ []) × ((from : Beginning) (edge : EdgeState) (streams : List Pending) → Serves from edge told old streams → Serves (since from (moment ∷ [])) edge told2 new streams)
 
 -- the run ended, once the clock was asked
 unfoldable pub BreaksOn : Core → Core → Told → Told → Source ℕ → Source ℕ → Type 0
 BreaksOn old new told told2 clock clock2 =
-    (given : List ℕ) × Answered clock clock2 given × ((from : Beginning) (edge : EdgeState) (streams : List Pending) → Serves from edge told old streams → Ended (since from given) edge told2 new.switch)
+    (moment : ℕ) × Answered clock clock2 (moment ∷ []) × ((from : Beginning) (edge : EdgeState) (streams : List Pending) → Serves from edge told old streams → Ended (since from (moment ∷ [])) edge told2 new.switch)
 
--- the same, once orders were asked for
+-- the same, once an order was asked for, once
 unfoldable pub MovesOrdered : Core → Core → Told → Told → Source (Option Order) → Source (Option Order) → Type 0
 MovesOrdered old new told told2 orders orders2 =
-    (given : List (Option Order)) × Answered orders orders2 given × ((from : Beginning) (edge : EdgeState) (streams : List Pending) → Serves from edge told old streams → Serves (ordered from given) edge told2 new streams)
+    (answer : Option Order) × Answered orders orders2 (answer ∷ []) × ((from : Beginning) (edge : EdgeState) (streams : List Pending) → Serves from edge told old streams → Serves (ordered from (answer ∷ [])) edge told2 new streams)
 
 -- these are all answers, or all but the last
 abbrev pub AreAlmost : List (Option Order) → List (Option Order) → Type 0
@@ -43,20 +43,20 @@ EndedOrdered from given edge told known = (obeyed : List (Option Order)) × AreA
 -- the run ended, and what it withdrew was ordered
 unfoldable pub BreaksOrdered : Core → Core → Told → Told → Source (Option Order) → Source (Option Order) → Type 0
 BreaksOrdered old new told told2 orders orders2 =
-    (given : List (Option Order)) × Answered orders orders2 given × ((from : Beginning) (edge : EdgeState) (streams : List Pending) → Serves from edge told old streams → EndedOrdered from given edge told2 new.switch)
+    (answer : Option Order) × Answered orders orders2 (answer ∷ []) × ((from : Beginning) (edge : EdgeState) (streams : List Pending) → Serves from edge told old streams → EndedOrdered from (answer ∷ []) edge told2 new.switch)
 
 -- ## Both
 
--- the server stands as before, once both were asked
-unfoldable pub MovesBoth : Core → Core → Told → Told → Sources → Sources → Type 0
-MovesBoth old new told told2 sources sources2 =
-    (given : Given) × Asked sources sources2 given × ((from : Beginning) (edge : EdgeState) (streams : List Pending) → Serves from edge told old streams → Serves (after from given) edge told2 new streams)
+-- the server stands as before, once orders were asked for so often, and the clock so often
+unfoldable pub MovesBoth : ℕ → ℕ → Core → Core → Told → Told → Sources → Sources → Type 0
+MovesBoth orders moments old new told told2 sources sources2 =
+    (given : Given) × AreAnswers orders moments given × Asked sources sources2 given × ((from : Beginning) (edge : EdgeState) (streams : List Pending) → Serves from edge told old streams → Serves (after from given) edge told2 new streams)
 
 -- the run ended, where it had obeyed these orders, but maybe for the last one
 abbrev pub EndedAfter : Beginning → Given → EdgeState → Told → Known → Type 0
 EndedAfter from given edge told known = (obeyed : List (Option Order)) × AreAlmost obeyed given.orders × Ended (after from (record given { orders = obeyed })) edge told known
 
--- the run ended once both were asked
-unfoldable pub BreaksBoth : Core → Core → Told → Told → Sources → Sources → Type 0
-BreaksBoth old new told told2 sources sources2 =
-    (given : Given) × Asked sources sources2 given × ((from : Beginning) (edge : EdgeState) (streams : List Pending) → Serves from edge told old streams → EndedAfter from given edge told2 new.switch)
+-- the run ended once they were asked so often
+unfoldable pub BreaksBoth : ℕ → ℕ → Core → Core → Told → Told → Sources → Sources → Type 0
+BreaksBoth orders moments old new told told2 sources sources2 =
+    (given : Given) × AreAnswers orders moments given × Asked sources sources2 given × ((from : Beginning) (edge : EdgeState) (streams : List Pending) → Serves from edge told old streams → EndedAfter from given edge told2 new.switch)

@@ -12,6 +12,7 @@ use Rattle.sc_outs.specs.Deeds.{Deed}
 use Rattle.sc_outs.specs.Puts.{IsCut, Puts}
 use Rattle.sc_courses.specs.Asking.{Ticked, TickedPart}
 use Rattle.sc_courses.specs.Courses.{Beginning, Course, Told}
+use Rattle.sc_courses.specs.Endings.{HasToEnd}
 use Rattle.sc_courses.specs.Marks.{Hearing, HearingPart, HearsOn}
 use Rattle.sc_courses.specs.Reports.{Counts, Reports, TellsSuch, Untold}
 use Rattle.sc_rounds.specs.declared.stepping.Core.{Core}
@@ -56,6 +57,10 @@ pub record Runs (from : Beginning) (told : Told) (known : Known) (deeds : List D
   pub setup_is : known.setup ≡ from.setup
   pub course : Course from told known.handed (running known) deeds
 
+-- the server ends its epochs as the settings say
+abbrev pub EndsAsSet : Beginning → Core → Type 0
+EndsAsSet from core = core.turning.epoch_steps ≡ from.setup.config.epoch_steps
+
 -- between two steps all that was sent was taken from the switch, and was put or is left to be put
 pub record Stands (from : Beginning) (edge : EdgeState) (told : Told) (core : Core) (deeds : List Deed) : Type 0 where
   pub runs : Runs from told core.switch deeds
@@ -63,6 +68,7 @@ pub record Stands (from : Beginning) (edge : EdgeState) (told : Told) (core : Co
   pub puts : Puts from.edge edge deeds core.outs []
   pub ticked : Ticked from.moments deeds (net_of core.switch).moment
   pub reports : Reported from told core.handed core.unlisted core.switch
+  pub as_set : EndsAsSet from core
 
 -- where a run ends, whatever is left to be put
 pub record Ends (from : Beginning) (edge : EdgeState) (told : Told) (known : Known) (deeds : List Deed) : Type 0 where
@@ -80,6 +86,10 @@ deed step sent failed = record { step = step; sent = sent; failed = failed }
 -- no step was taken
 unfoldable pub Same : Core → Core → Told → Told → Type 0
 Same old new told told2 = (from : Beginning) (edge : EdgeState) (deeds : List Deed) → Stands from edge told old deeds → Stands from edge told2 new deeds
+
+-- where it stood so, the epoch that runs now hasn't to end
+unfoldable pub HasNoEnd : Core → Told → Known → Type 0
+HasNoEnd old told known = (from : Beginning) (edge : EdgeState) (deeds : List Deed) → Stands from edge told old deeds → HasToEnd from.setup (running known) → ⊥
 
 -- no step was taken, and the clock answered this
 unfoldable pub SameAt : ℕ → Core → Core → Told → Told → Type 0
@@ -100,7 +110,7 @@ Stopped step failed old new told told2 =
 -- what the last step sent was taken from the switch
 unfoldable pub Settles : Core → Core → Told → Told → Type 0
 Settles old new told told2 =
-    (from : Beginning) (edge : EdgeState) (deeds : List Deed) → Runs from told old.switch deeds → Puts from.edge edge deeds old.outs old.switch.left → Ticked from.moments deeds (net_of old.switch).moment → Unreported from told old.handed old.switch → Stands from edge told2 new deeds
+    (from : Beginning) (edge : EdgeState) (deeds : List Deed) → Runs from told old.switch deeds → Puts from.edge edge deeds old.outs old.switch.left → Ticked from.moments deeds (net_of old.switch).moment → Unreported from told old.handed old.switch → EndsAsSet from old → Stands from edge told2 new deeds
 
 -- the switch goes on in the same course, and the notice was told of its last step
 unfoldable pub RunsOn : Core → Core → Told → Told → Type 0

@@ -1,5 +1,5 @@
 -- What became of a turn that was brought, of a moment, and of an order.
-use Rattle.std.specs.Prelude.{◌≤◌, ◌⊎◌, ◌++◌, Bool, true, false, ℕ, List, [], ◌∷◌, Option, Some}
+use Rattle.std.specs.Prelude.{◌<◌, ◌≤◌, ◌+◌, ◌⊎◌, ◌++◌, Bool, true, false, ℕ, List, [], ◌∷◌, Option, Some, length}
 use Rattle.sc_value.specs.declared.ids.AppId.{AppId}
 use Rattle.sc_value.specs.declared.message.Sent.{Sent}
 use Rattle.sc_terms.specs.declared.steps.Step.TheVariants as steps
@@ -13,6 +13,11 @@ use Rattle.sc_outs.specs.Deeds.{Deed}
 use Rattle.sc_courses.specs.Courses.{Beginning, Told, ordered}
 use Rattle.sc_rounds.specs.declared.stepping.Core.{Core}
 use Rattle.sc_rounds.specs.Serving.{Ends, Same, SameAt, Stands, Took, deed}
+
+-- the epoch that runs has as many steps as the settings ask for, which isn't 0, where so many of them were handed on
+pub record IsLong (core : Core) (handed : ℕ) : Type 0 where
+  pub asked : 0 < core.turning.epoch_steps
+  pub steps : core.turning.epoch_steps ≤ handed + length core.switch.journal
 
 -- the moment is the step, or it is no later one; one past 2^63 is none
 unfoldable pub Ticks : ℕ → Core → Core → Told → Told → Bool → Type 0

@@ -1,32 +1,32 @@
 //! The switch with what is left to be put of what it sent: each step of a server.
 
-ghost use Rattle.std.specs.Prelude.{◌≡◌, ◌≤◌, ◌<◌, ◌⊎◌, ◌+◌, List, [], length, min, true, false, IfOk, IfErr, OnOk, OnErr};
+ghost use Rattle.std.specs.Prelude.{◌≡◌, ◌≤◌, ◌<◌, ◌⊎◌, ◌+◌, ℕ, List, [], length, min, true, false, IfOk, IfErr, OnOk, OnErr};
 ghost use Rattle.sc_terms.specs.declared.steps.Step.TheVariants as steps;
 ghost use Rattle.sc_edge.specs.Edges.{EdgeState};
-ghost use Rattle.sc_hosts.specs.Runs.{HasVia};
+ghost use Rattle.sc_hosts.specs.Runs.{HasVia, live_count};
 ghost use Rattle.sc_switch.specs.Standing.{net_of, step_of};
 ghost use Rattle.sc_outs.specs.Deeds.{Deed};
 ghost use Rattle.sc_outs.specs.Owing.{nothing};
 ghost use Rattle.sc_courses.specs.Courses.{Told};
 ghost use Rattle.sc_outs.specs.Puts.{Puts};
 ghost use Rattle.sc_rounds.specs.Dues.{HasDue};
-ghost use Rattle.sc_rounds.specs.Serving.{RunsOn, Same, Settles, Stopped, Took};
-ghost use Rattle.sc_rounds.specs.Stepping.{Commits, StoppedAt, Ticks, Withdraws};
+ghost use Rattle.sc_rounds.specs.Serving.{HasNoEnd, RunsOn, Same, Settles, Stopped, Took, running};
+ghost use Rattle.sc_rounds.specs.Stepping.{Commits, IsLong, StoppedAt, Ticks, Withdraws};
 
 use sc_edge::{Listing, Notice};
 use sc_journal::Journal;
 use sc_outs::Outs;
 use sc_servlets::{Done, Lease};
 use sc_switch::{CommitRefused, Committed, Epoch, StepRefused, Switch};
-use sc_terms::{Bad, End, Step};
+use sc_terms::{Bad, End, Step, Within};
 use sc_value::{AppId, Discard, Message, NoMemory, Place};
 use std::alloc::Global;
 
 /// When a server begins a new journal.
-#[derive(Clone, Copy, Debug, PartialEq, Eq)]
+#[derive(Clone, Copy)]
 pub struct Turning {
     /// After so many steps, where nothing lives; 0 for never.
-    pub epoch_steps: u64,
+    pub epoch_steps: Within<0, 1_000_000>,
     /// Whether it hands on what it has, once its journal is half full.
     pub parts: bool,
     /// Whether it hands on each second what it has.
@@ -54,6 +54,7 @@ pub struct Core {
 impl Core {
     /// A switch that took no step, with nothing to put.
     pub fn new(alloc: Global, turning: Turning, switch: Switch) -> Core
+        ensures turning { result.turning ≡ turning }
         ensures switch { result.switch ≡ switch }
         ensures outs { result.outs ≡ nothing }
         ensures handed { result.handed ≡ 0 }
@@ -80,6 +81,7 @@ impl Core {
     /// Ends the epoch where its steps are as many as the settings ask for and nothing lives.
     pub fn end_epoch<N: Notice<Journal<Step>>>(&mut self, notice: &mut N)
         ensures same { Same self.old self.new (N.noted notice.old) (N.noted notice.new) }
+        ensures over { HasNoEnd self.old (N.noted notice.old) self.new.switch }
         ensures outs { self.new.outs ≡ self.old.outs }
         ensures unlisted { self.new.unlisted ≡ self.old.unlisted }
         ensures moment { (net_of self.new.switch).moment ≡ (net_of self.old.switch).moment }
@@ -102,10 +104,13 @@ impl Core {
         }
     }
 
-    fn is_epoch_due(&self) -> bool {
-        self.turning.epoch_steps > 0
-            && self.switch.live() == 0
-            && self.steps() >= self.turning.epoch_steps
+    /// Whether the epoch has as many steps as the settings ask for, and no session lives.
+    fn is_epoch_due(&self) -> bool
+        ensures long { result ≡ true → (handed : ℕ) → self.now.handed ≡ min handed 18446744073709551615 → IsLong self.now handed }
+        ensures lives { result ≡ false → live_count (net_of self.now.switch) ≡ 0 → (handed : ℕ) → self.now.handed ≡ min handed 18446744073709551615 → IsLong self.now handed → ⊥ }
+    {
+        let least = self.turning.epoch_steps.get();
+        least > 0 && self.switch.live() == 0 && self.steps() >= least
     }
 
     /// Hands on the steps that are kept, where the settings ask for it and the journal is half full.
@@ -113,6 +118,7 @@ impl Core {
         ensures same { Same self.old self.new (N.noted notice.old) (N.noted notice.new) }
         ensures moment { (net_of self.new.switch).moment ≡ (net_of self.old.switch).moment }
         ensures epoch { self.new.switch.epoch ≡ self.old.switch.epoch }
+        ensures running { running self.new.switch ≡ running self.old.switch }
     {
         if !self.is_part_due() {
             return;
@@ -144,6 +150,7 @@ impl Core {
         ensures same { Same self.old self.new (N.noted notice.old) (N.noted notice.new) }
         ensures moment { (net_of self.new.switch).moment ≡ (net_of self.old.switch).moment }
         ensures epoch { self.new.switch.epoch ≡ self.old.switch.epoch }
+        ensures running { running self.new.switch ≡ running self.old.switch }
     {
         self.handed_at = self.switch.now();
         let journal = self.switch.hand_on();
@@ -154,6 +161,7 @@ impl Core {
     /// Makes room for a step: ends the epoch or hands on its steps, where that is due.
     fn make_room<N: Notice<Journal<Step>>>(&mut self, notice: &mut N)
         ensures same { Same self.old self.new (N.noted notice.old) (N.noted notice.new) }
+        ensures over { HasNoEnd self.old (N.noted notice.old) self.new.switch }
         ensures moment { (net_of self.new.switch).moment ≡ (net_of self.old.switch).moment }
     {
         self.end_epoch(notice);
@@ -177,6 +185,7 @@ impl Core {
     /// Takes all that was sent from the switch, and puts each text behind what is left of its place.
     fn drain(&mut self) -> Result<(), NoMemory>
         ensures same { self.new.switch ≡ record self.old.switch { left = self.new.switch.left } }
+        ensures turning { self.new.turning ≡ self.old.turning }
         ensures handed { self.new.handed ≡ self.old.handed }
         ensures unlisted { self.new.unlisted ≡ self.old.unlisted }
         ensures all { OnOk result (self.new.switch.left ≡ []) }

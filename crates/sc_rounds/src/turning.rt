@@ -2,6 +2,7 @@
 
 ghost use Rattle.std.specs.Prelude.{◌≡◌, IfErr, OnOk, OnErr};
 ghost use Rattle.sc_rounds.specs.Dues.{HasDue};
+ghost use Rattle.sc_rounds.specs.Serving.{HasNoEnd};
 ghost use Rattle.sc_rounds.specs.Moving.{Breaks, BreaksOn, BreaksOrdered, Moves, MovesOn, MovesOrdered};
 
 use crate::stepping::Core;
@@ -82,6 +83,7 @@ pub fn end_epoch<N: Notice<Journal<Step>>>(core: &mut Core, notice: &mut N)
     ensures moves { Moves core.old core.new (N.noted notice.old) (N.noted notice.new) }
     ensures outs { core.new.outs ≡ core.old.outs }
     ensures unlisted { core.new.unlisted ≡ core.old.unlisted }
+    ensures over { HasNoEnd core.old (N.noted notice.old) core.new.switch }
 {
     core.end_epoch(notice);
 }

@@ -17,12 +17,13 @@ use Rattle.sc_outs.specs.Deeds.{Deed}
 use Rattle.sc_outs.specs.Owing.{Owing, left_at, nothing}
 use Rattle.sc_outs.specs.Puts.{Puts}
 use Rattle.sc_outs.proofs.Laws.{cut_of, puts_begin, took_parts, took_whole}
-use Rattle.sc_courses.specs.Asking.{Asked, Given, Sources, Ticked, raised, ticks_taken}
+use Rattle.sc_courses.specs.Asking.{AreAlmostEven, AreEven, Asked, Given, Sources, Ticked, raised, ticks_taken}
 use Rattle.sc_courses.specs.Ordering.{Obeys, ObeysPart, Point, beginning_point}
-use Rattle.sc_courses.proofs.AskingLaws.{ticked_begin, ticked_part}
+use Rattle.sc_courses.proofs.AskingLaws.{even_almost, ticked_begin, ticked_part}
 use Rattle.sc_edge.specs.declared.orders.Order.{Order}
 use Rattle.sc_courses.specs.Courses.{AreDeeds, Beginning, TellsEpochs, TellsListings, Told, after}
 use Rattle.sc_courses.specs.Due.{IsDue}
+use Rattle.sc_courses.specs.Endings.{AreInTime, HasToEnd}
 use Rattle.sc_courses.specs.Marks.{Hearing, HearingPart}
 use Rattle.sc_courses.proofs.CourseLaws.{course_begin, course_deeds, course_lawful}
 use Rattle.sc_courses.proofs.HeardLaws.{hearing_begin, hearing_part}
@@ -46,6 +47,10 @@ due-at : (from : Beginning) (known : Known) (ran : Ran) (journal : Kept Step) �
     → IsDue from.setup (last_epoch ran known.handed journal) journal.items
 due-at from known ran journal epoch began items due =
     subst (λ (last : Epoch). IsDue from.setup last journal.items) (sym (last-is ran known journal epoch began items)) (subst (λ (kept : List Step). IsDue from.setup (running known) kept) (sym items) due)
+
+-- what both answered
+abbrev answers : Beginning → Given
+answers from = record { moments = from.moments; orders = from.orders }
 
 abbrev obeying : Beginning → List (Option Order) → Beginning
 obeying from orders = record from { orders = orders }
@@ -79,12 +84,22 @@ lengths-last : (from : Beginning) (told : Told) (known : Known) (journal : Kept 
 lengths-last from told known journal ended items tells counts =
     subst (λ (steps : List Step). TellsLengths from.told told ended (length (known.handed ++ steps))) (sym items) (lengths_told from.told told ended known.handed (length (whole known)) tells counts)
 
+-- the epochs are those of these journals
+in-time-last : (from : Beginning) (ran : Ran) (known : Known) (journal : Kept Step) (ended : List Epoch) → ran.epoch ≡ known.epoch → ran.began ≡ known.began → journal.items ≡ known.journal
+    → AreInTime from.setup (record { ended = ended; running = running known }) → AreInTime from.setup (record { ended = ended; running = last_epoch ran known.handed journal })
+in-time-last from ran known journal ended epoch began items are =
+    subst (λ (last : Epoch). AreInTime from.setup (record { ended = ended; running = last })) (sym (last-is ran known journal epoch began items)) are
+
+over-last : (from : Beginning) (ran : Ran) (known : Known) (journal : Kept Step) → ran.epoch ≡ known.epoch → ran.began ≡ known.began → journal.items ≡ known.journal → (HasToEnd from.setup (running known) → ⊥)
+    → HasToEnd from.setup (last_epoch ran known.handed journal) → ⊥
+over-last from ran known journal epoch began items over ends = over (subst (λ (last : Epoch). HasToEnd from.setup last) (last-is ran known journal epoch began items) ends)
+
 leaves-of : (from : Beginning) (obeyed : List (Option Order)) (now : EdgeState) (told : Told) (known : Known) (ran : Ran) (journal : Kept Step) (deeds : List Deed) → AreAlmost obeyed from.orders → (ran.status ≡ statuses.Done → obeyed ≡ from.orders)
     → Ends (obeying from obeyed) now told known deeds → HearingPart from.edge.polled now.polled deeds
     → ran.epoch ≡ known.epoch → ran.began ≡ known.began → journal.items ≡ known.journal → IsLawful as_session known.setup known.epoch known.began (whole known) → ComesAt from.edge now deeds ran.status
     → (ran.status ≡ statuses.Done → ticks_taken deeds ≡ raised 0 from.moments) → (ran.status ≡ statuses.JournalFull → IsDue from.setup (running known) known.journal)
-    → (ran.status ≡ statuses.Done → TellsSuch from.told told (Shows from.setup known.handed (running known))) → Leaves from now told ran journal
-leaves-of from obeyed now told known ran journal deeds almost all ends heard epoch began items lawful comes ticked due shows = record {
+    → (ran.status ≡ statuses.Done → TellsSuch from.told told (Shows from.setup known.handed (running known))) → (ran.status ≡ statuses.Done → HasToEnd from.setup (running known) → ⊥) → AreAlmostEven (answers from) → (ran.status ≡ statuses.Done → AreEven (answers from)) → Leaves from now told ran journal
+leaves-of from obeyed now told known ran journal deeds almost all ends heard epoch began items lawful comes ticked due shows over asked asked_all = record {
   ended = ends.runs.course.ended;
   handed = known.handed;
   deeds = deeds;
@@ -105,6 +120,10 @@ leaves-of from obeyed now told known ran journal deeds almost all ends heard epo
   listed = λ done. listed-last from told ran known journal ends.runs.course.ended epoch began items ends.runs.course.tells (shows done);
   lengths = lengths-last from told known journal ends.runs.course.ended items ends.runs.course.tells ends.counts;
   due = λ full. due-at from known ran journal epoch began items (due full);
+  in_time = in-time-last from ran known journal ends.runs.course.ended epoch began items ends.runs.course.in_time;
+  asked = asked;
+  asked_all = asked_all;
+  over = λ done. over-last from ran known journal epoch began items (over done);
 }
 
 with-items : (found : Option (Kept Step)) (items : List Step) → HasItems found items → (journal : Kept Step) × (found ≡ Some journal) × (journal.items ≡ items)
@@ -115,10 +134,10 @@ with-items (Some journal) items has = (journal, refl, has)
 -- where the run ended within a round
 pub served_cut : (from : Beginning) (obeyed : List (Option Order)) (now : EdgeState) (told : Told) (known : Known) (ran : Ran) → AreAlmost obeyed from.orders → Ended (obeying from obeyed) now told known → ran.epoch ≡ known.epoch → ran.began ≡ known.began → HasItems ran.journal known.journal
     → IsLawful as_session known.setup known.epoch known.began (whole known) → ((deeds : List Deed) → ComesAt from.edge now deeds ran.status)
-    → (ran.status ≡ statuses.Done → ⊥) → (known.setup ≡ from.setup → ran.status ≡ statuses.JournalFull → IsDue from.setup (running known) known.journal) → IsServed from now told ran
-served_cut from obeyed now told known ran almost ended epoch began has lawful comes undone due =
+    → (ran.status ≡ statuses.Done → ⊥) → (known.setup ≡ from.setup → ran.status ≡ statuses.JournalFull → IsDue from.setup (running known) known.journal) → AreAlmostEven (answers from) → IsServed from now told ran
+served_cut from obeyed now told known ran almost ended epoch began has lawful comes undone due asked =
     let (journal, journal_is, items) = with-items ran.journal known.journal has in
-    record { journal = journal; journal_is = journal_is; leaves = leaves-of from obeyed now told known ran journal ended.deeds almost (λ done. absurd (undone done)) ended.ends ended.hearing epoch began items lawful (comes ended.deeds) (λ done. absurd (undone done)) (due ended.ends.runs.setup_is) (λ done. absurd (undone done)) }
+    record { journal = journal; journal_is = journal_is; leaves = leaves-of from obeyed now told known ran journal ended.deeds almost (λ done. absurd (undone done)) ended.ends ended.hearing epoch began items lawful (comes ended.deeds) (λ done. absurd (undone done)) (due ended.ends.runs.setup_is) (λ done. absurd (undone done)) (λ done. absurd (undone done)) asked (λ done. absurd (undone done)) }
 
 done-comes : (from : Beginning) (now : EdgeState) (deeds : List Deed) (status : Status) (core : Core) (streams : List Pending) → status ≡ statuses.Done → Hearing from.edge.polled now.polled deeds (bytes_of streams) → Puts from.edge now deeds core.outs []
     → ((place : Place) → left_at core.outs place ≡ []) → ComesAt from.edge now deeds status
@@ -135,15 +154,15 @@ starved-full : {P : Type 0} (status : Status) → status ≡ statuses.NoMemory �
 starved-full status starved full = cc
 
 -- where it was over
-pub served_done : (from : Beginning) (now : EdgeState) (told : Told) (core : Core) (streams : List Pending) (ran : Ran) → Serves from now told core streams → ((place : Place) → left_at core.outs place ≡ []) → core.unlisted ≡ 0 → ran.status ≡ statuses.Done
+pub served_done : (from : Beginning) (now : EdgeState) (told : Told) (core : Core) (streams : List Pending) (ran : Ran) → Serves from now told core streams → ((place : Place) → left_at core.outs place ≡ []) → core.unlisted ≡ 0 → (HasToEnd from.setup (running core.switch) → ⊥) → AreEven (answers from) → ran.status ≡ statuses.Done
     → ran.epoch ≡ core.switch.epoch → ran.began ≡ core.switch.began → HasItems ran.journal core.switch.journal → IsLawful as_session core.switch.setup core.switch.epoch core.switch.began (whole core.switch) → IsServed from now told ran
-served_done from now told core streams ran s none listed status epoch began has lawful =
+served_done from now told core streams ran s none listed over asked status epoch began has lawful =
     let (journal, journal_is, items) = with-items ran.journal core.switch.journal has in
     record {
       journal = journal;
       journal_is = journal_is;
       leaves = leaves-of from from.orders now told core.switch ran journal s.deeds (inl refl) (λ done. refl) (record { runs = s.stands.runs; cut = cut_of from.edge now s.deeds core.outs [] s.stands.puts; ticked = ticked_part from.moments s.deeds (net_of core.switch).moment s.stands.ticked; counts = s.stands.reports.counts })
-          (hearing_part from.edge.polled now.polled s.deeds (bytes_of streams) s.hearing) epoch began items lawful (done-comes from now s.deeds ran.status core streams status s.hearing s.stands.puts none) (λ done. s.stands.ticked.ticks) (done-full ran.status status) (λ done. s.stands.reports.shows listed);
+          (hearing_part from.edge.polled now.polled s.deeds (bytes_of streams) s.hearing) epoch began items lawful (done-comes from now s.deeds ran.status core streams status s.hearing s.stands.puts none) (λ done. s.stands.ticked.ticks) (done-full ran.status status) (λ done. s.stands.reports.shows listed) (λ done. over) (even_almost (answers from) asked) (λ done. asked);
     }
 
 -- ## The beginning
@@ -170,8 +189,8 @@ begun-reports setup told edge count unlisted known switch handed none =
     subst (λ (k : Known). Reported (beginning setup told edge) told count unlisted k) (sym switch)
     (subst (λ (n : ℕ). Reported (beginning setup told edge) told n unlisted (fresh setup)) (sym handed) (subst (λ (n : ℕ). Reported (beginning setup told edge) told 0 n (fresh setup)) (sym none) (fresh-reports setup told edge)))
 
-pub begun : (setup : Setup) (told : Told) (edge : EdgeState) (core : Core) (streams : List Pending) → core.switch ≡ fresh setup → core.outs ≡ nothing → core.handed ≡ 0 → core.unlisted ≡ 0 → streams ≡ [] → Serves (beginning setup told edge) edge told core streams
-begun setup told edge core streams switch outs handed unlisted none = record {
+pub begun : (setup : Setup) (told : Told) (edge : EdgeState) (core : Core) (streams : List Pending) → core.switch ≡ fresh setup → core.outs ≡ nothing → core.handed ≡ 0 → core.unlisted ≡ 0 → core.turning.epoch_steps ≡ setup.config.epoch_steps → streams ≡ [] → Serves (beginning setup told edge) edge told core streams
+begun setup told edge core streams switch outs handed unlisted as_set none = record {
   deeds = [];
   stands = record {
     runs = subst (λ (known : Known). Runs (beginning setup told edge) told known []) (sym switch) (fresh-runs setup told edge);
@@ -179,6 +198,7 @@ begun setup told edge core streams switch outs handed unlisted none = record {
     puts = subst (λ (o : Owing). Puts edge edge [] o []) (sym outs) (puts_begin edge);
     ticked = subst (λ (n : ℕ). Ticked [] [] n) (sym (ap (λ (known : Known). (net_of known).moment) switch ∙ fresh-moment setup)) ticked_begin;
     reports = begun-reports setup told edge core.handed core.unlisted core.switch switch handed unlisted;
+    as_set = as_set;
   };
   hearing = hearing_begin edge.polled (bytes_of streams) (none-kept streams none);
 }
@@ -210,7 +230,7 @@ never_started setup told edge ran status epoch began has =
       deeds = [];
       ends = record { runs = fresh-runs setup told edge; cut = cut_of edge edge [] nothing [] (puts_begin edge); ticked = ticked_part [] [] 0 ticked_begin; counts = (fresh-reports setup told edge).counts };
       hearing = hearing_part edge.polled edge.polled [] (bytes_of []) (hearing_begin edge.polled (bytes_of []) no-bytes);
-    }) epoch began has (none-lawful setup) (starved_comes edge edge ran.status status) (starved-done ran.status status) (λ same. starved-full ran.status status)
+    }) epoch began has (none-lawful setup) (starved_comes edge edge ran.status status) (starved-done ran.status status) (λ same. starved-full ran.status status) (even_almost (answers (beginning setup told edge)) refl)
 
 -- ## A run from its beginning
 
@@ -219,23 +239,24 @@ abbrev pub IsServedOn : Setup → Told → EdgeState → EdgeState → Told → 
 IsServedOn setup told edge now told2 sources sources2 ran = (given : Given) × Asked sources sources2 given × IsServed (record { setup = setup; told = told; edge = edge; moments = given.moments; orders = given.orders }) now told2 ran
 
 -- the run was over
-pub done_served : (old new : Server) (e e1 : EdgeState) (t t1 : Told) (k k1 : Sources) (ran : Ran) → old.core.switch ≡ fresh old.core.switch.setup → old.core.outs ≡ nothing → old.core.handed ≡ 0 → old.core.unlisted ≡ 0 → old.streams ≡ [] → FinishesOn old new e e1 t t1 k k1 → ran.status ≡ statuses.Done
+pub done_served : (old new : Server) (e e1 : EdgeState) (t t1 : Told) (k k1 : Sources) (ran : Ran) → old.core.switch ≡ fresh old.core.switch.setup → old.core.outs ≡ nothing → old.core.handed ≡ 0 → old.core.unlisted ≡ 0 → old.core.turning.epoch_steps ≡ old.core.switch.setup.config.epoch_steps → old.streams ≡ [] → FinishesOn old new e e1 t t1 k k1 → ran.status ≡ statuses.Done
     → ran.epoch ≡ new.core.switch.epoch → ran.began ≡ new.core.switch.began → HasItems ran.journal new.core.switch.journal → IsLawful as_session new.core.switch.setup new.core.switch.epoch new.core.switch.began (whole new.core.switch)
     → IsServedOn old.core.switch.setup t e e1 t1 k k1 ran
 unfolding FinishesOn GoesOn
-done_served old new e e1 t t1 k k1 ran switch outs handed unlisted streams ((given, asked, goes), none, listed) status epoch began has lawful =
-    let s : Serves (after (beginning old.core.switch.setup t e) given) e1 t1 new.core new.streams = goes (beginning old.core.switch.setup t e) (begun old.core.switch.setup t e old.core old.streams switch outs handed unlisted streams) in
-    (given, asked, served_done (after (beginning old.core.switch.setup t e) given) e1 t1 new.core new.streams ran s none listed status epoch began has lawful)
+done_served old new e e1 t t1 k k1 ran switch outs handed unlisted as_set streams ((given, even, asked, goes), none, listed, over) status epoch began has lawful =
+    let s0 : Serves (beginning old.core.switch.setup t e) e t old.core old.streams = begun old.core.switch.setup t e old.core old.streams switch outs handed unlisted as_set streams in
+    let s : Serves (after (beginning old.core.switch.setup t e) given) e1 t1 new.core new.streams = goes (beginning old.core.switch.setup t e) s0 in
+    (given, asked, served_done (after (beginning old.core.switch.setup t e) given) e1 t1 new.core new.streams ran s none listed (over (beginning old.core.switch.setup t e) s0) even status epoch began has lawful)
 
 -- the run couldn't go on
-pub halt_served : (old new : Server) (e e1 : EdgeState) (t t1 : Told) (k k1 : Sources) (ran : Ran) → old.core.switch ≡ fresh old.core.switch.setup → old.core.outs ≡ nothing → old.core.handed ≡ 0 → old.core.unlisted ≡ 0 → old.streams ≡ [] → HaltsOn old new e e1 t t1 k k1 → ((deeds : List Deed) → ComesAt e e1 deeds ran.status)
+pub halt_served : (old new : Server) (e e1 : EdgeState) (t t1 : Told) (k k1 : Sources) (ran : Ran) → old.core.switch ≡ fresh old.core.switch.setup → old.core.outs ≡ nothing → old.core.handed ≡ 0 → old.core.unlisted ≡ 0 → old.core.turning.epoch_steps ≡ old.core.switch.setup.config.epoch_steps → old.streams ≡ [] → HaltsOn old new e e1 t t1 k k1 → ((deeds : List Deed) → ComesAt e e1 deeds ran.status)
     → (ran.status ≡ statuses.Done → ⊥) → (new.core.switch.setup ≡ old.core.switch.setup → ran.status ≡ statuses.JournalFull → IsDue old.core.switch.setup (running new.core.switch) new.core.switch.journal)
     → ran.epoch ≡ new.core.switch.epoch → ran.began ≡ new.core.switch.began → HasItems ran.journal new.core.switch.journal → IsLawful as_session new.core.switch.setup new.core.switch.epoch new.core.switch.began (whole new.core.switch)
     → IsServedOn old.core.switch.setup t e e1 t1 k k1 ran
 unfolding HaltsOn
-halt_served old new e e1 t t1 k k1 ran switch outs handed unlisted streams (given, asked, halts) comes undone due epoch began has lawful =
-    let (obeyed, almost, ended) = halts (beginning old.core.switch.setup t e) (begun old.core.switch.setup t e old.core old.streams switch outs handed unlisted streams) in
-    (given, asked, served_cut (after (beginning old.core.switch.setup t e) given) obeyed e1 t1 new.core.switch ran almost ended epoch began has lawful comes undone due)
+halt_served old new e e1 t t1 k k1 ran switch outs handed unlisted as_set streams (given, even, asked, halts) comes undone due epoch began has lawful =
+    let (obeyed, almost, ended) = halts (beginning old.core.switch.setup t e) (begun old.core.switch.setup t e old.core old.streams switch outs handed unlisted as_set streams) in
+    (given, asked, served_cut (after (beginning old.core.switch.setup t e) given) obeyed e1 t1 new.core.switch ran almost ended epoch began has lawful comes undone due even)
 
 pub edge_comes : (first now : EdgeState) (status : Status) (cause : Stop) → status ≡ statuses.Edge → cause ≡ stops.Edge → Blames first now cause → (deeds : List Deed) → ComesAt first now deeds status
 unfolding ComesAt Blames
@@ -264,6 +285,6 @@ pub ran_served : {A : Type 0} (r : Result A Stop) (old new : Server) (e e1 : Edg
     → ran.epoch ≡ new.core.switch.epoch → ran.began ≡ new.core.switch.began → HasItems ran.journal new.core.switch.journal → IsLawful as_session new.core.switch.setup new.core.switch.epoch new.core.switch.began (whole new.core.switch)
     → IsServedOn old.core.switch.setup t e e1 t1 k k1 ran
 ran_served (Ok x) old new e e1 t t1 k k1 status ran is_new finishes halts blames right due done stop status_is epoch began has lawful =
-    done_served old new e e1 t t1 k k1 ran is_new.switch is_new.outs is_new.handed is_new.unlisted is_new.streams finishes (status_is ∙ done) epoch began has lawful
+    done_served old new e e1 t t1 k k1 ran is_new.switch is_new.outs is_new.handed is_new.unlisted is_new.as_set is_new.streams finishes (status_is ∙ done) epoch began has lawful
 ran_served (Err cause) old new e e1 t t1 k k1 status ran is_new finishes halts blames right due done stop status_is epoch began has lawful =
-    halt_served old new e e1 t t1 k k1 ran is_new.switch is_new.outs is_new.handed is_new.unlisted is_new.streams halts (stop_comes e e1 ran.status cause (status_is ∙ stop) blames) (stop-done ran.status cause (status_is ∙ stop)) (stop-due old.core.switch.setup new.core.switch ran.status cause (status_is ∙ stop) right due) epoch began has lawful
+    halt_served old new e e1 t t1 k k1 ran is_new.switch is_new.outs is_new.handed is_new.unlisted is_new.as_set is_new.streams halts (stop_comes e e1 ran.status cause (status_is ∙ stop) blames) (stop-done ran.status cause (status_is ∙ stop)) (stop-due old.core.switch.setup new.core.switch ran.status cause (status_is ∙ stop) right due) epoch began has lawful

@@ -1,5 +1,5 @@
 -- What the parts of a round do, one after the other.
-use Rattle.std.proofs.Common.{◌≡◌, ◌≤◌, ℕ, Option, List, [], ◌++◌, append_assoc, refl, sym, ap, ◌∙◌, subst, inl, inr, arith}
+use Rattle.std.proofs.Common.{◌≡◌, ◌≤◌, ℕ, suc, Option, List, [], ◌++◌, append_assoc, refl, sym, ap, ◌∙◌, subst, inl, inr, arith}
 use Rattle.std.specs.Prelude.{◌⊎◌, Result, Ok, Err, IfErr}
 use Rattle.std.proofs.lemmas.List.{append-nil}
 use Rattle.sc_value.specs.declared.ids.Place.{Place}
@@ -10,7 +10,7 @@ use Rattle.sc_edge.specs.declared.edge.Got.{Got}
 use Rattle.sc_edge.specs.declared.edge.Got.TheVariants as got
 use Rattle.sc_outs.proofs.Laws.{cut_of, puts_stand}
 use Rattle.sc_courses.specs.Asking.{Sources, given_then, none_given}
-use Rattle.sc_courses.proofs.AskingLaws.{asked_none, asked_then, ticked_part}
+use Rattle.sc_courses.proofs.AskingLaws.{almost_then, answers_almost, answers_even, even_almost, even_then, asked_none, asked_then, ticked_part}
 use Rattle.sc_edge.specs.declared.orders.Order.{Order}
 use Rattle.sc_courses.specs.Courses.{Beginning, Told, after}
 use Rattle.sc_courses.specs.Marks.{Hearing}
@@ -20,7 +20,7 @@ use Rattle.sc_rounds.specs.declared.streams.Pending.{Pending}
 use Rattle.sc_rounds.specs.Moving.{Breaks, BreaksBoth, EndedAfter, Moves, MovesBoth}
 use Rattle.sc_rounds.proofs.Movings.{ended_more}
 use Rattle.sc_rounds.specs.Polling.{Polls}
-use Rattle.sc_rounds.specs.Serving.{Ended, Serves}
+use Rattle.sc_rounds.specs.Serving.{Ended, HasNoEnd, Serves}
 use Rattle.sc_rounds.specs.Streaming.{bytes_of}
 use Rattle.sc_switch.specs.Standing.{Known, net_of}
 use Rattle.sc_switch.specs.declared.refused.StepRefused.{StepRefused}
@@ -31,7 +31,7 @@ use Rattle.sc_serve.specs.declared.stop.Stop.{Stop}
 use Rattle.sc_serve.specs.declared.stop.Stop.TheVariants as stops
 use Rattle.sc_serve.specs.Closing.{Rests}
 use Rattle.sc_outs.specs.Owing.{Owing, left_at}
-use Rattle.sc_serve.specs.Running.{Blames, FinishesOn, Goes, GoesOn, Halts, HaltsOn, IsDueAt}
+use Rattle.sc_serve.specs.Running.{Blames, FinishesOn, Goes, GoesOn, Halts, HaltsOn, IsDueAt, IsOver}
 
 -- ## Counts of faults
 
@@ -113,7 +113,7 @@ pub rests_goes : (a : Server) (old new : EdgeState) (told : Told) → Rests old 
 unfolding Goes
 rests_goes a old new told rests from s = record {
   deeds = s.deeds;
-  stands = record { runs = s.stands.runs; left_is = s.stands.left_is; puts = puts_stand from.edge old new s.deeds a.core.outs [] rests.took s.stands.puts; ticked = s.stands.ticked; reports = s.stands.reports };
+  stands = record { runs = s.stands.runs; left_is = s.stands.left_is; puts = puts_stand from.edge old new s.deeds a.core.outs [] rests.took s.stands.puts; ticked = s.stands.ticked; reports = s.stands.reports; as_set = s.stands.as_set };
   hearing = subst (λ polled. Hearing from.edge.polled polled s.deeds (bytes_of a.streams)) (sym rests.polled) s.hearing;
 }
 
@@ -188,13 +188,13 @@ rest_counts e e1 e2 same counts = rw same counts
 
 -- ## Once the clock and the orders were asked
 
-pub moves_goes_on : (a b : Server) (edge : EdgeState) (t t1 : Told) (k k1 : Sources) → b.streams ≡ a.streams → MovesBoth a.core b.core t t1 k k1 → GoesOn a b edge edge t t1 k k1
+pub moves_goes_on : (n : ℕ) (a b : Server) (edge : EdgeState) (t t1 : Told) (k k1 : Sources) → b.streams ≡ a.streams → MovesBoth n n a.core b.core t t1 k k1 → GoesOn a b edge edge t t1 k k1
 unfolding MovesBoth GoesOn
-moves_goes_on a b edge t t1 k k1 streams (given, asked, moves) = (given, asked, λ from s. moves from edge b.streams (subst (λ (ps : List Pending). Serves from edge t a.core ps) (sym streams) s))
+moves_goes_on n a b edge t t1 k k1 streams (given, are, asked, moves) = (given, answers_even n given are, asked, λ from s. moves from edge b.streams (subst (λ (ps : List Pending). Serves from edge t a.core ps) (sym streams) s))
 
-pub breaks_halts_on : (a b : Server) (edge : EdgeState) (t t1 : Told) (k k1 : Sources) → BreaksBoth a.core b.core t t1 k k1 → HaltsOn a b edge edge t t1 k k1
+pub breaks_halts_on : (m n : ℕ) (a b : Server) (edge : EdgeState) (t t1 : Told) (k k1 : Sources) → (m ≡ n) ⊎ (m ≡ suc n) → BreaksBoth m n a.core b.core t t1 k k1 → HaltsOn a b edge edge t t1 k k1
 unfolding BreaksBoth HaltsOn
-breaks_halts_on a b edge t t1 k k1 (given, asked, breaks) = (given, asked, λ from s. breaks from edge a.streams s)
+breaks_halts_on m n a b edge t t1 k k1 even (given, are, asked, breaks) = (given, answers_almost m n given even are, asked, λ from s. breaks from edge a.streams s)
 
 serves-none : (from : Beginning) (edge : EdgeState) (told : Told) (core : Core) (streams : List Pending) → Serves from edge told core streams → Serves (after from none_given) edge told core streams
 serves-none from edge told core streams s =
@@ -203,7 +203,7 @@ serves-none from edge told core streams s =
 
 pub goes_on : (a b : Server) (e e1 : EdgeState) (t t1 : Told) (k : Sources) → Goes a b e e1 t t1 → GoesOn a b e e1 t t1 k k
 unfolding Goes GoesOn
-goes_on a b e e1 t t1 k goes = (none_given, asked_none k, λ from s. serves-none from e1 t1 b.core b.streams (goes from s))
+goes_on a b e e1 t t1 k goes = (none_given, refl, asked_none k, λ from s. serves-none from e1 t1 b.core b.streams (goes from s))
 
 ended-none : (from : Beginning) (edge : EdgeState) (told : Told) (known : Known) → Ended from edge told known → EndedAfter from none_given edge told known
 ended-none from edge told known s = (
@@ -215,31 +215,32 @@ ended-none from edge told known s = (
 
 pub halts_on : (a b : Server) (e e1 : EdgeState) (t t1 : Told) (k : Sources) → Halts a b e e1 t t1 → HaltsOn a b e e1 t t1 k k
 unfolding Halts HaltsOn
-halts_on a b e e1 t t1 k halts = (none_given, asked_none k, λ from s. ended-none from e1 t1 b.core.switch (halts from s))
+halts_on a b e e1 t t1 k halts = (none_given, even_almost none_given refl, asked_none k, λ from s. ended-none from e1 t1 b.core.switch (halts from s))
 
 -- before it
 pub goes_then_on : (a b c : Server) (e e1 e2 : EdgeState) (t t1 t2 : Told) (k k1 : Sources) → Goes a b e e1 t t1 → GoesOn b c e1 e2 t1 t2 k k1 → GoesOn a c e e2 t t2 k k1
 unfolding Goes GoesOn
-goes_then_on a b c e e1 e2 t t1 t2 k k1 first (given, asked, later) = (given, asked, λ from s. later from (first from s))
+goes_then_on a b c e e1 e2 t t1 t2 k k1 first (given, even, asked, later) = (given, even, asked, λ from s. later from (first from s))
 
 pub halts_then_on : (a b c : Server) (e e1 e2 : EdgeState) (t t1 t2 : Told) (k k1 : Sources) → Goes a b e e1 t t1 → HaltsOn b c e1 e2 t1 t2 k k1 → HaltsOn a c e e2 t t2 k k1
 unfolding Goes HaltsOn
-halts_then_on a b c e e1 e2 t t1 t2 k k1 first (given, asked, later) = (given, asked, λ from s. later from (first from s))
+halts_then_on a b c e e1 e2 t t1 t2 k k1 first (given, even, asked, later) = (given, even, asked, λ from s. later from (first from s))
 
 -- and behind it
 pub goes_on_goes : (a b c : Server) (e e1 e2 : EdgeState) (t t1 t2 : Told) (k k1 : Sources) → GoesOn a b e e1 t t1 k k1 → Goes b c e1 e2 t1 t2 → GoesOn a c e e2 t t2 k k1
 unfolding Goes GoesOn
-goes_on_goes a b c e e1 e2 t t1 t2 k k1 (given, asked, first) later = (given, asked, λ from s. later (after from given) (first from s))
+goes_on_goes a b c e e1 e2 t t1 t2 k k1 (given, even, asked, first) later = (given, even, asked, λ from s. later (after from given) (first from s))
 
 pub goes_on_halts : (a b c : Server) (e e1 e2 : EdgeState) (t t1 t2 : Told) (k k1 : Sources) → GoesOn a b e e1 t t1 k k1 → Halts b c e1 e2 t1 t2 → HaltsOn a c e e2 t t2 k k1
 unfolding Halts GoesOn HaltsOn
-goes_on_halts a b c e e1 e2 t t1 t2 k k1 (given, asked, first) later = (given, asked, λ from s. (given.orders, inl refl, later (after from given) (first from s)))
+goes_on_halts a b c e e1 e2 t t1 t2 k k1 (given, even, asked, first) later = (given, even_almost given even, asked, λ from s. (given.orders, inl refl, later (after from given) (first from s)))
 
 -- one round after the other
 pub goes_on_then : (a b c : Server) (e e1 e2 : EdgeState) (t t1 t2 : Told) (k k1 k2 : Sources) → GoesOn a b e e1 t t1 k k1 → GoesOn b c e1 e2 t1 t2 k1 k2 → GoesOn a c e e2 t t2 k k2
 unfolding GoesOn
-goes_on_then a b c e e1 e2 t t1 t2 k k1 k2 (xs, asked, first) (ys, asked2, later) = (
+goes_on_then a b c e e1 e2 t t1 t2 k k1 k2 (xs, even, asked, first) (ys, even2, asked2, later) = (
   given_then xs ys,
+  even_then xs ys even even2,
   asked_then k k1 k2 xs ys asked asked2,
   λ from s.
       subst (λ (m : List ℕ). Serves (record from { moments = m; orders = from.orders ++ (xs.orders ++ ys.orders) }) e2 t2 c.core c.streams) (append_assoc from.moments xs.moments ys.moments)
@@ -249,21 +250,31 @@ goes_on_then a b c e e1 e2 t t1 t2 k k1 k2 (xs, asked, first) (ys, asked2, later
 
 pub halts_on_then : (a b c : Server) (e e1 e2 : EdgeState) (t t1 t2 : Told) (k k1 k2 : Sources) → GoesOn a b e e1 t t1 k k1 → HaltsOn b c e1 e2 t1 t2 k1 k2 → HaltsOn a c e e2 t t2 k k2
 unfolding GoesOn HaltsOn
-halts_on_then a b c e e1 e2 t t1 t2 k k1 k2 (xs, asked, first) (ys, asked2, later) =
-    (given_then xs ys, asked_then k k1 k2 xs ys asked asked2, λ from s. ended_more from xs ys e2 t2 c.core.switch (later (after from xs) (first from s)))
+halts_on_then a b c e e1 e2 t t1 t2 k k1 k2 (xs, even, asked, first) (ys, even2, asked2, later) =
+    (given_then xs ys, almost_then xs ys even even2, asked_then k k1 k2 xs ys asked asked2, λ from s. ended_more from xs ys e2 t2 c.core.switch (later (after from xs) (first from s)))
 
 -- it ends where it began
 pub same_halts_on : (a : Server) (e : EdgeState) (t : Told) (k : Sources) → HaltsOn a a e e t t k k
 unfolding HaltsOn
-same_halts_on a e t k = (none_given, asked_none k, λ from s. ended-none from e t a.core.switch (ended-of from e t a.core a.streams s))
+same_halts_on a e t k = (none_given, even_almost none_given refl, asked_none k, λ from s. ended-none from e t a.core.switch (ended-of from e t a.core a.streams s))
 
 -- a rest changes nothing
 pub rest_goes_on : (a b : Server) (e e1 e2 : EdgeState) (t t1 : Told) (k k1 : Sources) → e2 ≡ e1 → GoesOn a b e e1 t t1 k k1 → GoesOn a b e e2 t t1 k k1
 rest_goes_on a b e e1 e2 t t1 k k1 same goes = rw same goes
 
+over-goes : (a b c : Server) (e e1 : EdgeState) (t t1 : Told) (k k1 : Sources) → GoesOn a b e e1 t t1 k k1 → HasNoEnd b.core t1 c.core.switch → IsOver a c e t
+unfolding GoesOn HasNoEnd
+over-goes a b c e e1 t t1 k k1 (given, even, asked, goes) over from s ends =
+    let s1 : Serves (after from given) e1 t1 b.core b.streams = goes from s in
+    over (after from given) e1 s1.deeds s1.stands ends
+
 -- the run is over, once the epoch was ended where that was due
 pub over_on : (a b c : Server) (e e1 : EdgeState) (t t1 t2 : Told) (k k1 : Sources) → GoesOn a b e e1 t t1 k k1 → c.streams ≡ b.streams → Moves b.core c.core t1 t2 → c.core.outs ≡ b.core.outs → ((place : Place) → left_at b.core.outs place ≡ [])
-    → c.core.unlisted ≡ b.core.unlisted → b.core.unlisted ≡ 0 → FinishesOn a c e e1 t t2 k k1
+    → c.core.unlisted ≡ b.core.unlisted → b.core.unlisted ≡ 0 → HasNoEnd b.core t1 c.core.switch → FinishesOn a c e e1 t t2 k k1
 unfolding FinishesOn
-over_on a b c e e1 t t1 t2 k k1 goes streams moves outs none unlisted listed =
-    (goes_on_goes a b c e e1 e1 t t1 t2 k k1 goes (moves_goes b c e1 t1 t2 streams moves), (λ place. ap (λ (o : Owing). left_at o place) outs ∙ none place), unlisted ∙ listed)
+over_on a b c e e1 t t1 t2 k k1 goes streams moves outs none unlisted listed over = (
+  goes_on_goes a b c e e1 e1 t t1 t2 k k1 goes (moves_goes b c e1 t1 t2 streams moves),
+  (λ place. ap (λ (o : Owing). left_at o place) outs ∙ none place),
+  unlisted ∙ listed,
+  over-goes a b c e e1 t t1 k k1 goes over,
+)

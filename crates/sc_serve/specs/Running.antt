@@ -10,9 +10,10 @@ use Rattle.sc_switch.specs.declared.ran.Status.{Status}
 use Rattle.sc_switch.specs.declared.ran.Status.TheVariants as statuses
 use Rattle.sc_edge.specs.Edges.{EdgeState}
 use Rattle.sc_edge.specs.Faults.{Rose}
-use Rattle.sc_courses.specs.Asking.{Asked, Given, Sources}
+use Rattle.sc_courses.specs.Asking.{AreAlmostEven, AreEven, Asked, Given, Sources}
 use Rattle.sc_courses.specs.Courses.{Beginning, Told, after}
 use Rattle.sc_courses.specs.Due.{IsDue}
+use Rattle.sc_courses.specs.Endings.{HasToEnd}
 use Rattle.sc_outs.specs.Owing.{left_at, nothing}
 use Rattle.sc_value.specs.declared.ids.Place.{Place}
 use Rattle.sc_serve.specs.declared.server.Server.{Server}
@@ -44,19 +45,25 @@ IsDueAt known stops.NoMemory = Unit {0}
 
 -- ## Once the clock and the orders were asked
 
--- it stands between two rounds as before
+-- it stands between two rounds as before, and in each round both were asked once
 unfoldable pub GoesOn : Server → Server → EdgeState → EdgeState → Told → Told → Sources → Sources → Type 0
 GoesOn old new edge edge2 told told2 sources sources2 =
-    (given : Given) × Asked sources sources2 given × ((from : Beginning) → Serves from edge told old.core old.streams → Serves (after from given) edge2 told2 new.core new.streams)
+    (given : Given) × AreEven given × Asked sources sources2 given × ((from : Beginning) → Serves from edge told old.core old.streams → Serves (after from given) edge2 told2 new.core new.streams)
 
 -- the run ended, where it had obeyed the orders, but maybe for the last one
 unfoldable pub HaltsOn : Server → Server → EdgeState → EdgeState → Told → Told → Sources → Sources → Type 0
 HaltsOn old new edge edge2 told told2 sources sources2 =
-    (given : Given) × Asked sources sources2 given × ((from : Beginning) → Serves from edge told old.core old.streams → EndedAfter from given edge2 told2 new.core.switch)
+    (given : Given) × AreAlmostEven given × Asked sources sources2 given × ((from : Beginning) → Serves from edge told old.core old.streams → EndedAfter from given edge2 told2 new.core.switch)
 
--- it stands behind its last round, with nothing left to be put, and the notice was told what lived behind the last step
+-- where it stood so, the epoch that runs now hasn't to end
+abbrev pub IsOver : Server → Server → EdgeState → Told → Type 0
+IsOver old new edge told = (from : Beginning) → Serves from edge told old.core old.streams → HasToEnd from.setup (running new.core.switch) → ⊥
+
+-- it stands behind its last round, with nothing left to be put, the notice was told what lived behind the last step, and the
+-- epoch hasn't to end
 unfoldable pub FinishesOn : Server → Server → EdgeState → EdgeState → Told → Told → Sources → Sources → Type 0
-FinishesOn old new edge edge2 told told2 sources sources2 = GoesOn old new edge edge2 told told2 sources sources2 × ((place : Place) → left_at new.core.outs place ≡ []) × (new.core.unlisted ≡ 0)
+FinishesOn old new edge edge2 told told2 sources sources2 =
+    GoesOn old new edge edge2 told told2 sources sources2 × ((place : Place) → left_at new.core.outs place ≡ []) × (new.core.unlisted ≡ 0) × IsOver old new edge told
 
 -- a switch that took no step
 abbrev pub fresh : Setup → Known
@@ -65,6 +72,7 @@ fresh setup = record { setup = setup; epoch = 0; began = 0; handed = []; journal
 -- a server that took no step
 pub record IsNew (server : Server) : Type 0 where
   pub switch : server.core.switch ≡ fresh server.core.switch.setup
+  pub as_set : server.core.turning.epoch_steps ≡ server.core.switch.setup.config.epoch_steps
   pub outs : server.core.outs ≡ nothing
   pub handed : server.core.handed ≡ 0
   pub unlisted : server.core.unlisted ≡ 0

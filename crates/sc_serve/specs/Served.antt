@@ -17,10 +17,11 @@ use Rattle.sc_replay.specs.Replaying.{IsUnset, TellsConfig, TellsTable, app_name
 use Rattle.sc_runs.specs.Following.{Streams}
 use Rattle.sc_outs.specs.Deeds.{Deed}
 use Rattle.sc_outs.specs.Puts.{TookParts, TookWhole}
-use Rattle.sc_courses.specs.Asking.{Asked, Given, Sources, TickedPart, none_given, raised, ticks_taken}
+use Rattle.sc_courses.specs.Asking.{AreAlmostEven, AreEven, Asked, Given, Sources, TickedPart, none_given, raised, ticks_taken}
 use Rattle.sc_courses.specs.Courses.{AreDeeds, Beginning, TellsEpochs, TellsListings, Told}
 use Rattle.sc_courses.specs.Ordering.{Obeys, ObeysPart, beginning_point}
 use Rattle.sc_courses.specs.Due.{IsDue}
+use Rattle.sc_courses.specs.Endings.{AreInTime, HasToEnd}
 use Rattle.sc_courses.specs.Marks.{Hearing, HearingPart}
 use Rattle.sc_courses.specs.Reports.{TellsLast, TellsLengths}
 
@@ -64,8 +65,9 @@ last_epoch ran handed journal = record { number = ran.epoch; began = ran.began; 
 -- way; the steps that were heard are a beginning of what the edge's answers make; of what each step sends parts were
 -- taken, place by place; each moment of the clock that was later than all before is a Tick step, and each order for a
 -- session that lived then is its withdrawal, at `Done` the last ones too, and no other is; at `Done` the last listing that
--- was told is of the last step; each length of each epoch's journal was told once, in order; and at `JournalFull` a step
--- is due that the journal has no room for
+-- was told is of the last step; each length of each epoch's journal was told once, in order; at `JournalFull` a step
+-- is due that the journal has no room for; and each epoch ended where it had to and no later, at `Done` the last one hasn't to; the clock
+-- and the orders were asked equally often, but in the last round maybe the orders alone, at `Done` not so
 pub record Leaves (from : Beginning) (now : EdgeState) (told : Told) (ran : Ran) (journal : Kept Step) : Type 0 where
   pub ended : List Epoch
   pub handed : List Step
@@ -84,6 +86,10 @@ pub record Leaves (from : Beginning) (now : EdgeState) (told : Told) (ran : Ran)
   pub listed : ran.status ≡ statuses.Done → TellsLast from.setup from.told told (ended ++ last_epoch ran handed journal ∷ [])
   pub lengths : TellsLengths from.told told ended (length (handed ++ journal.items))
   pub due : ran.status ≡ statuses.JournalFull → IsDue from.setup (last_epoch ran handed journal) journal.items
+  pub in_time : AreInTime from.setup (record { ended = ended; running = last_epoch ran handed journal })
+  pub asked : AreAlmostEven (record { moments = from.moments; orders = from.orders })
+  pub asked_all : ran.status ≡ statuses.Done → AreEven (record { moments = from.moments; orders = from.orders })
+  pub over : ran.status ≡ statuses.Done → HasToEnd from.setup (last_epoch ran handed journal) → ⊥
 
 -- ## How a call ends
 

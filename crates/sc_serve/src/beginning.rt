@@ -79,7 +79,7 @@ fn begin_over(alloc: Global, settings: Settings, apps: &Catalogue) -> Result<Beg
     ensures unserved { IfErr result (λ ran. (edge : EdgeState) (told : Told) → IsServed (record { setup = record { config = settings.config; dar = settings.dar; kinds = (map (λ k. both_charters (stated (k.servlet.vtable, k.servlet.value)) (option_map (λ l. listens (l.vtable, l.value)) k.listener)) apps.now.kinds) }; told = told; edge = edge; moments = []; orders = [] }) edge told ran) }
 {
     let turning = Turning {
-        epoch_steps: settings.config.epoch_steps.get(),
+        epoch_steps: Within::of(settings.config.epoch_steps.get()),
         parts: settings.config.journal_parts,
         recording: settings.config.recording.is_some(),
     };

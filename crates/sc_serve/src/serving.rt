@@ -39,6 +39,10 @@ use std::thread::Threads;
 /// file, the steps that are kept are handed on after a round at whose end the clock is at least 1,000 ms past the last
 /// hand-on, or past 0.
 ///
+/// Where the setting `epoch_steps` isn't 0, an epoch ends once it has that many steps and no session and no transaction
+/// lives: before the next step that is a message, a text that is none, a loss or a later moment, and before the call
+/// answers `Done`. The epoch of number 4,294,967,295 doesn't end.
+///
 /// The turns that are lent out are made by as many threads as the settings' `workers` says, 1 to 32. Each passes the
 /// gate before it calls a servlet. The rounds begin with the first of these threads, or after 2 seconds without one;
 /// they make a turn themselves, and pass no gate, where no thread has begun or the queue of turns is full. All

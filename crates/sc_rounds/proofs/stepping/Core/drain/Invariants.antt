@@ -10,6 +10,7 @@ invariant-loop-sent l =
     × ((first now : EdgeState) (deeds : List Deed) → Puts first now deeds l.fn.self.outs l.fn.self.switch.left → Puts first now deeds l.self.outs l.self.switch.left)
     × (l.self.handed ≡ l.fn.self.handed)
     × (l.self.unlisted ≡ l.fn.self.unlisted)
+    × (l.self.turning ≡ l.fn.self.turning)
 
 abbrev pub decreases-loop-sent : goal.decreases-loop-sent
 decreases-loop-sent l = length l.self.switch.left
