@@ -1,4 +1,5 @@
 mod Endings
 mod Leavings
 mod Names
+mod Pollings
 mod Roundings

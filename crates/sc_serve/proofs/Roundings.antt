@@ -1,11 +1,11 @@
 -- What the parts of a round do, one after the other.
 use Rattle.std.proofs.Common.{◌≡◌, ◌≤◌, ℕ, suc, Option, List, [], ◌++◌, append_assoc, refl, sym, ap, ◌∙◌, subst, inl, inr, arith}
-use Rattle.std.specs.Prelude.{◌⊎◌, Result, Ok, Err, IfErr}
-use Rattle.std.proofs.lemmas.List.{append-nil}
+use Rattle.std.specs.Prelude.{◌⊎◌, Result, Ok, Err, IfErr, length}
+use Rattle.std.proofs.lemmas.List.{append-nil, length-append}
 use Rattle.sc_value.specs.declared.ids.Place.{Place}
 use Rattle.sc_edge.specs.Edges.{CountsOn, EdgeState, Stands}
 use Rattle.sc_edge.specs.EdgeCalls.{Answers, Ends, PollBlames}
-use Rattle.sc_edge.specs.Faults.{Rose_after}
+use Rattle.sc_edge.specs.Faults.{Rose_after, one_more}
 use Rattle.sc_edge.specs.declared.edge.Got.{Got}
 use Rattle.sc_edge.specs.declared.edge.Got.TheVariants as got
 use Rattle.sc_outs.proofs.Laws.{cut_of, puts_stand}
@@ -31,7 +31,8 @@ use Rattle.sc_serve.specs.declared.stop.Stop.{Stop}
 use Rattle.sc_serve.specs.declared.stop.Stop.TheVariants as stops
 use Rattle.sc_serve.specs.Closing.{Rests}
 use Rattle.sc_outs.specs.Owing.{Owing, left_at}
-use Rattle.sc_serve.specs.Running.{Blames, FinishesOn, Goes, GoesOn, Halts, HaltsOn, IsDueAt, IsOver}
+use Rattle.sc_serve.specs.Running.{Blames, FinishesOn, Goes, GoesOn, Halts, HaltsOn, Hears, IsDueAt, IsOver, IsUnheard, PollsOn, PollsPart, Works, WorksPart}
+use Rattle.sc_serve.proofs.Pollings.{heard_part, part_of, polls_kept, polls_none, polls_part, polls_round, polls_then}
 
 -- ## Counts of faults
 
@@ -118,13 +119,20 @@ rests_goes a old new told rests from s = record {
 }
 
 pub rests_none : (edge : EdgeState) → Rests edge edge
-rests_none edge = record { took = λ place. refl; polled = refl }
+rests_none edge = record { took = λ place. refl; polled = refl; polls = refl }
 
 pub rests_then : (a b c : EdgeState) → Rests a b → Rests b c → Rests a c
-rests_then a b c first later = record { took = λ place. later.took place ∙ first.took place; polled = later.polled ∙ first.polled }
+rests_then a b c first later = record { took = λ place. later.took place ∙ first.took place; polled = later.polled ∙ first.polled; polls = later.polls ∙ first.polls }
 
-pub rests_of : (old new : EdgeState) → ((place : Place) → Stands old new place) → new.polled ≡ old.polled → Rests old new
-rests_of old new stands polled = record { took = λ place. (stands place).0; polled = polled }
+-- so nothing was polled
+pub closed_unheard : (a b c : Server) (e e1 e2 : EdgeState) → IsUnheard a b e e1 → Rests e1 e2 → c.unpolled ≡ b.unpolled → IsUnheard a c e e2
+closed_unheard a b c e e1 e2 first rests same = record { unpolled = same ∙ first.unpolled; polls = rests.polls ∙ first.polls }
+
+pub unheard_none : (a : Server) (e : EdgeState) → IsUnheard a a e e
+unheard_none a e = record { unpolled = refl; polls = refl }
+
+pub unheard_then : (a b c : Server) (e e1 e2 : EdgeState) → IsUnheard a b e e1 → IsUnheard b c e1 e2 → IsUnheard a c e e2
+unheard_then a b c e e1 e2 first later = record { unpolled = later.unpolled ∙ first.unpolled; polls = later.polls ∙ first.polls }
 
 -- ## A cause
 
@@ -188,22 +196,23 @@ rest_counts e e1 e2 same counts = rw same counts
 
 -- ## Once the clock and the orders were asked
 
-pub moves_goes_on : (n : ℕ) (a b : Server) (edge : EdgeState) (t t1 : Told) (k k1 : Sources) → b.streams ≡ a.streams → MovesBoth n n a.core b.core t t1 k k1 → GoesOn a b edge edge t t1 k k1
-unfolding MovesBoth GoesOn
-moves_goes_on n a b edge t t1 k k1 streams (given, are, asked, moves) = (given, answers_even n given are, asked, λ from s. moves from edge b.streams (subst (λ (ps : List Pending). Serves from edge t a.core ps) (sym streams) s))
+pub moves_work : (a b : Server) (edge : EdgeState) (t t1 : Told) (k k1 : Sources) → b.streams ≡ a.streams → MovesBoth 1 1 a.core b.core t t1 k k1 → Works a b edge t t1 k k1
+unfolding MovesBoth Works
+moves_work a b edge t t1 k k1 streams (given, are, asked, moves) = (given, are, asked, λ from s. moves from edge b.streams (subst (λ (ps : List Pending). Serves from edge t a.core ps) (sym streams) s))
 
-pub breaks_halts_on : (m n : ℕ) (a b : Server) (edge : EdgeState) (t t1 : Told) (k k1 : Sources) → (m ≡ n) ⊎ (m ≡ suc n) → BreaksBoth m n a.core b.core t t1 k k1 → HaltsOn a b edge edge t t1 k k1
-unfolding BreaksBoth HaltsOn
-breaks_halts_on m n a b edge t t1 k k1 even (given, are, asked, breaks) = (given, answers_almost m n given even are, asked, λ from s. breaks from edge a.streams s)
+pub breaks_work : (n : ℕ) (a b : Server) (edge : EdgeState) (t t1 : Told) (k k1 : Sources) → (1 ≡ n) ⊎ (1 ≡ suc n) → BreaksBoth 1 n a.core b.core t t1 k k1 → WorksPart a b edge t t1 k k1
+unfolding BreaksBoth WorksPart
+breaks_work n a b edge t t1 k k1 even (given, are, asked, breaks) = (given, are.orders_are, answers_almost 1 n given even are, asked, λ from s. breaks from edge a.streams s)
 
 serves-none : (from : Beginning) (edge : EdgeState) (told : Told) (core : Core) (streams : List Pending) → Serves from edge told core streams → Serves (after from none_given) edge told core streams
 serves-none from edge told core streams s =
     subst (λ (m : List ℕ). Serves (record from { moments = m; orders = from.orders ++ [] }) edge told core streams) (sym (append-nil from.moments))
     (subst (λ (o : List (Option Order)). Serves (record from { orders = o }) edge told core streams) (sym (append-nil from.orders)) s)
 
-pub goes_on : (a b : Server) (e e1 : EdgeState) (t t1 : Told) (k : Sources) → Goes a b e e1 t t1 → GoesOn a b e e1 t t1 k k
-unfolding Goes GoesOn
-goes_on a b e e1 t t1 k goes = (none_given, refl, asked_none k, λ from s. serves-none from e1 t1 b.core b.streams (goes from s))
+-- nothing was asked and nothing was done
+pub goes_on_none : (a : Server) (e : EdgeState) (t : Told) (k : Sources) → GoesOn a a e e t t k k
+unfolding GoesOn
+goes_on_none a e t k = (none_given, (refl, polls_none a e), asked_none k, λ from s. serves-none from e t a.core a.streams s)
 
 ended-none : (from : Beginning) (edge : EdgeState) (told : Told) (known : Known) → Ended from edge told known → EndedAfter from none_given edge told known
 ended-none from edge told known s = (
@@ -213,34 +222,39 @@ ended-none from edge told known s = (
       (subst (λ (o : List (Option Order)). Ended (record from { orders = o }) edge told known) (sym (append-nil from.orders)) s),
 )
 
-pub halts_on : (a b : Server) (e e1 : EdgeState) (t t1 : Told) (k : Sources) → Halts a b e e1 t t1 → HaltsOn a b e e1 t t1 k k
+-- the poll of a round ended the run
+pub heard_halts : (a b : Server) (e e1 : EdgeState) (t t1 : Told) (k : Sources) → Halts a b e e1 t t1 → e1.polls ≡ one_more e.polls → HaltsOn a b e e1 t t1 k k
 unfolding Halts HaltsOn
-halts_on a b e e1 t t1 k halts = (none_given, even_almost none_given refl, asked_none k, λ from s. ended-none from e1 t1 b.core.switch (halts from s))
+heard_halts a b e e1 t t1 k halts polled = (none_given, (even_almost none_given refl, heard_part a e e1 polled), asked_none k, λ from s. ended-none from e1 t1 b.core.switch (halts from s))
 
--- before it
-pub goes_then_on : (a b c : Server) (e e1 e2 : EdgeState) (t t1 t2 : Told) (k k1 : Sources) → Goes a b e e1 t t1 → GoesOn b c e1 e2 t1 t2 k k1 → GoesOn a c e e2 t t2 k k1
+-- orders and the clock were asked behind it
+pub work_goes : (a b c : Server) (e e1 : EdgeState) (t t1 t2 : Told) (k k1 : Sources) → Goes a b e e1 t t1 → Hears a b e e1 → Works b c e1 t1 t2 k k1 → c.unpolled ≡ b.unpolled → GoesOn a c e e1 t t2 k k1
+unfolding Goes Works GoesOn
+work_goes a b c e e1 t t1 t2 k k1 first hears (given, are, asked, later) same =
+    (given, (answers_even 1 given are, subst (λ (n : ℕ). PollsOn a c e e1 n) (sym are.orders_are) (polls_round a b c e e1 hears same)), asked, λ from s. later from (first from s))
+
+pub work_halts : (a b c : Server) (e e1 : EdgeState) (t t1 t2 : Told) (k k1 : Sources) → Goes a b e e1 t t1 → Hears a b e e1 → WorksPart b c e1 t1 t2 k k1 → c.unpolled ≡ b.unpolled → HaltsOn a c e e1 t t2 k k1
+unfolding Goes WorksPart HaltsOn
+work_halts a b c e e1 t t1 t2 k k1 first hears (given, one, almost, asked, later) same =
+    (given, (almost, subst (λ (n : ℕ). PollsPart a e e1 n) (sym one) (part_of a c e e1 1 (polls_round a b c e e1 hears same))), asked, λ from s. later from (first from s))
+
+-- and then it went on without a poll
+pub goes_on_goes : (a b c : Server) (e e1 e2 : EdgeState) (t t1 t2 : Told) (k k1 : Sources) → GoesOn a b e e1 t t1 k k1 → Goes b c e1 e2 t1 t2 → IsUnheard b c e1 e2 → GoesOn a c e e2 t t2 k k1
 unfolding Goes GoesOn
-goes_then_on a b c e e1 e2 t t1 t2 k k1 first (given, even, asked, later) = (given, even, asked, λ from s. later from (first from s))
+goes_on_goes a b c e e1 e2 t t1 t2 k k1 (given, (even, polls), asked, first) later unheard =
+    (given, (even, polls_kept a b c e e1 e2 (length given.orders) polls unheard), asked, λ from s. later (after from given) (first from s))
 
-pub halts_then_on : (a b c : Server) (e e1 e2 : EdgeState) (t t1 t2 : Told) (k k1 : Sources) → Goes a b e e1 t t1 → HaltsOn b c e1 e2 t1 t2 k k1 → HaltsOn a c e e2 t t2 k k1
-unfolding Goes HaltsOn
-halts_then_on a b c e e1 e2 t t1 t2 k k1 first (given, even, asked, later) = (given, even, asked, λ from s. later from (first from s))
-
--- and behind it
-pub goes_on_goes : (a b c : Server) (e e1 e2 : EdgeState) (t t1 t2 : Told) (k k1 : Sources) → GoesOn a b e e1 t t1 k k1 → Goes b c e1 e2 t1 t2 → GoesOn a c e e2 t t2 k k1
-unfolding Goes GoesOn
-goes_on_goes a b c e e1 e2 t t1 t2 k k1 (given, even, asked, first) later = (given, even, asked, λ from s. later (after from given) (first from s))
-
-pub goes_on_halts : (a b c : Server) (e e1 e2 : EdgeState) (t t1 t2 : Told) (k k1 : Sources) → GoesOn a b e e1 t t1 k k1 → Halts b c e1 e2 t1 t2 → HaltsOn a c e e2 t t2 k k1
+pub goes_on_halts : (a b c : Server) (e e1 e2 : EdgeState) (t t1 t2 : Told) (k k1 : Sources) → GoesOn a b e e1 t t1 k k1 → Halts b c e1 e2 t1 t2 → IsUnheard b c e1 e2 → HaltsOn a c e e2 t t2 k k1
 unfolding Halts GoesOn HaltsOn
-goes_on_halts a b c e e1 e2 t t1 t2 k k1 (given, even, asked, first) later = (given, even_almost given even, asked, λ from s. (given.orders, inl refl, later (after from given) (first from s)))
+goes_on_halts a b c e e1 e2 t t1 t2 k k1 (given, (even, polls), asked, first) later unheard =
+    (given, (even_almost given even, part_of a c e e2 (length given.orders) (polls_kept a b c e e1 e2 (length given.orders) polls unheard)), asked, λ from s. (given.orders, inl refl, later (after from given) (first from s)))
 
 -- one round after the other
 pub goes_on_then : (a b c : Server) (e e1 e2 : EdgeState) (t t1 t2 : Told) (k k1 k2 : Sources) → GoesOn a b e e1 t t1 k k1 → GoesOn b c e1 e2 t1 t2 k1 k2 → GoesOn a c e e2 t t2 k k2
 unfolding GoesOn
-goes_on_then a b c e e1 e2 t t1 t2 k k1 k2 (xs, even, asked, first) (ys, even2, asked2, later) = (
+goes_on_then a b c e e1 e2 t t1 t2 k k1 k2 (xs, (even, polls), asked, first) (ys, (even2, polls2), asked2, later) = (
   given_then xs ys,
-  even_then xs ys even even2,
+  (even_then xs ys even even2, subst (λ (n : ℕ). PollsOn a c e e2 n) (sym (length-append xs.orders ys.orders)) (polls_then a b c e e1 e2 (length xs.orders) (length ys.orders) polls polls2)),
   asked_then k k1 k2 xs ys asked asked2,
   λ from s.
       subst (λ (m : List ℕ). Serves (record from { moments = m; orders = from.orders ++ (xs.orders ++ ys.orders) }) e2 t2 c.core c.streams) (append_assoc from.moments xs.moments ys.moments)
@@ -250,13 +264,17 @@ goes_on_then a b c e e1 e2 t t1 t2 k k1 k2 (xs, even, asked, first) (ys, even2, 
 
 pub halts_on_then : (a b c : Server) (e e1 e2 : EdgeState) (t t1 t2 : Told) (k k1 k2 : Sources) → GoesOn a b e e1 t t1 k k1 → HaltsOn b c e1 e2 t1 t2 k1 k2 → HaltsOn a c e e2 t t2 k k2
 unfolding GoesOn HaltsOn
-halts_on_then a b c e e1 e2 t t1 t2 k k1 k2 (xs, even, asked, first) (ys, even2, asked2, later) =
-    (given_then xs ys, almost_then xs ys even even2, asked_then k k1 k2 xs ys asked asked2, λ from s. ended_more from xs ys e2 t2 c.core.switch (later (after from xs) (first from s)))
+halts_on_then a b c e e1 e2 t t1 t2 k k1 k2 (xs, (even, polls), asked, first) (ys, (even2, polls2), asked2, later) = (
+  given_then xs ys,
+  (almost_then xs ys even even2, subst (λ (n : ℕ). PollsPart a e e2 n) (sym (length-append xs.orders ys.orders)) (polls_part a b e e1 e2 (length xs.orders) (length ys.orders) polls polls2)),
+  asked_then k k1 k2 xs ys asked asked2,
+  λ from s. ended_more from xs ys e2 t2 c.core.switch (later (after from xs) (first from s)),
+)
 
 -- it ends where it began
 pub same_halts_on : (a : Server) (e : EdgeState) (t : Told) (k : Sources) → HaltsOn a a e e t t k k
 unfolding HaltsOn
-same_halts_on a e t k = (none_given, even_almost none_given refl, asked_none k, λ from s. ended-none from e t a.core.switch (ended-of from e t a.core a.streams s))
+same_halts_on a e t k = (none_given, (even_almost none_given refl, part_of a a e e 0 (polls_none a e)), asked_none k, λ from s. ended-none from e t a.core.switch (ended-of from e t a.core a.streams s))
 
 -- a rest changes nothing
 pub rest_goes_on : (a b : Server) (e e1 e2 : EdgeState) (t t1 : Told) (k k1 : Sources) → e2 ≡ e1 → GoesOn a b e e1 t t1 k k1 → GoesOn a b e e2 t t1 k k1
@@ -264,16 +282,16 @@ rest_goes_on a b e e1 e2 t t1 k k1 same goes = rw same goes
 
 over-goes : (a b c : Server) (e e1 : EdgeState) (t t1 : Told) (k k1 : Sources) → GoesOn a b e e1 t t1 k k1 → HasNoEnd b.core t1 c.core.switch → IsOver a c e t
 unfolding GoesOn HasNoEnd
-over-goes a b c e e1 t t1 k k1 (given, even, asked, goes) over from s ends =
+over-goes a b c e e1 t t1 k k1 (given, (even, polls), asked, goes) over from s ends =
     let s1 : Serves (after from given) e1 t1 b.core b.streams = goes from s in
     over (after from given) e1 s1.deeds s1.stands ends
 
 -- the run is over, once the epoch was ended where that was due
-pub over_on : (a b c : Server) (e e1 : EdgeState) (t t1 t2 : Told) (k k1 : Sources) → GoesOn a b e e1 t t1 k k1 → c.streams ≡ b.streams → Moves b.core c.core t1 t2 → c.core.outs ≡ b.core.outs → ((place : Place) → left_at b.core.outs place ≡ [])
+pub over_on : (a b c : Server) (e e1 : EdgeState) (t t1 t2 : Told) (k k1 : Sources) → GoesOn a b e e1 t t1 k k1 → c.streams ≡ b.streams → c.unpolled ≡ b.unpolled → Moves b.core c.core t1 t2 → c.core.outs ≡ b.core.outs → ((place : Place) → left_at b.core.outs place ≡ [])
     → c.core.unlisted ≡ b.core.unlisted → b.core.unlisted ≡ 0 → HasNoEnd b.core t1 c.core.switch → FinishesOn a c e e1 t t2 k k1
 unfolding FinishesOn
-over_on a b c e e1 t t1 t2 k k1 goes streams moves outs none unlisted listed over = (
-  goes_on_goes a b c e e1 e1 t t1 t2 k k1 goes (moves_goes b c e1 t1 t2 streams moves),
+over_on a b c e e1 t t1 t2 k k1 goes streams unpolled moves outs none unlisted listed over = (
+  goes_on_goes a b c e e1 e1 t t1 t2 k k1 goes (moves_goes b c e1 t1 t2 streams moves) (record { unpolled = unpolled; polls = refl }),
   (λ place. ap (λ (o : Owing). left_at o place) outs ∙ none place),
   unlisted ∙ listed,
   over-goes a b c e e1 t t1 k k1 goes over,

@@ -1,3 +1,4 @@
 pub mod Closing
+pub mod Polls
 pub mod Running
 pub mod Served

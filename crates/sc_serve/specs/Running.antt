@@ -1,5 +1,5 @@
 -- A server between its rounds, and where they end.
-use Rattle.std.specs.Prelude.{◌≡◌, ℕ, List, [], Option, None, Some}
+use Rattle.std.specs.Prelude.{◌≡◌, ◌≤◌, ◌+◌, ◌*◌, ◌⊎◌, ℕ, List, [], Option, None, Some, length}
 use Rattle.sc_journal.specs.Kept.{Kept}
 use Rattle.sc_terms.specs.declared.steps.Step.{Step}
 use Rattle.sc_parts.specs.declared.setup.Setup.{Setup}
@@ -9,8 +9,8 @@ use Rattle.sc_switch.specs.declared.ran.Ran.{Ran}
 use Rattle.sc_switch.specs.declared.ran.Status.{Status}
 use Rattle.sc_switch.specs.declared.ran.Status.TheVariants as statuses
 use Rattle.sc_edge.specs.Edges.{EdgeState}
-use Rattle.sc_edge.specs.Faults.{Rose}
-use Rattle.sc_courses.specs.Asking.{AreAlmostEven, AreEven, Asked, Given, Sources}
+use Rattle.sc_edge.specs.Faults.{Rose, one_more}
+use Rattle.sc_courses.specs.Asking.{AreAlmostEven, AreAnswers, AreEven, Asked, Given, Sources}
 use Rattle.sc_courses.specs.Courses.{Beginning, Told, after}
 use Rattle.sc_courses.specs.Due.{IsDue}
 use Rattle.sc_courses.specs.Endings.{HasToEnd}
@@ -21,6 +21,7 @@ use Rattle.sc_serve.specs.declared.stop.Stop.{Stop}
 use Rattle.sc_serve.specs.declared.stop.Stop.TheVariants as stops
 use Rattle.sc_rounds.specs.Moving.{EndedAfter}
 use Rattle.sc_rounds.specs.Serving.{Ended, Serves, running}
+use Rattle.sc_serve.specs.Polls.{counted_on}
 use Rattle.sc_serve.specs.Served.{Leaves}
 
 -- it stands between two rounds as before
@@ -43,17 +44,54 @@ IsDueAt known stops.JournalFull = IsSetup known.setup → IsDue known.setup (run
 IsDueAt known stops.Edge = Unit {0}
 IsDueAt known stops.NoMemory = Unit {0}
 
+-- ## Polls
+
+-- the edge was polled once, or it wasn't, as in no more than 15 rounds before
+abbrev pub Hears : Server → Server → EdgeState → EdgeState → Type 0
+Hears old new edge edge2 =
+    ((new.unpolled ≡ 0) × (edge2.polls ≡ one_more edge.polls)) ⊎ ((new.unpolled ≡ old.unpolled + 1) × (new.unpolled ≤ 15) × (edge2.polls ≡ edge.polls))
+
+-- no poll was made, and none is owed
+pub record IsUnheard (old new : Server) (edge edge2 : EdgeState) : Type 0 where
+  pub unpolled : new.unpolled ≡ old.unpolled
+  pub polls : edge2.polls ≡ edge.polls
+
+-- in so many rounds the edge was polled once each at most, and each round without a poll is one of 15 in a row at most
+pub record PollsOn (old new : Server) (edge edge2 : EdgeState) (rounds : ℕ) : Type 0 where
+  pub polls : ℕ
+  pub counted : edge2.polls ≡ counted_on edge.polls polls
+  pub most : polls ≤ rounds
+  pub least : old.unpolled ≤ 15 → rounds + old.unpolled ≤ 16 * polls + new.unpolled
+  pub bound : old.unpolled ≤ 15 → new.unpolled ≤ 15
+
+-- the same of rounds of which the last one may have had a poll alone
+pub record PollsPart (old : Server) (edge edge2 : EdgeState) (rounds : ℕ) : Type 0 where
+  pub polls : ℕ
+  pub counted : edge2.polls ≡ counted_on edge.polls polls
+  pub most : polls ≤ rounds + 1
+  pub least : old.unpolled ≤ 15 → rounds + old.unpolled ≤ 16 * polls + 15
+
 -- ## Once the clock and the orders were asked
 
--- it stands between two rounds as before, and in each round both were asked once
+-- it stands as before, once both were asked
+unfoldable pub Works : Server → Server → EdgeState → Told → Told → Sources → Sources → Type 0
+Works old new edge told told2 sources sources2 =
+    (given : Given) × AreAnswers 1 1 given × Asked sources sources2 given × ((from : Beginning) → Serves from edge told old.core old.streams → Serves (after from given) edge told2 new.core new.streams)
+
+-- the run ended, where orders were asked for
+unfoldable pub WorksPart : Server → Server → EdgeState → Told → Told → Sources → Sources → Type 0
+WorksPart old new edge told told2 sources sources2 =
+    (given : Given) × (length given.orders ≡ 1) × AreAlmostEven given × Asked sources sources2 given × ((from : Beginning) → Serves from edge told old.core old.streams → EndedAfter from given edge told2 new.core.switch)
+
+-- it stands between two rounds as before, and in each round both were asked once, and the edge was polled once at most
 unfoldable pub GoesOn : Server → Server → EdgeState → EdgeState → Told → Told → Sources → Sources → Type 0
 GoesOn old new edge edge2 told told2 sources sources2 =
-    (given : Given) × AreEven given × Asked sources sources2 given × ((from : Beginning) → Serves from edge told old.core old.streams → Serves (after from given) edge2 told2 new.core new.streams)
+    (given : Given) × (AreEven given × PollsOn old new edge edge2 (length given.orders)) × Asked sources sources2 given × ((from : Beginning) → Serves from edge told old.core old.streams → Serves (after from given) edge2 told2 new.core new.streams)
 
 -- the run ended, where it had obeyed the orders, but maybe for the last one
 unfoldable pub HaltsOn : Server → Server → EdgeState → EdgeState → Told → Told → Sources → Sources → Type 0
 HaltsOn old new edge edge2 told told2 sources sources2 =
-    (given : Given) × AreAlmostEven given × Asked sources sources2 given × ((from : Beginning) → Serves from edge told old.core old.streams → EndedAfter from given edge2 told2 new.core.switch)
+    (given : Given) × (AreAlmostEven given × PollsPart old edge edge2 (length given.orders)) × Asked sources sources2 given × ((from : Beginning) → Serves from edge told old.core old.streams → EndedAfter from given edge2 told2 new.core.switch)
 
 -- where it stood so, the epoch that runs now hasn't to end
 abbrev pub IsOver : Server → Server → EdgeState → Told → Type 0
@@ -77,6 +115,7 @@ pub record IsNew (server : Server) : Type 0 where
   pub handed : server.core.handed ≡ 0
   pub unlisted : server.core.unlisted ≡ 0
   pub streams : server.streams ≡ []
+  pub unpolled : server.unpolled ≡ 0
 
 -- the status of a run that couldn't go on
 abbrev pub stopped : Stop → Status

@@ -24,6 +24,7 @@ use Rattle.sc_courses.specs.Due.{IsDue}
 use Rattle.sc_courses.specs.Endings.{AreInTime, HasToEnd}
 use Rattle.sc_courses.specs.Marks.{Hearing, HearingPart}
 use Rattle.sc_courses.specs.Reports.{TellsLast, TellsLengths}
+use Rattle.sc_serve.specs.Polls.{PollsOften}
 
 -- CONFIG and DAR of `serve CONFIG DAR`, none of other words
 unfoldable pub served_names : List Bytes → Option (Bytes × Bytes)
@@ -67,7 +68,8 @@ last_epoch ran handed journal = record { number = ran.epoch; began = ran.began; 
 -- session that lived then is its withdrawal, at `Done` the last ones too, and no other is; at `Done` the last listing that
 -- was told is of the last step; each length of each epoch's journal was told once, in order; at `JournalFull` a step
 -- is due that the journal has no room for; and each epoch ended where it had to and no later, at `Done` the last one hasn't to; the clock
--- and the orders were asked equally often, but in the last round maybe the orders alone, at `Done` not so
+-- and the orders were asked equally often, but in the last round maybe the orders alone, at `Done` not so; and the edge was
+-- polled at most once each time that orders were asked for, and at least once in 16 times
 pub record Leaves (from : Beginning) (now : EdgeState) (told : Told) (ran : Ran) (journal : Kept Step) : Type 0 where
   pub ended : List Epoch
   pub handed : List Step
@@ -89,6 +91,7 @@ pub record Leaves (from : Beginning) (now : EdgeState) (told : Told) (ran : Ran)
   pub in_time : AreInTime from.setup (record { ended = ended; running = last_epoch ran handed journal })
   pub asked : AreAlmostEven (record { moments = from.moments; orders = from.orders })
   pub asked_all : ran.status ≡ statuses.Done → AreEven (record { moments = from.moments; orders = from.orders })
+  pub polled : PollsOften from.edge now (length from.orders)
   pub over : ran.status ≡ statuses.Done → HasToEnd from.setup (last_epoch ran handed journal) → ⊥
 
 -- ## How a call ends

@@ -2,7 +2,8 @@
 
 ghost use Rattle.std.specs.Prelude.{◌≡◌, true, IfErr, OnOk, OnErr};
 ghost use Rattle.sc_edge.specs.Edges.{CountsOn, EdgeState};
-ghost use Rattle.sc_serve.specs.Running.{Blames, Goes, GoesOn, Halts, HaltsOn, IsDueAt};
+ghost use Rattle.sc_edge.specs.Faults.{one_more};
+ghost use Rattle.sc_serve.specs.Running.{Blames, Goes, GoesOn, Halts, HaltsOn, Hears, IsDueAt, IsUnheard, Works, WorksPart};
 ghost use Rattle.sc_edge.specs.declared.edge.Got.TheVariants as answers;
 
 use crate::closing::close_broken;
@@ -77,6 +78,8 @@ fn hear_once<E: Edge, N: Notice<Journal<Step>>>(
     ensures due { IfErr result (λ cause. IsDueAt server.new.core.switch cause) }
     ensures later { CountsOn (E.state edge.old) (E.state edge.new) }
     ensures blames { IfErr result (λ cause. Blames (E.state edge.old) (E.state edge.new) cause) }
+    ensures hears { OnOk result (Hears server.old server.new (E.state edge.old) (E.state edge.new)) }
+    ensures polled { OnErr result ((E.state edge.new).polls ≡ one_more (E.state edge.old).polls) }
 {
     if !server.takes_more() {
         return Ok(false);
@@ -98,6 +101,8 @@ fn poll_once<E: Edge, N: Notice<Journal<Step>>>(
     ensures due { IfErr result (λ cause. IsDueAt server.new.core.switch cause) }
     ensures later { CountsOn (E.state edge.old) (E.state edge.new) }
     ensures blames { IfErr result (λ cause. Blames (E.state edge.old) (E.state edge.new) cause) }
+    ensures polled { (E.state edge.new).polls ≡ one_more (E.state edge.old).polls }
+    ensures unpolled { server.new.unpolled ≡ server.old.unpolled }
 {
     let got = edge.poll(&mut server.room);
     match take_got(
@@ -141,10 +146,11 @@ fn step_once<R: Wait, T: Clock, O: Orders, N: Notice<Journal<Step>>>(
     notice: &mut N,
     apps: &Catalogue,
 ) -> Result<bool, Stop>
-    ensures ok { OnOk result ((edge : EdgeState) → GoesOn server.old server.new edge edge (N.noted notice.old) (N.noted notice.new) ((T.asked clock.old, T.comes clock.old), (O.asked orders.old, O.comes orders.old)) ((T.asked clock.new, T.comes clock.new), (O.asked orders.new, O.comes orders.new))) }
-    ensures err { OnErr result ((edge : EdgeState) → HaltsOn server.old server.new edge edge (N.noted notice.old) (N.noted notice.new) ((T.asked clock.old, T.comes clock.old), (O.asked orders.old, O.comes orders.old)) ((T.asked clock.new, T.comes clock.new), (O.asked orders.new, O.comes orders.new))) }
+    ensures ok { OnOk result ((edge : EdgeState) → Works server.old server.new edge (N.noted notice.old) (N.noted notice.new) ((T.asked clock.old, T.comes clock.old), (O.asked orders.old, O.comes orders.old)) ((T.asked clock.new, T.comes clock.new), (O.asked orders.new, O.comes orders.new))) }
+    ensures err { OnErr result ((edge : EdgeState) → WorksPart server.old server.new edge (N.noted notice.old) (N.noted notice.new) ((T.asked clock.old, T.comes clock.old), (O.asked orders.old, O.comes orders.old)) ((T.asked clock.new, T.comes clock.new), (O.asked orders.new, O.comes orders.new))) }
     ensures due { IfErr result (λ cause. IsDueAt server.new.core.switch cause) }
     ensures blames { IfErr result (λ cause. (edge : EdgeState) → Blames edge edge cause) }
+    ensures unpolled { server.new.unpolled ≡ server.old.unpolled }
 {
     match take_order(&mut server.core, notice, orders) {
         Ok(ordered) => match take_moment(&mut server.core, notice, clock) {
@@ -170,6 +176,7 @@ fn put_once<E: Edge, N: Notice<Journal<Step>>>(
     ensures due { IfErr result (λ cause. IsDueAt server.new.core.switch cause) }
     ensures later { CountsOn (E.state edge.old) (E.state edge.new) }
     ensures blames { IfErr result (λ cause. Blames (E.state edge.old) (E.state edge.new) cause) }
+    ensures unheard { IsUnheard server.old server.new (E.state edge.old) (E.state edge.new) }
 {
     match put_all(server, edge, notice) {
         Ok(went) => {
@@ -196,6 +203,7 @@ fn put_all<E: Edge, N: Notice<Journal<Step>>>(
     ensures due { IfErr result (λ cause. IsDueAt server.new.core.switch cause) }
     ensures later { CountsOn (E.state edge.old) (E.state edge.new) }
     ensures blames { IfErr result (λ cause. Blames (E.state edge.old) (E.state edge.new) cause) }
+    ensures unheard { IsUnheard server.old server.new (E.state edge.old) (E.state edge.new) }
 {
     let mut went = false;
     let count = server.core.outs.len();
@@ -220,6 +228,7 @@ fn put_at<E: Edge, N: Notice<Journal<Step>>>(
     ensures due { IfErr result (λ cause. IsDueAt server.new.core.switch cause) }
     ensures later { CountsOn (E.state edge.old) (E.state edge.new) }
     ensures blames { IfErr result (λ cause. Blames (E.state edge.old) (E.state edge.new) cause) }
+    ensures unheard { IsUnheard server.old server.new (E.state edge.old) (E.state edge.new) }
 {
     match server.core.outs.place_at(at) {
         Some(place) => match put_place(&mut server.core, &mut server.streams, edge, notice, place) {
@@ -244,6 +253,7 @@ fn tell_once<N: Notice<Journal<Step>>>(
     ensures err { OnErr result ((edge : EdgeState) → Halts server.old server.new edge edge (N.noted notice.old) (N.noted notice.new)) }
     ensures due { IfErr result (λ cause. IsDueAt server.new.core.switch cause) }
     ensures blames { IfErr result (λ cause. (edge : EdgeState) → Blames edge edge cause) }
+    ensures unpolled { server.new.unpolled ≡ server.old.unpolled }
 {
     hand_old(&mut server.core, notice);
     let is_put_off = server.puts_off_listing(busy);

@@ -1,4 +1,4 @@
-ghost use Rattle.std.specs.Prelude.{◌≡◌, [], true};
+ghost use Rattle.std.specs.Prelude.{◌≡◌, ◌≤◌, ◌+◌, [], true, false};
 ghost use Rattle.sc_value.specs.declared.ids.Place.{Place};
 ghost use Rattle.sc_outs.specs.Owing.{left_at};
 
@@ -39,6 +39,7 @@ impl Server {
     pub fn new(alloc: Global, core: Core, stop_after: u64) -> Server
         ensures core { result.core ≡ core }
         ensures streams { result.streams ≡ [] }
+        ensures unpolled { result.unpolled ≡ 0 }
     {
         Server {
             core,
@@ -57,6 +58,9 @@ impl Server {
     pub fn takes_more(&mut self) -> bool
         ensures core { self.new.core ≡ self.old.core }
         ensures streams { self.new.streams ≡ self.old.streams }
+        ensures more { result ≡ true → self.new.unpolled ≡ 0 }
+        ensures none { result ≡ false → self.new.unpolled ≡ self.old.unpolled + 1 }
+        ensures few { result ≡ false → self.new.unpolled ≤ 15 }
     {
         let now = self.core.switch.now();
         let is_untold = self.ticked && !self.core.is_listed();
@@ -80,6 +84,7 @@ impl Server {
     pub fn note(&mut self, came: Came) -> Result<bool, NoMemory>
         ensures core { self.new.core ≡ self.old.core }
         ensures streams { self.new.streams ≡ self.old.streams }
+        ensures unpolled { self.new.unpolled ≡ self.old.unpolled }
     {
         match came {
             Came::Nothing => Ok(false),
@@ -109,6 +114,7 @@ impl Server {
     pub fn note_put(&mut self, place: Place, went: Went) -> Result<bool, NoMemory>
         ensures core { self.new.core ≡ self.old.core }
         ensures streams { self.new.streams ≡ self.old.streams }
+        ensures unpolled { self.new.unpolled ≡ self.old.unpolled }
     {
         match went {
             Went::On => {

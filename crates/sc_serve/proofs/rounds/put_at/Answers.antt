@@ -1,3 +1,4 @@
+use Rattle.std.proofs.Common.{refl}
 use Rattle.sc_serve.proofs.Roundings.{goes_halts, goes_same, memory_blames, memory_due, no_blames, put_halts, put_then}
 use Rattle.sc_serve.proofs.rounds.put_at.Goals as goal
 
@@ -24,3 +25,15 @@ returns-in-Err-note_put-clause-due g c = memory_due _
 
 pub returns-in-Err-clause-due : goal.returns-in-Err-clause-due
 returns-in-Err-clause-due g c = c.stop_of.ensures.due _ c.in-Err.ensures.due
+
+pub returns-in-Ok-note_put-clause-unheard : goal.returns-in-Ok-note_put-clause-unheard
+returns-in-Ok-note_put-clause-unheard g c = record { unpolled = c.note_put.ensures.unpolled; polls = c.put_place.ensures.polled.0 }
+
+pub returns-in-Err-note_put-clause-unheard : goal.returns-in-Err-note_put-clause-unheard
+returns-in-Err-note_put-clause-unheard g c = record { unpolled = c.note_put.ensures.unpolled; polls = c.put_place.ensures.polled.0 }
+
+pub returns-in-Err-clause-unheard : goal.returns-in-Err-clause-unheard
+returns-in-Err-clause-unheard g c = record { unpolled = refl; polls = c.put_place.ensures.polled.0 }
+
+pub returns-in-None-clause-unheard : goal.returns-in-None-clause-unheard
+returns-in-None-clause-unheard g c = record { unpolled = refl; polls = refl }

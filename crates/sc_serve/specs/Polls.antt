@@ -1,0 +1,17 @@
+-- How often an edge is polled.
+use Rattle.std.specs.Prelude.{◌≡◌, ◌≤◌, ◌+◌, ◌*◌, ℕ, zero, suc}
+use Rattle.sc_edge.specs.Edges.{EdgeState}
+use Rattle.sc_edge.specs.Faults.{one_more}
+
+-- the count after so many more
+unfoldable pub counted_on : ℕ → ℕ → ℕ
+counted_on count zero = count
+counted_on count (suc more) = one_more (counted_on count more)
+
+-- in so many rounds an edge was polled at most once in each, and at least once in any 16 in a row; the last poll may have
+-- ended the run, before its round asked anything
+pub record PollsOften (first now : EdgeState) (rounds : ℕ) : Type 0 where
+  pub polls : ℕ
+  pub counted : now.polls ≡ counted_on first.polls polls
+  pub most : polls ≤ rounds + 1
+  pub least : rounds ≤ 16 * polls + 15
