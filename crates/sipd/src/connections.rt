@@ -1,20 +1,22 @@
 //! The command `serve` over sockets.
 
 use crate::operating::operate;
-use crate::recording::{begun, recorded, recording_of};
+use crate::recording::{RecordingFile, begun, recording_of};
 use sc_console::Operator;
 use sc_desk::{Desk, DeskOrders};
 use sc_edge::{FileShelf, Notice, OpenGate, Orders};
 use sc_journal::Journal;
 use sc_limit::{Stream, fitting, room_of};
-use sc_recorder::{ClosingEdge, Recorder};
-use sc_replay::{Ran, Status};
+use sc_recorder::ClosingEdge;
+use sc_replay::Status;
 use sc_serve::{listening_at, serve};
 use sc_servlets::Catalogue;
 use sc_sockets::{MioEdge, WallClock};
+use sc_tape::{Taped, serve_recorded};
 use sc_terms::Step;
 use sc_value::{NoMemory, Text, write_u64};
 use sc_watch::{Watch, WatchNotice};
+use std::alloc::Global;
 use std::cell::Cell;
 use std::io::Write;
 use std::sync::{Arc, Wait};
@@ -83,50 +85,32 @@ fn serve_told<
     shelf: &mut FileShelf<HostRuntime>,
     operator: Option<Operator>,
     orders: &mut O,
-    mut notice: N,
+    notice: N,
     apps: &Catalogue,
 ) -> (Status, N) {
-    let over = Cell::new(false);
     match recording_of(rt.alloc(), words, shelf, apps) {
         Some(name) => match begun(rt, &name) {
-            Some(file) => {
-                let mut recorder = Recorder::new(rt.alloc(), notice, file, &over);
-                let ran = serve_edge(
-                    rt,
-                    threads,
-                    words,
-                    shelf,
-                    operator,
-                    orders,
-                    &mut recorder,
-                    &over,
-                    apps,
-                );
-                let status = recorded(ran, &mut recorder);
-                let (notice, _file) = recorder.into_parts();
-                (status, notice)
-            }
-            None => (Status::Write, notice),
-        },
-        None => {
-            let ran = serve_edge(
+            Some(file) => serve_edge(
                 rt,
                 threads,
                 words,
                 shelf,
                 operator,
                 orders,
-                &mut notice,
-                &over,
+                notice,
+                Some(file),
                 apps,
-            );
-            (ran.status, notice)
-        }
+            ),
+            None => (Status::Write, notice),
+        },
+        None => serve_edge(
+            rt, threads, words, shelf, operator, orders, notice, None, apps,
+        ),
     }
 }
 
-/// Serves the connections of the address that the settings name, until the flag is set. The console begins once it
-/// listens.
+/// Serves the connections of the address that the settings name, and records it where there is a file for that. The
+/// console begins once it listens.
 fn serve_edge<
     W: Threads + Wait + Copy + Send + Sync + 'static,
     O: Orders,
@@ -138,18 +122,13 @@ fn serve_edge<
     shelf: &mut FileShelf<HostRuntime>,
     operator: Option<Operator>,
     orders: &mut O,
-    notice: &mut N,
-    over: &Cell<bool>,
+    notice: N,
+    file: Option<RecordingFile>,
     apps: &Catalogue,
-) -> Ran {
+) -> (Status, N) {
     let alloc = rt.alloc();
     let Ok(mut clock) = WallClock::new(rt) else {
-        return Ran {
-            status: Status::Edge,
-            epoch: 0,
-            began: 0,
-            journal: None,
-        };
+        return (Status::Edge, notice);
     };
     let edge = match listening_at(alloc, words, shelf, apps) {
         Some(at) => {
@@ -162,10 +141,67 @@ fn serve_edge<
     if tell_listening(rt, &edge) {
         begin_console(rt, threads, operator);
     }
-    let mut edge = ClosingEdge::new(edge, over);
-    serve(
-        threads, alloc, words, shelf, &mut edge, &OpenGate, &mut clock, orders, notice, apps,
-    )
+    match file {
+        Some(file) => tape(
+            threads, alloc, words, shelf, edge, &mut clock, orders, notice, file, apps,
+        ),
+        None => run(
+            threads, alloc, words, shelf, edge, &mut clock, orders, notice, apps,
+        ),
+    }
+}
+
+/// Serves an edge.
+fn run<W: Threads + Wait + Sync, O: Orders, N: Notice<Journal<Step>>>(
+    threads: &W,
+    alloc: Global,
+    words: &[String],
+    shelf: &mut FileShelf<HostRuntime>,
+    mut edge: MioEdge<HostRuntime>,
+    clock: &mut WallClock<'_, HostRuntime>,
+    orders: &mut O,
+    mut notice: N,
+    apps: &Catalogue,
+) -> (Status, N) {
+    let ran = serve(
+        threads,
+        alloc,
+        words,
+        shelf,
+        &mut edge,
+        &OpenGate,
+        clock,
+        orders,
+        &mut notice,
+        apps,
+    );
+    (ran.status, notice)
+}
+
+/// Serves an edge and records it, until the recording can't be written.
+fn tape<W: Threads + Wait + Sync, O: Orders, N: Notice<Journal<Step>>>(
+    threads: &W,
+    alloc: Global,
+    words: &[String],
+    shelf: &mut FileShelf<HostRuntime>,
+    edge: MioEdge<HostRuntime>,
+    clock: &mut WallClock<'_, HostRuntime>,
+    orders: &mut O,
+    notice: N,
+    file: RecordingFile,
+    apps: &Catalogue,
+) -> (Status, N) {
+    let over = Cell::new(false);
+    let mut edge = ClosingEdge::new(edge, &over);
+    let Taped {
+        status,
+        notice,
+        out: _,
+    } = serve_recorded(
+        threads, alloc, words, shelf, &mut edge, &OpenGate, clock, orders, notice, file, &over,
+        apps,
+    );
+    (status, notice)
 }
 
 /// Begins the thread of the console, which isn't waited for: it ends with standard input, or with the program. Where

@@ -1,16 +1,17 @@
 //! The recording that `serve` writes where the settings name a file for it.
 
-use sc_edge::{FileShelf, Notice, Sink};
-use sc_journal::Journal;
+use sc_edge::FileShelf;
 use sc_limit::{LimitedSink, room_behind};
-use sc_recorder::{Recorder, Unrecorded, WriteSink};
-use sc_replay::{Ran, Status, read_settings};
+use sc_recorder::WriteSink;
+use sc_replay::read_settings;
 use sc_servlets::Catalogue;
-use sc_terms::Step;
 use sc_value::{CloneIn, Text};
 use std::alloc::Global;
 use std::fs::File;
 use std::{fs, str};
+
+/// A recording's file, up to the limit on its size.
+pub type RecordingFile = LimitedSink<WriteSink<File>>;
 
 /// The name of the file that the settings of `serve CONFIG DAR` ask to record to: None where they ask for none, and
 /// where they are refused or can't be read, which `serve` finds again.
@@ -33,30 +34,8 @@ pub fn recording_of(
 }
 
 /// The file of this name, without what it had, up to the limit on its size: None where it can't be written.
-pub fn begun(rt: &HostRuntime, name: &Text) -> Option<LimitedSink<WriteSink<File>>> {
+pub fn begun(rt: &HostRuntime, name: &Text) -> Option<RecordingFile> {
     let name = str::from_utf8(name.as_bytes()).ok()?;
     let file = fs::create(rt, name).ok()?;
     Some(LimitedSink::new(WriteSink::new(file), room_behind(rt, name)))
-}
-
-/// Writes what a run left, and says how it ended: `Write` where the recording couldn't be written, `NoMemory` where
-/// there was no memory for it, else as the run did.
-pub fn recorded<N: Notice<Journal<Step>>, K: Sink>(
-    ran: Ran,
-    recorder: &mut Recorder<'_, N, K>,
-) -> Status {
-    let Ran {
-        status,
-        journal,
-        epoch: _,
-        began: _,
-    } = ran;
-    if let Some(journal) = journal {
-        recorder.record(&journal);
-    }
-    match recorder.cause() {
-        Some(Unrecorded::Failed) => Status::Write,
-        Some(Unrecorded::NoMemory) => Status::NoMemory,
-        None => status,
-    }
 }
