@@ -1,0 +1,6 @@
+//! The answers that an application session tells of are orders that it gives to its host, as laws.
+#![tactic(auto)]
+
+mod laws;
+
+pub use laws::{answers_are_given, live_answers_are_given};
