@@ -37,10 +37,10 @@ same-remembered a b n same = rw same refl
 
 -- ## From turn to turn
 
-shown-same : (config : Config) (session : Session) (turn : Turn) (n : ℕ) → remembered_at (shown_in config session turn) n ≡ remembered_at session.view n
+pub shown-same : (config : Config) (session : Session) (turn : Turn) (n : ℕ) → remembered_at (shown_in config session turn) n ≡ remembered_at session.view n
 shown-same config session turn n = same-remembered (shown_in config session turn) session.view n (shown-kept config turn.ringing session turn.waiting turn.now)
 
-left-same : (config : Config) (session : Session) (turn : Turn) (n : ℕ)
+pub left-same : (config : Config) (session : Session) (turn : Turn) (n : ℕ)
     → remembered_at (after_turn config turn session).view n ≡ remembered_at (after_calls (shown_in config session turn) turn.calls).view n
 unfolding after_turn
 left-same config session turn n =

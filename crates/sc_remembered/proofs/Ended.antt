@@ -6,7 +6,6 @@ use Rattle.sc_tokens.specs.Names.{same_bytes}
 use Rattle.sc_value.specs.declared.ids.ReqId.{ReqId}
 use Rattle.sc_value.specs.declared.ids.SessId.{SessId}
 use Rattle.sc_value.specs.declared.message.Response.{Response}
-use Rattle.sc_value.specs.declared.parts.Field.{Field}
 use Rattle.sc_value.specs.declared.parts.Uri.{Uri}
 use Rattle.sc_terms.specs.declared.calls.CallRecord.{CallRecord}
 use Rattle.sc_terms.specs.declared.calls.End.{End}
@@ -41,18 +40,18 @@ use Rattle.sc_hosts.specs.PreparingResponses.{is_invalid}
 use Rattle.sc_hosts.specs.ViewChanges.{answered, answered_in, is_owed, tidy}
 use Rattle.sc_hosts.specs.Words.{too_many_hops}
 use Rattle.sc_hosts.specs.Working.{starts, worked, worked_all}
-use Rattle.sc_remembered.proofs.Parts.{answered-kept, if-same, removed-kept}
+use Rattle.sc_remembered.proofs.Parts.{Rest, answered-rest, if-same, removed-rest, rest-of}
 
-abbrev fields-of : Working → List Field
-fields-of working = working.play.view.attributes
+abbrev fields-of : Working → Rest
+fields-of working = rest-of working.play.view
 
 -- ## Drafts, and a fault
 
-left-kept : (view : View) (draft : Draft) → (without_left view draft).attributes ≡ view.attributes
+left-kept : (view : View) (draft : Draft) → rest-of (without_left view draft) ≡ rest-of view
 unfolding without_left
-left-kept view draft = if-same (λ (v : View). v.attributes) draft.initial (removed draft.sess view) view view.attributes (removed-kept draft.sess view) refl
+left-kept view draft = if-same rest-of draft.initial (removed draft.sess view) view (rest-of view) (removed-rest draft.sess view) refl
 
-lefts-kept : (drafts : List Draft) (view : View) → (fold without_left view drafts).attributes ≡ view.attributes
+lefts-kept : (drafts : List Draft) (view : View) → rest-of (fold without_left view drafts) ≡ rest-of view
 lefts-kept [] view = refl
 lefts-kept (draft ∷ drafts) view = lefts-kept drafts (without_left view draft) ∙ left-kept view draft
 
@@ -65,7 +64,7 @@ unfolding fault_at
 fault_at-kept config None working = refl
 fault_at-kept config (Some request) working =
     if-same fields-of (is_owed request && not request.proxied) (in_view (answered (Some request) 500 working.play.view) (answering config (Some request) (bare_answer 500 server_error) working)) working (fields-of working)
-    (answered-kept (Some request) 500 working.play.view) refl
+    (answered-rest (Some request) 500 working.play.view) refl
 
 faulted-kept : (config : Config) (req : Option ReqId) (end : End) (working : Working) → fields-of (faulted config req end working) ≡ fields-of working
 unfolding faulted
@@ -85,15 +84,15 @@ fold-kept [] act each working = refl
 fold-kept (a ∷ items) act each working = fold-kept items act each (act working a) ∙ each working a
 
 forwarded-kept : (proxy : Proxy) (sess : SessId) (request : Option RequestView) (response : Response) (view : View)
-    → (forwarded_view proxy sess request response view).attributes ≡ view.attributes
+    → rest-of (forwarded_view proxy sess request response view) ≡ rest-of view
 unfolding forwarded_view answered_in tidy
 forwarded-kept proxy sess None response view = refl
 forwarded-kept proxy sess (Some request) response view = refl
 
-subscribed-kept : (proxy : Proxy) (sess : SessId) (response : Response) (view : View) → (with_subscribed proxy sess response view).attributes ≡ view.attributes
+subscribed-kept : (proxy : Proxy) (sess : SessId) (response : Response) (view : View) → rest-of (with_subscribed proxy sess response view) ≡ rest-of view
 unfolding with_subscribed
 subscribed-kept proxy sess response view =
-    if-same (λ (v : View). v.attributes) (is_some proxy.options && same_bytes proxy.request.method subscribe && is_success response.code) (change_session sess (subscribed_tag (tag_of response.head.to)) view) view view.attributes refl refl
+    if-same rest-of (is_some proxy.options && same_bytes proxy.request.method subscribe && is_success response.code) (change_session sess (subscribed_tag (tag_of response.head.to)) view) view (rest-of view) refl refl
 
 forwards-kept : (proxy : Proxy) (sess : SessId) (response : Response) (working : Working) → fields-of (forwards proxy sess response working) ≡ fields-of working
 unfolding forwards
@@ -145,7 +144,7 @@ hops-kept : (config : Config) (request : RequestView) (working : Working) → fi
 unfolding hops_spent
 hops-kept config request working =
     if-same fields-of (is_owed request) (in_view (answered (Some request) 483 working.play.view) (answering config (Some request) (bare_answer 483 too_many_hops) working)) working (fields-of working)
-    (answered-kept (Some request) 483 working.play.view) refl
+    (answered-rest (Some request) 483 working.play.view) refl
 
 passed_on-kept : (config : Config) (kept : Kept) (working : Working) → fields-of (passed_on config kept working) ≡ fields-of working
 unfolding passed_on
@@ -177,30 +176,30 @@ finished-kept config event req end working =
 
 -- ## What goes away
 
-swept_one-kept : (known : Known) (before view : View) (session : SessionView) → (swept_one known before view session).attributes ≡ view.attributes
+swept_one-kept : (known : Known) (before view : View) (session : SessionView) → rest-of (swept_one known before view session) ≡ rest-of view
 unfolding swept_one
 swept_one-kept known before view session = by _
   where
-    by : (b : Bool) → (cond b (removed session.id view) view).attributes ≡ view.attributes
-    by true = removed-kept session.id view
+    by : (b : Bool) → rest-of (cond b (removed session.id view) view) ≡ rest-of view
+    by true = removed-rest session.id view
     by false = refl
 
-all-swept : (sessions : List SessionView) (known : Known) (before view : View) → (fold (swept_one known before) view sessions).attributes ≡ view.attributes
+all-swept : (sessions : List SessionView) (known : Known) (before view : View) → rest-of (fold (swept_one known before) view sessions) ≡ rest-of view
 all-swept [] known before view = refl
 all-swept (session ∷ sessions) known before view = all-swept sessions known before (swept_one known before view session) ∙ swept_one-kept known before view session
 
-swept-kept : (x : Session) → (swept x).view.attributes ≡ x.view.attributes
+swept-kept : (x : Session) → rest-of (swept x).view ≡ rest-of x.view
 unfolding swept tidy
 swept-kept x = all-swept x.view.sessions x.known x.view x.view
 
-play-kept : (working : Working) → (session_in_play working).view.attributes ≡ fields-of working
+play-kept : (working : Working) → rest-of (session_in_play working).view ≡ fields-of working
 unfolding session_in_play without_acks
 play-kept working = refl
 
-outcome_of-kept : (event : Queued) (working : Working) → (outcome_of event working).session.view.attributes ≡ fields-of working
+outcome_of-kept : (event : Queued) (working : Working) → rest-of (outcome_of event working).session.view ≡ fields-of working
 unfolding outcome_of lightened
 outcome_of-kept event working =
-    if-same (λ (s : Session). s.view.attributes) (is_ended event working) (session_in_play working) (swept (session_in_play working)) (fields-of working) (play-kept working)
+    if-same (λ (s : Session). rest-of s.view) (is_ended event working) (session_in_play working) (swept (session_in_play working)) (fields-of working) (play-kept working)
     (swept-kept (session_in_play working) ∙ play-kept working)
 
 -- ## The calls
@@ -211,18 +210,23 @@ unfolding worked
 calls-play [] config working = refl
 calls-play (m ∷ made) config working = calls-play made config (worked config working m.call)
 
-worked-play : (config : Config) (shown : Prepared) (made : List CallRecord) → (worked_all config shown made).play ≡ after_calls shown.view made
+pub worked-play : (config : Config) (shown : Prepared) (made : List CallRecord) → (worked_all config shown made).play ≡ after_calls shown.view made
 unfolding worked_all starts after_calls
 worked-play config shown made = calls-play made config (starts shown)
 
-played-fields : (config : Config) (shown : Prepared) (made : List CallRecord) → fields-of (worked_all config shown made) ≡ (after_calls shown.view made).view.attributes
-played-fields config shown made = ap (λ (play : Play). play.view.attributes) (worked-play config shown made)
+played-fields : (config : Config) (shown : Prepared) (made : List CallRecord) → fields-of (worked_all config shown made) ≡ rest-of (after_calls shown.view made).view
+played-fields config shown made = ap (λ (play : Play). rest-of play.view) (worked-play config shown made)
 
-pub outcome-kept : (config : Config) (ringing : List ℕ) (x : Session) (waiting : Waiting) (now : ℕ) (made : List CallRecord) (end : End)
-    → (outcome config ringing x waiting now made end).session.view.attributes ≡ (after_calls (prepared config ringing x waiting now).view made).view.attributes
+-- what follows from the calls of a turn leaves attributes, timers and numbers as they left them
+pub outcome-rest : (config : Config) (ringing : List ℕ) (x : Session) (waiting : Waiting) (now : ℕ) (made : List CallRecord) (end : End)
+    → rest-of (outcome config ringing x waiting now made end).session.view ≡ rest-of (after_calls (prepared config ringing x waiting now).view made).view
 unfolding outcome
-outcome-kept config ringing x waiting now made end =
+outcome-rest config ringing x waiting now made end =
     let shown : Prepared = prepared config ringing x waiting now in
     let working : Working = worked_all config shown made in
     outcome_of-kept waiting.event (finished config waiting.event shown.req end working) ∙ finished-kept config waiting.event shown.req end working
     ∙ played-fields config shown made
+
+pub outcome-kept : (config : Config) (ringing : List ℕ) (x : Session) (waiting : Waiting) (now : ℕ) (made : List CallRecord) (end : End)
+    → (outcome config ringing x waiting now made end).session.view.attributes ≡ (after_calls (prepared config ringing x waiting now).view made).view.attributes
+outcome-kept config ringing x waiting now made end = ap (λ (rest : Rest). rest.attributes) (outcome-rest config ringing x waiting now made end)

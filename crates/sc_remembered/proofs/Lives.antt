@@ -35,7 +35,7 @@ is-of n (Pracks invited req request) is = same-number invited.0 n is
 is-of n (Late invited id) is = same-number invited.0 n is
 
 -- what is remembered after the calls of a script
-script-left : (n : ℕ) (view : View) (made : List CallRecord) (script : Script) → made ≡ played view script
+pub script-left : (n : ℕ) (view : View) (made : List CallRecord) (script : Script) → made ≡ played view script
     → remembered_at (after_calls view made).view n ≡ remembered_at (play_after (begun view) script).view n
 script-left n view made script is =
     ap (λ (ms : List CallRecord). remembered_at (after_calls view ms).view n) is ∙ ap (λ (play : Play). remembered_at play.view n) (played-is view script)

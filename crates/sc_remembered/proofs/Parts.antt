@@ -1,8 +1,10 @@
 -- Answers, and what goes away, leave the attributes and the moment.
-use Rattle.std.proofs.Common.{◌≡◌, ℕ, Bool, true, false, Option, None, Some, refl, ap, ◌∙◌}
+use Rattle.std.proofs.Common.{◌≡◌, ℕ, Bool, true, false, Option, None, Some, List, refl, ap, ◌∙◌}
 use Rattle.std.specs.Prelude.{cond}
 use Rattle.sc_value.specs.declared.ids.SessId.{SessId}
 use Rattle.sc_terms.specs.declared.views.RequestView.{RequestView}
+use Rattle.sc_value.specs.declared.parts.Field.{Field}
+use Rattle.sc_terms.specs.declared.views.TimerView.{TimerView}
 use Rattle.sc_terms.specs.declared.views.View.{View}
 use Rattle.sc_hosts.specs.Looking.{removed}
 use Rattle.sc_hosts.specs.ViewChanges.{answered, answered_in, tidy}
@@ -35,3 +37,21 @@ answered-kept (Some request) code view = refl
 
 pub removed-kept : (sess : SessId) (view : View) → (removed sess view).attributes ≡ view.attributes
 removed-kept sess view = ap (λ (v : View). v.attributes) (removed-only sess view)
+
+-- what a turn leaves as its calls do: attributes, timers, and the numbers of the next timer and the next request
+pub record Rest : Type 0 where
+  pub attributes : List Field
+  pub timers : List TimerView
+  pub next_timer : ℕ
+  pub next_request : ℕ
+
+abbrev pub rest-of : View → Rest
+rest-of view = record { attributes = view.attributes; timers = view.timers; next_timer = view.next_timer; next_request = view.next_request }
+
+pub answered-rest : (request : Option RequestView) (code : ℕ) (view : View) → rest-of (answered request code view) ≡ rest-of view
+unfolding answered answered_in tidy
+answered-rest None code view = refl
+answered-rest (Some request) code view = refl
+
+pub removed-rest : (sess : SessId) (view : View) → rest-of (removed sess view) ≡ rest-of view
+removed-rest sess view = ap rest-of (removed-only sess view)

@@ -1,0 +1,5 @@
+mod Rising
+mod ToldFirst
+mod Clear
+mod FirstOffer
+mod Live
