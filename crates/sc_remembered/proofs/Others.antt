@@ -5,7 +5,7 @@ use Rattle.std.specs.List.{find}
 use Rattle.std.proofs.lemmas.Bool.Decides.{nat_tests}
 use Rattle.std.proofs.lemmas.Fmt.{decimal_injective}
 use Rattle.sc_tokens.specs.Names.{same_bytes}
-use Rattle.sc_value.specs.Lists.{change_first}
+use Rattle.sc_value.specs.Lists.{change_first, remove_first}
 use Rattle.sc_value.specs.declared.ids.ReqId.{ReqId}
 use Rattle.sc_value.specs.declared.ids.TimerId.{TimerId}
 use Rattle.sc_value.specs.declared.message.Request.{Request}
@@ -17,9 +17,13 @@ use Rattle.sc_terms.specs.declared.calls.CallAnswer.{CallAnswer}
 use Rattle.sc_terms.specs.declared.calls.CallAnswer.TheVariants as answers
 use Rattle.sc_terms.specs.declared.calls.Refusal.{Refusal}
 use Rattle.sc_terms.specs.declared.views.View.{View}
+use Rattle.sc_terms.specs.declared.inside.Inside.{Inside}
+use Rattle.sc_value.specs.declared.ids.SessId.{SessId}
+use Rattle.sc_state.specs.declared.working.Draft.{Draft}
+use Rattle.sc_hosts.specs.RefusalParts.{draft_in}
 use Rattle.sc_state.specs.declared.working.Play.{Play}
 use Rattle.sc_hosts.proofs.Deliveries.{same_bytes-equal}
-use Rattle.sc_hosts.specs.Effects.{after_call, begun, after_listed, answer_of, played_by, with_attribute, with_timer}
+use Rattle.sc_hosts.specs.Effects.{after_call, begun, after_listed, answer_of, created_later, played_by, sent, with_attribute, with_draft, with_timer}
 use Rattle.sc_hosts.specs.HelperParts.{accepted_then, cancel_then, field_of, lists_option}
 use Rattle.sc_hosts.specs.Offers.{Offer, ended_offer_text, late_offer, names_offer, pending_offer, prack_by, rel_name, rel_option}
 use Rattle.sc_hosts.specs.Looking.{request_in, timer_in}
@@ -33,7 +37,7 @@ use Rattle.sc_remembered.specs.Early.{invite_of}
 
 -- ## Names
 
-cut-front : (xs ys zs : Bytes) → xs ++ ys ≡ xs ++ zs → ys ≡ zs
+pub cut-front : (xs ys zs : Bytes) → xs ++ ys ≡ xs ++ zs → ys ≡ zs
 cut-front [] ys zs same = same
 cut-front (x ∷ xs) ys zs same = cut-front xs ys zs (tails x (xs ++ ys) (xs ++ zs) same)
   where
@@ -88,23 +92,42 @@ other-set : (name value other : Bytes) → same_bytes name other ≡ false → (
 other-set name value other apart fields true = other-there name value other apart fields
 other-set name value other apart fields false = other-new name value other apart fields
 
-set-other : (name value other : Bytes) → same_bytes name other ≡ false → (play : Play) (found : Option Refusal)
+pub set-other : (name value other : Bytes) → same_bytes name other ≡ false → (play : Play) (found : Option Refusal)
     → attribute other (played_by play (calls.SetAttribute name value) found).view ≡ attribute other play.view
 unfolding played_by after_call with_attribute attribute
 set-other name value other apart play None = other-set name value other apart play.view.attributes (is_set name play.view.attributes)
 set-other name value other apart play (Some refused) = refl
 
--- ## Scripts that write the attribute of one INVITE alone
+other-removed : (name other : Bytes) → same_bytes name other ≡ false → (fields : List Field) → value-of (find (named other) (remove_first (named name) fields)) ≡ value-of (find (named other) fields)
+unfolding remove_first
+other-removed name other apart [] = refl
+other-removed name other apart (field ∷ fields) = by (same_bytes field.name name) refl (other-removed name other apart fields)
+  where
+    by : (b : Bool) → same_bytes field.name name ≡ b → value-of (find (named other) (remove_first (named name) fields)) ≡ value-of (find (named other) fields)
+        → value-of (find (named other) (cond b fields (field ∷ remove_first (named name) fields))) ≡ value-of (find (named other) (field ∷ fields))
+    by true is more = rw (subst (λ (text : Bytes). same_bytes text other ≡ false) (sym (same_bytes-equal field.name name is)) apart) refl
+    by false is more = if-value (same_bytes field.name other) field field (find (named other) (remove_first (named name) fields)) (find (named other) fields) refl more
 
--- a call that writes this attribute, or none
-unfoldable IsFor : Bytes → Call → Type 0
+remove-other : (name other : Bytes) → same_bytes name other ≡ false → (play : Play) (found : Option Refusal)
+    → attribute other (played_by play (calls.RemoveAttribute name) found).view ≡ attribute other play.view
+unfolding played_by after_call attribute
+remove-other name other apart play None = other-removed name other apart play.view.attributes
+remove-other name other apart play (Some refused) = refl
+
+-- ## Scripts that write one attribute alone
+
+-- a call that writes or removes this attribute, or none
+unfoldable pub IsFor : Bytes → Call → Type 0
 IsFor name (calls.SetAttribute other value) = other ≡ name
+IsFor name (calls.RemoveAttribute other) = other ≡ name
 IsFor name (calls.Respond req answer) = Unit {0}
 IsFor name (calls.StartTimer delay period info) = Unit {0}
 IsFor name (calls.CancelTimer id) = Unit {0}
+IsFor name (calls.CreateInDialog sess ask) = Unit {0}
+IsFor name (calls.Send draft) = Unit {0}
 IsFor name call = ⊥
 
-unfoldable AreFor : Bytes → Script → Type 0
+unfoldable pub AreFor : Bytes → Script → Type 0
 AreFor name Done = Unit {0}
 AreFor name (Make call next) = IsFor name call × ((answer : CallAnswer) → AreFor name (next answer))
 
@@ -127,6 +150,21 @@ unfolding played_by after_call
 stop-fields play id None = refl
 stop-fields play id (Some refused) = refl
 
+create-fields : (play : Play) (sess : SessId) (ask : Inside) (found : Option Refusal) → (played_by play (calls.CreateInDialog sess ask) found).view.attributes ≡ play.view.attributes
+unfolding played_by after_call created_later with_draft
+create-fields play sess ask None = refl
+create-fields play sess ask (Some refused) = refl
+
+sent-fields : (number : ℕ) (draft : Option Draft) (play : Play) → (sent number draft play).view.attributes ≡ play.view.attributes
+unfolding sent
+sent-fields number None play = refl
+sent-fields number (Some draft) play = refl
+
+send-fields : (play : Play) (draft : ℕ) (found : Option Refusal) → (played_by play (calls.Send draft) found).view.attributes ≡ play.view.attributes
+unfolding played_by after_call
+send-fields play draft None = sent-fields draft (draft_in play draft) play
+send-fields play draft (Some refused) = refl
+
 call-other : (name other : Bytes) → same_bytes name other ≡ false → (play : Play) (call : Call) → IsFor name call
     → attribute other (after_listed play call).view ≡ attribute other play.view
 unfolding IsFor after_listed attribute
@@ -137,10 +175,11 @@ call-other name other apart play (calls.StartTimer delay period info) is =
     same-fields other play (calls.StartTimer delay period info) _ (start-fields play delay period info (refusal play (calls.StartTimer delay period info)))
 call-other name other apart play (calls.CancelTimer id) is = same-fields other play (calls.CancelTimer id) _ (stop-fields play id (refusal play (calls.CancelTimer id)))
 call-other name other apart play (calls.CreateRequest ask) is = absurd is
-call-other name other apart play (calls.CreateInDialog sess ask) is = absurd is
+call-other name other apart play (calls.CreateInDialog sess ask) is =
+    same-fields other play (calls.CreateInDialog sess ask) _ (create-fields play sess ask (refusal play (calls.CreateInDialog sess ask)))
 call-other name other apart play (calls.B2bCreate req uri) is = absurd is
 call-other name other apart play (calls.SetDirective draft directive origin) is = absurd is
-call-other name other apart play (calls.Send draft) is = absurd is
+call-other name other apart play (calls.Send draft) is = same-fields other play (calls.Send draft) _ (send-fields play draft (refusal play (calls.Send draft)))
 call-other name other apart play (calls.Discard draft) is = absurd is
 call-other name other apart play (calls.Ack sess body) is = absurd is
 call-other name other apart play (calls.Cancel req) is = absurd is
@@ -149,13 +188,14 @@ call-other name other apart play (calls.ProxyCancel req) is = absurd is
 call-other name other apart play (calls.B2bRespond sess answer) is = absurd is
 call-other name other apart play (calls.Link a b) is = absurd is
 call-other name other apart play (calls.Unlink a) is = absurd is
-call-other name other apart play (calls.RemoveAttribute removed) is = absurd is
+call-other name other apart play (calls.RemoveAttribute removed) is =
+    remove-other removed other (subst (λ (text : Bytes). same_bytes text other ≡ false) (sym is) apart) play (refusal play (calls.RemoveAttribute removed))
 call-other name other apart play (calls.SetExpires minutes) is = absurd is
 call-other name other apart play (calls.SetReadyFlag target flag) is = absurd is
 call-other name other apart play (calls.InvalidateSession sess) is = absurd is
 call-other name other apart play calls.InvalidateApplication is = absurd is
 
-script-other : (name other : Bytes) → same_bytes name other ≡ false → (script : Script) (play : Play) → AreFor name script
+pub script-other : (name other : Bytes) → same_bytes name other ≡ false → (script : Script) (play : Play) → AreFor name script
     → attribute other (play_after play script).view ≡ attribute other play.view
 unfolding AreFor play_after
 script-other name other apart Done play are = refl
@@ -164,23 +204,23 @@ script-other name other apart (Make call next) play are =
 
 -- ## Acts
 
-if-for : (name : Bytes) (b : Bool) (x y : Script) → AreFor name x → AreFor name y → AreFor name (cond b x y)
+pub if-for : (name : Bytes) (b : Bool) (x y : Script) → AreFor name x → AreFor name y → AreFor name (cond b x y)
 if-for name true x y p q = p
 if-for name false x y p q = q
 
-then-for : (name : Bytes) (call : Call) (script : Script) → IsFor name call → AreFor name script → AreFor name (accepted_then call script)
+pub then-for : (name : Bytes) (call : Call) (script : Script) → IsFor name call → AreFor name script → AreFor name (accepted_then call script)
 unfolding AreFor accepted_then
 then-for name call script one more = (one, λ answer. if-for name (is_refused answer) Done script tt more)
 
-only-for : (name : Bytes) (call : Call) → IsFor name call → AreFor name (only call)
+pub only-for : (name : Bytes) (call : Call) → IsFor name call → AreFor name (only call)
 unfolding AreFor only
 only-for name call one = (one, λ answer. tt)
 
-reply-for : (name : Bytes) (req : ReqId) (code : ℕ) (reason : Bytes) → IsFor name (reply req code reason)
+pub reply-for : (name : Bytes) (req : ReqId) (code : ℕ) (reason : Bytes) → IsFor name (reply req code reason)
 unfolding IsFor reply
 reply-for name req code reason = tt
 
-number-for : (name : Bytes) (next : ℕ → Script) → ((t : ℕ) → AreFor name (next t)) → (answer : CallAnswer) → AreFor name (with_number next answer)
+pub number-for : (name : Bytes) (next : ℕ → Script) → ((t : ℕ) → AreFor name (next t)) → (answer : CallAnswer) → AreFor name (with_number next answer)
 unfolding with_number AreFor
 number-for name next each answers.Fine = tt
 number-for name next each (answers.Number n) = each n
@@ -192,7 +232,7 @@ offers-for req r c code reason body =
     then-for (rel_name req.0) (offer_call req r code reason body) _ tt
     (then-for (rel_name req.0) (calls.SetAttribute (rel_name req.0) _) _ refl (tt, number-for (rel_name req.0) _ (λ t. only-for (rel_name req.0) (calls.SetAttribute (rel_name req.0) _) refl)))
 
-done-for : (name : Bytes) → AreFor name Done
+pub done-for : (name : Bytes) → AreFor name Done
 unfolding AreFor
 done-for name = tt
 
@@ -203,12 +243,12 @@ offer-for req Fresh c code reason body = offers-for req 1 c code reason body
 offer-for req (Acked r d) c code reason body = if-for (rel_name req.0) (r == MOST_RSEQ) Done (offers req (r + 1) c code reason body) (done-for (rel_name req.0)) (offers-for req (r + 1) c code reason body)
 offer-for req (Failed r d) c code reason body = if-for (rel_name req.0) (r == MOST_RSEQ) Done (offers req (r + 1) c code reason body) (done-for (rel_name req.0)) (offers-for req (r + 1) c code reason body)
 
-where-for : {A : Type 0} (name : Bytes) (found : Option A) (next : A → Script) → ((a : A) → AreFor name (next a)) → AreFor name (where_some found next)
+pub where-for : {A : Type 0} (name : Bytes) (found : Option A) (next : A → Script) → ((a : A) → AreFor name (next a)) → AreFor name (where_some found next)
 unfolding where_some AreFor
 where-for name None next each = tt
 where-for name (Some a) next each = each a
 
-cancel-for : (name : Bytes) (timer : ℕ) (view : View) (script : Script) → AreFor name script → AreFor name (cancel_then timer view script)
+pub cancel-for : (name : Bytes) (timer : ℕ) (view : View) (script : Script) → AreFor name script → AreFor name (cancel_then timer view script)
 unfolding cancel_then IsFor
 cancel-for name timer view script more =
     if-for name (is_some (timer_in view (record { 0 = timer }))) (accepted_then (calls.CancelTimer (record { 0 = timer })) script) script (then-for name (calls.CancelTimer (record { 0 = timer })) script tt more) more

@@ -1,0 +1,4 @@
+mod TimedTurns
+mod OtherTimers
+mod TimedChains
+mod TimedLive

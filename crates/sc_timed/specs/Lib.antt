@@ -1,0 +1,2 @@
+pub mod TimedActs
+pub mod TimedLives
