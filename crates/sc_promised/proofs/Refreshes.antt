@@ -2,23 +2,27 @@
 use Rattle.std.proofs.Common.{◌≡◌, ℕ, ◌+◌, ◌++◌, Bool, true, false, Option, None, Some, [], ◌∷◌, refl, ap, subst, ◌∙◌}
 use Rattle.std.specs.Prelude.{cond, is_some}
 use Rattle.std.specs.Option.{option_map_or}
+use Rattle.sc_value.specs.declared.ids.ReqId.{ReqId}
 use Rattle.sc_value.specs.declared.ids.SessId.{SessId}
 use Rattle.sc_value.specs.declared.ids.TimerId.{TimerId}
+use Rattle.sc_terms.specs.declared.calls.Answer.{Answer}
 use Rattle.sc_terms.specs.declared.calls.Call.{Call}
 use Rattle.sc_terms.specs.declared.calls.Call.TheVariants as calls
 use Rattle.sc_terms.specs.declared.calls.CallAnswer.{CallAnswer}
 use Rattle.sc_terms.specs.declared.calls.CallAnswer.TheVariants as answers
 use Rattle.sc_terms.specs.declared.calls.Refusal.{Refusal}
 use Rattle.sc_terms.specs.declared.views.Period.TheVariants.{Once}
+use Rattle.sc_terms.specs.declared.views.RequestView.{RequestView}
 use Rattle.sc_terms.specs.declared.views.View.{View}
 use Rattle.sc_state.specs.declared.working.Play.{Play}
 use Rattle.sc_grammar.specs.Written.{Bytes}
 use Rattle.sc_hosts.specs.Effects.{after_listed, played_by, after_call, answer_of, answer_by, accepted, with_timer}
 use Rattle.sc_hosts.specs.HelperParts.{accepted_then, cancel_then, remove_then}
-use Rattle.sc_hosts.specs.Looking.{timer_in}
+use Rattle.sc_hosts.specs.Looking.{request_in, timer_in}
 use Rattle.sc_hosts.specs.Refusals.{refusal}
 use Rattle.sc_hosts.specs.Scripting.{Script, Done, Make, only, with_number, attribute, is_refused}
 use Rattle.sc_hosts.specs.SessionTimers.{On, Timed, begin_timed, deadline, stop_then, timed_name, timed_of, timed_text}
+use Rattle.sc_hosts.specs.ViewChanges.{answered, answered_in, tidy}
 use Rattle.sc_promised.specs.Reliable.{play_after}
 use Rattle.sc_promised.specs.Refreshing.{IsAccepted, IsBegun}
 use Rattle.sc_promised.proofs.Attributes.{accepted-none, set-attribute}
@@ -26,7 +30,7 @@ use Rattle.sc_promised.proofs.Attributes.{accepted-none, set-attribute}
 -- ## What is done before
 
 -- from this play on, whatever the moment is
-abbrev Begins : SessId → ℕ → Bool → Script → Type 0
+abbrev pub Begins : SessId → ℕ → Bool → Script → Type 0
 Begins sess n me script = (play : Play) → IsAccepted play script → IsBegun play.view.now sess n me (play_after play script).view
 
 -- behind a call that leaves the moment
@@ -148,9 +152,32 @@ timer-begins : (sess : SessId) (n : ℕ) (me : Bool)
 unfolding IsAccepted play_after
 timer-begins sess n me = λ play ok. named-begins sess n me play ok.0 _ (timer-number play (deadline n me) (timed_name sess) ok.0) ok.1
 
--- whatever ran before, where no call is refused
+-- whatever ran before, where no call is refused, by what any view remembers
+pub begun-at : (view : View) (sess : SessId) (n : ℕ) (me : Bool) → Begins sess n me (begin_timed sess view (On n me))
+unfolding begin_timed
+begun-at view sess n me = stopping sess n me view _ (timer-begins sess n me)
+
+answered-view : (request : Option RequestView) (code : ℕ) (view : View) → (answered request code view).now ≡ view.now
+unfolding answered answered_in tidy
+answered-view None code view = refl
+answered-view (Some request) code view = refl
+
+answered-by : (play : Play) (req : ReqId) (answer : Answer) (found : Option Refusal) → (played_by play (calls.Respond req answer) found).view.now ≡ play.view.now
+unfolding played_by after_call
+answered-by play req answer None = answered-view (request_in play.view req) answer.code play.view
+answered-by play req answer (Some refused) = refl
+
+answered-now : (req : ReqId) (answer : Answer) (play : Play) → (after_listed play (calls.Respond req answer)).view.now ≡ play.view.now
+unfolding after_listed
+answered-now req answer play = answered-by play req answer (refusal play (calls.Respond req answer))
+
+-- behind an answer
+pub answered-begun : (view : View) (req : ReqId) (answer : Answer) (sess : SessId) (n : ℕ) (me : Bool)
+    → Begins sess n me (accepted_then (calls.Respond req answer) (begin_timed sess view (On n me)))
+answered-begun view req answer sess n me = after-call sess n me (calls.Respond req answer) (begin_timed sess view (On n me)) (answered-now req answer) (begun-at view sess n me)
+
+-- the same, by what this view remembers
 pub begun-timed : (play : Play) (sess : SessId) (n : ℕ) (me : Bool)
     → IsAccepted play (begin_timed sess play.view (On n me))
     → IsBegun play.view.now sess n me (play_after play (begin_timed sess play.view (On n me))).view
-unfolding begin_timed
-begun-timed play sess n me = stopping sess n me play.view _ (timer-begins sess n me) play
+begun-timed play sess n me = begun-at play.view sess n me play

@@ -2,3 +2,4 @@ mod TimedTurns
 mod OtherTimers
 mod TimedChains
 mod TimedLive
+mod Granted

@@ -1,5 +1,8 @@
-ghost use Rattle.std.specs.Prelude.{◌≡◌, ◌<◌, ◌^◌, ℕ, List, None, Some};
+ghost use Rattle.std.specs.Prelude.{◌≡◌, ◌<◌, ◌^◌, ◌==◌, ◌&&◌, ℕ, Bool, true, List, None, Some, option_and_then};
 ghost use Rattle.sc_value.specs.declared.ids.AppId.{AppId};
+ghost use Rattle.sc_value.specs.declared.ids.ReqId.{ReqId};
+ghost use Rattle.sc_value.specs.declared.ids.SessId.{SessId};
+ghost use Rattle.sc_value.specs.declared.message.Request.{Request};
 ghost use Rattle.sc_terms.specs.declared.events.Event.{Event};
 ghost use Rattle.sc_terms.specs.declared.settings.Config.{Config};
 ghost use Rattle.sc_terms.specs.declared.steps.Step.{Step};
@@ -8,11 +11,14 @@ ghost use Rattle.sc_parts.specs.declared.setup.Setup.{Setup};
 ghost use Rattle.sc_state.specs.declared.host.Live.{Live};
 ghost use Rattle.sc_state.specs.declared.session.Session.{Session};
 ghost use Rattle.sc_hosts.specs.Histories.{History, as_history};
+ghost use Rattle.sc_model.specs.Transactions.{is_success};
 ghost use Rattle.sc_hosts.specs.Runs.{IsLawful, chained};
-ghost use Rattle.sc_hosts.specs.SessionTimers.{timed_script};
+ghost use Rattle.sc_hosts.specs.Scripting.{attribute};
+ghost use Rattle.sc_hosts.specs.SessionTimers.{On, Timed, granted, least_interval, timed_name, timed_of, timed_script};
 ghost use Rattle.sc_hosts.specs.Steps.{live_at};
 ghost use Rattle.sc_lived.specs.Lived.{HasLived, told};
-ghost use Rattle.sc_timed.specs.TimedActs.{IsChain, IsOneAct, TimedHappened};
+ghost use Rattle.sc_promised.specs.Refreshing.{IsAccepted, IsBegun};
+ghost use Rattle.sc_timed.specs.TimedActs.{Grants, IsChain, IsOneAct, Refreshes, TimedHappened, after, calls_of};
 ghost use Rattle.sc_timed.specs.TimedLives.{AreActs, ArePlayed, HasActs, HaveRoom, IsTimed};
 
 /// Whatever event an application that keeps session timers is told of, its script is that of one act of one SipSession,
@@ -35,6 +41,15 @@ pub fn timed_acts_are_chained()
 /// nothing.
 pub fn timed_lives_make_acts()
     ensures { (config : Config) (history : History) (n : ℕ) → n < 2 ^ 64 → ArePlayed config history history.turns → HaveRoom config history history.turns → HasActs config history n history.turns }
+{}
+
+/// Where an act of such a list grants a session timer of so many seconds, or is the 2xx to a refresh, and no call of it is
+/// refused, a servlet timer that fires once is due at the deadline of the side behind the act's moment, and the attribute
+/// of the SipSession names it, with which the next act of the list begins. The contract is the law, and the call does
+/// nothing.
+pub fn granted_timers_are_in_time()
+    ensures granted { (h : TimedHappened) (req : ReqId) (sess : SessId) (request : Request) (n : ℕ) (me : Bool) → h.act ≡ Grants req sess request → granted request (least_interval h.play.view) ≡ On n me → IsAccepted h.play (calls_of h.play.view h.act) → IsBegun h.play.view.now sess n me (after h).view }
+    ensures refreshed { (h : TimedHappened) (sess : SessId) (code : ℕ) (timed : Timed) → h.act ≡ Refreshes sess code → option_and_then timed_of (attribute (timed_name sess) h.play.view) ≡ Some timed → (timed.me && timed.timer == 0) ≡ true → is_success code ≡ true → IsAccepted h.play (calls_of h.play.view h.act) → IsBegun h.play.view.now sess timed.seconds true (after h).view }
 {}
 
 /// After a lawful journal the turns of a live session of that kind, for whose own events nobody listens, made of each
