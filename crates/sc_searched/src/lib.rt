@@ -1,0 +1,6 @@
+//! When the search of a proxied request is over, as a law.
+#![tactic(auto)]
+
+mod laws;
+
+pub use laws::searches_end_with_a_response;
