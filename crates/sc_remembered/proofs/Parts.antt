@@ -35,9 +35,6 @@ unfolding answered answered_in tidy
 answered-kept None code view = refl
 answered-kept (Some request) code view = refl
 
-pub removed-kept : (sess : SessId) (view : View) → (removed sess view).attributes ≡ view.attributes
-removed-kept sess view = ap (λ (v : View). v.attributes) (removed-only sess view)
-
 -- what a turn leaves as its calls do: attributes, timers, and the numbers of the next timer and the next request
 pub record Rest : Type 0 where
   pub attributes : List Field
