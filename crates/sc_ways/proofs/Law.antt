@@ -37,7 +37,7 @@ use Rattle.sc_ways.proofs.Runs.{run-each, run-fine, run-next}
 
 -- ## Names of those ahead
 
-all-both : {A : Type 0} (P : A → Type 0) (xs ys : List A) → All P xs → All P ys → All P (xs ++ ys)
+pub all-both : {A : Type 0} (P : A → Type 0) (xs ys : List A) → All P xs → All P ys → All P (xs ++ ys)
 unfolding All
 all-both P [] ys p q = q
 all-both P (x ∷ xs) ys p q = (p.0, all-both P xs ys p.1 q)
@@ -52,7 +52,7 @@ unfolding All
 back P [] ys all = all
 back P (x ∷ xs) ys all = back P xs ys all.1
 
-all-reverse : {A : Type 0} (P : A → Type 0) (xs : List A) → All P xs → All P (reverse xs)
+pub all-reverse : {A : Type 0} (P : A → Type 0) (xs : List A) → All P xs → All P (reverse xs)
 unfolding All
 all-reverse P [] all = tt
 all-reverse P (x ∷ xs) all = rw (reverse-append (x ∷ []) xs) (all-append P (reverse xs) x (all-reverse P xs all.1) all.0)
@@ -85,7 +85,7 @@ at-callee heads (Some a) rest app is made = subst (λ (x : AppId). not (length (
     same : (a b : AppId) → Some a ≡ Some b → a ≡ b
     same a b is = cc
 
-answered-end : (setup : Setup) (run : List Moment) (dialog : Dialog) (piece : Piece) (app : AppId) → piece.callee ≡ Some app → is_made setup run dialog piece ≡ true → proxied_with run app ≡ None
+pub answered-end : (setup : Setup) (run : List Moment) (dialog : Dialog) (piece : Piece) (app : AppId) → piece.callee ≡ Some app → is_made setup run dialog piece ≡ true → proxied_with run app ≡ None
 unfolding is_made heads_at_end answers_of
 answered-end setup run dialog piece app callee made =
     none-proxied (proxied_with run app) (received run piece app) (λ server. flat_map (λ moment. filter_map (answer_by dialog server) (given_in setup moment)) run)

@@ -14,3 +14,4 @@ pub mod Prefix
 pub mod Law
 pub mod Sending
 pub mod Counts
+pub mod Staying

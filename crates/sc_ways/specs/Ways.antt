@@ -1,9 +1,10 @@
 -- What is asked of a run so that the later requests of a dialog keep to the way of its INVITE (RFC
 -- 3261 sections 12.2.1.1 and 16.12).
-use Rattle.std.specs.Prelude.{◌≡◌, ◌≤◌, ◌<◌, ◌^◌, ℕ, List, [], ◌∷◌, true, false, Some, is_some, length}
+use Rattle.std.specs.Prelude.{◌≡◌, ◌⊎◌, ◌≤◌, ◌<◌, ◌^◌, ℕ, List, [], ◌∷◌, true, false, Some, is_some, length}
 use Rattle.sc_value.specs.declared.ids.AppId.{AppId}
 use Rattle.sc_value.specs.declared.ids.SessId.{SessId}
 use Rattle.sc_value.specs.declared.message.Request.{Request}
+use Rattle.sc_terms.specs.declared.calls.ProxyOptions.{ProxyOptions}
 use Rattle.sc_terms.specs.declared.views.SessionView.{SessionView}
 use Rattle.sc_tokens.specs.Names.{same_bytes}
 use Rattle.sc_parts.specs.declared.setup.Setup.{Setup}
@@ -17,7 +18,7 @@ use Rattle.sc_hosts.specs.Looking.{is_proxy, session_in}
 use Rattle.sc_hosts.specs.Steps.{live_at}
 use Rattle.sc_lasting.specs.Lasting.{All}
 use Rattle.sc_paths.specs.Moments.{Moment, proxied_with}
-use Rattle.sc_paths.specs.Pieces.{Dialog, Piece, listed}
+use Rattle.sc_paths.specs.Pieces.{Dialog, Direction, Piece, end_of, listed}
 use Rattle.sc_vias.specs.Vias.{drawn_by}
 
 -- the first list begins the second
@@ -50,3 +51,22 @@ IsApart run dialog piece =
 -- the number that the session of each turn drew last, by the end of it, has 64 bits, so that each branch is another text
 abbrev pub AreSmallDraws : Setup → List Moment → Type 0
 AreSmallDraws setup run = All (λ (moment : Moment). drawn_by setup moment.before moment.step < 2 ^ 64) run
+
+-- ## Who stays on the way
+
+-- the session is one of these
+unfoldable pub IsAmong : AppId → List AppId → Type 0
+IsAmong app [] = ⊥
+IsAmong app (other ∷ apps) = (app ≡ other) ⊎ IsAmong app apps
+
+-- it is a proxy of the way that record-routed the INVITE: the first of its calls that proxied and was accepted asked for that
+-- (RFC 3261 section 16.6)
+pub record HasRecorded (run : List Moment) (piece : Piece) (app : AppId) : Type 0 where
+  pub among : IsAmong app piece.proxies
+  pub how : ProxyOptions
+  pub with : proxied_with run app ≡ Some how
+  pub records : how.record_route ≡ true
+
+-- a later request of the dialog may visit the session in this direction: it stands at the end, or record-routed the INVITE
+unfoldable pub Stays : List Moment → Direction → Piece → AppId → Type 0
+Stays run direction piece app = (end_of direction piece ≡ Some app) ⊎ HasRecorded run piece app

@@ -1,12 +1,15 @@
-ghost use Rattle.std.specs.Prelude.{◌≡◌, ℕ, List, true};
+ghost use Rattle.std.specs.Prelude.{◌≡◌, ℕ, List, Some, false, true};
+ghost use Rattle.sc_value.specs.declared.ids.AppId.{AppId};
+ghost use Rattle.sc_terms.specs.declared.calls.ProxyOptions.{ProxyOptions};
 ghost use Rattle.sc_terms.specs.declared.steps.Step.{Step};
 ghost use Rattle.sc_parts.specs.declared.setup.Setup.{Setup};
 ghost use Rattle.sc_hosts.specs.Histories.{as_history, as_session};
 ghost use Rattle.sc_hosts.specs.Runs.{IsLawful, chained};
+ghost use Rattle.sc_lasting.specs.Lasting.{All};
 ghost use Rattle.sc_paths.specs.LaterRequests.{Occurrence, carries, visits};
-ghost use Rattle.sc_paths.specs.Moments.{moments};
+ghost use Rattle.sc_paths.specs.Moments.{moments, proxied_with};
 ghost use Rattle.sc_paths.specs.Pieces.{Dialog, Direction, IsPiece, Piece, ahead};
-ghost use Rattle.sc_ways.specs.Ways.{AreSmallDraws, AreSmallNames, IsApart, IsPrefix};
+ghost use Rattle.sc_ways.specs.Ways.{AreSmallDraws, AreSmallNames, IsApart, IsPrefix, Stays};
 
 /// A later request that keeps to the way of the INVITE of its dialog, whether it comes from outside or a session sends it,
 /// visits a beginning of the application sessions that stayed on the way, in the direction in which it goes, without the one
@@ -17,4 +20,16 @@ ghost use Rattle.sc_ways.specs.Ways.{AreSmallDraws, AreSmallNames, IsApart, IsPr
 pub fn later_requests_keep_to_the_way()
     ensures session { (setup : Setup) (epoch began : ℕ) (journal : List Step) (dialog : Dialog) (direction : Direction) (piece : Piece) (occurrence : Occurrence) → IsLawful as_session setup epoch began journal → IsPiece setup epoch (moments setup epoch began journal) dialog piece → IsApart (moments setup epoch began journal) dialog piece → AreSmallNames setup epoch (chained as_session setup epoch began journal) piece → AreSmallDraws setup (moments setup epoch began journal) → carries setup (moments setup epoch began journal) dialog direction piece occurrence ≡ true → IsPrefix (visits setup (moments setup epoch began journal) occurrence) (ahead (moments setup epoch began journal) direction piece) }
     ensures history { (setup : Setup) (epoch began : ℕ) (journal : List Step) (dialog : Dialog) (direction : Direction) (piece : Piece) (occurrence : Occurrence) → IsLawful (as_history setup.config) setup epoch began journal → IsPiece setup epoch (moments setup epoch began journal) dialog piece → IsApart (moments setup epoch began journal) dialog piece → AreSmallNames setup epoch (chained as_session setup epoch began journal) piece → AreSmallDraws setup (moments setup epoch began journal) → carries setup (moments setup epoch began journal) dialog direction piece occurrence ≡ true → IsPrefix (visits setup (moments setup epoch began journal) occurrence) (ahead (moments setup epoch began journal) direction piece) }
+{}
+
+/// A later request that keeps to the way of the INVITE of its dialog visits those alone that stayed on the way: the session at
+/// its end, and the proxies of the way that record-routed the INVITE. So an application session that proxied the INVITE without
+/// record-routing isn't visited, from whichever end the request comes; one that sent an INVITE of its own first stands at the
+/// end of that INVITE's way, whatever else it proxied. The premises are those of `later_requests_keep_to_the_way`. The contract
+/// is the law, for a journal that is lawful in either form in which sessions are kept, and the call does nothing.
+pub fn later_requests_pass_by_who_left()
+    ensures staying_session { (setup : Setup) (epoch began : ℕ) (journal : List Step) (dialog : Dialog) (direction : Direction) (piece : Piece) (occurrence : Occurrence) → IsLawful as_session setup epoch began journal → IsPiece setup epoch (moments setup epoch began journal) dialog piece → IsApart (moments setup epoch began journal) dialog piece → AreSmallNames setup epoch (chained as_session setup epoch began journal) piece → AreSmallDraws setup (moments setup epoch began journal) → carries setup (moments setup epoch began journal) dialog direction piece occurrence ≡ true → All (Stays (moments setup epoch began journal) direction piece) (visits setup (moments setup epoch began journal) occurrence) }
+    ensures staying_history { (setup : Setup) (epoch began : ℕ) (journal : List Step) (dialog : Dialog) (direction : Direction) (piece : Piece) (occurrence : Occurrence) → IsLawful (as_history setup.config) setup epoch began journal → IsPiece setup epoch (moments setup epoch began journal) dialog piece → IsApart (moments setup epoch began journal) dialog piece → AreSmallNames setup epoch (chained as_session setup epoch began journal) piece → AreSmallDraws setup (moments setup epoch began journal) → carries setup (moments setup epoch began journal) dialog direction piece occurrence ≡ true → All (Stays (moments setup epoch began journal) direction piece) (visits setup (moments setup epoch began journal) occurrence) }
+    ensures left_session { (setup : Setup) (epoch began : ℕ) (journal : List Step) (dialog : Dialog) (direction : Direction) (piece : Piece) (occurrence : Occurrence) (app : AppId) (how : ProxyOptions) → IsLawful as_session setup epoch began journal → IsPiece setup epoch (moments setup epoch began journal) dialog piece → IsApart (moments setup epoch began journal) dialog piece → AreSmallNames setup epoch (chained as_session setup epoch began journal) piece → AreSmallDraws setup (moments setup epoch began journal) → carries setup (moments setup epoch began journal) dialog direction piece occurrence ≡ true → proxied_with (moments setup epoch began journal) app ≡ Some how → how.record_route ≡ false → (piece.caller ≡ Some app → ⊥) → All (λ (visited : AppId). visited ≡ app → ⊥) (visits setup (moments setup epoch began journal) occurrence) }
+    ensures left_history { (setup : Setup) (epoch began : ℕ) (journal : List Step) (dialog : Dialog) (direction : Direction) (piece : Piece) (occurrence : Occurrence) (app : AppId) (how : ProxyOptions) → IsLawful (as_history setup.config) setup epoch began journal → IsPiece setup epoch (moments setup epoch began journal) dialog piece → IsApart (moments setup epoch began journal) dialog piece → AreSmallNames setup epoch (chained as_session setup epoch began journal) piece → AreSmallDraws setup (moments setup epoch began journal) → carries setup (moments setup epoch began journal) dialog direction piece occurrence ≡ true → proxied_with (moments setup epoch began journal) app ≡ Some how → how.record_route ≡ false → (piece.caller ≡ Some app → ⊥) → All (λ (visited : AppId). visited ≡ app → ⊥) (visits setup (moments setup epoch began journal) occurrence) }
 {}

@@ -3,4 +3,4 @@
 
 mod laws;
 
-pub use laws::later_requests_keep_to_the_way;
+pub use laws::{later_requests_keep_to_the_way, later_requests_pass_by_who_left};
