@@ -1,0 +1,16 @@
+pub mod Hosts
+pub mod Nets
+pub mod DueEvents
+pub mod Steps
+pub mod MadeCalls
+pub mod MadeShown
+pub mod MadeEnds
+pub mod Faithful
+pub mod MadeTurns
+pub mod Texts
+pub mod SoundKinds
+pub mod Runs
+pub mod Chain
+pub mod Law
+pub mod Minds
+pub mod Whole
