@@ -15,3 +15,4 @@ pub mod Law
 pub mod Sending
 pub mod Counts
 pub mod Staying
+pub mod FirstHop

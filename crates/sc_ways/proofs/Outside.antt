@@ -213,7 +213,7 @@ module _ (setup : Setup) (place : Place) (request : Request) where
 
   -- ## No host claims it
 
-  none-claims : (hosts : List (Host Session)) (number : ℕ) → list_any (λ host. is_claimed (claim_of (peers.Outside place) request host)) hosts ≡ false
+  pub none-claims : (hosts : List (Host Session)) (number : ℕ) → list_any (λ host. is_claimed (claim_of (peers.Outside place) request host)) hosts ≡ false
       → first_host (λ host. is_claimed (claim_of (peers.Outside place) request host)) number hosts ≡ None
   unfolding first_host
   none-claims [] number none = refl

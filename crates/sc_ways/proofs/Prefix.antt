@@ -62,13 +62,13 @@ not-true false is = refl
 -- ## What sets out
 
 -- a request from outside, at this place of the run
-record IsOutside (moment : Moment) (step : Step) (out : SetOut) : Type 0 where
-  place : Place
-  request : Request
-  step_is : step ≡ steps.In place (messages.Request request)
-  out_is : out ≡ record { moment = moment; sender = peers.Outside place; request = request }
+pub record IsOutside (moment : Moment) (step : Step) (out : SetOut) : Type 0 where
+  pub place : Place
+  pub request : Request
+  pub step_is : step ≡ steps.In place (messages.Request request)
+  pub out_is : out ≡ record { moment = moment; sender = peers.Outside place; request = request }
 
-outside-by : (setup : Setup) (moment : Moment) (step : Step) (out : SetOut) → set_out_by setup moment step None ≡ Some out → IsOutside moment step out
+pub outside-by : (setup : Setup) (moment : Moment) (step : Step) (out : SetOut) → set_out_by setup moment step None ≡ Some out → IsOutside moment step out
 unfolding set_out_by
 outside-by setup moment (steps.In place (messages.Request request)) out is =
     record { place = place; request = request; step_is = refl; out_is = sym (some-is (record { moment = moment; sender = peers.Outside place; request = request }) out is) }
@@ -84,13 +84,13 @@ outside-by setup moment (steps.Withdraw app) out is = cc
 
 -- ## What it carries
 
-record IsCarried (config : Config) (run : List Moment) (dialog : Dialog) (direction : Direction) (piece : Piece) (out : SetOut) : Type 0 where
-  no_cancel : same_bytes (method_of out.request) cancel ≡ false
-  unclaimed : list_any (λ host. is_claimed (claim_of out.sender out.request host)) out.moment.before.hosts ≡ false
-  call : same_bytes out.request.head.call_id dialog.call_id ≡ true
-  tagged : is_some (tag_of out.request.head.to) ≡ true
-  leading : leads config out.moment.before.epoch (along direction (recorders run piece)) (end_of direction piece) out.request ≡ true
-  alone : (not (length (ahead run direction piece) == 0) || is_none (own_uri config out.request)) ≡ true
+pub record IsCarried (config : Config) (run : List Moment) (dialog : Dialog) (direction : Direction) (piece : Piece) (out : SetOut) : Type 0 where
+  pub no_cancel : same_bytes (method_of out.request) cancel ≡ false
+  pub unclaimed : list_any (λ host. is_claimed (claim_of out.sender out.request host)) out.moment.before.hosts ≡ false
+  pub call : same_bytes out.request.head.call_id dialog.call_id ≡ true
+  pub tagged : is_some (tag_of out.request.head.to) ≡ true
+  pub leading : leads config out.moment.before.epoch (along direction (recorders run piece)) (end_of direction piece) out.request ≡ true
+  pub alone : (not (length (ahead run direction piece) == 0) || is_none (own_uri config out.request)) ≡ true
 
 tagged-between : (from to : Option Bytes) (request : Request) → is_between from to request ≡ true → is_some (tag_of request.head.to) ≡ true
 unfolding is_between
@@ -106,7 +106,7 @@ new-parts : (out : SetOut) → is_new out ≡ true
 unfolding is_new
 new-parts out is = (not-true _ (and-first _ _ is), not-true _ (and-second _ _ is))
 
-carried : (config : Config) (run : List Moment) (dialog : Dialog) (direction : Direction) (piece : Piece) (out : SetOut) → carries_by config run dialog direction piece out ≡ true
+pub carried : (config : Config) (run : List Moment) (dialog : Dialog) (direction : Direction) (piece : Piece) (out : SetOut) → carries_by config run dialog direction piece out ≡ true
     → IsCarried config run dialog direction piece out
 unfolding carries_by
 carried config run dialog direction piece out is =
@@ -251,7 +251,7 @@ module _ (setup : Setup) (epoch : ℕ) (small : epoch < 2 ^ 64) (run : List Mome
 
 -- ## A whole run
 
-through : {A B : Type 0} (next : A → Option B) (found : Option A) (b : B) → option_and_then next found ≡ Some b
+pub through : {A B : Type 0} (next : A → Option B) (found : Option A) (b : B) → option_and_then next found ≡ Some b
     → (a : A) × (found ≡ Some a) × (next a ≡ Some b)
 through next None b is = cc
 through next (Some a) b is = (a, refl, is)

@@ -70,3 +70,12 @@ pub record HasRecorded (run : List Moment) (piece : Piece) (app : AppId) : Type 
 -- a later request of the dialog may visit the session in this direction: it stands at the end, or record-routed the INVITE
 unfoldable pub Stays : List Moment → Direction → Piece → AppId → Type 0
 Stays run direction piece app = (end_of direction piece ≡ Some app) ⊎ HasRecorded run piece app
+
+-- ## The first of those ahead
+
+-- what is visited is this session and then a beginning of these, and it alone where there are none
+pub record VisitsFirst (app : AppId) (more visited : List AppId) : Type 0 where
+  pub rest : List AppId
+  pub is : visited ≡ app ∷ rest
+  pub begins : IsPrefix rest more
+  pub whole : more ≡ [] → visited ≡ app ∷ []

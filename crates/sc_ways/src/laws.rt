@@ -1,15 +1,21 @@
-ghost use Rattle.std.specs.Prelude.{◌≡◌, ℕ, List, Some, false, true};
+ghost use Rattle.std.specs.Prelude.{◌≡◌, ℕ, List, ◌∷◌, Some, false, true};
 ghost use Rattle.sc_value.specs.declared.ids.AppId.{AppId};
+ghost use Rattle.sc_value.specs.declared.ids.Place.{Place};
 ghost use Rattle.sc_terms.specs.declared.calls.ProxyOptions.{ProxyOptions};
 ghost use Rattle.sc_terms.specs.declared.steps.Step.{Step};
 ghost use Rattle.sc_parts.specs.declared.setup.Setup.{Setup};
+ghost use Rattle.sc_state.specs.declared.host.Live.{Live};
+ghost use Rattle.sc_state.specs.declared.host.Peer.TheVariants as peers;
+ghost use Rattle.sc_state.specs.declared.session.Session.{Session};
 ghost use Rattle.sc_hosts.specs.Histories.{as_history, as_session};
+ghost use Rattle.sc_hosts.specs.Inboxes.{is_full};
 ghost use Rattle.sc_hosts.specs.Runs.{IsLawful, chained};
+ghost use Rattle.sc_hosts.specs.Steps.{live_at};
 ghost use Rattle.sc_lasting.specs.Lasting.{All};
-ghost use Rattle.sc_paths.specs.LaterRequests.{Occurrence, carries, visits};
+ghost use Rattle.sc_paths.specs.LaterRequests.{Occurrence, SetOut, carries, set_out, visits};
 ghost use Rattle.sc_paths.specs.Moments.{moments, proxied_with};
 ghost use Rattle.sc_paths.specs.Pieces.{Dialog, Direction, IsPiece, Piece, ahead};
-ghost use Rattle.sc_ways.specs.Ways.{AreSmallDraws, AreSmallNames, IsApart, IsPrefix, Stays};
+ghost use Rattle.sc_ways.specs.Ways.{AreSmallDraws, AreSmallNames, IsApart, IsPrefix, Stays, VisitsFirst};
 
 /// A later request that keeps to the way of the INVITE of its dialog, whether it comes from outside or a session sends it,
 /// visits a beginning of the application sessions that stayed on the way, in the direction in which it goes, without the one
@@ -32,4 +38,14 @@ pub fn later_requests_pass_by_who_left()
     ensures staying_history { (setup : Setup) (epoch began : ℕ) (journal : List Step) (dialog : Dialog) (direction : Direction) (piece : Piece) (occurrence : Occurrence) → IsLawful (as_history setup.config) setup epoch began journal → IsPiece setup epoch (moments setup epoch began journal) dialog piece → IsApart (moments setup epoch began journal) dialog piece → AreSmallNames setup epoch (chained as_session setup epoch began journal) piece → AreSmallDraws setup (moments setup epoch began journal) → carries setup (moments setup epoch began journal) dialog direction piece occurrence ≡ true → All (Stays (moments setup epoch began journal) direction piece) (visits setup (moments setup epoch began journal) occurrence) }
     ensures left_session { (setup : Setup) (epoch began : ℕ) (journal : List Step) (dialog : Dialog) (direction : Direction) (piece : Piece) (occurrence : Occurrence) (app : AppId) (how : ProxyOptions) → IsLawful as_session setup epoch began journal → IsPiece setup epoch (moments setup epoch began journal) dialog piece → IsApart (moments setup epoch began journal) dialog piece → AreSmallNames setup epoch (chained as_session setup epoch began journal) piece → AreSmallDraws setup (moments setup epoch began journal) → carries setup (moments setup epoch began journal) dialog direction piece occurrence ≡ true → proxied_with (moments setup epoch began journal) app ≡ Some how → how.record_route ≡ false → (piece.caller ≡ Some app → ⊥) → All (λ (visited : AppId). visited ≡ app → ⊥) (visits setup (moments setup epoch began journal) occurrence) }
     ensures left_history { (setup : Setup) (epoch began : ℕ) (journal : List Step) (dialog : Dialog) (direction : Direction) (piece : Piece) (occurrence : Occurrence) (app : AppId) (how : ProxyOptions) → IsLawful (as_history setup.config) setup epoch began journal → IsPiece setup epoch (moments setup epoch began journal) dialog piece → IsApart (moments setup epoch began journal) dialog piece → AreSmallNames setup epoch (chained as_session setup epoch began journal) piece → AreSmallDraws setup (moments setup epoch began journal) → carries setup (moments setup epoch began journal) dialog direction piece occurrence ≡ true → proxied_with (moments setup epoch began journal) app ≡ Some how → how.record_route ≡ false → (piece.caller ≡ Some app → ⊥) → All (λ (visited : AppId). visited ≡ app → ⊥) (visits setup (moments setup epoch began journal) occurrence) }
+{}
+
+/// A later request that comes from outside and keeps to the way of the INVITE of its dialog visits the first of the sessions that
+/// stayed on the way and are ahead of it, where that session lives and has room as the request comes; behind it, it visits a
+/// beginning of the others. So where one session alone is ahead, it visits the whole of the way. The premises are those of
+/// `later_requests_keep_to_the_way`. The contract is the law, for a journal that is lawful in either form in which sessions are
+/// kept, and the call does nothing.
+pub fn later_requests_come_to_the_first()
+    ensures session { (setup : Setup) (epoch began : ℕ) (journal : List Step) (dialog : Dialog) (direction : Direction) (piece : Piece) (occurrence : Occurrence) → IsLawful as_session setup epoch began journal → IsPiece setup epoch (moments setup epoch began journal) dialog piece → IsApart (moments setup epoch began journal) dialog piece → AreSmallNames setup epoch (chained as_session setup epoch began journal) piece → AreSmallDraws setup (moments setup epoch began journal) → carries setup (moments setup epoch began journal) dialog direction piece occurrence ≡ true → (out : SetOut) (place : Place) → set_out setup (moments setup epoch began journal) occurrence ≡ Some out → out.sender ≡ peers.Outside place → (app : AppId) (more : List AppId) → ahead (moments setup epoch began journal) direction piece ≡ app ∷ more → (live : Live Session) → live_at app out.moment.before ≡ Some live → is_full live ≡ false → VisitsFirst app more (visits setup (moments setup epoch began journal) occurrence) }
+    ensures history { (setup : Setup) (epoch began : ℕ) (journal : List Step) (dialog : Dialog) (direction : Direction) (piece : Piece) (occurrence : Occurrence) → IsLawful (as_history setup.config) setup epoch began journal → IsPiece setup epoch (moments setup epoch began journal) dialog piece → IsApart (moments setup epoch began journal) dialog piece → AreSmallNames setup epoch (chained as_session setup epoch began journal) piece → AreSmallDraws setup (moments setup epoch began journal) → carries setup (moments setup epoch began journal) dialog direction piece occurrence ≡ true → (out : SetOut) (place : Place) → set_out setup (moments setup epoch began journal) occurrence ≡ Some out → out.sender ≡ peers.Outside place → (app : AppId) (more : List AppId) → ahead (moments setup epoch began journal) direction piece ≡ app ∷ more → (live : Live Session) → live_at app out.moment.before ≡ Some live → is_full live ≡ false → VisitsFirst app more (visits setup (moments setup epoch began journal) occurrence) }
 {}

@@ -3,4 +3,7 @@
 
 mod laws;
 
-pub use laws::{later_requests_keep_to_the_way, later_requests_pass_by_who_left};
+pub use laws::{
+    later_requests_come_to_the_first, later_requests_keep_to_the_way,
+    later_requests_pass_by_who_left,
+};
