@@ -184,15 +184,15 @@ module _ (setup : Setup) (place : Place) (request : Request) (net : Net Session)
 -- ## The first of those ahead
 
 -- the own URI by which the request goes leads there
-record ComesTo (setup : Setup) (epoch : ℕ) (request : Request) (app : AppId) : Type 0 where
-  uri : Uri
-  by : own_uri setup.config request ≡ Some uri
-  named : names epoch app uri ≡ true
+pub record ComesTo (setup : Setup) (epoch : ℕ) (request : Request) (app : AppId) : Type 0 where
+  pub uri : Uri
+  pub by : own_uri setup.config request ≡ Some uri
+  pub named : names epoch app uri ≡ true
 
 first-is : (x y : AppId) (xs ys : List AppId) → x ∷ xs ≡ y ∷ ys → x ≡ y
 first-is x y xs ys is = cc
 
-ahead-comes : (setup : Setup) (epoch : ℕ) (request : Request) (apps : List AppId) (end : Option AppId) (app : AppId) (more : List AppId) → apps ++ listed end ≡ app ∷ more
+pub ahead-comes : (setup : Setup) (epoch : ℕ) (request : Request) (apps : List AppId) (end : Option AppId) (app : AppId) (more : List AppId) → apps ++ listed end ≡ app ∷ more
     → leads setup.config epoch apps end request ≡ true → ComesTo setup epoch request app
 ahead-comes setup epoch request [] None app more is leading = cc
 ahead-comes setup epoch request [] (Some end) app more is leading =
@@ -204,7 +204,7 @@ ahead-comes setup epoch request (first ∷ apps) end app more is leading =
 
 -- ## The moment
 
-idle : (net : Net Session) → net.wire ≡ [] → is_busy net ≡ false
+pub idle : (net : Net Session) → net.wire ≡ [] → is_busy net ≡ false
 unfolding is_busy
 idle net is = rw is refl
 
@@ -262,12 +262,12 @@ none-found None later none = refl
 none-found (Some got) later none = absurd (visits-some got later none)
 
 -- a request that came from outside came by this step
-record CameBy (moment : Moment) (place : Place) (out : SetOut) : Type 0 where
-  request : Request
-  out_is : out ≡ record { moment = moment; sender = peers.Outside place; request = request }
-  step_is : moment.step ≡ steps.In place (messages.Request request)
+pub record CameBy (moment : Moment) (place : Place) (out : SetOut) : Type 0 where
+  pub request : Request
+  pub out_is : out ≡ record { moment = moment; sender = peers.Outside place; request = request }
+  pub step_is : moment.step ≡ steps.In place (messages.Request request)
 
-came-by : (setup : Setup) (moment : Moment) (order : Option ℕ) (place : Place) (out : SetOut) → set_out_by setup moment moment.step order ≡ Some out → out.sender ≡ peers.Outside place → CameBy moment place out
+pub came-by : (setup : Setup) (moment : Moment) (order : Option ℕ) (place : Place) (out : SetOut) → set_out_by setup moment moment.step order ≡ Some out → out.sender ≡ peers.Outside place → CameBy moment place out
 came-by setup moment None place out is sender =
     let from = outside-by setup moment moment.step out is in
     let same : from.place ≡ place = same-place from.place place (sym (ap (λ (o : SetOut). o.sender) from.out_is) ∙ sender) in

@@ -147,14 +147,20 @@ module _ (setup : Setup) (epoch began : ℕ) (journal : List Step) (lawful : IsL
       (λ before step later at allowed. subst (λ (net : Net Session). AllKeyed as_session NoTurn 0 0 net) (run-next setup epoch began journal lawful before step) (session-keyed setup epoch began (before ++ step ∷ []))) in
       (callee-small setup epoch Run piece app (answers_of setup Run dialog app) small fine keyed (at-callee (λ app. option_map_or (answers_of setup Run dialog app) (received Run piece app) []) piece.callee _ app is made), tt)
 
+  -- so have those of all that are ahead
+  pub ahead-small : (direction : Direction) → IsPiece setup epoch Run dialog piece → AreSmallNames setup epoch (chained as_session setup epoch began journal) piece → All (IsFine setup epoch) Run
+      → All (λ (app : AppId). IsOf64 epoch app 0) (ahead Run direction piece)
+  ahead-small direction is small fine =
+      all-ahead (λ (app : AppId). IsOf64 epoch app 0) Run direction piece (recorders-small setup epoch Run piece small.within fine)
+      (all-both (λ (app : AppId). IsOf64 epoch app 0) (listed piece.caller) (listed piece.callee) small.caller (run-callee small.within fine is.made piece.callee refl))
+
   run-prefix : (direction : Direction) (occurrence : Occurrence) → IsPiece setup epoch Run dialog piece → IsApart Run dialog piece → AreSmallNames setup epoch (chained as_session setup epoch began journal) piece
       → AreSmallDraws setup Run → carries setup Run dialog direction piece occurrence ≡ true → IsPrefix (visits setup Run occurrence) (ahead Run direction piece)
   unfolding moments
   run-prefix direction occurrence is apart small drawn carried =
       let fine = run-fine setup epoch began journal lawful small.hosts small.events in
       run-follows setup epoch small.within (start setup epoch began) journal dialog direction piece occurrence (run-own occurrence small.within fine drawn) carried fine (ends direction is.made apart)
-      (all-ahead (λ (app : AppId). IsOf64 epoch app 0) Run direction piece (recorders-small setup epoch Run piece small.within fine)
-      (all-both (λ (app : AppId). IsOf64 epoch app 0) (listed piece.caller) (listed piece.callee) small.caller (run-callee small.within fine is.made piece.callee refl)))
+      (ahead-small direction is small fine)
 
 -- what it visits is a beginning of those that stayed
 pub prefix : (setup : Setup) (epoch began : ℕ) (journal : List Step) (dialog : Dialog) (direction : Direction) (piece : Piece) (occurrence : Occurrence) → IsLawful as_session setup epoch began journal

@@ -16,3 +16,4 @@ pub mod Sending
 pub mod Counts
 pub mod Staying
 pub mod FirstHop
+pub mod FirstStop

@@ -1,6 +1,6 @@
 -- What is asked of a run so that the later requests of a dialog keep to the way of its INVITE (RFC
 -- 3261 sections 12.2.1.1 and 16.12).
-use Rattle.std.specs.Prelude.{◌≡◌, ◌⊎◌, ◌≤◌, ◌<◌, ◌^◌, ℕ, List, [], ◌∷◌, true, false, Some, is_some, length}
+use Rattle.std.specs.Prelude.{◌≡◌, ◌⊎◌, ◌≤◌, ◌<◌, ◌^◌, ℕ, List, [], ◌∷◌, true, false, None, Some, is_some, length}
 use Rattle.sc_value.specs.declared.ids.AppId.{AppId}
 use Rattle.sc_value.specs.declared.ids.SessId.{SessId}
 use Rattle.sc_value.specs.declared.message.Request.{Request}
@@ -13,9 +13,11 @@ use Rattle.sc_state.specs.declared.net.Net.{Net}
 use Rattle.sc_state.specs.declared.session.Session.{Session}
 use Rattle.sc_grammar.specs.Written.{Bytes}
 use Rattle.sc_model.specs.Names.{IsOf64}
+use Rattle.sc_hosts.specs.Inboxes.{is_full}
 use Rattle.sc_hosts.specs.Legs.{session_for}
 use Rattle.sc_hosts.specs.Looking.{is_proxy, session_in}
 use Rattle.sc_hosts.specs.Steps.{live_at}
+use Rattle.sc_hosts.specs.Words.{does_not_exist, unavailable}
 use Rattle.sc_lasting.specs.Lasting.{All}
 use Rattle.sc_paths.specs.Moments.{Moment, proxied_with}
 use Rattle.sc_paths.specs.Pieces.{Dialog, Direction, Piece, end_of, listed}
@@ -79,3 +81,11 @@ pub record VisitsFirst (app : AppId) (more visited : List AppId) : Type 0 where
   pub is : visited ≡ app ∷ rest
   pub begins : IsPrefix rest more
   pub whole : more ≡ [] → visited ≡ app ∷ []
+
+-- such a request can come to none of those ahead, with the code and reason of the answer: none is ahead, or the first of them doesn't
+-- live, or as many events wait for it as may
+unfoldable pub StopsBefore : List AppId → Net Session → ℕ → Bytes → Type 0
+StopsBefore [] net code reason = (code ≡ 481) × (reason ≡ does_not_exist)
+StopsBefore (app ∷ more) net code reason =
+    ((live_at app net ≡ None) × (code ≡ 481) × (reason ≡ does_not_exist))
+    ⊎ ((live : Live Session) × (live_at app net ≡ Some live) × (is_full live ≡ true) × (code ≡ 503) × (reason ≡ unavailable))

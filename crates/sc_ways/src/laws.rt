@@ -1,4 +1,4 @@
-ghost use Rattle.std.specs.Prelude.{◌≡◌, ℕ, List, ◌∷◌, Some, false, true};
+ghost use Rattle.std.specs.Prelude.{◌≡◌, ℕ, List, [], ◌∷◌, Some, false, true};
 ghost use Rattle.sc_value.specs.declared.ids.AppId.{AppId};
 ghost use Rattle.sc_value.specs.declared.ids.Place.{Place};
 ghost use Rattle.sc_terms.specs.declared.calls.ProxyOptions.{ProxyOptions};
@@ -7,6 +7,7 @@ ghost use Rattle.sc_parts.specs.declared.setup.Setup.{Setup};
 ghost use Rattle.sc_state.specs.declared.host.Live.{Live};
 ghost use Rattle.sc_state.specs.declared.host.Peer.TheVariants as peers;
 ghost use Rattle.sc_state.specs.declared.session.Session.{Session};
+ghost use Rattle.sc_grammar.specs.Written.{Bytes};
 ghost use Rattle.sc_hosts.specs.Histories.{as_history, as_session};
 ghost use Rattle.sc_hosts.specs.Inboxes.{is_full};
 ghost use Rattle.sc_hosts.specs.Runs.{IsLawful, chained};
@@ -15,7 +16,8 @@ ghost use Rattle.sc_lasting.specs.Lasting.{All};
 ghost use Rattle.sc_paths.specs.LaterRequests.{Occurrence, SetOut, carries, set_out, visits};
 ghost use Rattle.sc_paths.specs.Moments.{moments, proxied_with};
 ghost use Rattle.sc_paths.specs.Pieces.{Dialog, Direction, IsPiece, Piece, ahead};
-ghost use Rattle.sc_ways.specs.Ways.{AreSmallDraws, AreSmallNames, IsApart, IsPrefix, Stays, VisitsFirst};
+ghost use Rattle.sc_stopped.specs.Stopped.{answered};
+ghost use Rattle.sc_ways.specs.Ways.{AreSmallDraws, AreSmallNames, IsApart, IsPrefix, Stays, StopsBefore, VisitsFirst};
 
 /// A later request that keeps to the way of the INVITE of its dialog, whether it comes from outside or a session sends it,
 /// visits a beginning of the application sessions that stayed on the way, in the direction in which it goes, without the one
@@ -48,4 +50,14 @@ pub fn later_requests_pass_by_who_left()
 pub fn later_requests_come_to_the_first()
     ensures session { (setup : Setup) (epoch began : ℕ) (journal : List Step) (dialog : Dialog) (direction : Direction) (piece : Piece) (occurrence : Occurrence) → IsLawful as_session setup epoch began journal → IsPiece setup epoch (moments setup epoch began journal) dialog piece → IsApart (moments setup epoch began journal) dialog piece → AreSmallNames setup epoch (chained as_session setup epoch began journal) piece → AreSmallDraws setup (moments setup epoch began journal) → carries setup (moments setup epoch began journal) dialog direction piece occurrence ≡ true → (out : SetOut) (place : Place) → set_out setup (moments setup epoch began journal) occurrence ≡ Some out → out.sender ≡ peers.Outside place → (app : AppId) (more : List AppId) → ahead (moments setup epoch began journal) direction piece ≡ app ∷ more → (live : Live Session) → live_at app out.moment.before ≡ Some live → is_full live ≡ false → VisitsFirst app more (visits setup (moments setup epoch began journal) occurrence) }
     ensures history { (setup : Setup) (epoch began : ℕ) (journal : List Step) (dialog : Dialog) (direction : Direction) (piece : Piece) (occurrence : Occurrence) → IsLawful (as_history setup.config) setup epoch began journal → IsPiece setup epoch (moments setup epoch began journal) dialog piece → IsApart (moments setup epoch began journal) dialog piece → AreSmallNames setup epoch (chained as_session setup epoch began journal) piece → AreSmallDraws setup (moments setup epoch began journal) → carries setup (moments setup epoch began journal) dialog direction piece occurrence ≡ true → (out : SetOut) (place : Place) → set_out setup (moments setup epoch began journal) occurrence ≡ Some out → out.sender ≡ peers.Outside place → (app : AppId) (more : List AppId) → ahead (moments setup epoch began journal) direction piece ≡ app ∷ more → (live : Live Session) → live_at app out.moment.before ≡ Some live → is_full live ≡ false → VisitsFirst app more (visits setup (moments setup epoch began journal) occurrence) }
+{}
+
+/// A later request that comes from outside, keeps to the way of the INVITE of its dialog and can come to none of the sessions ahead
+/// of it is answered at once, and nothing else happens. It gets 481 where none is ahead of it or the first doesn't live as it comes,
+/// and 503 where as many events wait for that session as may; an ACK gets nothing. No session and no transaction changes. The numbers
+/// in names have 64 bits. The contract is the law, for a journal that is lawful in either form in which sessions are kept, and the
+/// call does nothing.
+pub fn later_requests_stop_before_the_first()
+    ensures session { (setup : Setup) (epoch began : ℕ) (journal : List Step) (dialog : Dialog) (direction : Direction) (piece : Piece) (occurrence : Occurrence) → IsLawful as_session setup epoch began journal → IsPiece setup epoch (moments setup epoch began journal) dialog piece → AreSmallNames setup epoch (chained as_session setup epoch began journal) piece → carries setup (moments setup epoch began journal) dialog direction piece occurrence ≡ true → (out : SetOut) (place : Place) → set_out setup (moments setup epoch began journal) occurrence ≡ Some out → out.sender ≡ peers.Outside place → (code : ℕ) (reason : Bytes) → StopsBefore (ahead (moments setup epoch began journal) direction piece) out.moment.before code reason → out.moment.after ≡ answered setup.config place code reason out.request (record out.moment.before { sent = [] }) }
+    ensures history { (setup : Setup) (epoch began : ℕ) (journal : List Step) (dialog : Dialog) (direction : Direction) (piece : Piece) (occurrence : Occurrence) → IsLawful (as_history setup.config) setup epoch began journal → IsPiece setup epoch (moments setup epoch began journal) dialog piece → AreSmallNames setup epoch (chained as_session setup epoch began journal) piece → carries setup (moments setup epoch began journal) dialog direction piece occurrence ≡ true → (out : SetOut) (place : Place) → set_out setup (moments setup epoch began journal) occurrence ≡ Some out → out.sender ≡ peers.Outside place → (code : ℕ) (reason : Bytes) → StopsBefore (ahead (moments setup epoch began journal) direction piece) out.moment.before code reason → out.moment.after ≡ answered setup.config place code reason out.request (record out.moment.before { sent = [] }) }
 {}
