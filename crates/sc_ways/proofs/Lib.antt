@@ -17,3 +17,4 @@ pub mod Counts
 pub mod Staying
 pub mod FirstHop
 pub mod FirstStop
+pub mod FirstWhole

@@ -2,6 +2,7 @@
 -- 3261 sections 12.2.1.1 and 16.12).
 use Rattle.std.specs.Prelude.{◌≡◌, ◌⊎◌, ◌≤◌, ◌<◌, ◌^◌, ℕ, List, [], ◌∷◌, true, false, None, Some, is_some, length}
 use Rattle.sc_value.specs.declared.ids.AppId.{AppId}
+use Rattle.sc_value.specs.declared.ids.Place.{Place}
 use Rattle.sc_value.specs.declared.ids.SessId.{SessId}
 use Rattle.sc_value.specs.declared.message.Request.{Request}
 use Rattle.sc_terms.specs.declared.calls.ProxyOptions.{ProxyOptions}
@@ -19,8 +20,10 @@ use Rattle.sc_hosts.specs.Looking.{is_proxy, session_in}
 use Rattle.sc_hosts.specs.Steps.{live_at}
 use Rattle.sc_hosts.specs.Words.{does_not_exist, unavailable}
 use Rattle.sc_lasting.specs.Lasting.{All}
+use Rattle.sc_paths.specs.LaterRequests.{Occurrence, SetOut, visits}
 use Rattle.sc_paths.specs.Moments.{Moment, proxied_with}
-use Rattle.sc_paths.specs.Pieces.{Dialog, Direction, Piece, end_of, listed}
+use Rattle.sc_paths.specs.Pieces.{Dialog, Direction, Piece, ahead, end_of, listed}
+use Rattle.sc_stopped.specs.Stopped.{answered}
 use Rattle.sc_vias.specs.Vias.{drawn_by}
 
 -- the first list begins the second
@@ -89,3 +92,11 @@ StopsBefore [] net code reason = (code ≡ 481) × (reason ≡ does_not_exist)
 StopsBefore (app ∷ more) net code reason =
     ((live_at app net ≡ None) × (code ≡ 481) × (reason ≡ does_not_exist))
     ⊎ ((live : Live Session) × (live_at app net ≡ Some live) × (is_full live ≡ true) × (code ≡ 503) × (reason ≡ unavailable))
+
+-- what becomes of such a request: it visits the first of those ahead and then a beginning of the others; or it can come to none of
+-- them, and is answered at once, and nothing else happens
+unfoldable pub IsFollowed : Setup → List Moment → Direction → Piece → Occurrence → Place → SetOut → Type 0
+IsFollowed setup run direction piece occurrence place out =
+    ((app : AppId) × (more : List AppId) × (ahead run direction piece ≡ app ∷ more) × VisitsFirst app more (visits setup run occurrence))
+    ⊎ ((code : ℕ) × (reason : Bytes) × StopsBefore (ahead run direction piece) out.moment.before code reason
+    × (out.moment.after ≡ answered setup.config place code reason out.request (record out.moment.before { sent = [] })))
