@@ -1,1 +1,2 @@
 pub mod OfferScripts
+pub mod Offering

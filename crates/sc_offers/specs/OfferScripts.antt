@@ -1,16 +1,13 @@
 -- The scripts of reliable provisional responses, by what an application read before its first call
 -- (RFC 3262).
-use Rattle.std.specs.Prelude.{ℕ, Option, None, Some, is_some, if◌then◌else◌}
+use Rattle.std.specs.Prelude.{Option, None, Some, is_some, if◌then◌else◌}
 use Rattle.sc_value.specs.declared.ids.ReqId.{ReqId}
 use Rattle.sc_value.specs.declared.message.Request.{Request}
 use Rattle.sc_terms.specs.declared.views.View.{View}
 use Rattle.sc_terms.specs.declared.views.RequestView.{RequestView}
-use Rattle.sc_terms.specs.declared.calls.Call.TheVariants as calls
-use Rattle.sc_hosts.specs.HelperParts.{accepted_then}
-use Rattle.sc_hosts.specs.Offers.{Offer, ended_offer_text, pending_offer, prack_by, rel_name}
-use Rattle.sc_hosts.specs.Scripting.{Script, Done, only, reply}
+use Rattle.sc_hosts.specs.Offers.{pending_offer, prack_by}
+use Rattle.sc_hosts.specs.Scripting.{Script, only, reply}
 use Rattle.sc_hosts.specs.Words.{does_not_exist}
-use Rattle.sc_model.specs.BestResponses.{server_error}
 
 -- the answer to a PRACK, where the INVITE that it may be for is found or not
 unfoldable pub prack_of : View → ReqId → Request → Option ReqId → Script
@@ -21,8 +18,3 @@ prack_of view req request (Some invited) = prack_by view invited req request (pe
 unfoldable pub open_in : Option RequestView → Option ReqId
 open_in None = None
 open_in (Some request) = if is_some request.answered then None else Some request.id
-
--- 500 to the INVITE, where it waits still, and the offer is remembered as one that failed
-unfoldable pub late_by : ℕ → Offer → Option ReqId → Script
-late_by n offer None = Done
-late_by n offer (Some req) = accepted_then (reply req 500 server_error) (only (calls.SetAttribute (rel_name n) (ended_offer_text 70 offer)))

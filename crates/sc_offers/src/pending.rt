@@ -1,18 +1,15 @@
 //! The offer of an INVITE that waits for its PRACK, and how it ends.
 
-ghost use Rattle.std.specs.Prelude.{◌≡◌, ◌+◌, ◌<◌, IfOk, OnOk, option_and_then};
+ghost use Rattle.std.specs.Prelude.{◌≡◌, ◌+◌, ◌<◌, IfOk, option_and_then};
 ghost use Rattle.sc_tokens.specs.Cuts.{pieces};
 ghost use Rattle.sc_hosts.specs.HelperParts.{accepted_then};
 ghost use Rattle.sc_hosts.specs.Offers.{ended_offer_text, offer_in, pending_offer, rel_name};
-ghost use Rattle.sc_hosts.specs.RefusalParts.{MOST_CALLS};
-ghost use Rattle.sc_hosts.specs.Scripting.{attribute, only};
-ghost use Rattle.sc_turn.specs.Working.{play_of};
-ghost use Rattle.sc_apps.specs.Scripted.{IsPlayed};
-ghost use Rattle.sc_helpers.specs.Leading.{IsLed};
+ghost use Rattle.sc_hosts.specs.Scripting.{attribute};
+ghost use Rattle.sc_helpers.specs.Stopping.{Leads};
 
 use crate::offer_texts::{Waiting, ended_offer_text, offer_in, rel_name};
 use sc_apps::{attribute, memory_of};
-use sc_helpers::set_attribute;
+use sc_helpers::{Stopped, try_set_attribute, wanting};
 use sc_terms::{Call, View};
 use sc_turn::Turn;
 use sc_value::{NoMemory, Text};
@@ -36,27 +33,35 @@ pub fn pending_offer(alloc: Global, view: &View, number: u64) -> Result<Option<W
     Ok(offer_at(view, name.as_bytes()))
 }
 
-/// Notes that an offer was acknowledged. Tells whether the script goes on.
-pub fn note_acknowledged(t: &mut Turn, number: u64, offer: &Waiting) -> Result<bool, NoMemory>
-    requires { (play_of t.old).listed < MOST_CALLS }
-    ensures same { t.new.shown ≡ t.old.shown }
-    ensures led { IfOk result (λ on. IsLed (accepted_then (Call.SetAttribute (rel_name number) (ended_offer_text 65 offer.now))) on t.old t.new) }
-    ensures listed { OnOk result ((play_of t.new).listed ≡ (play_of t.old).listed + 1) }
+fn ended_texts(
+    alloc: Global,
+    number: u64,
+    letter: u8,
+    offer: &Waiting,
+) -> Result<(Text, Text), NoMemory>
+    ensures { IfOk result (λ texts. (texts.0 ≡ rel_name number) × (texts.1 ≡ ended_offer_text letter offer.now)) }
 {
-    let name = rel_name(memory_of(t), number)?;
-    let value = ended_offer_text(memory_of(t), b'A', offer)?;
-    set_attribute(t, name, value)
+    let name = rel_name(alloc, number)?;
+    let value = ended_offer_text(alloc, letter, offer)?;
+    Ok((name, value))
 }
 
-/// Notes that an offer failed, and makes no other call.
-#[tactic(auto, using(sc_apps::proofs::Playing::played_only))]
-pub fn note_failed(t: &mut Turn, number: u64, offer: &Waiting) -> Result<(), NoMemory>
-    requires { (play_of t.old).listed < MOST_CALLS }
-    ensures same { t.new.shown ≡ t.old.shown }
-    ensures played { OnOk result (IsPlayed (only (Call.SetAttribute (rel_name number) (ended_offer_text 70 offer.now))) t.old t.new) }
+/// Notes that an offer came to its end, by a PRACK with the letter `A`, without one with `F`.
+#[tactic(auto, using(sc_helpers::proofs::Steps::led_wanting))]
+pub fn note_ended(
+    turn: &mut Turn,
+    made: u8,
+    number: u64,
+    letter: u8,
+    offer: &Waiting,
+) -> Result<u8, Stopped>
+    requires few { made < 100 }
+    ensures same { turn.new.shown ≡ turn.old.shown }
+    ensures led { Leads (accepted_then (Call.SetAttribute (rel_name number) (ended_offer_text letter offer.now))) made turn.old result turn.new }
+    ensures count { IfOk result (λ after. after ≡ made + 1) }
 {
-    let name = rel_name(memory_of(t), number)?;
-    let value = ended_offer_text(memory_of(t), b'F', offer)?;
-    sc_apps::set_attribute(t, name, value)?;
-    Ok(())
+    match ended_texts(memory_of(turn), number, letter, offer) {
+        Ok((name, value)) => try_set_attribute(turn, made, name, value),
+        Err(NoMemory) => Err(wanting(made)),
+    }
 }

@@ -1,27 +1,37 @@
 //! PRACKs, and the offers that they acknowledge (RFC 3262 sections 3 and 7.2).
 
-ghost use Rattle.std.specs.Prelude.{◌≡◌, ◌+◌, ◌<◌, [], ◌∷◌, Some, codes, false, option_map, position, IfOk, OnOk};
+ghost use Rattle.std.specs.Prelude.{◌≡◌, Some, codes, false, option_map, position, IfOk};
 ghost use Rattle.std.specs.List.{find};
 ghost use Rattle.std.specs.Option.{option_copied};
-ghost use Rattle.sc_hosts.specs.HelperParts.{accepted_then, field_of, words_of};
-ghost use Rattle.sc_hosts.specs.Offers.{ended_offer_text, is_invite_of, names_offer, pending_offer, prack_by, rel_name, take_prack};
-ghost use Rattle.sc_hosts.specs.RefusalParts.{MOST_CALLS};
-ghost use Rattle.sc_hosts.specs.Scripting.{only, reply};
-ghost use Rattle.sc_hosts.specs.Words.{does_not_exist, ok};
+ghost use Rattle.sc_hosts.specs.HelperParts.{accepted_then, field_of};
+ghost use Rattle.sc_hosts.specs.Offers.{ended_offer_text, is_invite_of, names_offer, rel_name};
+ghost use Rattle.sc_hosts.specs.Scripting.{Done, only, reply};
+ghost use Rattle.sc_hosts.specs.Words.{does_not_exist};
 ghost use Rattle.sc_turn.specs.Working.{play_of};
-ghost use Rattle.sc_apps.specs.Scripted.{IsPlayed};
-ghost use Rattle.sc_helpers.specs.Leading.{IsLed, cancel_some};
-ghost use Rattle.sc_offers.specs.OfferScripts.{prack_of};
+ghost use Rattle.sc_helpers.specs.Leading.{cancel_some};
+ghost use Rattle.sc_helpers.specs.Stopping.{Goes, IsCarried};
+ghost use Rattle.sc_offers.specs.Offering.{IsCarriedOut, acknowledges, named_by, named_offer, prack_answer, prack_calls};
 
 use crate::offer_texts::{Waiting, is_number};
-use crate::pending::{note_acknowledged, pending_offer};
+use crate::pending::{note_ended, pending_offer};
+use crate::refused::{OfferRefused, Prack, turned};
 use crate::words::three_words;
-use sc_apps::{memory_of, reply_200, reply_only, shown};
-use sc_helpers::{cancel_some, field_of, reply_first, timer_named};
+use sc_apps::memory_of;
+use sc_helpers::{Stopped, field_of, timer_named, try_cancel_some, try_reply, wanting};
 use sc_methods::is_invite;
 use sc_terms::{Call, RequestView, View};
 use sc_turn::Turn;
 use sc_value::{NoMemory, ReqId, Request, SessId, TimerId};
+use std::alloc::Global;
+
+/// An offer that a PRACK names.
+#[derive(Drop)]
+pub struct Named {
+    /// The offer.
+    pub offer: Waiting,
+    /// Its timer, where that runs.
+    pub running: Option<TimerId>,
+}
 
 #[tactic(auto, unfolding(sc_hosts::specs::Offers::is_invite_of))]
 fn is_invite_of(request: &RequestView, sess: SessId) -> bool
@@ -51,8 +61,8 @@ fn invite_among(requests: &[RequestView], sess: SessId) -> Option<&RequestView>
     }
 }
 
-/// The INVITE that began a SipSession, where it was received.
-fn invite_in(view: &View, sess: SessId) -> Option<ReqId>
+/// The first received INVITE that began this SipSession; None exactly where none did. It takes no memory.
+pub fn invite_of(view: &View, sess: SessId) -> Option<ReqId>
     ensures { result ≡ option_map (λ request. request.id) (find (is_invite_of sess) view.entry.now.requests) }
 {
     match invite_among(view.requests.as_slice(), sess) {
@@ -85,138 +95,144 @@ fn names_offer(offer: &Waiting, request: &Request) -> bool
     }
 }
 
-/// Answers a PRACK 481 `Call/Transaction Does Not Exist`, and makes no other call.
-#[tactic(auto, unfolding(sc_hosts::specs::Words::does_not_exist))]
-fn reply_481(t: &mut Turn, req: ReqId) -> Result<(), NoMemory>
-    requires { (play_of t.old).listed < MOST_CALLS }
-    ensures same { t.new.shown ≡ t.old.shown }
-    ensures played { OnOk result (IsPlayed (only (reply req 481 does_not_exist)) t.old t.new) }
+#[tactic(auto, unfolding(crate::specs::Offering::named_by))]
+fn named_by(view: &View, prack: &Request, offer: Option<Waiting>) -> Option<Named>
+    ensures { result ≡ named_by view.entry.now prack.now offer }
 {
-    reply_only(t, req, 481, b"Call/Transaction Does Not Exist")
+    let offer = offer?;
+    if !names_offer(&offer, prack) {
+        return None;
+    }
+    let running = timer_named(view, offer.timer);
+    Some(Named { offer, running })
 }
 
-/// Answers a PRACK.
-#[tactic(auto, using(crate::proofs::OfferLaws::played_prack))]
-pub fn take_prack(t: &mut Turn, req: ReqId, sess: SessId, request: &Request) -> Result<(), NoMemory>
-    requires calls { t.old.calls ≡ [] }
-    requires memory { t.old.starved ≡ false }
-    ensures same { t.new.shown ≡ t.old.shown }
-    ensures played { OnOk result (IsPlayed (take_prack t.old.shown req sess request.now) t.old t.new) }
+#[tactic(auto, unfolding(crate::specs::Offering::named_offer))]
+fn named_offer(
+    alloc: Global,
+    view: &View,
+    invite: ReqId,
+    prack: &Request,
+) -> Result<Option<Named>, NoMemory>
+    ensures { IfOk result (λ named. named ≡ named_offer view.entry.now invite prack.now) }
 {
-    let invited = invite_in(shown(t), sess);
-    prack_of(t, req, request, invited)
+    let offer = pending_offer(alloc, view, u64::from(invite.0))?;
+    Ok(named_by(view, prack, offer))
 }
 
-#[tactic(auto, unfolding(crate::specs::OfferScripts::prack_of), using(sc_apps::proofs::Playing::begun_room))]
-fn prack_of(
-    t: &mut Turn,
+#[tactic(auto, unfolding(sc_hosts::specs::Words::does_not_exist), using(crate::proofs::CallLaws::only_through, crate::proofs::CallLaws::only_stopped))]
+fn refuse(turn: &mut Turn, req: ReqId) -> Result<Prack, Stopped>
+    ensures same { turn.new.shown ≡ turn.old.shown }
+    ensures carried { IsCarried (only (reply req 481 does_not_exist)) Prack.NoMatch turn.old result turn.new }
+{
+    match try_reply(turn, 0, req, 481, b"Call/Transaction Does Not Exist") {
+        Ok(_) => Ok(Prack::NoMatch),
+        Err(stop) => Err(stop),
+    }
+}
+
+#[tactic(auto, unfolding(crate::specs::Offering::acknowledges, sc_hosts::specs::Words::ok), using(sc_helpers::proofs::Steps::accepted_on, sc_helpers::proofs::Steps::accepted_off))]
+fn acknowledge(turn: &mut Turn, invite: ReqId, req: ReqId, named: &Named) -> Result<(), Stopped>
+    ensures same { turn.new.shown ≡ turn.old.shown }
+    ensures goes { Goes 0 (acknowledges invite req named.now Done) turn.old result turn.new }
+{
+    match try_reply(turn, 0, req, 200, b"OK") {
+        Ok(_) => note_acknowledged(turn, invite, named),
+        Err(stop) => Err(stop),
+    }
+}
+
+#[tactic(auto, using(sc_helpers::proofs::Steps::accepted_on, sc_helpers::proofs::Steps::accepted_off))]
+fn note_acknowledged(turn: &mut Turn, invite: ReqId, named: &Named) -> Result<(), Stopped>
+    ensures same { turn.new.shown ≡ turn.old.shown }
+    ensures goes { Goes 1 (accepted_then (Call.SetAttribute (rel_name invite.0) (ended_offer_text 65 named.now.offer)) (cancel_some named.now.running Done)) turn.old result turn.new }
+{
+    match note_ended(turn, 1, u64::from(invite.0), b'A', &named.offer) {
+        Ok(_) => stop_timer(turn, named.running),
+        Err(stop) => Err(stop),
+    }
+}
+
+#[tactic(auto, using(sc_helpers::proofs::Steps::cancelled_on, sc_helpers::proofs::Steps::cancelled_off, sc_helpers::proofs::Steps::goes_done))]
+fn stop_timer(turn: &mut Turn, running: Option<TimerId>) -> Result<(), Stopped>
+    ensures same { turn.new.shown ≡ turn.old.shown }
+    ensures goes { Goes 2 (cancel_some running Done) turn.old result turn.new }
+{
+    match try_cancel_some(turn, 2, running) {
+        Ok(_) => Ok(()),
+        Err(stop) => Err(stop),
+    }
+}
+
+#[tactic(auto, unfolding(crate::specs::Offering::prack_calls, crate::specs::Offering::prack_answer), using(sc_helpers::proofs::Steps::goes_carried, sc_helpers::proofs::Steps::goes_stopped))]
+fn acknowledge_one(
+    turn: &mut Turn,
+    invite: ReqId,
     req: ReqId,
-    request: &Request,
-    invited: Option<ReqId>,
-) -> Result<(), NoMemory>
-    requires calls { t.old.calls ≡ [] }
-    requires memory { t.old.starved ≡ false }
-    ensures same { t.new.shown ≡ t.old.shown }
-    ensures played { OnOk result (IsPlayed (prack_of t.old.shown req request.now invited) t.old t.new) }
+    named: &Named,
+) -> Result<Prack, Stopped>
+    ensures same { turn.new.shown ≡ turn.old.shown }
+    ensures carried { IsCarried (prack_calls invite req (Some named.now)) (prack_answer (Some named.now)) turn.old result turn.new }
 {
-    match invited {
-        Some(invited) => prack_for(t, req, request, invited),
-        None => reply_481(t, req),
+    match acknowledge(turn, invite, req, named) {
+        Ok(()) => Ok(Prack::Acknowledged(named.offer.rseq)),
+        Err(stop) => Err(stop),
     }
 }
 
-fn prack_for(t: &mut Turn, req: ReqId, request: &Request, invited: ReqId) -> Result<(), NoMemory>
-    requires calls { t.old.calls ≡ [] }
-    requires memory { t.old.starved ≡ false }
-    ensures same { t.new.shown ≡ t.old.shown }
-    ensures played { OnOk result (IsPlayed (prack_by t.old.shown invited req request.now (pending_offer t.old.shown invited.0)) t.old t.new) }
-{
-    let offer = pending_offer(memory_of(t), shown(t), u64::from(invited.0))?;
-    prack_by(t, req, request, invited, offer)
-}
-
-#[tactic(auto, unfolding(sc_hosts::specs::Offers::prack_by), using(sc_apps::proofs::Playing::begun_room))]
-fn prack_by(
-    t: &mut Turn,
+#[tactic(auto, unfolding(crate::specs::Offering::prack_calls, crate::specs::Offering::prack_answer))]
+fn answer_prack(
+    turn: &mut Turn,
+    invite: ReqId,
     req: ReqId,
-    request: &Request,
-    invited: ReqId,
-    offer: Option<Waiting>,
-) -> Result<(), NoMemory>
-    requires calls { t.old.calls ≡ [] }
-    requires memory { t.old.starved ≡ false }
-    ensures same { t.new.shown ≡ t.old.shown }
-    ensures played { OnOk result (IsPlayed (prack_by t.old.shown invited req request.now offer) t.old t.new) }
+    named: Option<Named>,
+) -> Result<Prack, Stopped>
+    ensures same { turn.new.shown ≡ turn.old.shown }
+    ensures carried { IsCarried (prack_calls invite req named) (prack_answer named) turn.old result turn.new }
 {
-    match offer {
-        Some(offer) => prack_offer(t, req, request, invited, &offer),
-        None => reply_481(t, req),
+    match named {
+        Some(named) => acknowledge_one(turn, invite, req, &named),
+        None => refuse(turn, req),
     }
 }
 
-#[tactic(auto, unfolding(sc_hosts::specs::Offers::prack_by), using(sc_apps::proofs::Playing::begun_room, crate::proofs::OfferLaws::played_named))]
-fn prack_offer(
-    t: &mut Turn,
+#[tactic(auto, using(crate::proofs::CallLaws::prack_carried, crate::proofs::CallLaws::wanting_carried))]
+fn read_prack(turn: &mut Turn, invite: ReqId, req: ReqId, prack: &Request) -> Result<Prack, Stopped>
+    ensures same { turn.new.shown ≡ turn.old.shown }
+    ensures carried { turn.old.starved ≡ false → IsCarried (prack_calls invite req (named_offer (play_of turn.old).view invite prack.now)) (prack_answer (named_offer (play_of turn.old).view invite prack.now)) turn.old result turn.new }
+{
+    match named_offer(memory_of(turn), turn.view(), invite, prack) {
+        Ok(named) => answer_prack(turn, invite, req, named),
+        Err(NoMemory) => Err(wanting(0)),
+    }
+}
+
+/// Answers a PRACK, for the INVITE that [`invite_of`] gives for its SipSession (RFC 3262 section 3). `req` is the PRACK's
+/// number, and `prack` the request itself.
+///
+/// Where the INVITE's last offer waits and the PRACK's RAck is its RSeq, the INVITE's CSeq number and `INVITE`, it makes
+/// these calls, each where the one before was accepted, and gives `Acknowledged` with the RSeq: `respond` 200 `OK` to the
+/// PRACK; `set_attribute` of `rel` with the INVITE's number to `A RSEQ CSEQ`; and `cancel_timer` of the offer's timer,
+/// where that runs. For any other PRACK it makes `respond` 481 `Call/Transaction Does Not Exist` alone, and gives
+/// `NoMatch`. The INVITE's final response is left to the servlet.
+///
+/// # Errors
+///
+/// `Turn` alone: the turn refuses one of the calls, and the ones before it were accepted. None is made behind it, and what
+/// the accepted ones did stays: after the first the PRACK is answered. For want of memory it is `Turn` with `NoMemory`; where
+/// a call of this turn wanted memory before, the turn is over, and nothing is said.
+#[tactic(auto, using(crate::proofs::CallLaws::carried_out, crate::proofs::CallLaws::carried_stop))]
+pub fn take_prack(
+    turn: &mut Turn,
+    invite: ReqId,
     req: ReqId,
-    request: &Request,
-    invited: ReqId,
-    offer: &Waiting,
-) -> Result<(), NoMemory>
-    requires calls { t.old.calls ≡ [] }
-    requires memory { t.old.starved ≡ false }
-    ensures same { t.new.shown ≡ t.old.shown }
-    ensures played { OnOk result (IsPlayed (prack_by t.old.shown invited req request.now (Some offer.now)) t.old t.new) }
+    prack: &Request,
+) -> Result<Prack, OfferRefused>
+    ensures same { turn.new.shown ≡ turn.old.shown }
+    ensures carried { turn.old.starved ≡ false → IsCarriedOut (prack_calls invite req (named_offer (play_of turn.old).view invite prack.now)) (prack_answer (named_offer (play_of turn.old).view invite prack.now)) turn.old result turn.new }
 {
-    if !names_offer(offer, request) {
-        return reply_481(t, req);
+    match read_prack(turn, invite, req, prack) {
+        Ok(answer) => Ok(answer),
+        Err(stop) => Err(turned(stop)),
     }
-    let running = timer_named(shown(t), offer.timer);
-    acknowledge(t, req, invited, offer, running)
-}
-
-#[tactic(auto, unfolding(sc_hosts::specs::Words::ok), using(sc_helpers::proofs::LedLaws::accepted_on, sc_helpers::proofs::LedLaws::accepted_off))]
-fn acknowledge(
-    t: &mut Turn,
-    req: ReqId,
-    invited: ReqId,
-    offer: &Waiting,
-    running: Option<TimerId>,
-) -> Result<(), NoMemory>
-    requires { (play_of t.old).listed + 3 < MOST_CALLS }
-    ensures same { t.new.shown ≡ t.old.shown }
-    ensures played { OnOk result (IsPlayed (accepted_then (reply req 200 ok) (accepted_then (Call.SetAttribute (rel_name invited.0) (ended_offer_text 65 offer.now)) (cancel_some running (only (reply invited 200 ok))))) t.old t.new) }
-{
-    if !reply_first(t, req, 200, b"OK")? {
-        return Ok(());
-    }
-    note_and_answer(t, invited, offer, running)
-}
-
-#[tactic(auto, using(sc_helpers::proofs::LedLaws::accepted_on, sc_helpers::proofs::LedLaws::accepted_off))]
-fn note_and_answer(
-    t: &mut Turn,
-    invited: ReqId,
-    offer: &Waiting,
-    running: Option<TimerId>,
-) -> Result<(), NoMemory>
-    requires { (play_of t.old).listed + 2 < MOST_CALLS }
-    ensures same { t.new.shown ≡ t.old.shown }
-    ensures played { OnOk result (IsPlayed (accepted_then (Call.SetAttribute (rel_name invited.0) (ended_offer_text 65 offer.now)) (cancel_some running (only (reply invited 200 ok)))) t.old t.new) }
-{
-    if !note_acknowledged(t, u64::from(invited.0), offer)? {
-        return Ok(());
-    }
-    cancel_and_answer(t, invited, running)
-}
-
-#[tactic(auto, using(sc_helpers::proofs::LedLaws::cancelled_on, sc_helpers::proofs::LedLaws::cancelled_off))]
-fn cancel_and_answer(t: &mut Turn, invited: ReqId, running: Option<TimerId>) -> Result<(), NoMemory>
-    requires { (play_of t.old).listed + 1 < MOST_CALLS }
-    ensures same { t.new.shown ≡ t.old.shown }
-    ensures played { OnOk result (IsPlayed (cancel_some running (only (reply invited 200 ok))) t.old t.new) }
-{
-    if !cancel_some(t, running)? {
-        return Ok(());
-    }
-    reply_200(t, invited)
 }
