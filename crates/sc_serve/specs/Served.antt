@@ -69,7 +69,7 @@ last_epoch ran handed journal = record { number = ran.epoch; began = ran.began; 
 -- was told is of the last step; each length of each epoch's journal was told once, in order; at `JournalFull` a step
 -- is due that the journal has no room for; and each epoch ended where it had to and no later, at `Done` the last one hasn't to; the clock
 -- and the orders were asked equally often, but in the last round maybe the orders alone, at `Done` not so; and the edge was
--- polled at most once each time that orders were asked for, and at least once in 16 times
+-- polled at most once more than orders were asked for, and they at most 16 times for each poll and 15 times besides
 pub record Leaves (from : Beginning) (now : EdgeState) (told : Told) (ran : Ran) (journal : Kept Step) : Type 0 where
   pub ended : List Epoch
   pub handed : List Step
