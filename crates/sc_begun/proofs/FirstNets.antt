@@ -43,7 +43,7 @@ Begun {S = S} H form =
 module _ {S : Type 0} (H : ℕ → ℕ → ℕ → Host S → ℕ → Host S → Type 0) (P : Net S → Net S → Type 0)
     (hosts : (number now : ℕ) → HostLaws {S = S} (λ (form : Form S). ⊥) number now (H number now)) (law : NetLaws H P) (form : Form S) (begins : Begun H form) (setup : Setup) where
   host-takes : (number : ℕ) (from : Peer) (noted : Option Note) (message : Message) (host : Host S) (net : Net S)
-      → (let taken : Taken S = takes form setup.config net.epoch number from net.moment noted message net.count host in H number net.moment net.count host taken.count taken.host)
+      → (let taken : Taken S = takes form setup.config (record { host = number; epoch = net.epoch; from = from; now = net.moment; count = net.count }) noted message host in H number net.moment net.count host taken.count taken.host)
   host-takes number from noted message host net = takes-goes number net.moment (H number net.moment) (hosts number net.moment) form (begins number net.moment) setup.config net.epoch from noted message net.count host
 
   -- ## Deliveries

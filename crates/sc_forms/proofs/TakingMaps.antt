@@ -88,19 +88,19 @@ module _ {S T : Type 0} (change : S → T) where
   with_trying-maps from now request taken = if-maps (map_taken change) (same_bytes (method_of request) invite) refl refl
 
   queue_later-maps : (config : Config) (epoch number : ℕ) (from : Peer) (now : ℕ) (request : Request) (count : ℕ) (live : Live S) (host : Host S)
-      → queue_later config epoch number from now request count (map_live change live) (map_host change host) ≡ map_taken change (queue_later config epoch number from now request count live host)
+      → queue_later config (record { host = number; epoch = epoch; from = from; now = now; count = count }) request (map_live change live) (map_host change host) ≡ map_taken change (queue_later config (record { host = number; epoch = epoch; from = from; now = now; count = count }) request live host)
   unfolding queue_later is_full map_live
   queue_later-maps config epoch number from now request count live host =
       if-maps (map_taken change) (is_full live) (refuse-maps config from 503 unavailable request count host) (rw (with_server-maps, queue-maps, with_trying-maps) refl)
 
   later_by-maps : (config : Config) (epoch number : ℕ) (from : Peer) (now : ℕ) (request : Request) (count : ℕ) (live : Option (Live S)) (host : Host S)
-      → later_by config epoch number from now request count (option_map (map_live change) live) (map_host change host) ≡ map_taken change (later_by config epoch number from now request count live host)
+      → later_by config (record { host = number; epoch = epoch; from = from; now = now; count = count }) request (option_map (map_live change) live) (map_host change host) ≡ map_taken change (later_by config (record { host = number; epoch = epoch; from = from; now = now; count = count }) request live host)
   unfolding later_by
   later_by-maps config epoch number from now request count None host = refuse-maps config from 481 does_not_exist request count host
   later_by-maps config epoch number from now request count (Some live) host = queue_later-maps config epoch number from now request count live host
 
   take_later-maps : (config : Config) (epoch number : ℕ) (from : Peer) (now : ℕ) (request : Request) (count : ℕ) (host : Host S)
-      → take_later config epoch number from now request count (map_host change host) ≡ map_taken change (take_later config epoch number from now request count host)
+      → take_later config (record { host = number; epoch = epoch; from = from; now = now; count = count }) request (map_host change host) ≡ map_taken change (take_later config (record { host = number; epoch = epoch; from = from; now = now; count = count }) request host)
   unfolding take_later
   take_later-maps config epoch number from now request count host =
       rw (named_by-maps epoch number (own_uri config request) host) (later_by-maps config epoch number from now request count _ host)
@@ -114,7 +114,7 @@ module _ {S T : Type 0} (change : S → T) (config : Config) (form : Form S) (ot
   begun_live-maps epoch app now noted request number = rw (like.begins app epoch now noted request) refl
 
   begun-maps : (epoch number : ℕ) (from : Peer) (now : ℕ) (noted : Note) (request : Request) (count : ℕ) (host : Host S)
-      → begun other config epoch number from now noted request count (map_host change host) ≡ map_taken change (begun form config epoch number from now noted request count host)
+      → begun other config (record { host = number; epoch = epoch; from = from; now = now; count = count }) noted request (map_host change host) ≡ map_taken change (begun form config (record { host = number; epoch = epoch; from = from; now = now; count = count }) noted request host)
   unfolding begun map_host
   begun-maps epoch number from now noted request count host =
       let app : AppId = record { host = number; serial = host.last + 1 } in
@@ -130,14 +130,14 @@ module _ {S T : Type 0} (change : S → T) (config : Config) (form : Form S) (ot
       (with_trying-maps change from now request (quiet served (count + 1)))
 
   take_initial-maps : (epoch number : ℕ) (from : Peer) (now : ℕ) (noted : Note) (request : Request) (count : ℕ) (host : Host S)
-      → take_initial other config epoch number from now noted request count (map_host change host) ≡ map_taken change (take_initial form config epoch number from now noted request count host)
+      → take_initial other config (record { host = number; epoch = epoch; from = from; now = now; count = count }) noted request (map_host change host) ≡ map_taken change (take_initial form config (record { host = number; epoch = epoch; from = from; now = now; count = count }) noted request host)
   unfolding take_initial map_host
   take_initial-maps epoch number from now noted request count host =
       rw (length-map host.sessions (map_live change)) (if-maps (map_taken change) (nat_le MOST_LIVE (length host.sessions))
       (refuse-maps change config from 503 unavailable request count host) (begun-maps epoch number from now noted request count host))
 
   take_begun-maps : (epoch number : ℕ) (from : Peer) (now : ℕ) (noted : Option Note) (request : Request) (count : ℕ) (host : Host S)
-      → take_begun other config epoch number from now noted request count (map_host change host) ≡ map_taken change (take_begun form config epoch number from now noted request count host)
+      → take_begun other config (record { host = number; epoch = epoch; from = from; now = now; count = count }) noted request (map_host change host) ≡ map_taken change (take_begun form config (record { host = number; epoch = epoch; from = from; now = now; count = count }) noted request host)
   unfolding take_begun
   take_begun-maps epoch number from now None request count host = refuse-maps change config from 481 does_not_exist request count host
   take_begun-maps epoch number from now (Some noted) request count host =
@@ -145,21 +145,21 @@ module _ {S T : Type 0} (change : S → T) (config : Config) (form : Form S) (ot
       (take_initial-maps epoch number from now noted request count host)
 
   take_new-maps : (epoch number : ℕ) (from : Peer) (now : ℕ) (noted : Option Note) (request : Request) (count : ℕ) (host : Host S)
-      → take_new other config epoch number from now noted request count (map_host change host) ≡ map_taken change (take_new form config epoch number from now noted request count host)
+      → take_new other config (record { host = number; epoch = epoch; from = from; now = now; count = count }) noted request (map_host change host) ≡ map_taken change (take_new form config (record { host = number; epoch = epoch; from = from; now = now; count = count }) noted request host)
   unfolding take_new
   take_new-maps epoch number from now noted request count host =
       if-maps (map_taken change) (is_some (tag_of request.head.to)) (take_later-maps change config epoch number from now request count host)
       (take_begun-maps epoch number from now noted request count host)
 
   take_unclaimed-maps : (epoch number : ℕ) (from : Peer) (now : ℕ) (noted : Option Note) (request : Request) (count : ℕ) (host : Host S)
-      → take_unclaimed other config epoch number from now noted request count (map_host change host) ≡ map_taken change (take_unclaimed form config epoch number from now noted request count host)
+      → take_unclaimed other config (record { host = number; epoch = epoch; from = from; now = now; count = count }) noted request (map_host change host) ≡ map_taken change (take_unclaimed form config (record { host = number; epoch = epoch; from = from; now = now; count = count }) noted request host)
   unfolding take_unclaimed
   take_unclaimed-maps epoch number from now noted request count host =
       if-maps (map_taken change) (same_bytes (method_of request) cancel) (refuse-maps change config from 481 does_not_exist request count host)
       (take_new-maps epoch number from now noted request count host)
 
   take_claimed-maps : (epoch number : ℕ) (from : Peer) (now : ℕ) (noted : Option Note) (request : Request) (claim : Claim) (count : ℕ) (host : Host S)
-      → take_claimed other config epoch number from now noted request claim count (map_host change host) ≡ map_taken change (take_claimed form config epoch number from now noted request claim count host)
+      → take_claimed other config (record { host = number; epoch = epoch; from = from; now = now; count = count }) noted request claim (map_host change host) ≡ map_taken change (take_claimed form config (record { host = number; epoch = epoch; from = from; now = now; count = count }) noted request claim host)
   unfolding take_claimed
   take_claimed-maps epoch number from now noted request (Cancels server) count host = cancelled-maps change from now server request count host
   take_claimed-maps epoch number from now noted request (Acks server) count host = rw (pass_server-maps, quiet-maps) refl
@@ -167,7 +167,7 @@ module _ {S T : Type 0} (change : S → T) (config : Config) (form : Form S) (ot
   take_claimed-maps epoch number from now noted request Unclaimed count host = take_unclaimed-maps epoch number from now noted request count host
 
   pub takes-maps : (epoch number : ℕ) (from : Peer) (now : ℕ) (noted : Option Note) (message : Message) (count : ℕ) (host : Host S)
-      → takes other config epoch number from now noted message count (map_host change host) ≡ map_taken change (takes form config epoch number from now noted message count host)
+      → takes other config (record { host = number; epoch = epoch; from = from; now = now; count = count }) noted message (map_host change host) ≡ map_taken change (takes form config (record { host = number; epoch = epoch; from = from; now = now; count = count }) noted message host)
   unfolding takes take_request
   takes-maps epoch number from now noted (messages.Request request) count host =
       rw claim_of-maps (take_claimed-maps epoch number from now noted request (claim_of from request host) count host)

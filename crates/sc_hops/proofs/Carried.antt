@@ -288,7 +288,7 @@ module _ {S : Type 0} (Way Sound Told Sent : Request → Type 0) (setup : Setup)
       λ told. record { sent = request; is = kinds.sent setup.config request way tagged told; popped = refl; uri = uri; by = by; named = named-by number uri host live is }
 
   takes-ok : (form : Form S) (from : Peer) (number now : ℕ) (noted : Option Note) (message : Message) (count : ℕ) (host : Host S) → IsOnWay Way message
-      → Good number host → Took number now (takes form setup.config epoch number from now noted message count host)
+      → Good number host → Took number now (takes form setup.config (record { host = number; epoch = epoch; from = from; now = now; count = count }) noted message host)
   unfolding takes IsOnWay
   takes-ok form from number now noted (messages.Request request) count host way good =
       take_request-ok Way Sound (FitsIn Told Sent setup epoch) (plain-fit Told Sent setup.config epoch) base number now form setup.config epoch from noted request count host (λ tagged uri by live is. comes request way number host tagged uri by live is) good
@@ -300,7 +300,7 @@ module _ {S : Type 0} (Way Sound Told Sent : Request → Type 0) (setup : Setup)
   unfolding deliver_at
   deliver_at-holds form entry None net is way holds = holds
   deliver_at-holds form entry (Some host) net is way holds =
-      let took : Took entry.receiver net.moment (takes form setup.config net.epoch entry.receiver (peers.Inside entry.sender) net.moment entry.note entry.message net.count host)
+      let took : Took entry.receiver net.moment (takes form setup.config (record { host = entry.receiver; epoch = net.epoch; from = peers.Inside entry.sender; now = net.moment; count = net.count }) entry.note entry.message host)
       = rw (holds.same) (takes-ok form (peers.Inside entry.sender) entry.receiver net.moment entry.note entry.message net.count host way (holds.hosts entry.receiver host is)) in
       placed-holds entry.receiver _ net took.good took.way holds
 

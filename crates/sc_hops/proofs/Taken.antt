@@ -179,7 +179,7 @@ module _ {S : Type 0} (Way Sound : Request → Type 0) (Fits : AppId → Queued 
 
   later_by-ok : (config : Config) (epoch : ℕ) (from : Peer) (request : Request) (count : ℕ) (found : Option (Live S)) (host : Host S)
       → ((live : Live S) → found ≡ Some live → Right Fits number live.serial (queued.Request (unrouted config request))) → Good host
-      → Ok (later_by config epoch number from now request count found host)
+      → Ok (later_by config (record { host = number; epoch = epoch; from = from; now = now; count = count }) request found host)
   unfolding later_by queue_later
   later_by-ok config epoch from request count None host right good = refuse-ok config from 481 _ request count host good
   later_by-ok config epoch from request count (Some live) host right good =
@@ -193,7 +193,7 @@ module _ {S : Type 0} (Way Sound : Request → Type 0) (Fits : AppId → Queued 
       → Right Fits number live.serial (queued.Request (unrouted config request))
 
   pub take_later-ok : (config : Config) (epoch : ℕ) (from : Peer) (request : Request) (count : ℕ) (host : Host S) → is_some (tag_of request.head.to) ≡ true
-      → Comes config epoch request host → Good host → Ok (take_later config epoch number from now request count host)
+      → Comes config epoch request host → Good host → Ok (take_later config (record { host = number; epoch = epoch; from = from; now = now; count = count }) request host)
   unfolding take_later through
   take_later-ok config epoch from request count host tagged comes good =
       later_by-ok config epoch from request count _ host
@@ -202,13 +202,13 @@ module _ {S : Type 0} (Way Sound : Request → Type 0) (Fits : AppId → Queued 
   -- ## Requests that begin a session
 
   begun-ok : (form : Form S) (config : Config) (epoch : ℕ) (from : Peer) (noted : Note) (request : Request) (count : ℕ) (host : Host S) → Good host
-      → Ok (begun form config epoch number from now noted request count host)
+      → Ok (begun form config (record { host = number; epoch = epoch; from = from; now = now; count = count }) noted request host)
   unfolding begun begun_live IsPlain All
   begun-ok form config epoch from noted request count host good =
       with_trying-ok from request _ (quiet-ok _ (count + 1) (with_server-good _ _ from _ request _ (all-append Session host.sessions _ good.0 ((λ above. plain _ _ tt), tt), good.1)))
 
   take_begun-ok : (form : Form S) (config : Config) (epoch : ℕ) (from : Peer) (noted : Option Note) (request : Request) (count : ℕ) (host : Host S)
-      → Good host → Ok (take_begun form config epoch number from now noted request count host)
+      → Good host → Ok (take_begun form config (record { host = number; epoch = epoch; from = from; now = now; count = count }) noted request host)
   unfolding take_begun take_initial
   take_begun-ok form config epoch from None request count host good = refuse-ok config from 481 _ request count host good
   take_begun-ok form config epoch from (Some noted) request count host good =
@@ -222,14 +222,14 @@ module _ {S : Type 0} (Way Sound : Request → Type 0) (Fits : AppId → Queued 
   new-by false x y tagged is p q = q
 
   take_unclaimed-ok : (form : Form S) (config : Config) (epoch : ℕ) (from : Peer) (noted : Option Note) (request : Request) (count : ℕ) (host : Host S)
-      → Comes config epoch request host → Good host → Ok (take_unclaimed form config epoch number from now noted request count host)
+      → Comes config epoch request host → Good host → Ok (take_unclaimed form config (record { host = number; epoch = epoch; from = from; now = now; count = count }) noted request host)
   unfolding take_unclaimed take_new
   take_unclaimed-ok form config epoch from noted request count host comes good =
       if-ok _ _ _ (refuse-ok config from 481 _ request count host good)
       (new-by (is_some (tag_of request.head.to)) _ _ (is_some (tag_of request.head.to)) refl (λ tagged. take_later-ok config epoch from request count host tagged comes good) (take_begun-ok form config epoch from noted request count host good))
 
   take_claimed-ok : (form : Form S) (config : Config) (epoch : ℕ) (from : Peer) (noted : Option Note) (request : Request) (claim : Claim) (count : ℕ) (host : Host S)
-      → Comes config epoch request host → Good host → Ok (take_claimed form config epoch number from now noted request claim count host)
+      → Comes config epoch request host → Good host → Ok (take_claimed form config (record { host = number; epoch = epoch; from = from; now = now; count = count }) noted request claim host)
   unfolding take_claimed
   take_claimed-ok form config epoch from noted request (Cancels server) count host comes good = cancelled-ok from server request count host good
   take_claimed-ok form config epoch from noted request (Acks server) count host comes good = quiet-ok _ count (pass_server-good server.event _ host good)
@@ -237,6 +237,6 @@ module _ {S : Type 0} (Way Sound : Request → Type 0) (Fits : AppId → Queued 
   take_claimed-ok form config epoch from noted request Unclaimed count host comes good = take_unclaimed-ok form config epoch from noted request count host comes good
 
   pub take_request-ok : (form : Form S) (config : Config) (epoch : ℕ) (from : Peer) (noted : Option Note) (request : Request) (count : ℕ) (host : Host S)
-      → Comes config epoch request host → Good host → Ok (take_request form config epoch number from now noted request count host)
+      → Comes config epoch request host → Good host → Ok (take_request form config (record { host = number; epoch = epoch; from = from; now = now; count = count }) noted request host)
   unfolding take_request
   take_request-ok form config epoch from noted request count host comes good = take_claimed-ok form config epoch from noted request _ count host comes good

@@ -117,7 +117,7 @@ unfolding with_trying
 trying-taken-below n from now request taken more p = below-if n _ _ _ (below-replying n from _ taken (trying-below n _ request more)) p
 
 later-below : {S : Type 0} (n : ℕ) (config : Config) (epoch number : ℕ) (from : Peer) (now : ℕ) (request : Request) (count : ℕ) (live : Option (Live S)) (host : Host S)
-    → 4 < n → Below n (later_by config epoch number from now request count live host).reply
+    → 4 < n → Below n (later_by config (record { host = number; epoch = epoch; from = from; now = now; count = count }) request live host).reply
 unfolding later_by queue_later
 later-below n config epoch number from now request count None host more = refuse-below n config from _ _ request count host more
 later-below n config epoch number from now request count (Some live) host more =
@@ -125,18 +125,18 @@ later-below n config epoch number from now request count (Some live) host more =
     (trying-taken-below n from now request _ more (below-queue n live.serial now _ count _))
 
 first-below : {S : Type 0} (n : ℕ) (form : Form S) (config : Config) (epoch number : ℕ) (from : Peer) (now : ℕ) (noted : Note) (request : Request) (count : ℕ) (host : Host S)
-    → 4 < n → Below n (begun form config epoch number from now noted request count host).reply
+    → 4 < n → Below n (begun form config (record { host = number; epoch = epoch; from = from; now = now; count = count }) noted request host).reply
 unfolding begun
 first-below n form config epoch number from now noted request count host more = trying-taken-below n from now request (quiet _ _) more (below-quiet n _ _)
 
 initial-below : {S : Type 0} (n : ℕ) (form : Form S) (config : Config) (epoch number : ℕ) (from : Peer) (now : ℕ) (noted : Note) (request : Request) (count : ℕ) (host : Host S)
-    → 4 < n → Below n (take_initial form config epoch number from now noted request count host).reply
+    → 4 < n → Below n (take_initial form config (record { host = number; epoch = epoch; from = from; now = now; count = count }) noted request host).reply
 unfolding take_initial
 initial-below n form config epoch number from now noted request count host more =
     below-if n _ _ _ (refuse-below n config from _ _ request count host more) (first-below n form config epoch number from now noted request count host more)
 
 begun-below : {S : Type 0} (n : ℕ) (form : Form S) (config : Config) (epoch number : ℕ) (from : Peer) (now : ℕ) (noted : Option Note) (request : Request) (count : ℕ) (host : Host S)
-    → 4 < n → Below n (take_begun form config epoch number from now noted request count host).reply
+    → 4 < n → Below n (take_begun form config (record { host = number; epoch = epoch; from = from; now = now; count = count }) noted request host).reply
 unfolding take_begun
 begun-below n form config epoch number from now None request count host more = refuse-below n config from _ _ request count host more
 begun-below n form config epoch number from now (Some noted) request count host more =
@@ -155,18 +155,18 @@ again-below n false server taken more p = p
 -- ## Claims
 
 named-below : {S : Type 0} (n : ℕ) (config : Config) (epoch number : ℕ) (from : Peer) (now : ℕ) (request : Request) (count : ℕ) (host : Host S)
-    → 4 < n → Below n (take_later config epoch number from now request count host).reply
+    → 4 < n → Below n (take_later config (record { host = number; epoch = epoch; from = from; now = now; count = count }) request host).reply
 unfolding take_later
 named-below n config epoch number from now request count host more = later-below n config epoch number from now request count _ host more
 
 new-below : {S : Type 0} (n : ℕ) (form : Form S) (config : Config) (epoch number : ℕ) (from : Peer) (now : ℕ) (noted : Option Note) (request : Request) (count : ℕ) (host : Host S)
-    → 4 < n → Below n (take_new form config epoch number from now noted request count host).reply
+    → 4 < n → Below n (take_new form config (record { host = number; epoch = epoch; from = from; now = now; count = count }) noted request host).reply
 unfolding take_new
 new-below n form config epoch number from now noted request count host more =
     below-if n _ _ _ (named-below n config epoch number from now request count host more) (begun-below n form config epoch number from now noted request count host more)
 
 unclaimed-below : {S : Type 0} (n : ℕ) (form : Form S) (config : Config) (epoch number : ℕ) (from : Peer) (now : ℕ) (noted : Option Note) (request : Request) (count : ℕ) (host : Host S)
-    → 4 < n → Below n (take_unclaimed form config epoch number from now noted request count host).reply
+    → 4 < n → Below n (take_unclaimed form config (record { host = number; epoch = epoch; from = from; now = now; count = count }) noted request host).reply
 unfolding take_unclaimed
 unclaimed-below n form config epoch number from now noted request count host more =
     below-if n _ _ _ (refuse-below n config from _ _ request count host more) (new-below n form config epoch number from now noted request count host more)
@@ -176,7 +176,7 @@ unfolding repeated
 repeated-below n server count host more = again-below n _ server (quiet _ _) more (below-quiet n _ _)
 
 repeats-below : {S : Type 0} (n : ℕ) (form : Form S) (config : Config) (epoch number : ℕ) (from : Peer) (now : ℕ) (noted : Option Note) (request : Request) (found : Option Server) (count : ℕ) (host : Host S)
-    → 4 < n → Below n (take_claimed form config epoch number from now noted request (claim_by Repeats found Unclaimed) count host).reply
+    → 4 < n → Below n (take_claimed form config (record { host = number; epoch = epoch; from = from; now = now; count = count }) noted request (claim_by Repeats found Unclaimed) host).reply
 unfolding claim_by take_claimed
 repeats-below n form config epoch number from now noted request None count host more = unclaimed-below n form config epoch number from now noted request count host more
 repeats-below n form config epoch number from now noted request (Some server) count host more = repeated-below n server count host more
@@ -201,49 +201,49 @@ unfolding with_trying
 trying-ack n from now request taken e p = rw (not-invite request e) p
 
 later-ack : {S : Type 0} (n : ℕ) (config : Config) (epoch number : ℕ) (from : Peer) (now : ℕ) (request : Request) (count : ℕ) (live : Option (Live S)) (host : Host S)
-    → same_bytes (method_of request) ack ≡ true → Below n (later_by config epoch number from now request count live host).reply
+    → same_bytes (method_of request) ack ≡ true → Below n (later_by config (record { host = number; epoch = epoch; from = from; now = now; count = count }) request live host).reply
 unfolding later_by queue_later
 later-ack n config epoch number from now request count None host e = refuse-ack n config from _ _ request count host e
 later-ack n config epoch number from now request count (Some live) host e =
     below-if n _ _ _ (refuse-ack n config from _ _ request count host e) (trying-ack n from now request _ e (below-queue n live.serial now _ count _))
 
 first-ack : {S : Type 0} (n : ℕ) (form : Form S) (config : Config) (epoch number : ℕ) (from : Peer) (now : ℕ) (noted : Note) (request : Request) (count : ℕ) (host : Host S)
-    → same_bytes (method_of request) ack ≡ true → Below n (begun form config epoch number from now noted request count host).reply
+    → same_bytes (method_of request) ack ≡ true → Below n (begun form config (record { host = number; epoch = epoch; from = from; now = now; count = count }) noted request host).reply
 unfolding begun
 first-ack n form config epoch number from now noted request count host e = trying-ack n from now request (quiet _ _) e (below-quiet n _ _)
 
 initial-ack : {S : Type 0} (n : ℕ) (form : Form S) (config : Config) (epoch number : ℕ) (from : Peer) (now : ℕ) (noted : Note) (request : Request) (count : ℕ) (host : Host S)
-    → same_bytes (method_of request) ack ≡ true → Below n (take_initial form config epoch number from now noted request count host).reply
+    → same_bytes (method_of request) ack ≡ true → Below n (take_initial form config (record { host = number; epoch = epoch; from = from; now = now; count = count }) noted request host).reply
 unfolding take_initial
 initial-ack n form config epoch number from now noted request count host e =
     below-if n _ _ _ (refuse-ack n config from _ _ request count host e) (first-ack n form config epoch number from now noted request count host e)
 
 begun-ack : {S : Type 0} (n : ℕ) (form : Form S) (config : Config) (epoch number : ℕ) (from : Peer) (now : ℕ) (noted : Option Note) (request : Request) (count : ℕ) (host : Host S)
-    → same_bytes (method_of request) ack ≡ true → Below n (take_begun form config epoch number from now noted request count host).reply
+    → same_bytes (method_of request) ack ≡ true → Below n (take_begun form config (record { host = number; epoch = epoch; from = from; now = now; count = count }) noted request host).reply
 unfolding take_begun
 begun-ack n form config epoch number from now None request count host e = refuse-ack n config from _ _ request count host e
 begun-ack n form config epoch number from now (Some noted) request count host e =
     below-if n _ _ _ (refuse-ack n config from _ _ request count host e) (initial-ack n form config epoch number from now noted request count host e)
 
 named-ack : {S : Type 0} (n : ℕ) (config : Config) (epoch number : ℕ) (from : Peer) (now : ℕ) (request : Request) (count : ℕ) (host : Host S)
-    → same_bytes (method_of request) ack ≡ true → Below n (take_later config epoch number from now request count host).reply
+    → same_bytes (method_of request) ack ≡ true → Below n (take_later config (record { host = number; epoch = epoch; from = from; now = now; count = count }) request host).reply
 unfolding take_later
 named-ack n config epoch number from now request count host e = later-ack n config epoch number from now request count _ host e
 
 new-ack : {S : Type 0} (n : ℕ) (form : Form S) (config : Config) (epoch number : ℕ) (from : Peer) (now : ℕ) (noted : Option Note) (request : Request) (count : ℕ) (host : Host S)
-    → same_bytes (method_of request) ack ≡ true → Below n (take_new form config epoch number from now noted request count host).reply
+    → same_bytes (method_of request) ack ≡ true → Below n (take_new form config (record { host = number; epoch = epoch; from = from; now = now; count = count }) noted request host).reply
 unfolding take_new
 new-ack n form config epoch number from now noted request count host e =
     below-if n _ _ _ (named-ack n config epoch number from now request count host e) (begun-ack n form config epoch number from now noted request count host e)
 
 unclaimed-ack : {S : Type 0} (n : ℕ) (form : Form S) (config : Config) (epoch number : ℕ) (from : Peer) (now : ℕ) (noted : Option Note) (request : Request) (count : ℕ) (host : Host S)
-    → same_bytes (method_of request) ack ≡ true → Below n (take_unclaimed form config epoch number from now noted request count host).reply
+    → same_bytes (method_of request) ack ≡ true → Below n (take_unclaimed form config (record { host = number; epoch = epoch; from = from; now = now; count = count }) noted request host).reply
 unfolding take_unclaimed
 unclaimed-ack n form config epoch number from now noted request count host e =
     below-if n _ _ _ (refuse-ack n config from _ _ request count host e) (new-ack n form config epoch number from now noted request count host e)
 
 acks-below : {S : Type 0} (n : ℕ) (form : Form S) (config : Config) (epoch number : ℕ) (from : Peer) (now : ℕ) (noted : Option Note) (request : Request) (found : Option Server) (count : ℕ) (host : Host S)
-    → same_bytes (method_of request) ack ≡ true → Below n (take_claimed form config epoch number from now noted request (claim_by Acks found Unclaimed) count host).reply
+    → same_bytes (method_of request) ack ≡ true → Below n (take_claimed form config (record { host = number; epoch = epoch; from = from; now = now; count = count }) noted request (claim_by Acks found Unclaimed) host).reply
 unfolding claim_by take_claimed
 acks-below n form config epoch number from now noted request None count host e = unclaimed-ack n form config epoch number from now noted request count host e
 acks-below n form config epoch number from now noted request (Some server) count host e = below-quiet n _ _
@@ -258,7 +258,7 @@ refuse-cancel config from code reason request count host e =
     (below-replying 2 from _ (quiet host count) (rw (answer-rank _ code reason request e) (omega arith)))
 
 unclaimed-cancel : {S : Type 0} (form : Form S) (config : Config) (epoch number : ℕ) (from : Peer) (now : ℕ) (noted : Option Note) (request : Request) (count : ℕ) (host : Host S)
-    → same_bytes (method_of request) cancel ≡ true → Below 2 (take_unclaimed form config epoch number from now noted request count host).reply
+    → same_bytes (method_of request) cancel ≡ true → Below 2 (take_unclaimed form config (record { host = number; epoch = epoch; from = from; now = now; count = count }) noted request host).reply
 unfolding take_unclaimed
 unclaimed-cancel form config epoch number from now noted request count host e = rw e (refuse-cancel config from _ _ request count host e)
 
@@ -268,7 +268,7 @@ unfolding cancelled
 cancelled-below from now server request count host e = below-replying 2 from _ (quiet host count) (rw (answer-rank server.tag 200 _ request e) (omega arith))
 
 cancels-below : {S : Type 0} (form : Form S) (config : Config) (epoch number : ℕ) (from : Peer) (now : ℕ) (noted : Option Note) (request : Request) (found : Option Server) (count : ℕ) (host : Host S)
-    → same_bytes (method_of request) cancel ≡ true → Below 2 (take_claimed form config epoch number from now noted request (claim_by Cancels found Unclaimed) count host).reply
+    → same_bytes (method_of request) cancel ≡ true → Below 2 (take_claimed form config (record { host = number; epoch = epoch; from = from; now = now; count = count }) noted request (claim_by Cancels found Unclaimed) host).reply
 unfolding claim_by take_claimed
 cancels-below form config epoch number from now noted request None count host e = unclaimed-cancel form config epoch number from now noted request count host e
 cancels-below form config epoch number from now noted request (Some server) count host e = cancelled-below from now server request count host e
@@ -283,7 +283,7 @@ request-rank c a request p q = rw (p, q) refl
 -- what a request is answered is of a lower rank
 request-by : {S : Type 0} (c a : Bool) (form : Form S) (config : Config) (epoch number : ℕ) (from : Peer) (now : ℕ) (noted : Option Note) (request : Request) (count : ℕ) (host : Host S)
     → same_bytes (method_of request) cancel ≡ c → same_bytes (method_of request) ack ≡ a
-    → Below (cond (c || a) 2 5) (take_claimed form config epoch number from now noted request (claim_of from request host) count host).reply
+    → Below (cond (c || a) 2 5) (take_claimed form config (record { host = number; epoch = epoch; from = from; now = now; count = count }) noted request (claim_of from request host) host).reply
 unfolding claim_of
 request-by true a form config epoch number from now noted request count host p q =
     rw (p, claim_of) (cancels-below form config epoch number from now noted request _ count host p)
@@ -293,7 +293,7 @@ request-by false false form config epoch number from now noted request count hos
     rw (p, q, claim_of) (repeats-below 5 form config epoch number from now noted request _ count host (omega arith))
 
 pub request-below : {S : Type 0} (form : Form S) (config : Config) (epoch number : ℕ) (from : Peer) (now : ℕ) (noted : Option Note) (request : Request) (count : ℕ) (host : Host S)
-    → Below (rank_of_request request) (take_request form config epoch number from now noted request count host).reply
+    → Below (rank_of_request request) (take_request form config (record { host = number; epoch = epoch; from = from; now = now; count = count }) noted request host).reply
 unfolding take_request
 request-below form config epoch number from now noted request count host =
     rw (request-rank (same_bytes (method_of request) cancel) (same_bytes (method_of request) ack) request refl refl)
@@ -441,7 +441,7 @@ response-below config epoch from now response count host = answer-to-below confi
 
 -- what a message that is taken makes its host send is of a lower rank
 pub takes-below : {S : Type 0} (form : Form S) (config : Config) (epoch number : ℕ) (from : Peer) (now : ℕ) (noted : Option Note) (message : Message) (count : ℕ) (host : Host S)
-    → Below (rank message) (takes form config epoch number from now noted message count host).reply
+    → Below (rank message) (takes form config (record { host = number; epoch = epoch; from = from; now = now; count = count }) noted message host).reply
 unfolding takes rank
 takes-below form config epoch number from now noted (messages.Request request) count host = request-below form config epoch number from now noted request count host
 takes-below form config epoch number from now noted (messages.Response response) count host = response-below config epoch from now response count host

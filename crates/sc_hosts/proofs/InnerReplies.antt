@@ -78,43 +78,43 @@ unfolding with_trying
 inner-trying from now request taken p q = inner-if _ _ _ (inner-replying from _ taken p) q
 
 inner-later : {S : Type 0} (config : Config) (epoch number : ℕ) (from : Peer) (now : ℕ) (request : Request) (count : ℕ) (live : Option (Live S)) (host : Host S)
-    → is_inner from ≡ true → Inner (later_by config epoch number from now request count live host).reply
+    → is_inner from ≡ true → Inner (later_by config (record { host = number; epoch = epoch; from = from; now = now; count = count }) request live host).reply
 unfolding later_by queue_later
 inner-later config epoch number from now request count None host p = inner-refuse config from _ _ request count host p
 inner-later config epoch number from now request count (Some live) host p =
     inner-if _ _ _ (inner-refuse config from _ _ request count host p) (inner-trying from now request _ p (inner-queue live.serial now _ count _))
 
 inner-named : {S : Type 0} (config : Config) (epoch number : ℕ) (from : Peer) (now : ℕ) (request : Request) (count : ℕ) (host : Host S)
-    → is_inner from ≡ true → Inner (take_later config epoch number from now request count host).reply
+    → is_inner from ≡ true → Inner (take_later config (record { host = number; epoch = epoch; from = from; now = now; count = count }) request host).reply
 unfolding take_later
 inner-named config epoch number from now request count host p = inner-later config epoch number from now request count _ host p
 
 inner-first : {S : Type 0} (form : Form S) (config : Config) (epoch number : ℕ) (from : Peer) (now : ℕ) (noted : Note) (request : Request) (count : ℕ) (host : Host S)
-    → is_inner from ≡ true → Inner (begun form config epoch number from now noted request count host).reply
+    → is_inner from ≡ true → Inner (begun form config (record { host = number; epoch = epoch; from = from; now = now; count = count }) noted request host).reply
 unfolding begun
 inner-first form config epoch number from now noted request count host p = inner-trying from now request (quiet _ _) p (inner-quiet _ _)
 
 inner-initial : {S : Type 0} (form : Form S) (config : Config) (epoch number : ℕ) (from : Peer) (now : ℕ) (noted : Note) (request : Request) (count : ℕ) (host : Host S)
-    → is_inner from ≡ true → Inner (take_initial form config epoch number from now noted request count host).reply
+    → is_inner from ≡ true → Inner (take_initial form config (record { host = number; epoch = epoch; from = from; now = now; count = count }) noted request host).reply
 unfolding take_initial
 inner-initial form config epoch number from now noted request count host p =
     inner-if _ _ _ (inner-refuse config from _ _ request count host p) (inner-first form config epoch number from now noted request count host p)
 
 inner-begun : {S : Type 0} (form : Form S) (config : Config) (epoch number : ℕ) (from : Peer) (now : ℕ) (noted : Option Note) (request : Request) (count : ℕ) (host : Host S)
-    → is_inner from ≡ true → Inner (take_begun form config epoch number from now noted request count host).reply
+    → is_inner from ≡ true → Inner (take_begun form config (record { host = number; epoch = epoch; from = from; now = now; count = count }) noted request host).reply
 unfolding take_begun
 inner-begun form config epoch number from now None request count host p = inner-refuse config from _ _ request count host p
 inner-begun form config epoch number from now (Some noted) request count host p =
     inner-if _ _ _ (inner-refuse config from _ _ request count host p) (inner-initial form config epoch number from now noted request count host p)
 
 inner-new : {S : Type 0} (form : Form S) (config : Config) (epoch number : ℕ) (from : Peer) (now : ℕ) (noted : Option Note) (request : Request) (count : ℕ) (host : Host S)
-    → is_inner from ≡ true → Inner (take_new form config epoch number from now noted request count host).reply
+    → is_inner from ≡ true → Inner (take_new form config (record { host = number; epoch = epoch; from = from; now = now; count = count }) noted request host).reply
 unfolding take_new
 inner-new form config epoch number from now noted request count host p =
     inner-if _ _ _ (inner-named config epoch number from now request count host p) (inner-begun form config epoch number from now noted request count host p)
 
 inner-unclaimed : {S : Type 0} (form : Form S) (config : Config) (epoch number : ℕ) (from : Peer) (now : ℕ) (noted : Option Note) (request : Request) (count : ℕ) (host : Host S)
-    → is_inner from ≡ true → Inner (take_unclaimed form config epoch number from now noted request count host).reply
+    → is_inner from ≡ true → Inner (take_unclaimed form config (record { host = number; epoch = epoch; from = from; now = now; count = count }) noted request host).reply
 unfolding take_unclaimed
 inner-unclaimed form config epoch number from now noted request count host p =
     inner-if _ _ _ (inner-refuse config from _ _ request count host p) (inner-new form config epoch number from now noted request count host p)
@@ -142,7 +142,7 @@ kin-from host request server e =
 
 inner-repeats : {S : Type 0} (form : Form S) (config : Config) (epoch number sender now : ℕ) (noted : Option Note) (request : Request) (found : Option Server) (count : ℕ) (host : Host S)
     → find (is_repeated_by (peers.Inside sender) request) host.servers ≡ found
-    → Inner (take_claimed form config epoch number (peers.Inside sender) now noted request (claim_by Repeats found Unclaimed) count host).reply
+    → Inner (take_claimed form config (record { host = number; epoch = epoch; from = peers.Inside sender; now = now; count = count }) noted request (claim_by Repeats found Unclaimed) host).reply
 unfolding claim_by take_claimed is_inner
 inner-repeats form config epoch number sender now noted request None count host e = inner-unclaimed form config epoch number (peers.Inside sender) now noted request count host refl
 inner-repeats form config epoch number sender now noted request (Some server) count host e =
@@ -155,20 +155,20 @@ unfolding cancelled
 inner-cancelled from now server request count host p = inner-replying from _ (quiet host count) p
 
 inner-cancels : {S : Type 0} (form : Form S) (config : Config) (epoch number : ℕ) (from : Peer) (now : ℕ) (noted : Option Note) (request : Request) (found : Option Server) (count : ℕ) (host : Host S)
-    → is_inner from ≡ true → Inner (take_claimed form config epoch number from now noted request (claim_by Cancels found Unclaimed) count host).reply
+    → is_inner from ≡ true → Inner (take_claimed form config (record { host = number; epoch = epoch; from = from; now = now; count = count }) noted request (claim_by Cancels found Unclaimed) host).reply
 unfolding claim_by take_claimed
 inner-cancels form config epoch number from now noted request None count host p = inner-unclaimed form config epoch number from now noted request count host p
 inner-cancels form config epoch number from now noted request (Some server) count host p = inner-cancelled from now server request count host p
 
 inner-acks : {S : Type 0} (form : Form S) (config : Config) (epoch number : ℕ) (from : Peer) (now : ℕ) (noted : Option Note) (request : Request) (found : Option Server) (count : ℕ) (host : Host S)
-    → is_inner from ≡ true → Inner (take_claimed form config epoch number from now noted request (claim_by Acks found Unclaimed) count host).reply
+    → is_inner from ≡ true → Inner (take_claimed form config (record { host = number; epoch = epoch; from = from; now = now; count = count }) noted request (claim_by Acks found Unclaimed) host).reply
 unfolding claim_by take_claimed
 inner-acks form config epoch number from now noted request None count host p = inner-unclaimed form config epoch number from now noted request count host p
 inner-acks form config epoch number from now noted request (Some server) count host p = inner-quiet _ _
 
 inner-request-by : {S : Type 0} (c a : Bool) (form : Form S) (config : Config) (epoch number sender now : ℕ) (noted : Option Note) (request : Request) (count : ℕ) (host : Host S)
     → same_bytes (method_of request) cancel ≡ c → same_bytes (method_of request) ack ≡ a
-    → Inner (take_claimed form config epoch number (peers.Inside sender) now noted request (claim_of (peers.Inside sender) request host) count host).reply
+    → Inner (take_claimed form config (record { host = number; epoch = epoch; from = peers.Inside sender; now = now; count = count }) noted request (claim_of (peers.Inside sender) request host) host).reply
 unfolding claim_of is_inner
 inner-request-by true a form config epoch number sender now noted request count host p q =
     rw (p, claim_of) (inner-cancels form config epoch number (peers.Inside sender) now noted request _ count host refl)
@@ -178,7 +178,7 @@ inner-request-by false false form config epoch number sender now noted request c
     rw (p, q, claim_of) (inner-repeats form config epoch number sender now noted request _ count host refl)
 
 inner-request : {S : Type 0} (form : Form S) (config : Config) (epoch number sender now : ℕ) (noted : Option Note) (request : Request) (count : ℕ) (host : Host S)
-    → Inner (take_request form config epoch number (peers.Inside sender) now noted request count host).reply
+    → Inner (take_request form config (record { host = number; epoch = epoch; from = peers.Inside sender; now = now; count = count }) noted request host).reply
 unfolding take_request
 inner-request form config epoch number sender now noted request count host =
     inner-request-by (same_bytes (method_of request) cancel) (same_bytes (method_of request) ack) form config epoch number sender now noted request count host refl refl
@@ -223,7 +223,7 @@ unfolding take_response
 inner-response config epoch sender now response count host = inner-answer config.salt epoch sender now _ response count host refl
 
 pub inner-takes : {S : Type 0} (form : Form S) (config : Config) (epoch number sender now : ℕ) (noted : Option Note) (message : Message) (count : ℕ) (host : Host S)
-    → Inner (takes form config epoch number (peers.Inside sender) now noted message count host).reply
+    → Inner (takes form config (record { host = number; epoch = epoch; from = peers.Inside sender; now = now; count = count }) noted message host).reply
 unfolding takes
 inner-takes form config epoch number sender now noted (messages.Request request) count host = inner-request form config epoch number sender now noted request count host
 inner-takes form config epoch number sender now noted (messages.Response response) count host = inner-response config epoch sender now response count host

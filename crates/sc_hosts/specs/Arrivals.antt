@@ -23,7 +23,7 @@ use Rattle.sc_model.specs.Dialogs.{tag_of}
 use Rattle.sc_model.specs.Names.{edge_tag}
 use Rattle.sc_hosts.specs.Messages.{bad_response, own_response}
 use Rattle.sc_hosts.specs.Nets.{host_at, placed, put, named_host}
-use Rattle.sc_hosts.specs.Routes.{position_of, unrouted_initial, popped_route}
+use Rattle.sc_hosts.specs.Routes.{Position, position_of, unrouted_initial, popped_route}
 use Rattle.sc_hosts.specs.Sessions.{Form}
 use Rattle.sc_hosts.specs.Taking.{claim_of, is_claimed, is_never_initial, own_uri, takes}
 use Rattle.sc_hosts.specs.Transacting.{method_of, client_for}
@@ -42,7 +42,7 @@ first_host test number (host ∷ hosts) = if test host then Some number else fir
 unfoldable pub host_takes : {S : Type 0} → Form S → Setup → Place → Option Note → Message → ℕ → Option (Host S) → Net S → Net S
 host_takes form setup from noted message number None net = net
 host_takes form setup from noted message number (Some host) net =
-    placed number (takes form setup.config net.epoch number (peers.Outside from) net.moment noted message net.count host) net
+    placed number (takes form setup.config (record { host = number; epoch = net.epoch; from = peers.Outside from; now = net.moment; count = net.count }) noted message host) net
 
 -- the host of this number takes it
 unfoldable pub taken_at : {S : Type 0} → Form S → Setup → Place → Option Note → Message → ℕ → Net S → Net S
@@ -67,8 +67,9 @@ unfoldable pub initial_arrives : {S : Type 0} → Form S → Setup → Place →
 initial_arrives form setup from request net =
     if same_bytes (method_of request) ack then net
     else (if is_never_initial request then edge_answer setup.config from 481 does_not_exist request net
-    else begins_by form setup from (unrouted_initial setup.config request) (popped_route setup.config request)
-    (choice_of setup.config setup.dar (unrouted_initial setup.config request) (position_of setup.config request).region (position_of setup.config request).directive (position_of setup.config request).state) net)
+    else (let position : Position = position_of setup.config request in
+    let unrouted : Request = unrouted_initial setup.config request in
+    begins_by form setup from unrouted (popped_route setup.config request) (choice_of setup.config setup.dar unrouted position.region position.directive position.state) net))
 
 -- a request with a To tag, at the host whose session it names; 481 where there is none
 unfoldable pub later_at : {S : Type 0} → Form S → Setup → Place → Request → Option ℕ → Net S → Net S

@@ -224,7 +224,7 @@ is_busy net = not (length net.wire == 0)
 unfoldable pub deliver_at : {S : Type 0} → Form S → Setup → Entry → Option (Host S) → Net S → Net S
 deliver_at form setup entry None net = net
 deliver_at form setup entry (Some host) net =
-    placed entry.receiver (takes form setup.config net.epoch entry.receiver (peers.Inside entry.sender) net.moment entry.note entry.message net.count host) net
+    placed entry.receiver (takes form setup.config (record { host = entry.receiver; epoch = net.epoch; from = peers.Inside entry.sender; now = net.moment; count = net.count }) entry.note entry.message host) net
 
 -- this message leaves the wire and is taken
 unfoldable pub deliver_entry : {S : Type 0} → Form S → Setup → Option Entry → Net S → Net S

@@ -48,9 +48,13 @@ kept_of known req = find (λ kept. same_request kept.id req) known.kept
 unfoldable pub own_tag_of : View → SessId → Bytes
 own_tag_of view sess = option_map_or (λ s. s.own_tag) (session_in view sess) []
 
+-- a CANCEL that came for this INVITE is shown, and nothing else is done
+abbrev pub showing_cancel : Session → Invited → Prepared
+showing_cancel session invited = showing_in session invited.sess (events.Cancelled invited.req invited.sess) (Some invited.req) []
+
 -- 487 to an INVITE without final response that isn't proxied (RFC 3261 section 9.2)
 unfoldable pub terminated : Session → Invited → RequestView → Option Kept → Prepared
-terminated session invited request None = showing_in session invited.sess (events.Cancelled invited.req invited.sess) (Some invited.req) []
+terminated session invited request None = showing_cancel session invited
 terminated session invited request (Some kept) =
     showing_in (record session { view = answered (Some request) 487 session.view }) invited.sess (events.Cancelled invited.req invited.sess) (Some invited.req)
     (orders.Respond invited.event (own_response (own_tag_of session.view invited.sess) 487 request_terminated kept.request) ∷ [])
@@ -58,10 +62,10 @@ terminated session invited request (Some kept) =
 -- the CANCEL of a proxied INVITE: no further target, and a CANCEL to each open branch (RFC 3261
 -- section 16.10)
 unfoldable pub cancelled_proxy : Session → Invited → Option Proxy → Prepared
-cancelled_proxy session invited None = showing_in session invited.sess (events.Cancelled invited.req invited.sess) (Some invited.req) []
+cancelled_proxy session invited None = showing_cancel session invited
 cancelled_proxy session invited (Some proxy) =
     let after : Session = record session { known = change_proxy proxy.req stopped session.known } in
-    if is_supervised proxy then showing_in after invited.sess (events.Cancelled invited.req invited.sess) (Some invited.req) [] else silent after []
+    if is_supervised proxy then showing_cancel after invited else silent after []
 
 -- the proxy of this request, if it is proxied
 unfoldable pub proxy_of : Known → ReqId → Option Proxy
@@ -74,7 +78,7 @@ cancelled_request session invited None = showing_in session invited.sess (events
 cancelled_request session invited (Some request) =
     if request.proxied then cancelled_proxy session invited (proxy_of session.known invited.req)
     else (if is_none request.answered then terminated session invited request (kept_of session.known invited.req)
-    else showing_in session invited.sess (events.Cancelled invited.req invited.sess) (Some invited.req) [])
+    else showing_cancel session invited)
 
 -- a CANCEL that came for an INVITE
 unfoldable pub prepared_cancel : Session → Option Invited → Prepared

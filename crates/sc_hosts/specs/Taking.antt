@@ -16,6 +16,7 @@ use Rattle.sc_value.specs.Params.{param_value}
 use Rattle.sc_terms.specs.declared.settings.Config.{Config}
 use Rattle.sc_parts.specs.declared.transactions.ServerItem.TheVariants as server_items
 use Rattle.sc_state.specs.Hosts.{Host}
+use Rattle.sc_state.specs.declared.host.Coming.{Coming}
 use Rattle.sc_state.specs.declared.host.Live.{Live}
 use Rattle.sc_state.specs.declared.host.Peer.{Peer}
 use Rattle.sc_state.specs.declared.host.Server.{Server}
@@ -148,23 +149,23 @@ abbrev pub own_tag : Config → ℕ → AppId → Bytes
 own_tag config epoch app = tag_text config.salt epoch app 1
 
 -- a later request waits in the inbox of its session; 503 where that is full
-unfoldable pub queue_later : {S : Type 0} → Config → ℕ → ℕ → Peer → ℕ → Request → ℕ → Live S → Host S → Taken S
-queue_later config epoch number from now request count live host =
-    let app : AppId = record { host = number; serial = live.serial } in
-    if is_full live then refuse config from 503 unavailable request count host
-    else with_trying from now request
-    (queue live.serial now (queued.Request (unrouted config request)) count
-    (with_server app (count + 1) from (own_tag config epoch app) (unrouted config request) host))
+unfoldable pub queue_later : {S : Type 0} → Config → Coming → Request → Live S → Host S → Taken S
+queue_later config coming request live host =
+    let app : AppId = record { host = coming.host; serial = live.serial } in
+    if is_full live then refuse config coming.from 503 unavailable request coming.count host
+    else with_trying coming.from coming.now request
+    (queue live.serial coming.now (queued.Request (unrouted config request)) coming.count
+    (with_server app (coming.count + 1) coming.from (own_tag config coming.epoch app) (unrouted config request) host))
 
 -- the same, where no session is named: 481
-unfoldable pub later_by : {S : Type 0} → Config → ℕ → ℕ → Peer → ℕ → Request → ℕ → Option (Live S) → Host S → Taken S
-later_by config epoch number from now request count None host = refuse config from 481 does_not_exist request count host
-later_by config epoch number from now request count (Some live) host = queue_later config epoch number from now request count live host
+unfoldable pub later_by : {S : Type 0} → Config → Coming → Request → Option (Live S) → Host S → Taken S
+later_by config coming request None host = refuse config coming.from 481 does_not_exist request coming.count host
+later_by config coming request (Some live) host = queue_later config coming request live host
 
 -- a request with a To tag, for the live session of the own URI by which it came
-unfoldable pub take_later : {S : Type 0} → Config → ℕ → ℕ → Peer → ℕ → Request → ℕ → Host S → Taken S
-take_later config epoch number from now request count host =
-    later_by config epoch number from now request count (option_and_then (λ uri. named_live epoch number uri host) (own_uri config request)) host
+unfoldable pub take_later : {S : Type 0} → Config → Coming → Request → Host S → Taken S
+take_later config coming request host =
+    later_by config coming request (option_and_then (λ uri. named_live coming.epoch coming.host uri host) (own_uri config request)) host
 
 -- ## Requests that begin a session
 
@@ -179,58 +180,58 @@ begun_live form config epoch app now noted request number = record {
 }
 
 -- a session begins with a request and its server transaction; its serial is the next one
-unfoldable pub begun : {S : Type 0} → Form S → Config → ℕ → ℕ → Peer → ℕ → Note → Request → ℕ → Host S → Taken S
-begun form config epoch number from now noted request count host =
-    let app : AppId = record { host = number; serial = host.last + 1 } in
-    with_trying from now request (quiet (with_server app (count + 1) from (own_tag config epoch app) request (record host {
-      sessions = host.sessions ++ begun_live form config epoch app now noted request (count + 1) ∷ [];
+unfoldable pub begun : {S : Type 0} → Form S → Config → Coming → Note → Request → Host S → Taken S
+begun form config coming noted request host =
+    let app : AppId = record { host = coming.host; serial = host.last + 1 } in
+    with_trying coming.from coming.now request (quiet (with_server app (coming.count + 1) coming.from (own_tag config coming.epoch app) request (record host {
+      sessions = host.sessions ++ begun_live form config coming.epoch app coming.now noted request (coming.count + 1) ∷ [];
       last = host.last + 1;
-    })) (count + 1))
+    })) (coming.count + 1))
 
 -- a request that may begin a session; 503 where as many live as may
-unfoldable pub take_initial : {S : Type 0} → Form S → Config → ℕ → ℕ → Peer → ℕ → Note → Request → ℕ → Host S → Taken S
-take_initial form config epoch number from now noted request count host =
-    if nat_le MOST_LIVE (length host.sessions) then refuse config from 503 unavailable request count host
-    else begun form config epoch number from now noted request count host
+unfoldable pub take_initial : {S : Type 0} → Form S → Config → Coming → Note → Request → Host S → Taken S
+take_initial form config coming noted request host =
+    if nat_le MOST_LIVE (length host.sessions) then refuse config coming.from 503 unavailable request coming.count host
+    else begun form config coming noted request host
 
 -- a request of these methods begins nothing
 unfoldable pub is_never_initial : Request → Bool
 is_never_initial request = same_bytes (method_of request) bye || same_bytes (method_of request) prack || same_bytes (method_of request) update
 
 -- a request without To tag that begins a session where it has its note
-unfoldable pub take_begun : {S : Type 0} → Form S → Config → ℕ → ℕ → Peer → ℕ → Option Note → Request → ℕ → Host S → Taken S
-take_begun form config epoch number from now None request count host = refuse config from 481 does_not_exist request count host
-take_begun form config epoch number from now (Some noted) request count host =
-    if is_never_initial request then refuse config from 481 does_not_exist request count host
-    else take_initial form config epoch number from now noted request count host
+unfoldable pub take_begun : {S : Type 0} → Form S → Config → Coming → Option Note → Request → Host S → Taken S
+take_begun form config coming None request host = refuse config coming.from 481 does_not_exist request coming.count host
+take_begun form config coming (Some noted) request host =
+    if is_never_initial request then refuse config coming.from 481 does_not_exist request coming.count host
+    else take_initial form config coming noted request host
 
 -- ## Every request that comes to a host
 
 -- a request that belongs to no transaction, and is no CANCEL
-unfoldable pub take_new : {S : Type 0} → Form S → Config → ℕ → ℕ → Peer → ℕ → Option Note → Request → ℕ → Host S → Taken S
-take_new form config epoch number from now noted request count host =
-    if is_some (tag_of request.head.to) then take_later config epoch number from now request count host
-    else take_begun form config epoch number from now noted request count host
+unfoldable pub take_new : {S : Type 0} → Form S → Config → Coming → Option Note → Request → Host S → Taken S
+take_new form config coming noted request host =
+    if is_some (tag_of request.head.to) then take_later config coming request host
+    else take_begun form config coming noted request host
 
 -- a request that belongs to no transaction; a CANCEL gets 481 (RFC 3261 section 9.2)
-unfoldable pub take_unclaimed : {S : Type 0} → Form S → Config → ℕ → ℕ → Peer → ℕ → Option Note → Request → ℕ → Host S → Taken S
-take_unclaimed form config epoch number from now noted request count host =
-    if same_bytes (method_of request) cancel then refuse config from 481 does_not_exist request count host
-    else take_new form config epoch number from now noted request count host
+unfoldable pub take_unclaimed : {S : Type 0} → Form S → Config → Coming → Option Note → Request → Host S → Taken S
+take_unclaimed form config coming noted request host =
+    if same_bytes (method_of request) cancel then refuse config coming.from 481 does_not_exist request coming.count host
+    else take_new form config coming noted request host
 
 -- a request, by its claim
-unfoldable pub take_claimed : {S : Type 0} → Form S → Config → ℕ → ℕ → Peer → ℕ → Option Note → Request → Claim → ℕ → Host S → Taken S
-take_claimed form config epoch number from now noted request (Cancels server) count host = cancelled from now server request count host
-take_claimed form config epoch number from now noted request (Acks server) count host = quiet (pass_server server.event server_items.AckCame host) count
-take_claimed form config epoch number from now noted request (Repeats server) count host = repeated server count host
-take_claimed form config epoch number from now noted request Unclaimed count host = take_unclaimed form config epoch number from now noted request count host
+unfoldable pub take_claimed : {S : Type 0} → Form S → Config → Coming → Option Note → Request → Claim → Host S → Taken S
+take_claimed form config coming noted request (Cancels server) host = cancelled coming.from coming.now server request coming.count host
+take_claimed form config coming noted request (Acks server) host = quiet (pass_server server.event server_items.AckCame host) coming.count
+take_claimed form config coming noted request (Repeats server) host = repeated server coming.count host
+take_claimed form config coming noted request Unclaimed host = take_unclaimed form config coming noted request host
 
 -- a request that comes to a host
-unfoldable pub take_request : {S : Type 0} → Form S → Config → ℕ → ℕ → Peer → ℕ → Option Note → Request → ℕ → Host S → Taken S
-take_request form config epoch number from now noted request count host =
-    take_claimed form config epoch number from now noted request (claim_of from request host) count host
+unfoldable pub take_request : {S : Type 0} → Form S → Config → Coming → Option Note → Request → Host S → Taken S
+take_request form config coming noted request host =
+    take_claimed form config coming noted request (claim_of coming.from request host) host
 
 -- what a host takes
-unfoldable pub takes : {S : Type 0} → Form S → Config → ℕ → ℕ → Peer → ℕ → Option Note → Message → ℕ → Host S → Taken S
-takes form config epoch number from now noted (messages.Request request) count host = take_request form config epoch number from now noted request count host
-takes form config epoch number from now noted (messages.Response response) count host = take_response config epoch from now response count host
+unfoldable pub takes : {S : Type 0} → Form S → Config → Coming → Option Note → Message → Host S → Taken S
+takes form config coming noted (messages.Request request) host = take_request form config coming noted request host
+takes form config coming noted (messages.Response response) host = take_response config coming.epoch coming.from coming.now response coming.count host

@@ -426,7 +426,7 @@ module _ {S : Type 0} (form : Form S) (Own : AppId → Type 0) (low high number 
   with_server-sessions app event peer tag request host = if-sessions _ host _
 
   queue_later-keyed : (config : Config) (epoch : ℕ) (from : Peer) (now : ℕ) (request : Request) (count : ℕ) (live : Live S) (host : Host S)
-      → is_some (live_in live.serial host) ≡ true → Keyed count host → Took (queue_later config epoch number from now request count live host)
+      → is_some (live_in live.serial host) ≡ true → Keyed count host → Took (queue_later config (record { host = number; epoch = epoch; from = from; now = now; count = count }) request live host)
   unfolding queue_later queue
   queue_later-keyed config epoch from now request count live host there keyed =
       if-took _ _ _ (refuse-keyed config from 503 _ request count host keyed)
@@ -455,7 +455,7 @@ module _ {S : Type 0} (form : Form S) (Own : AppId → Type 0) (low high number 
 
   later_by-keyed : (config : Config) (epoch : ℕ) (from : Peer) (now : ℕ) (request : Request) (count : ℕ) (live : Option (Live S)) (host : Host S)
       → ((l : Live S) → live ≡ Some l → is_some (live_in l.serial host) ≡ true) → Keyed count host
-      → Took (later_by config epoch number from now request count live host)
+      → Took (later_by config (record { host = number; epoch = epoch; from = from; now = now; count = count }) request live host)
   unfolding later_by
   later_by-keyed config epoch from now request count None host there keyed = refuse-keyed config from 481 _ request count host keyed
   later_by-keyed config epoch from now request count (Some live) host there keyed =
@@ -468,7 +468,7 @@ module _ {S : Type 0} (form : Form S) (Own : AppId → Type 0) (low high number 
   named-there epoch (Some uri) host l is = some-in (is_named_live epoch number uri) host.sessions l is
 
   take_later-keyed : (config : Config) (epoch : ℕ) (from : Peer) (now : ℕ) (request : Request) (count : ℕ) (host : Host S) → Keyed count host
-      → Took (take_later config epoch number from now request count host)
+      → Took (take_later config (record { host = number; epoch = epoch; from = from; now = now; count = count }) request host)
   unfolding take_later
   take_later-keyed config epoch from now request count host keyed =
       later_by-keyed config epoch from now request count _ host (λ l is. named-there epoch (own_uri config request) host l is) keyed
@@ -498,19 +498,19 @@ module _ {S : Type 0} (form : Form S) (Own : AppId → Type 0) (low high number 
       up n is = omega (arith, is)
 
   begun-keyed : (config : Config) (epoch : ℕ) (from : Peer) (now : ℕ) (noted : Note) (request : Request) (count : ℕ) (host : Host S) → Keyed count host
-      → Took (begun form config epoch number from now noted request count host)
+      → Took (begun form config (record { host = number; epoch = epoch; from = from; now = now; count = count }) noted request host)
   unfolding begun quiet begun_live
   begun-keyed config epoch from now noted request count host keyed =
       with_trying-keyed from now request _ (with_server-keyed (host.last + 1) from _ request count _ (omega arith) (begins-keyed count host _ refl keyed))
 
   take_initial-keyed : (config : Config) (epoch : ℕ) (from : Peer) (now : ℕ) (noted : Note) (request : Request) (count : ℕ) (host : Host S) → Keyed count host
-      → Took (take_initial form config epoch number from now noted request count host)
+      → Took (take_initial form config (record { host = number; epoch = epoch; from = from; now = now; count = count }) noted request host)
   unfolding take_initial
   take_initial-keyed config epoch from now noted request count host keyed =
       if-took _ _ _ (refuse-keyed config from 503 _ request count host keyed) (begun-keyed config epoch from now noted request count host keyed)
 
   take_begun-keyed : (config : Config) (epoch : ℕ) (from : Peer) (now : ℕ) (noted : Option Note) (request : Request) (count : ℕ) (host : Host S)
-      → Keyed count host → Took (take_begun form config epoch number from now noted request count host)
+      → Keyed count host → Took (take_begun form config (record { host = number; epoch = epoch; from = from; now = now; count = count }) noted request host)
   unfolding take_begun
   take_begun-keyed config epoch from now None request count host keyed = refuse-keyed config from 481 _ request count host keyed
   take_begun-keyed config epoch from now (Some noted) request count host keyed =
@@ -519,14 +519,14 @@ module _ {S : Type 0} (form : Form S) (Own : AppId → Type 0) (low high number 
   -- ## All that a host takes
 
   take_unclaimed-keyed : (config : Config) (epoch : ℕ) (from : Peer) (now : ℕ) (noted : Option Note) (request : Request) (count : ℕ) (host : Host S)
-      → Keyed count host → Took (take_unclaimed form config epoch number from now noted request count host)
+      → Keyed count host → Took (take_unclaimed form config (record { host = number; epoch = epoch; from = from; now = now; count = count }) noted request host)
   unfolding take_unclaimed take_new
   take_unclaimed-keyed config epoch from now noted request count host keyed =
       if-took _ _ _ (refuse-keyed config from 481 _ request count host keyed)
       (if-took _ _ _ (take_later-keyed config epoch from now request count host keyed) (take_begun-keyed config epoch from now noted request count host keyed))
 
   take_claimed-keyed : (config : Config) (epoch : ℕ) (from : Peer) (now : ℕ) (noted : Option Note) (request : Request) (claim : Claim) (count : ℕ) (host : Host S)
-      → Keyed count host → Took (take_claimed form config epoch number from now noted request claim count host)
+      → Keyed count host → Took (take_claimed form config (record { host = number; epoch = epoch; from = from; now = now; count = count }) noted request claim host)
   unfolding take_claimed quiet
   take_claimed-keyed config epoch from now noted request (Cancels server) count host keyed = cancelled-keyed from now server request count host keyed
   take_claimed-keyed config epoch from now noted request (Acks server) count host keyed = pass_server-keyed server.event _ count host keyed
@@ -534,7 +534,7 @@ module _ {S : Type 0} (form : Form S) (Own : AppId → Type 0) (low high number 
   take_claimed-keyed config epoch from now noted request Unclaimed count host keyed = take_unclaimed-keyed config epoch from now noted request count host keyed
 
   pub takes-keyed : (config : Config) (epoch : ℕ) (from : Peer) (now : ℕ) (noted : Option Note) (message : Message) (count : ℕ) (host : Host S)
-      → Keyed count host → Took (takes form config epoch number from now noted message count host)
+      → Keyed count host → Took (takes form config (record { host = number; epoch = epoch; from = from; now = now; count = count }) noted message host)
   unfolding takes take_request
   takes-keyed config epoch from now noted (messages.Request request) count host keyed = take_claimed-keyed config epoch from now noted request _ count host keyed
   takes-keyed config epoch from now noted (messages.Response response) count host keyed = take_response-keyed config epoch from now response count host keyed

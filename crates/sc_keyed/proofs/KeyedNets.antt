@@ -77,7 +77,7 @@ upward number now = record {
 }
 
 pub takes-counts-up : {S : Type 0} (form : Form S) (config : Config) (epoch number : ℕ) (from : Peer) (now : ℕ) (noted : Option Note) (message : Message) (count : ℕ) (host : Host S)
-    → count ≤ (takes form config epoch number from now noted message count host).count
+    → count ≤ (takes form config (record { host = number; epoch = epoch; from = from; now = now; count = count }) noted message host).count
 takes-counts-up form config epoch number from now noted message count host =
     takes-walks number now (λ count host later changed. count ≤ later) (upward number now) form tt config epoch from noted message count host
 

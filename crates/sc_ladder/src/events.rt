@@ -3,13 +3,13 @@
 use crate::labels::{told_request, told_response, write_request, write_response};
 use crate::story::Told;
 use sc_terms::Event;
-use sc_value::{NoMemory, Response, Text, TimerId, write_u64};
+use sc_value::{NoMemory, Response, Shared, Text, TimerId, write_u64};
 use std::alloc::Global;
 
 /// Appends the event of a turn in short.
-pub fn write_event(event: &Option<Event>, out: &mut Text) -> Result<(), NoMemory> {
+pub fn write_event(event: &Option<Shared<Event>>, out: &mut Text) -> Result<(), NoMemory> {
     match event {
-        Some(event) => write_some(event, out),
+        Some(event) => write_some(event.get(), out),
         None => out.append(b"no event"),
     }
 }
@@ -38,9 +38,9 @@ fn write_timer(id: TimerId, out: &mut Text) -> Result<(), NoMemory> {
 }
 
 /// How the message of an event is told, where it has one.
-pub fn told_event(alloc: Global, event: &Option<Event>) -> Result<Option<Told>, NoMemory> {
+pub fn told_event(alloc: Global, event: &Option<Shared<Event>>) -> Result<Option<Told>, NoMemory> {
     match event {
-        Some(event) => told_some(alloc, event),
+        Some(event) => told_some(alloc, event.get()),
         None => Ok(None),
     }
 }

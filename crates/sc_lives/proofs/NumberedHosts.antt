@@ -124,39 +124,39 @@ module _ {S : Type 0} where
   with_trying-numbered from now request taken numbered = if-taken _ _ _ numbered numbered
 
   queue_later-numbered : (config : Config) (epoch number : ℕ) (from : Peer) (now : ℕ) (request : Request) (count : ℕ) (live : Live S) (host : Host S)
-      → IsNumbered host → IsNumbered (queue_later config epoch number from now request count live host).host
+      → IsNumbered host → IsNumbered (queue_later config (record { host = number; epoch = epoch; from = from; now = now; count = count }) request live host).host
   unfolding queue_later
   queue_later-numbered config epoch number from now request count live host numbered =
       if-taken _ _ _ (refuse-numbered config from 503 _ request count host numbered)
       (with_trying-numbered from now request _ (queue-numbered live.serial now _ count _ (with_server-numbered _ _ from _ _ host numbered)))
 
   later_by-numbered : (config : Config) (epoch number : ℕ) (from : Peer) (now : ℕ) (request : Request) (count : ℕ) (live : Option (Live S)) (host : Host S)
-      → IsNumbered host → IsNumbered (later_by config epoch number from now request count live host).host
+      → IsNumbered host → IsNumbered (later_by config (record { host = number; epoch = epoch; from = from; now = now; count = count }) request live host).host
   unfolding later_by
   later_by-numbered config epoch number from now request count None host numbered = refuse-numbered config from 481 _ request count host numbered
   later_by-numbered config epoch number from now request count (Some live) host numbered = queue_later-numbered config epoch number from now request count live host numbered
 
   take_later-numbered : (config : Config) (epoch number : ℕ) (from : Peer) (now : ℕ) (request : Request) (count : ℕ) (host : Host S)
-      → IsNumbered host → IsNumbered (take_later config epoch number from now request count host).host
+      → IsNumbered host → IsNumbered (take_later config (record { host = number; epoch = epoch; from = from; now = now; count = count }) request host).host
   unfolding take_later
   take_later-numbered config epoch number from now request count host numbered = later_by-numbered config epoch number from now request count _ host numbered
 
   -- ## Requests that begin a session: it has the serial after the last
 
   begun-numbered : (form : Form S) (config : Config) (epoch number : ℕ) (from : Peer) (now : ℕ) (noted : Note) (request : Request) (count : ℕ) (host : Host S)
-      → IsNumbered host → IsNumbered (begun form config epoch number from now noted request count host).host
+      → IsNumbered host → IsNumbered (begun form config (record { host = number; epoch = epoch; from = from; now = now; count = count }) noted request host).host
   unfolding begun begun_live quiet
   begun-numbered form config epoch number from now noted request count host numbered =
       with_trying-numbered from now request _ (with_server-numbered _ _ from _ request _ (append-rising host.sessions 0 host.last _ refl numbered))
 
   take_initial-numbered : (form : Form S) (config : Config) (epoch number : ℕ) (from : Peer) (now : ℕ) (noted : Note) (request : Request) (count : ℕ) (host : Host S)
-      → IsNumbered host → IsNumbered (take_initial form config epoch number from now noted request count host).host
+      → IsNumbered host → IsNumbered (take_initial form config (record { host = number; epoch = epoch; from = from; now = now; count = count }) noted request host).host
   unfolding take_initial
   take_initial-numbered form config epoch number from now noted request count host numbered =
       if-taken _ _ _ (refuse-numbered config from 503 _ request count host numbered) (begun-numbered form config epoch number from now noted request count host numbered)
 
   take_begun-numbered : (form : Form S) (config : Config) (epoch number : ℕ) (from : Peer) (now : ℕ) (noted : Option Note) (request : Request) (count : ℕ) (host : Host S)
-      → IsNumbered host → IsNumbered (take_begun form config epoch number from now noted request count host).host
+      → IsNumbered host → IsNumbered (take_begun form config (record { host = number; epoch = epoch; from = from; now = now; count = count }) noted request host).host
   unfolding take_begun
   take_begun-numbered form config epoch number from now None request count host numbered = refuse-numbered config from 481 _ request count host numbered
   take_begun-numbered form config epoch number from now (Some noted) request count host numbered =
@@ -165,19 +165,19 @@ module _ {S : Type 0} where
   -- ## Every request that comes to a host
 
   take_new-numbered : (form : Form S) (config : Config) (epoch number : ℕ) (from : Peer) (now : ℕ) (noted : Option Note) (request : Request) (count : ℕ) (host : Host S)
-      → IsNumbered host → IsNumbered (take_new form config epoch number from now noted request count host).host
+      → IsNumbered host → IsNumbered (take_new form config (record { host = number; epoch = epoch; from = from; now = now; count = count }) noted request host).host
   unfolding take_new
   take_new-numbered form config epoch number from now noted request count host numbered =
       if-taken _ _ _ (take_later-numbered config epoch number from now request count host numbered) (take_begun-numbered form config epoch number from now noted request count host numbered)
 
   take_unclaimed-numbered : (form : Form S) (config : Config) (epoch number : ℕ) (from : Peer) (now : ℕ) (noted : Option Note) (request : Request) (count : ℕ) (host : Host S)
-      → IsNumbered host → IsNumbered (take_unclaimed form config epoch number from now noted request count host).host
+      → IsNumbered host → IsNumbered (take_unclaimed form config (record { host = number; epoch = epoch; from = from; now = now; count = count }) noted request host).host
   unfolding take_unclaimed
   take_unclaimed-numbered form config epoch number from now noted request count host numbered =
       if-taken _ _ _ (refuse-numbered config from 481 _ request count host numbered) (take_new-numbered form config epoch number from now noted request count host numbered)
 
   take_claimed-numbered : (form : Form S) (config : Config) (epoch number : ℕ) (from : Peer) (now : ℕ) (noted : Option Note) (request : Request) (claim : Claim) (count : ℕ) (host : Host S)
-      → IsNumbered host → IsNumbered (take_claimed form config epoch number from now noted request claim count host).host
+      → IsNumbered host → IsNumbered (take_claimed form config (record { host = number; epoch = epoch; from = from; now = now; count = count }) noted request claim host).host
   unfolding take_claimed quiet
   take_claimed-numbered form config epoch number from now noted request (Cancels server) count host numbered = cancelled-numbered from now server request count host numbered
   take_claimed-numbered form config epoch number from now noted request (Acks server) count host numbered = pass_server-numbered server.event _ host numbered
@@ -185,7 +185,7 @@ module _ {S : Type 0} where
   take_claimed-numbered form config epoch number from now noted request Unclaimed count host numbered = take_unclaimed-numbered form config epoch number from now noted request count host numbered
 
   pub takes-numbered : (form : Form S) (config : Config) (epoch number : ℕ) (from : Peer) (now : ℕ) (noted : Option Note) (message : Message) (count : ℕ) (host : Host S)
-      → IsNumbered host → IsNumbered (takes form config epoch number from now noted message count host).host
+      → IsNumbered host → IsNumbered (takes form config (record { host = number; epoch = epoch; from = from; now = now; count = count }) noted message host).host
   unfolding takes take_request
   takes-numbered form config epoch number from now noted (messages.Request request) count host numbered =
       take_claimed-numbered form config epoch number from now noted request _ count host numbered

@@ -64,7 +64,7 @@ module _ {S : Type 0} (most : ℕ) where
   with_trying-past from now request taken past = taken-if most _ _ taken past past
 
   later_by-past : (config : Config) (epoch number : ℕ) (from : Peer) (now : ℕ) (request : Request) (count : ℕ) (live : Option (Live S)) (host : Host S) → now ≤ most → HostPast most host
-      → HostPast most (later_by config epoch number from now request count live host).host
+      → HostPast most (later_by config (record { host = number; epoch = epoch; from = from; now = now; count = count }) request live host).host
   unfolding later_by queue_later
   later_by-past config epoch number from now request count None host in_time past = refuse-past config from 481 _ request count host past
   later_by-past config epoch number from now request count (Some live) host in_time past =
@@ -72,26 +72,26 @@ module _ {S : Type 0} (most : ℕ) where
       (with_trying-past from now request _ (queue-past most live.serial now _ count _ in_time (with_server-past _ _ from _ _ host past)))
 
   take_later-past : (config : Config) (epoch number : ℕ) (from : Peer) (now : ℕ) (request : Request) (count : ℕ) (host : Host S) → now ≤ most → HostPast most host
-      → HostPast most (take_later config epoch number from now request count host).host
+      → HostPast most (take_later config (record { host = number; epoch = epoch; from = from; now = now; count = count }) request host).host
   unfolding take_later
   take_later-past config epoch number from now request count host in_time past = later_by-past config epoch number from now request count _ host in_time past
 
   -- ## Requests that begin a session
 
   begun-past : (form : Form S) (config : Config) (epoch number : ℕ) (from : Peer) (now : ℕ) (noted : Note) (request : Request) (count : ℕ) (host : Host S) → now ≤ most → HostPast most host
-      → HostPast most (begun form config epoch number from now noted request count host).host
+      → HostPast most (begun form config (record { host = number; epoch = epoch; from = from; now = now; count = count }) noted request host).host
   unfolding begun begun_live quiet HostPast
   begun-past form config epoch number from now noted request count host in_time past =
       with_trying-past from now request _ (with_server-past _ _ from _ request _ (append-past most host.sessions _ past in_time))
 
   take_initial-past : (form : Form S) (config : Config) (epoch number : ℕ) (from : Peer) (now : ℕ) (noted : Note) (request : Request) (count : ℕ) (host : Host S) → now ≤ most → HostPast most host
-      → HostPast most (take_initial form config epoch number from now noted request count host).host
+      → HostPast most (take_initial form config (record { host = number; epoch = epoch; from = from; now = now; count = count }) noted request host).host
   unfolding take_initial
   take_initial-past form config epoch number from now noted request count host in_time past =
       taken-if most _ _ _ (refuse-past config from 503 _ request count host past) (begun-past form config epoch number from now noted request count host in_time past)
 
   take_begun-past : (form : Form S) (config : Config) (epoch number : ℕ) (from : Peer) (now : ℕ) (noted : Option Note) (request : Request) (count : ℕ) (host : Host S) → now ≤ most → HostPast most host
-      → HostPast most (take_begun form config epoch number from now noted request count host).host
+      → HostPast most (take_begun form config (record { host = number; epoch = epoch; from = from; now = now; count = count }) noted request host).host
   unfolding take_begun
   take_begun-past form config epoch number from now None request count host in_time past = refuse-past config from 481 _ request count host past
   take_begun-past form config epoch number from now (Some noted) request count host in_time past =
@@ -100,20 +100,20 @@ module _ {S : Type 0} (most : ℕ) where
   -- ## Every request
 
   take_new-past : (form : Form S) (config : Config) (epoch number : ℕ) (from : Peer) (now : ℕ) (noted : Option Note) (request : Request) (count : ℕ) (host : Host S) → now ≤ most → HostPast most host
-      → HostPast most (take_new form config epoch number from now noted request count host).host
+      → HostPast most (take_new form config (record { host = number; epoch = epoch; from = from; now = now; count = count }) noted request host).host
   unfolding take_new
   take_new-past form config epoch number from now noted request count host in_time past =
       taken-if most _ _ _ (take_later-past config epoch number from now request count host in_time past)
       (take_begun-past form config epoch number from now noted request count host in_time past)
 
   take_unclaimed-past : (form : Form S) (config : Config) (epoch number : ℕ) (from : Peer) (now : ℕ) (noted : Option Note) (request : Request) (count : ℕ) (host : Host S) → now ≤ most
-      → HostPast most host → HostPast most (take_unclaimed form config epoch number from now noted request count host).host
+      → HostPast most host → HostPast most (take_unclaimed form config (record { host = number; epoch = epoch; from = from; now = now; count = count }) noted request host).host
   unfolding take_unclaimed
   take_unclaimed-past form config epoch number from now noted request count host in_time past =
       taken-if most _ _ _ (refuse-past config from 481 _ request count host past) (take_new-past form config epoch number from now noted request count host in_time past)
 
   take_claimed-past : (form : Form S) (config : Config) (epoch number : ℕ) (from : Peer) (now : ℕ) (noted : Option Note) (request : Request) (claim : Claim) (count : ℕ) (host : Host S) → now ≤ most
-      → HostPast most host → HostPast most (take_claimed form config epoch number from now noted request claim count host).host
+      → HostPast most host → HostPast most (take_claimed form config (record { host = number; epoch = epoch; from = from; now = now; count = count }) noted request claim host).host
   unfolding take_claimed quiet
   take_claimed-past form config epoch number from now noted request (Cancels server) count host in_time past = cancelled-past from now server request count host in_time past
   take_claimed-past form config epoch number from now noted request (Acks server) count host in_time past = pass_server-past most server.event _ host past
@@ -122,7 +122,7 @@ module _ {S : Type 0} (most : ℕ) where
       take_unclaimed-past form config epoch number from now noted request count host in_time past
 
   take_request-past : (form : Form S) (config : Config) (epoch number : ℕ) (from : Peer) (now : ℕ) (noted : Option Note) (request : Request) (count : ℕ) (host : Host S) → now ≤ most
-      → HostPast most host → HostPast most (take_request form config epoch number from now noted request count host).host
+      → HostPast most host → HostPast most (take_request form config (record { host = number; epoch = epoch; from = from; now = now; count = count }) noted request host).host
   unfolding take_request
   take_request-past form config epoch number from now noted request count host in_time past =
       take_claimed-past form config epoch number from now noted request _ count host in_time past
@@ -149,7 +149,7 @@ module _ {S : Type 0} (most : ℕ) where
   -- ## All that a host takes
 
   pub takes-past : (form : Form S) (config : Config) (epoch number : ℕ) (from : Peer) (now : ℕ) (noted : Option Note) (message : Message) (count : ℕ) (host : Host S) → now ≤ most
-      → HostPast most host → HostPast most (takes form config epoch number from now noted message count host).host
+      → HostPast most host → HostPast most (takes form config (record { host = number; epoch = epoch; from = from; now = now; count = count }) noted message host).host
   unfolding takes take_response
   takes-past form config epoch number from now noted (messages.Request request) count host in_time past =
       take_request-past form config epoch number from now noted request count host in_time past

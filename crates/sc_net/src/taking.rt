@@ -9,7 +9,7 @@ ghost use Rattle.sc_wire.specs.HostChanges.{host_after, told_after, net_after};
 
 use sc_inboxes::Told;
 use sc_parts::Setup;
-use sc_state::{Host, Net, Note, Peer, Session};
+use sc_state::{Coming, Host, Net, Note, Peer, Session};
 use sc_take::takes;
 use sc_terms::Config;
 use sc_value::{Message, NoMemory, Place};
@@ -20,55 +20,37 @@ use std::alloc::Global;
 fn host_takes(
     alloc: Global,
     config: &Config,
-    epoch: u32,
-    number: u32,
-    from: Peer,
-    now: u64,
+    coming: Coming,
     noted: &Option<Note>,
     message: &Message,
-    count: u64,
     host: &mut Host<Session>,
 ) -> Result<Told, NoMemory>
-    ensures host { OnOk result (host.new ≡ host_after (takes as_session config.now epoch number from now noted.now message.now count) host.old) }
-    ensures told { IfOk result (λ t. t ≡ told_after (takes as_session config.now epoch number from now noted.now message.now count) count (Some host.old)) }
+    ensures host { OnOk result (host.new ≡ host_after (takes as_session config.now coming noted.now message.now) host.old) }
+    ensures told { IfOk result (λ t. t ≡ told_after (takes as_session config.now coming noted.now message.now) coming.count (Some host.old)) }
 {
-    takes(
-        alloc, config, epoch, number, from, now, noted, message, count, host,
-    )
+    takes(alloc, config, coming, noted, message, host)
 }
 
 #[tactic(auto, unfolding(sc_wire::specs::HostChanges::told_after), using(sc_value::proofs::ListFacts::change_nth_at, sc_value::proofs::ListFacts::change_nth_none, sc_value::proofs::ListFacts::slice_get_at, sc_value::proofs::ListFacts::slice_get_none))]
 fn takes_in(
     alloc: Global,
     config: &Config,
-    epoch: u32,
-    number: u32,
-    from: Peer,
-    now: u64,
+    coming: Coming,
     noted: &Option<Note>,
     message: &Message,
-    count: u64,
     hosts: &mut [Host<Session>],
 ) -> Result<Told, NoMemory>
-    ensures hosts { OnOk result (hosts.new ≡ change_nth number (host_after (takes as_session config.now epoch number from now noted.now message.now count)) hosts.old) }
-    ensures told { IfOk result (λ t. t ≡ told_after (takes as_session config.now epoch number from now noted.now message.now count) count (slice_get hosts.old number)) }
+    ensures hosts { OnOk result (hosts.new ≡ change_nth coming.host (host_after (takes as_session config.now coming noted.now message.now)) hosts.old) }
+    ensures told { IfOk result (λ t. t ≡ told_after (takes as_session config.now coming noted.now message.now) coming.count (slice_get hosts.old coming.host)) }
 {
-    let at = number as usize;
+    let at = coming.host as usize;
     if at < hosts.len() {
-        return host_takes(
-            alloc,
-            config,
-            epoch,
-            number,
-            from,
-            now,
-            noted,
-            message,
-            count,
-            &mut hosts[at],
-        );
+        return host_takes(alloc, config, coming, noted, message, &mut hosts[at]);
     }
-    Ok(Told { reply: None, count })
+    Ok(Told {
+        reply: None,
+        count: coming.count,
+    })
 }
 
 /// The host of this number takes a message, where there is one.
@@ -82,20 +64,16 @@ pub fn net_takes(
     message: &Message,
     net: &mut Net<Session>,
 ) -> Result<(), NoMemory>
-    ensures { OnOk result (net.new ≡ net_after (takes as_session config.now net.old.epoch number from net.old.moment noted.now message.now net.old.count) number net.old) }
+    ensures { OnOk result (net.new ≡ net_after (takes as_session config.now (record { host = number; epoch = net.old.epoch; from = from; now = net.old.moment; count = net.old.count }) noted.now message.now) number net.old) }
 {
-    let told = takes_in(
-        alloc,
-        config,
-        net.epoch,
-        number,
+    let coming = Coming {
+        host: number,
+        epoch: net.epoch,
         from,
-        net.moment,
-        noted,
-        message,
-        net.count,
-        &mut net.hosts.items,
-    )?;
+        now: net.moment,
+        count: net.count,
+    };
+    let told = takes_in(alloc, config, coming, noted, message, &mut net.hosts.items)?;
     net.count = told.count;
     put_reply(number, told.reply, net)
 }

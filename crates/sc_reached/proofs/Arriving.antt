@@ -29,13 +29,13 @@ pub record ComesTo {S : Type 0} (setup : Setup) (from : Place) (request : Reques
 
 module _ {S : Type 0} (form : Form S) (setup : Setup) (from : Place) (request : Request) where
   at-host : (net : Net S) → IsLater from request net → (to : ComesTo setup from request net)
-      → take_request form setup.config net.epoch to.number (peers.Outside from) net.moment None request net.count to.host
-      ≡ queue_later setup.config net.epoch to.number (peers.Outside from) net.moment request net.count to.live to.host
+      → take_request form setup.config (record { host = to.number; epoch = net.epoch; from = peers.Outside from; now = net.moment; count = net.count }) None request to.host
+      ≡ queue_later setup.config (record { host = to.number; epoch = net.epoch; from = peers.Outside from; now = net.moment; count = net.count }) request to.live to.host
   unfolding take_request take_claimed take_unclaimed take_new take_later later_by
   at-host net later to = rw (to.fresh, later.no_cancel, later.tagged, to.by, to.lives) refl
 
   -- it is queued there
   pub arrived-later : (net : Net S) → IsLater from request net → (to : ComesTo setup from request net)
-      → arrived form setup from (messages.Request request) net ≡ placed to.number (queue_later setup.config net.epoch to.number (peers.Outside from) net.moment request net.count to.live to.host) net
+      → arrived form setup from (messages.Request request) net ≡ placed to.number (queue_later setup.config (record { host = to.number; epoch = net.epoch; from = peers.Outside from; now = net.moment; count = net.count }) request to.live to.host) net
   unfolding arrived request_by unclaimed later_arrives later_at taken_at host_takes takes
   arrived-later net later to = rw (later.unclaimed, later.no_cancel, later.tagged, to.by, to.named, to.there, at-host net later to) refl

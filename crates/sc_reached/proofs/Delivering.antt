@@ -54,7 +54,7 @@ module _ {S : Type 0} where
 
   later-reply : (config : Config) (epoch number : ℕ) (from : Peer) (now : ℕ) (request : Request) (count : ℕ) (live : Live S) (host : Host S)
       → is_full live ≡ false
-      → (queue_later config epoch number from now request count live host).reply ≡ reply_at_once from request
+      → (queue_later config (record { host = number; epoch = epoch; from = from; now = now; count = count }) request live host).reply ≡ reply_at_once from request
   unfolding queue_later
   later-reply config epoch number from now request count live host room =
       let app : AppId = record { host = number; serial = live.serial } in
@@ -78,8 +78,8 @@ module _ {S : Type 0} where
 
   taken-later : (form : Form S) (setup : Setup) (entry : Entry) (request : Request) (net : Net S) (app : AppId) (live : Live S)
       → (to : IsFirstFor setup entry request net app live) → find (is_live app.serial) to.host.sessions ≡ Some live
-      → take_request form setup.config net.epoch app.host (peers.Inside entry.sender) net.moment entry.note request net.count to.host
-      ≡ queue_later setup.config net.epoch app.host (peers.Inside entry.sender) net.moment request net.count live to.host
+      → take_request form setup.config (record { host = app.host; epoch = net.epoch; from = peers.Inside entry.sender; now = net.moment; count = net.count }) entry.note request to.host
+      ≡ queue_later setup.config (record { host = app.host; epoch = net.epoch; from = peers.Inside entry.sender; now = net.moment; count = net.count }) request live to.host
   unfolding take_request take_claimed take_unclaimed take_new take_later later_by
   taken-later form setup entry request net app live to is =
       let lives : named_live net.epoch app.host to.uri to.host ≡ Some live = named_live-is net.epoch app.host app.serial to.uri to.host to.within to.small to.named ∙ is in
@@ -87,7 +87,7 @@ module _ {S : Type 0} where
 
   delivered-later : (form : Form S) (setup : Setup) (entry : Entry) (request : Request) (net : Net S) (app : AppId) (live : Live S)
       → (to : IsFirstFor setup entry request net app live) → find (is_live app.serial) to.host.sessions ≡ Some live
-      → deliver_first form setup net ≡ placed app.host (queue_later setup.config net.epoch app.host (peers.Inside entry.sender) net.moment request net.count live to.host) (record net { wire = drop 1 net.wire })
+      → deliver_first form setup net ≡ placed app.host (queue_later setup.config (record { host = app.host; epoch = net.epoch; from = peers.Inside entry.sender; now = net.moment; count = net.count }) request live to.host) (record net { wire = drop 1 net.wire })
   unfolding deliver_first deliver_entry deliver_at takes
   delivered-later form setup entry request net app live to is =
       rw (to.first, to.receiver, to.there, to.message, taken-later form setup entry request net app live to is) refl
@@ -98,7 +98,7 @@ module _ {S : Type 0} where
   delivers form setup entry request net app live to =
       let event : Queued = queued.Request (unrouted setup.config request) in
       let behind : Net S = record net { wire = drop 1 net.wire } in
-      let taken : Taken S = queue_later setup.config net.epoch app.host (peers.Inside entry.sender) net.moment request net.count live to.host in
+      let taken : Taken S = queue_later setup.config (record { host = app.host; epoch = net.epoch; from = peers.Inside entry.sender; now = net.moment; count = net.count }) request live to.host in
       let is : find (is_live app.serial) to.host.sessions ≡ Some live = sym (ap (live_of app) to.there) ∙ to.lives in
       let same-serial : live.serial ≡ app.serial = serial-is app.serial to.host.sessions live is in
       let found : find (is_live live.serial) to.host.sessions ≡ Some live = subst (λ (n : ℕ). find (is_live n) to.host.sessions ≡ Some live) (sym same-serial) is in

@@ -126,7 +126,7 @@ module _ {S : Type 0} where
 
   pub later-sessions : (config : Config) (epoch number : ℕ) (from : Peer) (now : ℕ) (request : Request) (count : ℕ) (live : Live S) (host : Host S)
       → is_full live ≡ false → live_in live.serial host ≡ Some live
-      → (queue_later config epoch number from now request count live host).host.sessions
+      → (queue_later config (record { host = number; epoch = epoch; from = from; now = now; count = count }) request live host).host.sessions
       ≡ change_first (is_live live.serial) (with_event (count + 1) now (queued.Request (unrouted config request))) host.sessions
   unfolding queue_later
   later-sessions config epoch number from now request count live host room is =
@@ -139,7 +139,7 @@ module _ {S : Type 0} where
 
   later-leaves : (config : Config) (epoch number : ℕ) (place : Place) (now : ℕ) (request : Request) (count : ℕ) (live : Live S) (host : Host S)
       → is_full live ≡ false
-      → Leaves S (queue_later config epoch number (peers.Outside place) now request count live host).reply
+      → Leaves S (queue_later config (record { host = number; epoch = epoch; from = peers.Outside place; now = now; count = count }) request live host).reply
   unfolding queue_later
   later-leaves config epoch number place now request count live host room =
       let app : AppId = record { host = number; serial = live.serial } in
@@ -249,7 +249,7 @@ module _ {S : Type 0} where
   reaches form setup from request net app live to =
       let at = at-host app live (host_at app.host net) to.lives in
       let event : Queued = queued.Request (unrouted setup.config request) in
-      let taken : Taken S = queue_later setup.config net.epoch app.host (peers.Outside from) net.moment request net.count live at.0 in
+      let taken : Taken S = queue_later setup.config (record { host = app.host; epoch = net.epoch; from = peers.Outside from; now = net.moment; count = net.count }) request live at.0 in
       let same-serial : live.serial ≡ app.serial = serial-is app.serial at.0.sessions live at.2 in
       let found : find (is_live live.serial) at.0.sessions ≡ Some live = subst (λ (n : ℕ). find (is_live n) at.0.sessions ≡ Some live) (sym same-serial) at.2 in
       let changes = later-sessions setup.config net.epoch app.host (peers.Outside from) net.moment request net.count live at.0 to.room found in

@@ -298,7 +298,7 @@ module _ {S : Type 0} (form : Form S) (app : AppId) (request_of : S → Request)
     later-tagged config request tagged = subst (λ (to : Address). is_some (tag_of to) ≡ true) (sym (unrouted-to config request)) tagged
 
     later_by-took : (known : Option Request) (config : Config) (other : ℕ) (from : Peer) (now : ℕ) (request : Request) (count : ℕ) (found : Option (Live S)) (host : Host S)
-        → is_some (tag_of request.head.to) ≡ true → Comes known from request → Good known number host → Took known number (later_by config other number from now request count found host)
+        → is_some (tag_of request.head.to) ≡ true → Comes known from request → Good known number host → Took known number (later_by config (record { host = number; epoch = other; from = from; now = now; count = count }) request found host)
     unfolding later_by queue_later
     later_by-took known config other from now request count None host tagged comes good = refuse-took known config from 481 _ request count host good
     later_by-took known config other from now request count (Some live) host tagged comes good =
@@ -308,7 +308,7 @@ module _ {S : Type 0} (form : Form S) (app : AppId) (request_of : S → Request)
         (with_server-good known _ _ from _ (unrouted config request) host (later-admits known config _ from request tagged comes) good)))
 
     take_later-took : (known : Option Request) (config : Config) (other : ℕ) (from : Peer) (now : ℕ) (request : Request) (count : ℕ) (host : Host S) → is_some (tag_of request.head.to) ≡ true
-        → Comes known from request → Good known number host → Took known number (take_later config other number from now request count host)
+        → Comes known from request → Good known number host → Took known number (take_later config (record { host = number; epoch = other; from = from; now = now; count = count }) request host)
     unfolding take_later
     take_later-took known config other from now request count host tagged comes good = later_by-took known config other from now request count _ host tagged comes good
 
@@ -329,7 +329,7 @@ module _ {S : Type 0} (form : Form S) (app : AppId) (request_of : S → Request)
     module _ (other now : ℕ) (config : Config) (from : Peer) (noted : Note) (request : Request) (count : ℕ) (host : Host S) where
       opened : (known : Option Request) → All (IsLiveAs known number) host.sessions → All (IsServed known) host.servers → All (IsSent known) host.clients
           → (number ≡ app.host → IsReached known (host.last + 1)) → (named host ≡ app → known ≡ Some request) → Comes known from request
-          → Took known number (begun form config other number from now noted request count host)
+          → Took known number (begun form config (record { host = number; epoch = other; from = from; now = now; count = count }) noted request host)
       unfolding begun begun_live All IsTaggedEvent
       opened known sessions servers clients reached is comes =
           let of : request_of (form.begin config (named host) other now noted request) ≡ request = kinds.begins_of config (named host) other now noted request in
@@ -354,14 +354,14 @@ module _ {S : Type 0} (form : Form S) (app : AppId) (request_of : S → Request)
       reach-more (Some first) n is most = over-more app.serial n most
 
       stays : (known : Option Request) → is_same_app (named host) app ≡ false → Comes known from request → Good known number host
-          → Began known number (begun form config other number from now noted request count host)
+          → Began known number (begun form config (record { host = number; epoch = other; from = from; now = now; count = count }) noted request host)
       stays known is comes good =
           began known _ (opened known good.sessions good.servers good.clients
           (λ here. reach-more known host.last (other-serial number app.host (host.last + 1) app.serial is here) (good.last here))
           (λ same. absurd (other-name (named host) app is same)) comes)
 
       first : (known : Option Request) → named host ≡ app → Comes known from request → Good known number host
-          → Began known number (begun form config other number from now noted request count host)
+          → Began known number (begun form config (record { host = number; epoch = other; from = from; now = now; count = count }) noted request host)
       unfolding IsReached
       first None same comes good = record {
         later = Some request;
@@ -374,12 +374,12 @@ module _ {S : Type 0} (form : Form S) (app : AppId) (request_of : S → Request)
       first (Some earlier) same comes good = absurd (not-over app.serial host.last (good.last (ap (λ (a : AppId). a.host) same)) (ap (λ (a : AppId). a.serial) same))
 
       begun-by : (known : Option Request) (b : Bool) → is_same_app (named host) app ≡ b → Comes known from request → Good known number host
-          → Began known number (begun form config other number from now noted request count host)
+          → Began known number (begun form config (record { host = number; epoch = other; from = from; now = now; count = count }) noted request host)
       begun-by known true is comes good = first known (app-is (named host) app is) comes good
       begun-by known false is comes good = stays known is comes good
 
     take_begun-began : (known : Option Request) (config : Config) (other : ℕ) (from : Peer) (now : ℕ) (noted : Option Note) (request : Request) (count : ℕ) (host : Host S)
-        → Comes known from request → Good known number host → Began known number (take_begun form config other number from now noted request count host)
+        → Comes known from request → Good known number host → Began known number (take_begun form config (record { host = number; epoch = other; from = from; now = now; count = count }) noted request host)
     unfolding take_begun take_initial
     take_begun-began known config other from now None request count host comes good = began known _ (refuse-took known config from 481 _ request count host good)
     take_begun-began known config other from now (Some noted) request count host comes good =
@@ -388,18 +388,18 @@ module _ {S : Type 0} (form : Form S) (app : AppId) (request_of : S → Request)
 
     take_new-by : (known : Option Request) (config : Config) (other : ℕ) (from : Peer) (now : ℕ) (noted : Option Note) (request : Request) (count : ℕ) (host : Host S) (b : Bool)
         → is_some (tag_of request.head.to) ≡ b → Comes known from request → Good known number host
-        → Began known number (cond b (take_later config other number from now request count host) (take_begun form config other number from now noted request count host))
+        → Began known number (cond b (take_later config (record { host = number; epoch = other; from = from; now = now; count = count }) request host) (take_begun form config (record { host = number; epoch = other; from = from; now = now; count = count }) noted request host))
     take_new-by known config other from now noted request count host true is comes good = began known _ (take_later-took known config other from now request count host is comes good)
     take_new-by known config other from now noted request count host false is comes good = take_begun-began known config other from now noted request count host comes good
 
     take_unclaimed-began : (known : Option Request) (config : Config) (other : ℕ) (from : Peer) (now : ℕ) (noted : Option Note) (request : Request) (count : ℕ) (host : Host S)
-        → Comes known from request → Good known number host → Began known number (take_unclaimed form config other number from now noted request count host)
+        → Comes known from request → Good known number host → Began known number (take_unclaimed form config (record { host = number; epoch = other; from = from; now = now; count = count }) noted request host)
     unfolding take_unclaimed take_new
     take_unclaimed-began known config other from now noted request count host comes good =
         if-began known _ _ _ (began known _ (refuse-took known config from 481 _ request count host good)) (take_new-by known config other from now noted request count host _ refl comes good)
 
     take_claimed-began : (known : Option Request) (config : Config) (other : ℕ) (from : Peer) (now : ℕ) (noted : Option Note) (request : Request) (claim : Claim) (count : ℕ) (host : Host S)
-        → Comes known from request → Good known number host → Began known number (take_claimed form config other number from now noted request claim count host)
+        → Comes known from request → Good known number host → Began known number (take_claimed form config (record { host = number; epoch = other; from = from; now = now; count = count }) noted request claim host)
     unfolding take_claimed
     take_claimed-began known config other from now noted request (Cancels server) count host comes good = began known _ (cancelled-took known from now server request count host good)
     take_claimed-began known config other from now noted request (Acks server) count host comes good = began known _ (quiet-took known count _ (pass_server-good known server.event _ host good))
@@ -413,7 +413,7 @@ module _ {S : Type 0} (form : Form S) (app : AppId) (request_of : S → Request)
 
     -- all that a host takes
     pub takes-began : (known : Option Request) (config : Config) (other : ℕ) (from : Peer) (now : ℕ) (noted : Option Note) (message : Message) (count : ℕ) (host : Host S)
-        → MessageComes known from message → Good known number host → Began known number (takes form config other number from now noted message count host)
+        → MessageComes known from message → Good known number host → Began known number (takes form config (record { host = number; epoch = other; from = from; now = now; count = count }) noted message host)
     unfolding takes take_request MessageComes
     takes-began known config other from now noted (messages.Request request) count host comes good = take_claimed-began known config other from now noted request _ count host comes good
     takes-began known config other from now noted (messages.Response response) count host comes good = began known _ (take_response-took known config other from now response count host good)

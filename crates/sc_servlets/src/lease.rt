@@ -2,10 +2,10 @@ ghost use Rattle.std.specs.Prelude.{◌≡◌, ◌<◌, ◌≤◌, ◌^◌, true
 ghost use Rattle.sc_servlets.specs.Ranges.{is_numbered_below};
 
 use sc_terms::{Event, View};
-use sc_value::{AppId, CloneIn, Discard, NoMemory, Same};
+use sc_value::{AppId, CloneIn, Discard, NoMemory, Same, Shared};
 use std::alloc::Global;
 
-/// A turn that is lent out to be made: what it is shown, and by which numbers it is known.
+/// A turn that is lent out to be made: what it is shown, and by which numbers it is known. A copy shares what is shown.
 #[derive(Drop)]
 pub struct Lease {
     /// The number of the lease, from 1.
@@ -17,9 +17,9 @@ pub struct Lease {
     pub event_number: u64,
     /// What the turn shows. Its moment is at most 2^63, the last number drawn below 2^62, and the
     /// next request's and timer's number and that of every SipSession below 2^31.
-    pub shown: View,
+    pub shown: Shared<View>,
     /// The event, None where the application session is handled without one.
-    pub event: Option<Event>,
+    pub event: Option<Shared<Event>>,
     pub ghost moment: { shown.now ≤ 2 ^ 63 },
     pub ghost counter: { shown.counter < 2 ^ 62 },
     pub ghost next_request: { shown.next_request < 2 ^ 31 },
@@ -40,7 +40,7 @@ impl CloneIn for Lease {
                 event,
             }),
             Err(NoMemory) => {
-                shown.discard();
+                drop(shown);
                 Err(NoMemory)
             }
         }

@@ -9,7 +9,7 @@ ghost use Rattle.sc_servlets.specs.Brought.{Meets, ServletAllowed, ListenerAllow
 use crate::{Catalogue, Done, Kind, Lease, Listener};
 use sc_terms::{Charter, End, Event, ListenerCharter, View};
 use sc_turn::{Called, Turn};
-use sc_value::List;
+use sc_value::{List, Shared};
 use std::alloc::Global;
 
 /// A turn that was made, with whom was called.
@@ -72,7 +72,7 @@ fn react_of(alloc: Global, kind: &Kind, lease: Lease) -> Done
 }
 
 #[tactic(auto, unfolding(crate::specs::Brought::IsBrought, crate::specs::Brought::CalledAllowed, crate::specs::Brought::called_servlet, crate::specs::Brought::called_listener))]
-fn made_of(alloc: Global, kind: &Kind, shown: View, event: &Option<Event>) -> Made
+fn made_of(alloc: Global, kind: &Kind, shown: Shared<View>, event: &Option<Shared<Event>>) -> Made
     ensures shown { result.called.shown ≡ shown }
     ensures charter { result.charter ≡ called_servlet event.now (stated kind.now.servlet) }
     ensures listener { result.listener ≡ called_listener event.now (option_map (λ l. listens l) kind.now.listener) }
@@ -81,6 +81,7 @@ fn made_of(alloc: Global, kind: &Kind, shown: View, event: &Option<Event>) -> Ma
     match event {
         None => nobody(alloc, shown),
         Some(event) => {
+            let event = event.get();
             if is_listened(event) {
                 return made_told(alloc, &kind.listener, shown, event);
             }
@@ -108,7 +109,7 @@ pub fn is_listened(event: &Event) -> bool
 fn made_told(
     alloc: Global,
     listener: &Option<Box<dyn Listener>>,
-    shown: View,
+    shown: Shared<View>,
     event: &Event,
 ) -> Made
     requires { is_listened event.now ≡ true }
@@ -140,7 +141,7 @@ fn charter_of(listener: &Box<dyn Listener>) -> ListenerCharter
 }
 
 /// The turn at which nobody is called.
-fn nobody(alloc: Global, shown: View) -> Made
+fn nobody(alloc: Global, shown: Shared<View>) -> Made
     ensures shown { result.called.shown ≡ shown }
     ensures charter { result.charter ≡ None }
     ensures listener { result.listener ≡ None }
@@ -159,7 +160,7 @@ fn nobody(alloc: Global, shown: View) -> Made
 }
 
 /// The turn that couldn't begin for want of memory.
-fn starved(alloc: Global, shown: View) -> Called
+fn starved(alloc: Global, shown: Shared<View>) -> Called
     ensures shown { result.shown ≡ shown }
     ensures end { result.end ≡ End.Starved }
 {
@@ -171,7 +172,7 @@ fn starved(alloc: Global, shown: View) -> Called
 }
 
 #[tactic(auto, unfolding(crate::specs::Brought::Meets))]
-fn call_servlet(alloc: Global, kind: &Kind, shown: View, event: &Event) -> Called
+fn call_servlet(alloc: Global, kind: &Kind, shown: Shared<View>, event: &Event) -> Called
     ensures shown { result.shown ≡ shown }
     ensures allowed { Meets result.end (ServletAllowed (stated kind.now.servlet) shown event.now result.calls result.end) }
 {
@@ -185,7 +186,12 @@ fn call_servlet(alloc: Global, kind: &Kind, shown: View, event: &Event) -> Calle
 }
 
 #[tactic(auto, unfolding(crate::specs::Brought::Meets))]
-fn call_listener(alloc: Global, listener: &Box<dyn Listener>, shown: View, event: &Event) -> Called
+fn call_listener(
+    alloc: Global,
+    listener: &Box<dyn Listener>,
+    shown: Shared<View>,
+    event: &Event,
+) -> Called
     requires { is_listened event.now ≡ true }
     ensures shown { result.shown ≡ shown }
     ensures allowed { Meets result.end (ListenerAllowed (listens listener.now) shown event.now result.calls result.end) }

@@ -13,6 +13,20 @@ pub enum Peer {
     Nowhere,
 }
 
+/// Where, from whom and when a message comes.
+#[derive(Clone, Copy)]
+pub struct Coming {
+    /// The number of the host that takes it.
+    pub host: u32,
+    /// The epoch of the container's run.
+    pub epoch: u32,
+    pub from: Peer,
+    /// The moment, in milliseconds.
+    pub now: u64,
+    /// How many events were queued before.
+    pub count: u64,
+}
+
 /// A client transaction (RFC 3261 section 17.1).
 #[derive(Drop)]
 pub struct Client {

@@ -20,7 +20,7 @@ mod timed;
 mod working;
 
 pub use groups::{branch_number, serial_number, text_number, via_number};
-pub use host::{Client, Fired, Live, Peer, Reply, Server, Taken};
+pub use host::{Client, Coming, Fired, Live, Peer, Reply, Server, Taken};
 pub use hosting::Host;
 pub use net::{Entry, Net, Note};
 pub use orders::{Order, Outcome};

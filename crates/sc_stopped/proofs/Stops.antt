@@ -164,15 +164,15 @@ module _ {S : Type 0} (form : Form S) (setup : Setup) (entry : Entry) (request :
 
   -- the first of the wire is taken by its host
   taken-first : (net : Net S) (app : AppId) (to : IsFirstTo setup entry request net app)
-      → deliver_first form setup net ≡ placed entry.receiver (takes form setup.config net.epoch entry.receiver (peers.Inside entry.sender) net.moment entry.note entry.message net.count to.host) (record net { wire = drop 1 net.wire })
+      → deliver_first form setup net ≡ placed entry.receiver (takes form setup.config (record { host = entry.receiver; epoch = net.epoch; from = peers.Inside entry.sender; now = net.moment; count = net.count }) entry.note entry.message to.host) (record net { wire = drop 1 net.wire })
   unfolding deliver_first deliver_entry deliver_at
   taken-first net app to =
       let at : host_at entry.receiver net ≡ Some to.host = subst (λ (n : ℕ). host_at n net ≡ Some to.host) (sym to.receiver) to.there in
       rw (to.first, at) refl
 
   taken-by : (net : Net S) (app : AppId) (to : IsFirstTo setup entry request net app)
-      → takes form setup.config net.epoch entry.receiver (peers.Inside entry.sender) net.moment entry.note entry.message net.count to.host
-      ≡ later_by setup.config net.epoch entry.receiver (peers.Inside entry.sender) net.moment request net.count (named_live net.epoch entry.receiver to.uri to.host) to.host
+      → takes form setup.config (record { host = entry.receiver; epoch = net.epoch; from = peers.Inside entry.sender; now = net.moment; count = net.count }) entry.note entry.message to.host
+      ≡ later_by setup.config (record { host = entry.receiver; epoch = net.epoch; from = peers.Inside entry.sender; now = net.moment; count = net.count }) request (named_live net.epoch entry.receiver to.uri to.host) to.host
   unfolding takes take_request take_claimed take_unclaimed take_new take_later
   taken-by net app to = rw (to.message, not-claimed (claim_of (peers.Inside entry.sender) request to.host) to.unclaimed, to.no_cancel, to.tagged, to.by) refl
 
@@ -189,12 +189,12 @@ module _ {S : Type 0} (form : Form S) (setup : Setup) (entry : Entry) (request :
 
   by-found : (net : Net S) (app : AppId) (to : IsFirstTo setup entry request net app) (found : Option (Live S)) → live_at app net ≡ found
       → deliver_first form setup net
-      ≡ placed entry.receiver (later_by setup.config net.epoch entry.receiver (peers.Inside entry.sender) net.moment request net.count found to.host) (record net { wire = drop 1 net.wire })
+      ≡ placed entry.receiver (later_by setup.config (record { host = entry.receiver; epoch = net.epoch; from = peers.Inside entry.sender; now = net.moment; count = net.count }) request found to.host) (record net { wire = drop 1 net.wire })
   by-found net app to found is =
       let named : named_live net.epoch entry.receiver to.uri to.host ≡ found = found-at net app to ∙ sym (live-is net app to) ∙ is in
       taken-first net app to
       ∙ ap (λ (taken : Taken S). placed entry.receiver taken (record net { wire = drop 1 net.wire }))
-      (taken-by net app to ∙ ap (λ (live : Option (Live S)). later_by setup.config net.epoch entry.receiver (peers.Inside entry.sender) net.moment request net.count live to.host) named)
+      (taken-by net app to ∙ ap (λ (live : Option (Live S)). later_by setup.config (record { host = entry.receiver; epoch = net.epoch; from = peers.Inside entry.sender; now = net.moment; count = net.count }) request live to.host) named)
 
   pub gone-back : (net : Net S) (app : AppId) → IsFirstTo setup entry request net app → live_at app net ≡ None → deliver_first form setup net ≡ returned setup.config entry 481 does_not_exist request net
   unfolding later_by

@@ -15,7 +15,7 @@ use sc_parts::Setup;
 use sc_servlets::{Done, Lease, is_listened};
 use sc_terms::{Charter, Event, ListenerCharter, Step};
 use sc_transact::is_same_app;
-use sc_value::{AppId, List, Same};
+use sc_value::{AppId, List, Same, Shared};
 
 /// What a brought turn is to the live leases.
 #[derive(Clone, Copy, Debug, PartialEq, Eq)]
@@ -96,12 +96,12 @@ fn listener_of(setup: &Setup, lease: &Lease) -> Option<ListenerCharter>
 
 /// The servlet's charter, where the event calls it.
 #[tactic(auto, unfolding(sc_servlets::specs::Brought::called_servlet))]
-fn called_servlet(event: &Option<Event>, servlet: Charter) -> Option<Charter>
+fn called_servlet(event: &Option<Shared<Event>>, servlet: Charter) -> Option<Charter>
     ensures { result ≡ called_servlet event.now servlet }
 {
     match event {
         Some(event) => {
-            if is_listened(event) {
+            if is_listened(event.get()) {
                 None
             } else {
                 Some(servlet)
@@ -114,13 +114,19 @@ fn called_servlet(event: &Option<Event>, servlet: Charter) -> Option<Charter>
 /// The listener's charter, where the event calls it.
 #[tactic(auto, unfolding(sc_servlets::specs::Brought::called_listener))]
 fn called_listener(
-    event: &Option<Event>,
+    event: &Option<Shared<Event>>,
     listener: Option<ListenerCharter>,
 ) -> Option<ListenerCharter>
     ensures { result ≡ called_listener event.now listener }
 {
     match event {
-        Some(event) => { if is_listened(event) { listener } else { None } }
+        Some(event) => {
+            if is_listened(event.get()) {
+                listener
+            } else {
+                None
+            }
+        }
         None => None,
     }
 }

@@ -18,8 +18,8 @@ use sc_prepare::prepared;
 use sc_servlets::Lease;
 use sc_state::{Live, Net, Prepared, Queued, Session, Waiting};
 use sc_steps::{live_at, ringing_at};
-use sc_terms::{AppEntry, SessionView, View};
-use sc_value::{AppId, CloneIn, List, NoMemory, Same};
+use sc_terms::{AppEntry, Event, SessionView, View};
+use sc_value::{AppId, CloneIn, List, NoMemory, Same, Shared};
 use std::alloc::Global;
 
 /// A lease that is offered, and what its turn begins with, where the session and its event alone tell it.
@@ -111,6 +111,16 @@ fn is_in_range(view: &View) -> bool
         && are_small(view.sessions.as_slice())
 }
 
+/// A copy of the event that several owners have, where there is one.
+fn shared_event(alloc: Global, event: &Option<Event>) -> Result<Option<Shared<Event>>, NoMemory>
+    ensures { IfOk result (λ copy. copy ≡ event.now) }
+{
+    match event {
+        Some(event) => Ok(Some(Shared::new(alloc, event.clone_in(alloc)?)?)),
+        None => Ok(None),
+    }
+}
+
 /// The lease that shows this, at this moment. `NoMemory` too where its numbers are out of the ranges
 /// of a lease.
 fn lease_of(
@@ -127,8 +137,8 @@ fn lease_of(
     if shown.view.now != now || !is_in_range(&shown.view) {
         return Err(NoMemory);
     }
-    let event = shown.event.clone_in(alloc)?;
-    let shown = shown.view.clone_in(alloc)?;
+    let event = shared_event(alloc, &shown.event)?;
+    let shown = Shared::new(alloc, shown.view.clone_in(alloc)?)?;
     Ok(Lease {
         number,
         app,

@@ -146,7 +146,7 @@ fn turn_made(
     ensures made { IfOk result (λ s. IsStepped setup.now net.old (step_of done.now) s) }
     ensures same { net.new ≡ net.old }
 {
-    let begun = net.begun(done.lease.app, done.lease.shown.now);
+    let begun = net.begun(done.lease.app, done.lease.shown.get().now);
     let next = turned_net(alloc, setup, net.get(), begun, done)?;
     counted(alloc, next)
 }
@@ -189,7 +189,7 @@ fn turned_copy(
         done.lease.app,
         done.lease.event_number,
         begun,
-        done.lease.shown.now,
+        done.lease.shown.get().now,
         done.calls.as_slice(),
         done.end,
         &mut next,

@@ -690,7 +690,7 @@ fn step_of(done: Done) -> Step
     let step = Step::Turn {
         app: lease.app,
         event: lease.event_number,
-        now: lease.shown.now,
+        now: lease.shown.get().now,
         calls,
         end,
     };

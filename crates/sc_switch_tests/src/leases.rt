@@ -1,7 +1,8 @@
 //! Leases that are out, and the turns that are made of them.
 
 use sc_servlets::{Catalogue, Done, Lease};
-use sc_value::{CloneIn, Discard, List, NoMemory, Text};
+use sc_terms::View;
+use sc_value::{CloneIn, Discard, List, NoMemory, Shared, Text};
 use std::alloc::Global;
 use std::collections::VecDeque;
 
@@ -53,8 +54,8 @@ pub fn copied(alloc: Global, out: &VecDeque<Lease>) -> Result<Option<Lease>, NoM
 
 /// The lease with another parameter in its view.
 pub fn forged(alloc: Global, lease: Lease) -> Result<Lease, NoMemory> {
-    match forged_params(alloc) {
-        Ok(params) => Ok(with_params(lease, params)),
+    match forged_view(alloc, lease.shown.get()) {
+        Ok(shown) => Ok(showing(lease, shown)),
         Err(NoMemory) => {
             lease.discard();
             Err(NoMemory)
@@ -68,16 +69,22 @@ fn forged_params(alloc: Global) -> Result<List<Text>, NoMemory> {
     Ok(params)
 }
 
-fn with_params(lease: Lease, params: List<Text>) -> Lease {
+fn forged_view(alloc: Global, view: &View) -> Result<Shared<View>, NoMemory> {
+    let params = forged_params(alloc)?;
+    let mut view = view.clone_in(alloc)?;
+    view.params = params;
+    Shared::new(alloc, view)
+}
+
+fn showing(lease: Lease, shown: Shared<View>) -> Lease {
     let Lease {
         number,
         app,
         kind,
         event_number,
-        mut shown,
+        shown: _,
         event,
     } = lease;
-    shown.params = params;
     Lease {
         number,
         app,

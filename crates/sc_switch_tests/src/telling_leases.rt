@@ -3,7 +3,7 @@
 use crate::telling::{tell_app, tell_number};
 use sc_servlets::Lease;
 use sc_terms::{Event, SessionView, TimerView};
-use sc_value::{NoMemory, Text};
+use sc_value::{NoMemory, Shared, Text};
 
 /// Puts the line of a lease: its numbers and its event, then each SipSession, and each timer with the
 /// moment at which it is due.
@@ -11,13 +11,13 @@ pub fn tell_lease(lease: &Lease, told: &mut Text) -> Result<(), NoMemory> {
     tell_number(b"lease ", lease.number, told)?;
     tell_number(b" event ", lease.event_number, told)?;
     tell_app(b" of ", lease.app, told)?;
-    tell_event(&lease.event, told)?;
-    tell_sessions(lease.shown.sessions.as_slice(), told)?;
-    tell_timers(lease.shown.timers.as_slice(), told)?;
+    tell_event(lease.event.as_ref().map(Shared::get), told)?;
+    tell_sessions(lease.shown.get().sessions.as_slice(), told)?;
+    tell_timers(lease.shown.get().timers.as_slice(), told)?;
     told.append(b"\n")
 }
 
-fn tell_event(event: &Option<Event>, told: &mut Text) -> Result<(), NoMemory> {
+fn tell_event(event: Option<&Event>, told: &mut Text) -> Result<(), NoMemory> {
     match event {
         Some(Event::Timer { id, .. }) => tell_number(b" Timer ", u64::from(id.0), told),
         Some(event) => told.append(event_word(event)),

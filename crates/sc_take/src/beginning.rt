@@ -16,7 +16,7 @@ use sc_inboxes::{Told, quiet, refuse_full, refuse_unknown, with_server, with_try
 use sc_legs::fresh;
 use sc_methods::is_bye;
 use sc_names::tag;
-use sc_state::{Host, Live, Note, Peer, Queued, Session, Waiting};
+use sc_state::{Coming, Host, Live, Note, Queued, Session, Waiting};
 use sc_terms::Config;
 use sc_transact::method_of;
 use sc_value::{AppId, CloneIn, List, NoMemory, Request, Shared, Text, sum};
@@ -105,51 +105,57 @@ fn with_live(
 fn begun(
     alloc: Global,
     config: &Config,
-    epoch: u32,
-    number: u32,
-    from: Peer,
-    now: u64,
+    coming: Coming,
     noted: &Note,
     request: &Shared<Request>,
-    count: u64,
     host: &mut Host<Session>,
 ) -> Result<Told, NoMemory>
-    ensures { IfOk result (λ t. begun as_session config.now epoch number from now noted.now request.now count host.old ≡ taken_by host.new t) }
+    ensures { IfOk result (λ t. begun as_session config.now coming noted.now request.now host.old ≡ taken_by host.new t) }
 {
     let serial = sum(host.last(), 1)?;
     let app = AppId {
-        host: number,
+        host: coming.host,
         serial,
     };
-    let event = sum(count, 1)?;
-    let live = begun_live(alloc, config, epoch, app, now, noted, request, event)?;
-    let tag = own_tag(alloc, config, epoch, app)?;
+    let event = sum(coming.count, 1)?;
+    let live = begun_live(
+        alloc,
+        config,
+        coming.epoch,
+        app,
+        coming.now,
+        noted,
+        request,
+        event,
+    )?;
+    let tag = own_tag(alloc, config, coming.epoch, app)?;
     with_live(alloc, live, serial, host)?;
-    with_server(alloc, app, event, from, tag, request, host)?;
-    with_trying(alloc, from, now, request.get(), quiet(event), host)
+    with_server(alloc, app, event, coming.from, tag, request, host)?;
+    with_trying(
+        alloc,
+        coming.from,
+        coming.now,
+        request.get(),
+        quiet(event),
+        host,
+    )
 }
 
 #[tactic(auto, unfolding(sc_hosts::specs::Taking::take_initial))]
 fn take_initial(
     alloc: Global,
     config: &Config,
-    epoch: u32,
-    number: u32,
-    from: Peer,
-    now: u64,
+    coming: Coming,
     noted: &Note,
     request: &Shared<Request>,
-    count: u64,
     host: &mut Host<Session>,
 ) -> Result<Told, NoMemory>
-    ensures { IfOk result (λ t. take_initial as_session config.now epoch number from now noted.now request.now count host.old ≡ taken_by host.new t) }
+    ensures { IfOk result (λ t. take_initial as_session config.now coming noted.now request.now host.old ≡ taken_by host.new t) }
 {
     if 4096 <= host.live_count() {
-        return refuse_full(alloc, config, from, request.get(), count);
+        return refuse_full(alloc, config, coming.from, request.get(), coming.count);
     }
-    begun(
-        alloc, config, epoch, number, from, now, noted, request, count, host,
-    )
+    begun(alloc, config, coming, noted, request, host)
 }
 
 #[tactic(auto, unfolding(sc_hosts::specs::Words::prack))]
@@ -179,25 +185,19 @@ pub fn is_never_initial(request: &Request) -> bool
 pub fn take_begun(
     alloc: Global,
     config: &Config,
-    epoch: u32,
-    number: u32,
-    from: Peer,
-    now: u64,
+    coming: Coming,
     noted: &Option<Note>,
     request: &Shared<Request>,
-    count: u64,
     host: &mut Host<Session>,
 ) -> Result<Told, NoMemory>
-    ensures { IfOk result (λ t. take_begun as_session config.now epoch number from now noted.now request.now count host.old ≡ taken_by host.new t) }
+    ensures { IfOk result (λ t. take_begun as_session config.now coming noted.now request.now host.old ≡ taken_by host.new t) }
 {
     let noted = match noted {
         Some(noted) => noted,
-        None => return refuse_unknown(alloc, config, from, request.get(), count),
+        None => return refuse_unknown(alloc, config, coming.from, request.get(), coming.count),
     };
     if is_never_initial(request.get()) {
-        return refuse_unknown(alloc, config, from, request.get(), count);
+        return refuse_unknown(alloc, config, coming.from, request.get(), coming.count);
     }
-    take_initial(
-        alloc, config, epoch, number, from, now, noted, request, count, host,
-    )
+    take_initial(alloc, config, coming, noted, request, host)
 }

@@ -10,7 +10,7 @@ use sc_inboxes::{
     Told, is_full, named_live, own_uri, queue, refuse_full, refuse_unknown, unrouted, with_server,
     with_trying,
 };
-use sc_state::{Host, Live, Peer, Queued, Session};
+use sc_state::{Coming, Host, Live, Queued, Session};
 use sc_terms::Config;
 use sc_value::{AppId, CloneIn, NoMemory, Request, Shared, Uri, sum};
 use std::alloc::Global;
@@ -19,68 +19,49 @@ use std::alloc::Global;
 fn queue_later(
     alloc: Global,
     config: &Config,
-    epoch: u32,
-    number: u32,
-    from: Peer,
-    now: u64,
+    coming: Coming,
     request: &Shared<Request>,
-    count: u64,
     live: &Live<Session>,
     host: &mut Host<Session>,
 ) -> Result<Told, NoMemory>
-    ensures { IfOk result (λ t. queue_later config.now epoch number from now request.now count live.now host.old ≡ taken_by host.new t) }
+    ensures { IfOk result (λ t. queue_later config.now coming request.now live.now host.old ≡ taken_by host.new t) }
 {
     if is_full(live) {
-        return refuse_full(alloc, config, from, request.get(), count);
+        return refuse_full(alloc, config, coming.from, request.get(), coming.count);
     }
     let own = unrouted(alloc, config, request)?;
     let app = AppId {
-        host: number,
+        host: coming.host,
         serial: live.serial,
     };
-    let event = sum(count, 1)?;
-    let tag = own_tag(alloc, config, epoch, app)?;
-    with_server(alloc, app, event, from, tag, &own, host)?;
+    let event = sum(coming.count, 1)?;
+    let tag = own_tag(alloc, config, coming.epoch, app)?;
+    with_server(alloc, app, event, coming.from, tag, &own, host)?;
     let told = queue(
         alloc,
         live.serial,
-        now,
+        coming.now,
         Queued::Request { request: own },
-        count,
+        coming.count,
         host,
     )?;
-    with_trying(alloc, from, now, request.get(), told, host)
+    with_trying(alloc, coming.from, coming.now, request.get(), told, host)
 }
 
 #[tactic(auto, unfolding(sc_hosts::specs::Taking::later_by))]
 fn later_by(
     alloc: Global,
     config: &Config,
-    epoch: u32,
-    number: u32,
-    from: Peer,
-    now: u64,
+    coming: Coming,
     request: &Shared<Request>,
-    count: u64,
     live: Option<Shared<Live<Session>>>,
     host: &mut Host<Session>,
 ) -> Result<Told, NoMemory>
-    ensures { IfOk result (λ t. later_by config.now epoch number from now request.now count live host.old ≡ taken_by host.new t) }
+    ensures { IfOk result (λ t. later_by config.now coming request.now live host.old ≡ taken_by host.new t) }
 {
     match live {
-        Some(live) => queue_later(
-            alloc,
-            config,
-            epoch,
-            number,
-            from,
-            now,
-            request,
-            count,
-            live.get(),
-            host,
-        ),
-        None => refuse_unknown(alloc, config, from, request.get(), count),
+        Some(live) => queue_later(alloc, config, coming, request, live.get(), host),
+        None => refuse_unknown(alloc, config, coming.from, request.get(), coming.count),
     }
 }
 
@@ -108,19 +89,13 @@ fn named_by(
 pub fn take_later(
     alloc: Global,
     config: &Config,
-    epoch: u32,
-    number: u32,
-    from: Peer,
-    now: u64,
+    coming: Coming,
     request: &Shared<Request>,
-    count: u64,
     host: &mut Host<Session>,
 ) -> Result<Told, NoMemory>
-    ensures { IfOk result (λ t. take_later config.now epoch number from now request.now count host.old ≡ taken_by host.new t) }
+    ensures { IfOk result (λ t. take_later config.now coming request.now host.old ≡ taken_by host.new t) }
 {
     let uri = own_uri(alloc, config, request.get())?;
-    let live = named_by(alloc, epoch, number, uri, host)?;
-    later_by(
-        alloc, config, epoch, number, from, now, request, count, live, host,
-    )
+    let live = named_by(alloc, coming.epoch, coming.host, uri, host)?;
+    later_by(alloc, config, coming, request, live, host)
 }

@@ -13,7 +13,7 @@ use crate::later::take_later;
 use crate::responses::take_response;
 use sc_inboxes::{Told, quiet, refuse_unknown};
 use sc_parts::ServerItem;
-use sc_state::{Host, Note, Peer, Session};
+use sc_state::{Coming, Host, Note, Session};
 use sc_terms::Config;
 use sc_transact::{is_ack, is_cancel, pass_server};
 use sc_value::{Message, NoMemory, Request, Shared, tag};
@@ -24,70 +24,58 @@ use std::alloc::Global;
 fn take_new(
     alloc: Global,
     config: &Config,
-    epoch: u32,
-    number: u32,
-    from: Peer,
-    now: u64,
+    coming: Coming,
     noted: &Option<Note>,
     request: &Shared<Request>,
-    count: u64,
     host: &mut Host<Session>,
 ) -> Result<Told, NoMemory>
-    ensures { IfOk result (λ t. take_new as_session config.now epoch number from now noted.now request.now count host.old ≡ taken_by host.new t) }
+    ensures { IfOk result (λ t. take_new as_session config.now coming noted.now request.now host.old ≡ taken_by host.new t) }
 {
     if tag(&request.get().head.to).is_some() {
-        return take_later(
-            alloc, config, epoch, number, from, now, request, count, host,
-        );
+        return take_later(alloc, config, coming, request, host);
     }
-    take_begun(
-        alloc, config, epoch, number, from, now, noted, request, count, host,
-    )
+    take_begun(alloc, config, coming, noted, request, host)
 }
 
 #[tactic(auto, unfolding(sc_hosts::specs::Taking::take_unclaimed))]
 fn take_unclaimed(
     alloc: Global,
     config: &Config,
-    epoch: u32,
-    number: u32,
-    from: Peer,
-    now: u64,
+    coming: Coming,
     noted: &Option<Note>,
     request: &Shared<Request>,
-    count: u64,
     host: &mut Host<Session>,
 ) -> Result<Told, NoMemory>
-    ensures { IfOk result (λ t. take_unclaimed as_session config.now epoch number from now noted.now request.now count host.old ≡ taken_by host.new t) }
+    ensures { IfOk result (λ t. take_unclaimed as_session config.now coming noted.now request.now host.old ≡ taken_by host.new t) }
 {
     if is_cancel(request.get()) {
-        return refuse_unknown(alloc, config, from, request.get(), count);
+        return refuse_unknown(alloc, config, coming.from, request.get(), coming.count);
     }
-    take_new(
-        alloc, config, epoch, number, from, now, noted, request, count, host,
-    )
+    take_new(alloc, config, coming, noted, request, host)
 }
 
 #[tactic(auto, unfolding(sc_hosts::specs::Taking::take_claimed, sc_hosts::specs::Taking::claim_by))]
 fn take_cancel(
     alloc: Global,
     config: &Config,
-    epoch: u32,
-    number: u32,
-    from: Peer,
-    now: u64,
+    coming: Coming,
     noted: &Option<Note>,
     request: &Shared<Request>,
-    count: u64,
     host: &mut Host<Session>,
 ) -> Result<Told, NoMemory>
-    ensures { IfOk result (λ t. take_claimed as_session config.now epoch number from now noted.now request.now (claim_by Cancels (find (is_cancelled_by from request.now) host.old.servers) Unclaimed) count host.old ≡ taken_by host.new t) }
+    ensures { IfOk result (λ t. take_claimed as_session config.now coming noted.now request.now (claim_by Cancels (find (is_cancelled_by coming.from request.now) host.old.servers) Unclaimed) host.old ≡ taken_by host.new t) }
 {
-    match cancelled_by(alloc, from, request.get(), host)? {
-        Some(server) => cancelled(alloc, from, now, server.get(), request.get(), count, host),
-        None => take_unclaimed(
-            alloc, config, epoch, number, from, now, noted, request, count, host,
+    match cancelled_by(alloc, coming.from, request.get(), host)? {
+        Some(server) => cancelled(
+            alloc,
+            coming.from,
+            coming.now,
+            server.get(),
+            request.get(),
+            coming.count,
+            host,
         ),
+        None => take_unclaimed(alloc, config, coming, noted, request, host),
     }
 }
 
@@ -95,25 +83,19 @@ fn take_cancel(
 fn take_ack(
     alloc: Global,
     config: &Config,
-    epoch: u32,
-    number: u32,
-    from: Peer,
-    now: u64,
+    coming: Coming,
     noted: &Option<Note>,
     request: &Shared<Request>,
-    count: u64,
     host: &mut Host<Session>,
 ) -> Result<Told, NoMemory>
-    ensures { IfOk result (λ t. take_claimed as_session config.now epoch number from now noted.now request.now (claim_by Acks (find (is_acked_by from request.now) host.old.servers) Unclaimed) count host.old ≡ taken_by host.new t) }
+    ensures { IfOk result (λ t. take_claimed as_session config.now coming noted.now request.now (claim_by Acks (find (is_acked_by coming.from request.now) host.old.servers) Unclaimed) host.old ≡ taken_by host.new t) }
 {
-    match acked_by(alloc, from, request.get(), host)? {
+    match acked_by(alloc, coming.from, request.get(), host)? {
         Some(server) => {
             pass_server(alloc, server.get().event, ServerItem::AckCame, host)?;
-            Ok(quiet(count))
+            Ok(quiet(coming.count))
         }
-        None => take_unclaimed(
-            alloc, config, epoch, number, from, now, noted, request, count, host,
-        ),
+        None => take_unclaimed(alloc, config, coming, noted, request, host),
     }
 }
 
@@ -121,22 +103,16 @@ fn take_ack(
 fn take_other(
     alloc: Global,
     config: &Config,
-    epoch: u32,
-    number: u32,
-    from: Peer,
-    now: u64,
+    coming: Coming,
     noted: &Option<Note>,
     request: &Shared<Request>,
-    count: u64,
     host: &mut Host<Session>,
 ) -> Result<Told, NoMemory>
-    ensures { IfOk result (λ t. take_claimed as_session config.now epoch number from now noted.now request.now (claim_by Repeats (find (is_repeated_by from request.now) host.old.servers) Unclaimed) count host.old ≡ taken_by host.new t) }
+    ensures { IfOk result (λ t. take_claimed as_session config.now coming noted.now request.now (claim_by Repeats (find (is_repeated_by coming.from request.now) host.old.servers) Unclaimed) host.old ≡ taken_by host.new t) }
 {
-    match repeated_by(alloc, from, request.get(), host)? {
-        Some(server) => repeated(alloc, server.get(), count, host),
-        None => take_unclaimed(
-            alloc, config, epoch, number, from, now, noted, request, count, host,
-        ),
+    match repeated_by(alloc, coming.from, request.get(), host)? {
+        Some(server) => repeated(alloc, server.get(), coming.count, host),
+        None => take_unclaimed(alloc, config, coming, noted, request, host),
     }
 }
 
@@ -144,61 +120,44 @@ fn take_other(
 fn take_request(
     alloc: Global,
     config: &Config,
-    epoch: u32,
-    number: u32,
-    from: Peer,
-    now: u64,
+    coming: Coming,
     noted: &Option<Note>,
     request: &Shared<Request>,
-    count: u64,
     host: &mut Host<Session>,
 ) -> Result<Told, NoMemory>
-    ensures { IfOk result (λ t. take_request as_session config.now epoch number from now noted.now request.now count host.old ≡ taken_by host.new t) }
+    ensures { IfOk result (λ t. take_request as_session config.now coming noted.now request.now host.old ≡ taken_by host.new t) }
 {
     if is_cancel(request.get()) {
-        return take_cancel(
-            alloc, config, epoch, number, from, now, noted, request, count, host,
-        );
+        return take_cancel(alloc, config, coming, noted, request, host);
     }
     if is_ack(request.get()) {
-        return take_ack(
-            alloc, config, epoch, number, from, now, noted, request, count, host,
-        );
+        return take_ack(alloc, config, coming, noted, request, host);
     }
-    take_other(
-        alloc, config, epoch, number, from, now, noted, request, count, host,
-    )
+    take_other(alloc, config, coming, noted, request, host)
 }
 
-/// What a host of this number takes from a peer, at this moment in this epoch. `noted` goes with a
-/// request that may begin a session, and `count` tells how many events were queued before.
+/// What a host takes that comes so. `noted` goes with a request that may begin a session.
 #[tactic(auto, unfolding(sc_hosts::specs::Taking::takes))]
 pub fn takes(
     alloc: Global,
     config: &Config,
-    epoch: u32,
-    number: u32,
-    from: Peer,
-    now: u64,
+    coming: Coming,
     noted: &Option<Note>,
     message: &Message,
-    count: u64,
     host: &mut Host<Session>,
 ) -> Result<Told, NoMemory>
-    ensures { IfOk result (λ t. takes as_session config.now epoch number from now noted.now message.now count host.old ≡ taken_by host.new t) }
+    ensures { IfOk result (λ t. takes as_session config.now coming noted.now message.now host.old ≡ taken_by host.new t) }
 {
     match message {
-        Message::Request(request) => take_request(
-            alloc, config, epoch, number, from, now, noted, request, count, host,
-        ),
+        Message::Request(request) => take_request(alloc, config, coming, noted, request, host),
         Message::Response(response) => take_response(
             alloc,
             config,
-            epoch,
-            from,
-            now,
+            coming.epoch,
+            coming.from,
+            coming.now,
             response.get(),
-            count,
+            coming.count,
             host,
         ),
     }

@@ -5,7 +5,7 @@ ghost use Rattle.sc_turn.specs.Working.{play_of, end_of};
 use sc_effects::begun;
 use sc_state::Play;
 use sc_terms::{CallRecord, End, View};
-use sc_value::{CloneIn, List, NoMemory};
+use sc_value::{CloneIn, List, NoMemory, Shared};
 use std::alloc::Global;
 use std::marker::Model;
 
@@ -16,7 +16,7 @@ use std::marker::Model;
 #[derive(Drop)]
 pub struct Turn {
     pub(crate) alloc: Global,
-    pub(crate) shown: View,
+    pub(crate) shown: Shared<View>,
     pub(crate) play: Play,
     pub(crate) calls: List<CallRecord>,
     pub(crate) starved: bool,
@@ -46,11 +46,11 @@ impl Turn {
 impl Turn {
     /// A turn that shows this view. For want of memory the view is handed back.
     #[tactic(auto, using(crate::proofs::Listing::begins))]
-    pub fn begin(alloc: Global, shown: View) -> Result<Turn, View>
+    pub fn begin(alloc: Global, shown: Shared<View>) -> Result<Turn, Shared<View>>
         ensures ok { IfOk result (λ t. t ≡ record { shown = shown; calls = []; starved = false }) }
         ensures back { IfErr result (λ view. view ≡ shown) }
     {
-        match shown.clone_in(alloc) {
+        match shown.get().clone_in(alloc) {
             Ok(view) => Ok(Turn {
                 alloc,
                 shown,
@@ -91,7 +91,7 @@ impl Turn {
 /// What is left of a turn.
 #[derive(Drop)]
 pub struct Called {
-    pub shown: View,
+    pub shown: Shared<View>,
     pub calls: List<CallRecord>,
     pub end: End,
 }

@@ -9,7 +9,7 @@
 use crate::rows::{RequestRow, SessionRow, request_rows, session_rows};
 use sc_terms::{Period, RequestView, SessionView, TimerView, View};
 use sc_turn::Turn;
-use sc_value::{AppId, Discard, HeaderValue, List, NoMemory, ReqId, SessId, Text, TimerId, Token};
+use sc_value::{AppId, HeaderValue, List, NoMemory, ReqId, SessId, Shared, Text, TimerId, Token};
 use std::alloc::Global;
 
 #[tactic(auto, unfolding(sc_tokens::specs::Tokens::is_token, sc_tokens::specs::Tokens::is_token_byte))]
@@ -129,10 +129,10 @@ fn view(alloc: Global) -> Result<View, NoMemory> {
 
 // A turn over this view.
 fn turn_over(alloc: Global, view: View) -> Result<Turn, NoMemory> {
-    match Turn::begin(alloc, view) {
+    match Turn::begin(alloc, Shared::new(alloc, view)?) {
         Ok(turn) => Ok(turn),
         Err(view) => {
-            view.discard();
+            drop(view);
             Err(NoMemory)
         }
     }

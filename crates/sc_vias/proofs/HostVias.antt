@@ -148,7 +148,7 @@ module _ {S : Type 0} (form : Form S) (epoch : ℕ) (Named : AppId → S → Typ
   with_trying-good from now request taken took = if-took _ _ taken took took
 
   later_by-good : (config : Config) (other : ℕ) (from : Peer) (now : ℕ) (request : Request) (count : ℕ) (found : Option (Live S)) (host : Host S) → Good host
-      → Took (later_by config other number from now request count found host)
+      → Took (later_by config (record { host = number; epoch = other; from = from; now = now; count = count }) request found host)
   unfolding later_by queue_later
   later_by-good config other from now request count None host good = refuse-good config from 481 _ request count host good
   later_by-good config other from now request count (Some live) host good =
@@ -156,19 +156,19 @@ module _ {S : Type 0} (form : Form S) (epoch : ℕ) (Named : AppId → S → Typ
       (with_trying-good from now request _ (queue-good live.serial now _ count _ (with_server-good _ _ from _ _ host good)))
 
   take_later-good : (config : Config) (other : ℕ) (from : Peer) (now : ℕ) (request : Request) (count : ℕ) (host : Host S) → Good host
-      → Took (take_later config other number from now request count host)
+      → Took (take_later config (record { host = number; epoch = other; from = from; now = now; count = count }) request host)
   unfolding take_later
   take_later-good config other from now request count host good = later_by-good config other from now request count _ host good
 
   begun-good : (config : Config) (from : Peer) (now : ℕ) (noted : Note) (request : Request) (count : ℕ) (host : Host S) → Good host
-      → Took (begun form config epoch number from now noted request count host)
+      → Took (begun form config (record { host = number; epoch = epoch; from = from; now = now; count = count }) noted request host)
   unfolding begun begun_live quiet
   begun-good config from now noted request count host good =
       with_trying-good from now request _
       (with_server-good _ _ from _ request _ (all-append IsNamed host.sessions _ good.0 (kinds.begins config (record { host = number; serial = host.last + 1 }) now noted request), good.1))
 
   take_begun-good : (config : Config) (from : Peer) (now : ℕ) (noted : Option Note) (request : Request) (count : ℕ) (host : Host S) → Good host
-      → Took (take_begun form config epoch number from now noted request count host)
+      → Took (take_begun form config (record { host = number; epoch = epoch; from = from; now = now; count = count }) noted request host)
   unfolding take_begun take_initial
   take_begun-good config from now None request count host good = refuse-good config from 481 _ request count host good
   take_begun-good config from now (Some noted) request count host good =
@@ -176,14 +176,14 @@ module _ {S : Type 0} (form : Form S) (epoch : ℕ) (Named : AppId → S → Typ
       (if-took _ _ _ (refuse-good config from 503 _ request count host good) (begun-good config from now noted request count host good))
 
   take_unclaimed-good : (config : Config) (from : Peer) (now : ℕ) (noted : Option Note) (request : Request) (count : ℕ) (host : Host S) → Good host
-      → Took (take_unclaimed form config epoch number from now noted request count host)
+      → Took (take_unclaimed form config (record { host = number; epoch = epoch; from = from; now = now; count = count }) noted request host)
   unfolding take_unclaimed take_new
   take_unclaimed-good config from now noted request count host good =
       if-took _ _ _ (refuse-good config from 481 _ request count host good)
       (if-took _ _ _ (take_later-good config epoch from now request count host good) (take_begun-good config from now noted request count host good))
 
   take_claimed-good : (config : Config) (from : Peer) (now : ℕ) (noted : Option Note) (request : Request) (claim : Claim) (count : ℕ) (host : Host S) → Good host
-      → Took (take_claimed form config epoch number from now noted request claim count host)
+      → Took (take_claimed form config (record { host = number; epoch = epoch; from = from; now = now; count = count }) noted request claim host)
   unfolding take_claimed quiet
   take_claimed-good config from now noted request (Cancels server) count host good = cancelled-good from now server request count host good
   take_claimed-good config from now noted request (Acks server) count host good = pass_server-good server.event _ host good
@@ -192,7 +192,7 @@ module _ {S : Type 0} (form : Form S) (epoch : ℕ) (Named : AppId → S → Typ
 
   -- all that a host takes
   pub takes-good : (config : Config) (from : Peer) (now : ℕ) (noted : Option Note) (message : Message) (count : ℕ) (host : Host S) → Good host
-      → Took (takes form config epoch number from now noted message count host)
+      → Took (takes form config (record { host = number; epoch = epoch; from = from; now = now; count = count }) noted message host)
   unfolding takes take_request
   takes-good config from now noted (messages.Request request) count host good = take_claimed-good config from now noted request _ count host good
   takes-good config from now noted (messages.Response response) count host good = take_response-good config epoch from now response count host good

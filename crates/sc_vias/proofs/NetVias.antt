@@ -213,7 +213,7 @@ module _ {S : Type 0} (form : Form S) (epoch : ℕ) (Named : AppId → S → Typ
   unfolding deliver_at
   deliver_at-holds setup entry None net is holds = holds
   deliver_at-holds setup entry (Some host) net is holds =
-      let took : Right entry.receiver (takes form setup.config net.epoch entry.receiver (peers.Inside entry.sender) net.moment entry.note entry.message net.count host).host
+      let took : Right entry.receiver (takes form setup.config (record { host = entry.receiver; epoch = net.epoch; from = peers.Inside entry.sender; now = net.moment; count = net.count }) entry.note entry.message host).host
       = rw (holds.same) (takes-good form epoch Named Fits kinds entry.receiver setup.config (peers.Inside entry.sender) net.moment entry.note entry.message net.count host (holds.hosts entry.receiver host is)) in
       placed-holds entry.receiver _ net took holds
 

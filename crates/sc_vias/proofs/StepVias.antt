@@ -96,7 +96,7 @@ module _ {S : Type 0} (form : Form S) (epoch : ℕ) (Named : AppId → S → Typ
   unfolding host_takes
   host_takes-kept from noted message number None net is kept = kept
   host_takes-kept from noted message number (Some host) net is kept =
-      let took : Right number (takes form setup.config net.epoch number (peers.Outside from) net.moment noted message net.count host).host
+      let took : Right number (takes form setup.config (record { host = number; epoch = net.epoch; from = peers.Outside from; now = net.moment; count = net.count }) noted message host).host
       = rw (kept.same) (takes-good form epoch Named Fits kinds number setup.config (peers.Outside from) net.moment noted message net.count host (kept.hosts number host is)) in
       placed-holds form epoch Named Fits kinds number _ net took kept
 

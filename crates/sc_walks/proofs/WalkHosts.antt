@@ -102,33 +102,33 @@ module _ {S : Type 0} {Begins : Form S → Type 0} (number now : ℕ) (H : ℕ �
   with_trying-walks from request count host taken took =
       if-took _ count host _ taken (law.after _ _ _ _ _ _ took (law.passes taken.count taken.host taken.host.clients _)) took
 
-  later_by-walks : (config : Config) (epoch : ℕ) (from : Peer) (request : Request) (count : ℕ) (live : Option (Live S)) (host : Host S) → Took count host (later_by config epoch number from now request count live host)
+  later_by-walks : (config : Config) (epoch : ℕ) (from : Peer) (request : Request) (count : ℕ) (live : Option (Live S)) (host : Host S) → Took count host (later_by config (record { host = number; epoch = epoch; from = from; now = now; count = count }) request live host)
   unfolding later_by queue_later IsLate
   later_by-walks config epoch from request count None host = refuse-walks config from 481 _ request count host
   later_by-walks config epoch from request count (Some live) host =
       if-took _ count host _ _ (refuse-walks config from 503 _ request count host)
       (with_trying-walks from request count host _ (law.after _ _ _ _ _ _ (with_server-walks _ _ from _ _ count host) (law.queues live.serial _ tt count _)))
 
-  pub take_later-walks : (config : Config) (epoch : ℕ) (from : Peer) (request : Request) (count : ℕ) (host : Host S) → Took count host (take_later config epoch number from now request count host)
+  pub take_later-walks : (config : Config) (epoch : ℕ) (from : Peer) (request : Request) (count : ℕ) (host : Host S) → Took count host (take_later config (record { host = number; epoch = epoch; from = from; now = now; count = count }) request host)
   unfolding take_later
   take_later-walks config epoch from request count host = later_by-walks config epoch from request count _ host
 
   -- ## Requests that begin a session
 
   begun-walks : (form : Form S) (good : Begins form) (config : Config) (epoch : ℕ) (from : Peer) (noted : Note) (request : Request) (count : ℕ) (host : Host S)
-      → Took count host (begun form config epoch number from now noted request count host)
+      → Took count host (begun form config (record { host = number; epoch = epoch; from = from; now = now; count = count }) noted request host)
   unfolding begun quiet
   begun-walks form good config epoch from noted request count host =
       with_trying-walks from request count host _ (law.after _ _ _ _ _ _ (law.begins form good config epoch noted request count host) (with_server-walks _ _ from _ request (count + 1) _))
 
   take_initial-walks : (form : Form S) (good : Begins form) (config : Config) (epoch : ℕ) (from : Peer) (noted : Note) (request : Request) (count : ℕ) (host : Host S)
-      → Took count host (take_initial form config epoch number from now noted request count host)
+      → Took count host (take_initial form config (record { host = number; epoch = epoch; from = from; now = now; count = count }) noted request host)
   unfolding take_initial
   take_initial-walks form good config epoch from noted request count host =
       if-took _ count host _ _ (refuse-walks config from 503 _ request count host) (begun-walks form good config epoch from noted request count host)
 
   take_begun-walks : (form : Form S) (good : Begins form) (config : Config) (epoch : ℕ) (from : Peer) (noted : Option Note) (request : Request) (count : ℕ) (host : Host S)
-      → Took count host (take_begun form config epoch number from now noted request count host)
+      → Took count host (take_begun form config (record { host = number; epoch = epoch; from = from; now = now; count = count }) noted request host)
   unfolding take_begun
   take_begun-walks form good config epoch from None request count host = refuse-walks config from 481 _ request count host
   take_begun-walks form good config epoch from (Some noted) request count host =
@@ -137,14 +137,14 @@ module _ {S : Type 0} {Begins : Form S → Type 0} (number now : ℕ) (H : ℕ �
   -- ## Every request
 
   take_unclaimed-walks : (form : Form S) (good : Begins form) (config : Config) (epoch : ℕ) (from : Peer) (noted : Option Note) (request : Request) (count : ℕ) (host : Host S)
-      → Took count host (take_unclaimed form config epoch number from now noted request count host)
+      → Took count host (take_unclaimed form config (record { host = number; epoch = epoch; from = from; now = now; count = count }) noted request host)
   unfolding take_unclaimed take_new
   take_unclaimed-walks form good config epoch from noted request count host =
       if-took _ count host _ _ (refuse-walks config from 481 _ request count host)
       (if-took _ count host _ _ (take_later-walks config epoch from request count host) (take_begun-walks form good config epoch from noted request count host))
 
   take_claimed-walks : (form : Form S) (good : Begins form) (config : Config) (epoch : ℕ) (from : Peer) (noted : Option Note) (request : Request) (claim : Claim) (count : ℕ) (host : Host S)
-      → Took count host (take_claimed form config epoch number from now noted request claim count host)
+      → Took count host (take_claimed form config (record { host = number; epoch = epoch; from = from; now = now; count = count }) noted request claim host)
   unfolding take_claimed quiet
   take_claimed-walks form good config epoch from noted request (Cancels server) count host = cancelled-walks from server request count host
   take_claimed-walks form good config epoch from noted request (Acks server) count host = pass_server-walks server.event _ count host
@@ -154,7 +154,7 @@ module _ {S : Type 0} {Begins : Form S → Type 0} (number now : ℕ) (H : ℕ �
   -- ## All that a host takes
 
   pub takes-walks : (form : Form S) (good : Begins form) (config : Config) (epoch : ℕ) (from : Peer) (noted : Option Note) (message : Message) (count : ℕ) (host : Host S)
-      → Took count host (takes form config epoch number from now noted message count host)
+      → Took count host (takes form config (record { host = number; epoch = epoch; from = from; now = now; count = count }) noted message host)
   unfolding takes take_request take_response
   takes-walks form good config epoch from noted (messages.Request request) count host = take_claimed-walks form good config epoch from noted request _ count host
   takes-walks form good config epoch from noted (messages.Response response) count host = response_to-walks _ response count host

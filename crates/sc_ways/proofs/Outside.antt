@@ -98,7 +98,7 @@ module _ (setup : Setup) (place : Place) (request : Request) where
   trying-outward now taken out = if-outward (same_bytes (method_of request) invite) _ taken (place, refl) out
 
   later_by-outward : (config : Config) (epoch number now count : ℕ) (found : Option (Live Session)) (host : Host Session)
-      → Outward (later_by config epoch number (peers.Outside place) now request count found host).reply
+      → Outward (later_by config (record { host = number; epoch = epoch; from = peers.Outside place; now = now; count = count }) request found host).reply
   unfolding later_by queue_later
   later_by-outward config epoch number now count None host = refuse-outward config 481 _ count host
   later_by-outward config epoch number now count (Some live) host =
@@ -107,7 +107,7 @@ module _ (setup : Setup) (place : Place) (request : Request) where
       if-outward (is_full live) (refuse config (peers.Outside place) 503 _ request count host) _ (refuse-outward config 503 _ count host)
       (trying-outward now (queue live.serial now (queued.Request (unrouted config request)) count served) (none-outward _ (queue-reply live.serial now (queued.Request (unrouted config request)) count served)))
 
-  take_later-outward : (config : Config) (epoch number now count : ℕ) (host : Host Session) → Outward (take_later config epoch number (peers.Outside place) now request count host).reply
+  take_later-outward : (config : Config) (epoch number now count : ℕ) (host : Host Session) → Outward (take_later config (record { host = number; epoch = epoch; from = peers.Outside place; now = now; count = count }) request host).reply
   unfolding take_later
   take_later-outward config epoch number now count host = later_by-outward config epoch number now count _ host
 
@@ -183,8 +183,8 @@ module _ (setup : Setup) (place : Place) (request : Request) where
 
   takes-later : (net : Net Session) (number : ℕ) (host : Host Session) → same_bytes (method_of request) cancel ≡ false → is_some (tag_of request.head.to) ≡ true
       → claim_of (peers.Outside place) request host ≡ Unclaimed
-      → takes as_session setup.config net.epoch number (peers.Outside place) net.moment None (messages.Request request) net.count host
-      ≡ take_later setup.config net.epoch number (peers.Outside place) net.moment request net.count host
+      → takes as_session setup.config (record { host = number; epoch = net.epoch; from = peers.Outside place; now = net.moment; count = net.count }) None (messages.Request request) host
+      ≡ take_later setup.config (record { host = number; epoch = net.epoch; from = peers.Outside place; now = net.moment; count = net.count }) request host
   unfolding takes take_request take_claimed take_unclaimed take_new
   takes-later net number host no_cancel tagged fresh = rw (fresh, no_cancel, tagged) refl
 

@@ -53,22 +53,22 @@ net_queued app event net = queued-by app event net (slice_get net.hosts app.host
 -- ## A message that is taken
 
 taken-by : (setup : Setup) (from : Place) (noted : Option Note) (message : Message) (number : ℕ) (net : Net Session) (host : Option (Host Session)) → slice_get net.hosts number ≡ host
-    → net_after (takes as_session setup.config net.epoch number (peers.Outside from) net.moment noted message net.count) number net ≡ host_takes as_session setup from noted message number host net
+    → net_after (takes as_session setup.config (record { host = number; epoch = net.epoch; from = peers.Outside from; now = net.moment; count = net.count }) noted message) number net ≡ host_takes as_session setup from noted message number host net
 unfolding host_takes
-taken-by setup from noted message number net None e = net_kept (takes as_session setup.config net.epoch number (peers.Outside from) net.moment noted message net.count) number net e
-taken-by setup from noted message number net (Some host) e = net_placed (takes as_session setup.config net.epoch number (peers.Outside from) net.moment noted message net.count) number net host e
+taken-by setup from noted message number net None e = net_kept (takes as_session setup.config (record { host = number; epoch = net.epoch; from = peers.Outside from; now = net.moment; count = net.count }) noted message) number net e
+taken-by setup from noted message number net (Some host) e = net_placed (takes as_session setup.config (record { host = number; epoch = net.epoch; from = peers.Outside from; now = net.moment; count = net.count }) noted message) number net host e
 
 pub net_taken : (setup : Setup) (from : Place) (noted : Option Note) (message : Message) (number : ℕ) (net : Net Session)
-    → net_after (takes as_session setup.config net.epoch number (peers.Outside from) net.moment noted message net.count) number net ≡ taken_at as_session setup from noted message number net
+    → net_after (takes as_session setup.config (record { host = number; epoch = net.epoch; from = peers.Outside from; now = net.moment; count = net.count }) noted message) number net ≡ taken_at as_session setup from noted message number net
 unfolding taken_at
 net_taken setup from noted message number net = taken-by setup from noted message number net (slice_get net.hosts number) refl
 
 entry-by : (setup : Setup) (entry : Entry) (net : Net Session) (host : Option (Host Session)) → slice_get net.hosts entry.receiver ≡ host
-    → net_after (takes as_session setup.config net.epoch entry.receiver (peers.Inside entry.sender) net.moment entry.note entry.message net.count) entry.receiver net ≡ deliver_at as_session setup entry host net
+    → net_after (takes as_session setup.config (record { host = entry.receiver; epoch = net.epoch; from = peers.Inside entry.sender; now = net.moment; count = net.count }) entry.note entry.message) entry.receiver net ≡ deliver_at as_session setup entry host net
 unfolding deliver_at
-entry-by setup entry net None e = net_kept (takes as_session setup.config net.epoch entry.receiver (peers.Inside entry.sender) net.moment entry.note entry.message net.count) entry.receiver net e
-entry-by setup entry net (Some host) e = net_placed (takes as_session setup.config net.epoch entry.receiver (peers.Inside entry.sender) net.moment entry.note entry.message net.count) entry.receiver net host e
+entry-by setup entry net None e = net_kept (takes as_session setup.config (record { host = entry.receiver; epoch = net.epoch; from = peers.Inside entry.sender; now = net.moment; count = net.count }) entry.note entry.message) entry.receiver net e
+entry-by setup entry net (Some host) e = net_placed (takes as_session setup.config (record { host = entry.receiver; epoch = net.epoch; from = peers.Inside entry.sender; now = net.moment; count = net.count }) entry.note entry.message) entry.receiver net host e
 
 pub net_delivered : (setup : Setup) (entry : Entry) (net : Net Session)
-    → net_after (takes as_session setup.config net.epoch entry.receiver (peers.Inside entry.sender) net.moment entry.note entry.message net.count) entry.receiver net ≡ deliver_at as_session setup entry (host_at entry.receiver net) net
+    → net_after (takes as_session setup.config (record { host = entry.receiver; epoch = net.epoch; from = peers.Inside entry.sender; now = net.moment; count = net.count }) entry.note entry.message) entry.receiver net ≡ deliver_at as_session setup entry (host_at entry.receiver net) net
 net_delivered setup entry net = entry-by setup entry net (slice_get net.hosts entry.receiver) refl
