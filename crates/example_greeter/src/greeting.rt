@@ -11,9 +11,10 @@ use sc_turn::Turn;
 use sc_value::{List, NoMemory, ReqId, Request, Text, Uri};
 use std::alloc::Global;
 
-/// Answers the request that begins its session 200 `OK` where the user in From is one of the parameters, and
-/// else 403 `Forbidden`. Each later one but an ACK it answers 200 too. A field `Heard` of a 200 says how many
-/// requests of this session were answered so, which an attribute keeps from turn to turn.
+/// Answers the request that begins its session 200 `OK` where the user in From is one of the
+/// parameters, and else 403 `Forbidden`. Each later one but an ACK it answers 200 too. A field
+/// `Heard` of a 200 says how many requests of this session were answered so, which an attribute
+/// keeps from turn to turn.
 #[derive(Clone, Copy, Debug)]
 pub struct Greets;
 

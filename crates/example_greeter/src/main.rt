@@ -1,5 +1,5 @@
-//! An example of a program with a servlet of its own, `greeter`, beside the kinds that every container comes
-//! with. It takes the words of `sipd` for `replay`, `check` and `serve`.
+//! An example of a program with a servlet of its own, `greeter`, beside the kinds that every
+//! container comes with. It takes the words of `sipd` for `replay`, `check` and `serve`.
 #![tactic(auto)]
 
 mod greeting;
@@ -42,8 +42,9 @@ fn ended(status: Status) -> ExitCode {
     }
 }
 
-/// Runs what the words ask for, with the kinds that a configuration can ask for: the built-in ones, and `greeter`.
-/// The catalogue is made where it is used, as the verdict refuses a function that hands boxed servlets out.
+/// Runs what the words ask for, with the kinds that a configuration can ask for: the built-in ones,
+/// and `greeter`. The catalogue is made where it is used, as the verdict refuses a function that
+/// hands boxed servlets out.
 fn run<W: Threads + Wait + Sync>(
     rt: &HostRuntime,
     threads: &W,

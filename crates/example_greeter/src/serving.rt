@@ -9,8 +9,8 @@ use sc_value::List;
 use std::sync::Wait;
 use std::thread::Threads;
 
-/// Serves the connections of the address that the settings name, without a console. `threads` is the runtime as that
-/// by which a call may begin threads and wait for ever.
+/// Serves the connections of the address that the settings name, without a console. `threads` is
+/// the runtime as that by which a call may begin threads and wait for ever.
 pub fn serve_sockets<W: Threads + Wait + Sync>(
     rt: &HostRuntime,
     threads: &W,

@@ -16,11 +16,14 @@ use Rattle.sc_hosts.specs.Messages.{on_branch, proxied_request}
 
 -- a target has become a branch
 unfoldable pub branched : Branch → Proxy → Proxy
-branched branch proxy = record proxy { branches = proxy.branches ++ branch ∷ []; targets = drop 1 proxy.targets }
+branched branch proxy =
+    record proxy { branches = proxy.branches ++ branch ∷ []; targets = drop 1 proxy.targets }
 
 -- the request as it goes to this target
 unfoldable pub sent_to : Config → View → Proxy → Uri → ℕ → Request
-sent_to config view proxy uri branch = on_branch config view branch (proxied_request config view (records_route proxy) uri proxy.request)
+sent_to config view proxy uri branch =
+    on_branch config view branch
+    (proxied_request config view (records_route proxy) uri proxy.request)
 
 -- the branch is to get a CANCEL
 unfoldable pub cancel_order : ℕ → Order
@@ -29,4 +32,6 @@ cancel_order branch = orders.Cancel branch
 -- the request goes where the router says, behind the place of the application
 unfoldable pub begin_order : Config → Proxy → Working → Uri → Order
 begin_order config proxy working uri =
-    orders.Begin (next_branch working) Continue working.known.region (Some (working.known.order + 1)) (sent_to config working.play.view proxy uri (next_branch working))
+    orders.Begin (next_branch working) Continue working.known.region
+    (Some (working.known.order + 1))
+    (sent_to config working.play.view proxy uri (next_branch working))

@@ -26,7 +26,11 @@ fn proxied(
     proxy: &Proxy,
     uri: &Uri,
 ) -> Result<Request, NoMemory>
-    ensures { IfOk result (λ r. r ≡ proxied_request config.now view.entry.now (records_route proxy.now) uri.now proxy.now.request) }
+    ensures { IfOk result
+        (λ r.
+        r
+        ≡ proxied_request config.now view.entry.now (records_route proxy.now) uri.now
+        proxy.now.request) }
 {
     let route = records_route(proxy);
     proxied_request(alloc, config, view, route, uri, proxy.request.get())
@@ -71,7 +75,9 @@ fn begin_order(
 }
 
 fn next_branch_of(proxy: &Proxy, working: &Working) -> Result<Branch, NoMemory>
-    ensures { IfOk result (λ branch. branch ≡ new_branch proxy.now (next_branch working.now) working.now.play.view.now) }
+    ensures { IfOk result
+        (λ branch.
+        branch ≡ new_branch proxy.now (next_branch working.now) working.now.play.view.now) }
 {
     let number = sum(working.play.view.counter, 1)?;
     new_branch(proxy, number, working.play.view.now)
@@ -162,8 +168,8 @@ fn each_acts(
     Ok(())
 }
 
-/// All proxied requests act, in the order of their numbers; one whose SipSession the application ended
-/// does nothing.
+/// All proxied requests act, in the order of their numbers; one whose SipSession the application
+/// ended does nothing.
 #[tactic(auto, unfolding(sc_hosts::specs::Acting::all_act))]
 pub fn all_act(alloc: Global, config: &Config, working: &mut Working) -> Result<(), NoMemory>
     ensures { OnOk result (working.new ≡ all_act config.now working.old) }

@@ -45,7 +45,9 @@ fn branched(proxy: &mut Proxy, branch: Branch) -> Result<(), NoMemory>
 
 #[tactic(auto, using(sc_value::proofs::ListFacts::change_first_position, sc_value::proofs::ListFacts::change_first_none))]
 fn branched_in(proxies: &mut [Proxy], req: ReqId, branch: Branch) -> Result<(), NoMemory>
-    ensures { OnOk result (proxies.new ≡ change_first (λ proxy. same_request proxy.req req) (branched branch) proxies.old) }
+    ensures { OnOk result
+        (proxies.new
+        ≡ change_first (λ proxy. same_request proxy.req req) (branched branch) proxies.old) }
 {
     match proxy_place(proxies, req) {
         Some(at) => branched(&mut proxies[at], branch),
@@ -71,7 +73,8 @@ fn with_forwarded(proxy: &mut Proxy, code: u16)
 
 #[tactic(auto, using(sc_value::proofs::ListFacts::change_first_position, sc_value::proofs::ListFacts::change_first_none))]
 fn forwarded_in(proxies: &mut [Proxy], req: ReqId, code: u16)
-    ensures { proxies.new ≡ change_first (λ proxy. same_request proxy.req req) (with_forwarded code) proxies.old }
+    ensures { proxies.new
+        ≡ change_first (λ proxy. same_request proxy.req req) (with_forwarded code) proxies.old }
 {
     match proxy_place(proxies, req) {
         Some(at) => with_forwarded(&mut proxies[at], code),

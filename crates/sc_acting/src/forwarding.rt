@@ -19,8 +19,8 @@ use sc_terms::{RequestView, SessionView, View};
 use sc_value::{CloneIn, List, NoMemory, Response, SessId, Shared, Text, tag};
 use std::alloc::Global;
 
-/// The SipSession after a response that was forwarded in it, to an initial request that the view shows
-/// no more.
+/// The SipSession after a response that was forwarded in it, to an initial request that the view
+/// shows no more.
 #[tactic(auto, unfolding(sc_hosts::specs::Acting::moved_on, sc_hosts::specs::Looking::in_state))]
 fn moved_on(session: &mut SessionView, proxy: &Proxy, response: &Response)
     ensures { session.new ≡ moved_on proxy.now response.now session.old }
@@ -34,7 +34,8 @@ fn moved_on(session: &mut SessionView, proxy: &Proxy, response: &Response)
 
 #[tactic(auto, using(sc_value::proofs::ListFacts::change_first_position, sc_value::proofs::ListFacts::change_first_none))]
 fn move_in(sessions: &mut [SessionView], sess: SessId, proxy: &Proxy, response: &Response)
-    ensures { sessions.new ≡ change_first (is_session sess) (moved_on proxy.now response.now) sessions.old }
+    ensures { sessions.new
+        ≡ change_first (is_session sess) (moved_on proxy.now response.now) sessions.old }
 {
     match session_place(sessions, sess) {
         Some(at) => moved_on(&mut sessions[at], proxy, response),
@@ -88,7 +89,10 @@ fn tag_in(
     sess: SessId,
     tag: Option<&Text>,
 ) -> Result<(), NoMemory>
-    ensures { OnOk result (sessions.new ≡ change_first (is_session sess) (subscribed_tag (option_copied tag.entry)) sessions.old) }
+    ensures { OnOk result
+        (sessions.new
+        ≡ change_first (is_session sess) (subscribed_tag (option_copied tag.entry))
+        sessions.old) }
 {
     match session_place(sessions, sess) {
         Some(at) => subscribed_tag(alloc, &mut sessions[at], tag),

@@ -1,5 +1,5 @@
-//! What the proxies of an application session do at the end of a turn: branches that start, CANCELs,
-//! and what is forwarded (RFC 3261 section 16).
+//! What the proxies of an application session do at the end of a turn: branches that start,
+//! CANCELs, and what is forwarded (RFC 3261 section 16).
 #![tactic(auto)]
 
 mod acting;

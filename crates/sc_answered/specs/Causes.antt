@@ -18,8 +18,8 @@ unfoldable pub fails_first : Happening → Bool
 fails_first (Response role asked tagged code) = asked.initial && is_failure code
 fails_first happening = false
 
--- what happened in this SipSession has its cause in the list, where it comes of another SipSession: the 2xx to an INVITE that overtook
--- it, the failure of what it was derived of
+-- what happened in this SipSession has its cause in the list, where it comes of another SipSession:
+-- the 2xx to an INVITE that overtook it, the failure of what it was derived of
 unfoldable pub is_caused : List Happened → SessId → Happening → Bool
 is_caused all sess (Response role asked tagged code) = true
 is_caused all sess Overtaken = list_any (takes_elsewhere sess) all

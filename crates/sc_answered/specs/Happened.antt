@@ -1,7 +1,9 @@
--- What happened in the SipSessions of an application session, as its history tells it: the responses that the events of its turns
--- brought, that accepted calls gave, and that the container gave or a proxy forwarded; and what came of those in other SipSessions
--- of their request. Lists have the newest first. An item holds what the message or the call says, and no state; in which SipSession
--- it happened, and that a call was accepted, is by what the application session was then.
+-- What happened in the SipSessions of an application session, as its history tells it: the
+-- responses that the events of its turns brought, that accepted calls gave, and that the container
+-- gave or a proxy forwarded; and what came of those in other SipSessions of their request. Lists
+-- have the newest first. An item holds what the message or the call says, and no state; in which
+-- SipSession it happened, and that a call was accepted, is by what the application session was
+-- then.
 use Rattle.std.specs.Prelude.{◌≡◌, ℕ, ◌==◌, List, [], ◌∷◌, ◌++◌, Bool, true, false, not, ◌&&◌, ◌||◌, Option, None, Some, is_none, is_some, option_and_then, if◌then◌else◌, map, filter}
 use Rattle.std.specs.List.{find, fold}
 use Rattle.sc_value.specs.declared.ids.ReqId.{ReqId}
@@ -57,17 +59,22 @@ pub record Happened : Type 0 where
 -- what of it happened in this one
 unfoldable pub happened_in : SessId → List Happened → List Happening
 happened_in sess [] = []
-happened_in sess (one ∷ earlier) = if same_session one.sess sess then one.what ∷ happened_in sess earlier else happened_in sess earlier
+happened_in sess (one ∷ earlier) =
+    if same_session one.sess sess then one.what ∷ happened_in sess earlier
+    else happened_in sess earlier
 
 -- each SipSession has the state that what happened in it makes
 abbrev pub HaveStates : List Happened → List SessionView → Type 0
-HaveStates happened sessions = All (λ (session : SessionView). session.state ≡ state_of (happened_in session.id happened)) sessions
+HaveStates happened sessions =
+    All (λ (session : SessionView). session.state ≡ state_of (happened_in session.id happened))
+    sessions
 
 -- ## Responses
 
 -- a request of which a view tells
 abbrev pub asked_of : RequestView → Asked
-asked_of request = record { method = request.method; initial = request.initial; ends = request.ends }
+asked_of request =
+    record { method = request.method; initial = request.initial; ends = request.ends }
 
 -- a request that began a SipSession and that no view shows any more
 abbrev pub initial_of : Request → Asked
@@ -76,53 +83,72 @@ initial_of request = record { method = request.method; initial = true; ends = fa
 -- a response in this SipSession
 unfoldable pub response_in : Option SessionView → Asked → Bool → ℕ → List Happened
 response_in None asked tagged code = []
-response_in (Some session) asked tagged code = record { sess = session.id; what = Responded session.role asked tagged code } ∷ []
+response_in (Some session) asked tagged code =
+    record { sess = session.id; what = Responded session.role asked tagged code } ∷ []
 
 -- a response that came from outside or from another host, by its To tag
 abbrev pub came_in : View → SessId → Asked → Response → List Happened
-came_in view sess asked response = response_in (session_in view sess) asked (is_some (tag_of response.head.to)) response.code
+came_in view sess asked response =
+    response_in (session_in view sess) asked (is_some (tag_of response.head.to)) response.code
 
 -- an answer of this code that the application or the container gave, which has a tag
 unfoldable pub answer_to : View → Option RequestView → ℕ → List Happened
 answer_to view None code = []
-answer_to view (Some request) code = response_in (session_in view request.sess) (asked_of request) true code
+answer_to view (Some request) code =
+    response_in (session_in view request.sess) (asked_of request) true code
 
 -- ## A response to a request of one's own
 
 -- in each SipSession that passes this test
-unfoldable pub in_each : (SessionView → Bool) → (SessionView → Happening) → List SessionView → List Happened
-in_each test what sessions = map (λ (session : SessionView). record { sess = session.id; what = what session }) (filter test sessions)
+unfoldable pub in_each : (SessionView → Bool) → (SessionView → Happening) → List SessionView
+    → List Happened
+in_each test what sessions =
+    map (λ (session : SessionView). record { sess = session.id; what = what session })
+    (filter test sessions)
 
 -- the other SipSessions of an INVITE that are there, when its first 2xx comes in this one
 unfoldable pub overtaken_by : ReqId → SessId → Session → List Happened
 overtaken_by req sess session =
-    in_each (λ other. is_of session.known req other && not other.gone && not (same_session other.id sess)) (λ other. Overtaken) session.view.sessions
+    in_each
+    (λ other. is_of session.known req other && not other.gone && not (same_session other.id sess))
+    (λ other. Overtaken) session.view.sessions
 
 -- the other SipSessions of a request, when it failed
 unfoldable pub undone_by : ReqId → SessId → Session → List Happened
 undone_by req original session =
-    in_each (λ other. is_of session.known req other && not (same_session other.id original)) (λ other. Undone) session.view.sessions
+    in_each (λ other. is_of session.known req other && not (same_session other.id original))
+    (λ other. Undone) session.view.sessions
 
 -- what a response in one SipSession of a request is to the others
 unfoldable pub settled_by : RequestView → SessId → Response → Session → List Happened
 settled_by request sess response session =
     if is_first_success request response then overtaken_by request.id sess session
-    else (if request.initial && is_failure response.code then undone_by request.id request.sess session else [])
+    else
+    (if request.initial && is_failure response.code then undone_by request.id request.sess session
+    else [])
 
 -- a response that came in this SipSession; in one that is gone it counts for nothing
 unfoldable pub got_in : RequestView → Response → SessId × Session → List Happened
 got_in request response (sess, session) =
-    if is_gone_in session.view sess then [] else came_in session.view sess (asked_of request) response ++ settled_by request sess response session
+    if is_gone_in session.view sess then []
+    else came_in session.view sess (asked_of request) response
+    ++ settled_by request sess response session
 
--- a response to a request by whether the view shows it still; where it doesn't only a 2xx to an INVITE counts
+-- a response to a request by whether the view shows it still; where it doesn't only a 2xx to an
+-- INVITE counts
 unfoldable pub got_own : Session → Kept → Response → Option RequestView → List Happened
 got_own session kept response None =
     if accepts_invite kept response
-    then got_in (shown_again session.known kept response.code) response (placed session kept (shown_again session.known kept response.code) response (session_in session.view kept.sess))
+    then got_in (shown_again session.known kept response.code) response
+    (placed session kept (shown_again session.known kept response.code) response
+    (session_in session.view kept.sess))
     else []
-got_own session kept response (Some request) = got_in request response (placed session kept request response (session_in session.view request.sess))
+got_own session kept response (Some request) =
+    got_in request response
+    (placed session kept request response (session_in session.view request.sess))
 
--- a response to a request that was sent, if it is kept; one on a proxy's branch counts once it is forwarded
+-- a response to a request that was sent, if it is kept; one on a proxy's branch counts once it is
+-- forwarded
 unfoldable pub got : Session → Response → Option Kept → List Happened
 got session response None = []
 got session response (Some kept) = got_own session kept response (request_in session.view kept.id)
@@ -134,39 +160,48 @@ unfoldable pub too_low_in : Session → ℕ → SessId → Option SessionView �
 too_low_in session number sess None request = []
 too_low_in session number sess (Some found) request =
     if is_low (leg_of session.known sess) request
-    then answer_to (received session number sess false false request).view (request_in (received session number sess false false request).view (next_id session)) 500
+    then answer_to (received session number sess false false request).view
+    (request_in (received session number sess false false request).view (next_id session)) 500
     else []
 
 -- the same, where a SipSession has its dialog
 unfoldable pub too_low : Session → ℕ → Request → Option SessId → List Happened
 too_low session number request None = []
-too_low session number request (Some sess) = too_low_in session number sess (session_in session.view sess) request
+too_low session number request (Some sess) =
+    too_low_in session number sess (session_in session.view sess) request
 
 -- 487 to an INVITE whose CANCEL came, unless it is proxied or answered (RFC 3261 section 9.2)
 unfoldable pub cancelled_in : Session → Option Kept → Option RequestView → List Happened
 cancelled_in session None request = []
 cancelled_in session (Some kept) None = []
 cancelled_in session (Some kept) (Some request) =
-    if request.proxied then [] else (if is_none request.answered then answer_to session.view (Some request) 487 else [])
+    if request.proxied then []
+    else (if is_none request.answered then answer_to session.view (Some request) 487 else [])
 
 -- the same, of the INVITE that came under the event that the CANCEL names
 unfoldable pub cancelled : Session → Option Invited → List Happened
 cancelled session None = []
-cancelled session (Some invited) = cancelled_in session (kept_of session.known invited.req) (request_in session.view invited.req)
+cancelled session (Some invited) =
+    cancelled_in session (kept_of session.known invited.req) (request_in session.view invited.req)
 
 -- what an event brings
 unfoldable pub heard : Session → ℕ → Queued → List Happened
-heard session number (queued.Request request) = too_low session number request (session_for session request)
-heard session number (queued.Response branch response) = got session response (find (is_sent_on branch) session.known.kept)
-heard session number (queued.Cancelled event) = cancelled session (find (is_invited event) session.known.invited)
+heard session number (queued.Request request) =
+    too_low session number request (session_for session request)
+heard session number (queued.Response branch response) =
+    got session response (find (is_sent_on branch) session.known.kept)
+heard session number (queued.Cancelled event) =
+    cancelled session (find (is_invited event) session.known.invited)
 heard session number event = []
 
 -- ## Answers that the application gives
 
 -- by an accepted call
 unfoldable pub given_by : Play → Call → List Happened
-given_by play (calls.Respond req answer) = answer_to play.view (request_in play.view req) answer.code
-given_by play (calls.B2bRespond sess answer) = answer_to play.view (begun_by play.view sess) answer.code
+given_by play (calls.Respond req answer) =
+    answer_to play.view (request_in play.view req) answer.code
+given_by play (calls.B2bRespond sess answer) =
+    answer_to play.view (begun_by play.view sess) answer.code
 given_by play call = []
 
 -- by a call, accepted or refused
@@ -177,14 +212,16 @@ given_if play call (Some refused) = []
 -- by these calls, one after the other
 unfoldable pub given : Play → List CallRecord → List Happened
 given play [] = []
-given play (made ∷ later) = given (after_listed play made.call) later ++ given_if play made.call (refusal play made.call)
+given play (made ∷ later) =
+    given (after_listed play made.call) later ++ given_if play made.call (refusal play made.call)
 
 -- ## What follows the calls
 
 -- 500 to the request of the turn, where the application failed and neither answered nor proxied it
 unfoldable pub failed_at : View → Option RequestView → List Happened
 failed_at view None = []
-failed_at view (Some request) = if is_owed request && not request.proxied then answer_to view (Some request) 500 else []
+failed_at view (Some request) =
+    if is_owed request && not request.proxied then answer_to view (Some request) 500 else []
 
 -- by how the turn ended
 unfoldable pub failed : Option ReqId → End → View → List Happened
@@ -192,20 +229,24 @@ failed req ends.Fine view = []
 failed req ends.Fault view = failed_at view (option_and_then (request_in view) req)
 failed req ends.Starved view = []
 
--- a response that a proxy forwards in this SipSession, by whether the view shows the request still; where it doesn't only one to
--- the request that began the SipSession counts
+-- a response that a proxy forwards in this SipSession, by whether the view shows the request still;
+-- where it doesn't only one to the request that began the SipSession counts
 unfoldable pub forwarded_to : Proxy → SessId → Option RequestView → Response → View → List Happened
-forwarded_to proxy sess None response view = if is_some proxy.options then came_in view sess (initial_of proxy.request) response else []
+forwarded_to proxy sess None response view =
+    if is_some proxy.options then came_in view sess (initial_of proxy.request) response else []
 forwarded_to proxy sess (Some request) response view = came_in view sess (asked_of request) response
 
 -- the same, within a turn
 abbrev pub forwarded : Proxy → SessId → Response → Working → List Happened
-forwarded proxy sess response working = forwarded_to proxy sess (request_in working.play.view proxy.req) response working.play.view
+forwarded proxy sess response working =
+    forwarded_to proxy sess (request_in working.play.view proxy.req) response working.play.view
 
 -- the response that waits to be forwarded as it came, where it can go still
 unfoldable pub passed : Proxy → Option Passing → Working → List Happened
 passed proxy None working = []
-passed proxy (Some passing) working = if can_pass proxy passing.response then forwarded proxy passing.sess passing.response working else []
+passed proxy (Some passing) working =
+    if can_pass proxy passing.response then forwarded proxy passing.sess passing.response working
+    else []
 
 -- the best response
 unfoldable pub best_passed : Proxy → Option Response → Working → List Happened
@@ -214,17 +255,21 @@ best_passed proxy (Some response) working = forwarded proxy proxy.sess response 
 
 -- once it can go
 unfoldable pub chosen : Proxy → Working → List Happened
-chosen proxy working = if can_choose proxy then best_passed proxy (best_response proxy.candidates) working else []
+chosen proxy working =
+    if can_choose proxy then best_passed proxy (best_response proxy.candidates) working else []
 
 -- the SipSessions of a request, when its search is over
 unfoldable pub exhausted_by : Known → ReqId → SessId → List SessionView → List Happened
 exhausted_by known req original sessions =
-    in_each (is_of known req) (λ session. Exhausted (not (same_session session.id original))) sessions
+    in_each (is_of known req) (λ session. Exhausted (not (same_session session.id original)))
+    sessions
 
 -- once no branch is open and no target is left
 unfoldable pub exhausted : Proxy → Working → List Happened
 exhausted proxy working =
-    if is_exhausted proxy && is_some proxy.options then exhausted_by working.known proxy.req proxy.sess working.play.view.sessions else []
+    if is_exhausted proxy && is_some proxy.options
+    then exhausted_by working.known proxy.req proxy.sess working.play.view.sessions
+    else []
 
 -- once the best response went: its search may be over
 unfoldable pub acted_last : Proxy → Working → List Happened
@@ -232,11 +277,15 @@ acted_last proxy working = exhausted (proxy_now proxy working) (sends_cancels pr
 
 -- once what waited was forwarded: the best response goes
 unfoldable pub acted_next : Proxy → Working → List Happened
-acted_next proxy working = acted_last proxy (chooses (proxy_now proxy working) working) ++ chosen (proxy_now proxy working) working
+acted_next proxy working =
+    acted_last proxy (chooses (proxy_now proxy working) working)
+    ++ chosen (proxy_now proxy working) working
 
 -- once its branches were started: what waits is forwarded
 unfoldable pub acted_from : Proxy → Working → List Happened
-acted_from proxy working = acted_next proxy (passes (proxy_now proxy working) proxy.passing working) ++ passed (proxy_now proxy working) proxy.passing working
+acted_from proxy working =
+    acted_next proxy (passes (proxy_now proxy working) proxy.passing working)
+    ++ passed (proxy_now proxy working) proxy.passing working
 
 -- what a proxy does after a turn
 unfoldable pub acted : Config → Proxy → Working → List Happened
@@ -244,19 +293,24 @@ acted config proxy working = acted_from proxy (fold (started config proxy) worki
 
 -- unless the application ended its SipSession
 unfoldable pub acted_by : Config → Proxy → Working → List Happened
-acted_by config proxy working = if is_invalid working.known proxy.sess then [] else acted config proxy working
+acted_by config proxy working =
+    if is_invalid working.known proxy.sess then [] else acted config proxy working
 
 -- what these proxies do, one after the other
 unfoldable pub all_acted : Config → List Proxy → Working → List Happened
 all_acted config [] working = []
-all_acted config (proxy ∷ proxies) working = all_acted config proxies (acts config working proxy) ++ acted_by config proxy working
+all_acted config (proxy ∷ proxies) working =
+    all_acted config proxies (acts config working proxy) ++ acted_by config proxy working
 
 -- 483 to a later request that is to be passed on and may go no further (RFC 3261 section 16.3)
 unfoldable pub stopped_at : Working → RequestView → Option Kept → List Happened
 stopped_at working request None = []
 stopped_at working request (Some kept) =
     if request.initial || not request.proxied || is_invalid working.known request.sess then []
-    else (if request.hops == 0 then (if is_owed request then answer_to working.play.view (Some request) 483 else []) else [])
+    else
+    (if request.hops == 0
+    then (if is_owed request then answer_to working.play.view (Some request) 483 else [])
+    else [])
 
 -- the same, of a request that the view shows
 unfoldable pub stopped_of : Working → Option RequestView → List Happened
@@ -265,7 +319,10 @@ stopped_of working (Some request) = stopped_at working request (kept_of working.
 
 -- the same, of the event's request
 unfoldable pub stopped : Queued → Option ReqId → Working → List Happened
-stopped event req working = if is_request_event event then stopped_of working (option_and_then (request_in working.play.view) req) else []
+stopped event req working =
+    if is_request_event event
+    then stopped_of working (option_and_then (request_in working.play.view) req)
+    else []
 
 -- ## Turns
 
@@ -275,26 +332,33 @@ at_moment now session = record session { view = record session.view { now = now 
 
 -- once the container has answered what a fault left: what proxies do, and what goes no further
 unfoldable pub ended_by : Config → Queued → Option ReqId → Working → List Happened
-ended_by config event req working = stopped event req (all_act config working) ++ all_acted config working.known.proxies working
+ended_by config event req working =
+    stopped event req (all_act config working) ++ all_acted config working.known.proxies working
 
 -- after the calls, by how the turn ended
 unfoldable pub called_by : Config → Queued → Option ReqId → End → Working → List Happened
-called_by config event req end working = ended_by config event req (faulted config req end working) ++ failed req end working.play.view
+called_by config event req end working =
+    ended_by config event req (faulted config req end working) ++ failed req end working.play.view
 
 -- the calls, at what the event shows, and what follows them
 unfoldable pub shown_by : Config → Turn → Prepared → List Happened
 shown_by config turn shown =
-    called_by config turn.waiting.event shown.req turn.end (drafts_ended (worked_all config shown turn.calls)) ++ given (begun shown.view) turn.calls
+    called_by config turn.waiting.event shown.req turn.end
+    (drafts_ended (worked_all config shown turn.calls)) ++ given (begun shown.view) turn.calls
 
--- what a turn of the session tells: what its event brought, what its calls gave, and what followed them
+-- what a turn of the session tells: what its event brought, what its calls gave, and what followed
+-- them
 unfoldable pub happened_by : Config → Session → Turn → List Happened
 happened_by config session turn =
-    shown_by config turn (prepared config turn.ringing session turn.waiting turn.now) ++ heard (at_moment turn.now session) turn.waiting.number turn.waiting.event
+    shown_by config turn (prepared config turn.ringing session turn.waiting turn.now)
+    ++ heard (at_moment turn.now session) turn.waiting.number turn.waiting.event
 
 -- what these turns of a history tell
 unfoldable pub happened_after : Config → History → List Turn → List Happened
 happened_after config history [] = []
-happened_after config history (turn ∷ earlier) = happened_by config (session_after config history earlier) turn ++ happened_after config history earlier
+happened_after config history (turn ∷ earlier) =
+    happened_by config (session_after config history earlier) turn
+    ++ happened_after config history earlier
 
 -- what the history tells
 abbrev pub happened_of : Config → History → List Happened

@@ -45,13 +45,18 @@ uris_of text = option_to_list (readable text)
 
 -- a request of one's own, where there are both URIs
 unfoldable pub dial_to : Uri → Option Uri → Script
-dial_to from to = where_some to (λ to. Make (calls.CreateRequest (dial_ask from to)) (with_number (λ draft. only (calls.Send draft))))
+dial_to from to =
+    where_some to
+    (λ to.
+    Make (calls.CreateRequest (dial_ask from to))
+    (with_number (λ draft. only (calls.Send draft))))
 
 -- the same, where there is the first of them
 unfoldable pub dial_from : Option Uri → Option Uri → Script
 dial_from from to = where_some from (λ from. dial_to from to)
 
--- what comes before the second leg is sent: where the region is reversed, that the router is asked for the other
+-- what comes before the second leg is sent: where the region is reversed, that the router is asked
+-- for the other
 unfoldable pub before : Bool → ReqId → ℕ → Script → Script
 before false = λ req draft script. script
 before true = λ req draft script. then_make (calls.SetDirective draft Reverse (Some req)) script

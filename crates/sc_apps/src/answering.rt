@@ -14,9 +14,9 @@ use sc_terms::{Charter, End, Event};
 use sc_turn::Turn;
 use sc_value::NoMemory;
 
-/// Answers 200 `OK` to the request that began the application session, and to each later one but an ACK
-/// (JSR 289 section 10.2.2). The answer has no fields, no Contact and no body; where it is refused,
-/// nothing changes. At all other events it makes no call. It has no parameters.
+/// Answers 200 `OK` to the request that began the application session, and to each later one but an
+/// ACK (JSR 289 section 10.2.2). The answer has no fields, no Contact and no body; where it is
+/// refused, nothing changes. At all other events it makes no call. It has no parameters.
 #[derive(Clone, Copy, Debug)]
 pub struct Answers;
 

@@ -19,11 +19,11 @@ use sc_terms::{Charter, End, Event, View};
 use sc_turn::Turn;
 use sc_value::{CloneIn, NoMemory, ReqId, Request, Text, Uri};
 
-/// Answers the request that began the application session 403 `Forbidden` where the user in its From is
-/// one of the parameters, byte for byte. Every other request it proxies on to its Request-URI (JSR 289
-/// section 10.2), off the path of later requests; one whose Max-Forwards is 0 it answers 483 `Too Many
-/// Hops`. With no parameters nobody is blocked, nor is a From without a user. At all other events it
-/// makes no call.
+/// Answers the request that began the application session 403 `Forbidden` where the user in its
+/// From is one of the parameters, byte for byte. Every other request it proxies on to its
+/// Request-URI (JSR 289 section 10.2), off the path of later requests; one whose Max-Forwards is 0
+/// it answers 483 `Too Many Hops`. With no parameters nobody is blocked, nor is a From without a
+/// user. At all other events it makes no call.
 #[derive(Clone, Copy, Debug)]
 pub struct Blocks;
 
@@ -58,7 +58,10 @@ fn block_initial(t: &mut Turn, req: ReqId, request: &Request) -> Result<(), NoMe
     requires calls { t.old.calls ≡ [] }
     requires memory { t.old.starved ≡ false }
     ensures same { t.new.shown ≡ t.old.shown }
-    ensures played { OnOk result (IsPlayed (if is_blocked t.old.shown request.now then only (reply req 403 forbidden) else proxy_script req (request.now.uri ∷ []) false) t.old t.new) }
+    ensures played { OnOk result
+        (IsPlayed
+        (if is_blocked t.old.shown request.now then only (reply req 403 forbidden)
+        else proxy_script req (request.now.uri ∷ []) false) t.old t.new) }
 {
     if is_blocked(shown(t), request) {
         return reply_403(t, req);

@@ -23,13 +23,13 @@ use sc_terms::{Call, CallAnswer, Charter, End, Event};
 use sc_turn::Turn;
 use sc_value::{Directive, NoMemory, ReqId};
 
-/// A back-to-back user agent (JSR 289 section 12). The request that began the application session it
-/// sends on, in a second SipSession that is linked to the first, to its own Request-URI. A response to
-/// it is given on the other leg. A later request goes on in the other leg's dialog, an ACK with its
-/// body alone, and its response comes back; an attribute tells which request is served by which, as
-/// long as the response isn't final. When the first request is cancelled, so is the second. Where
-/// Max-Forwards is 0 it answers 483 `Too Many Hops`, and 500 `Server Internal Error` where the second
-/// leg can't be made or sent for another reason. It has no parameters.
+/// A back-to-back user agent (JSR 289 section 12). The request that began the application session
+/// it sends on, in a second SipSession that is linked to the first, to its own Request-URI. A
+/// response to it is given on the other leg. A later request goes on in the other leg's dialog, an
+/// ACK with its body alone, and its response comes back; an attribute tells which request is served
+/// by which, as long as the response isn't final. When the first request is cancelled, so is the
+/// second. Where Max-Forwards is 0 it answers 483 `Too Many Hops`, and 500 `Server Internal Error`
+/// where the second leg can't be made or sent for another reason. It has no parameters.
 #[derive(Clone, Copy, Debug)]
 pub struct B2bs;
 
@@ -68,7 +68,8 @@ fn handle(t: &mut Turn, e: &Event, reversed: bool) -> Result<(), NoMemory>
     requires calls { t.old.calls ≡ [] }
     requires memory { t.old.starved ≡ false }
     ensures same { t.new.shown ≡ t.old.shown }
-    ensures played { OnOk result (IsPlayed (leg_script (before reversed) t.old.shown e.now) t.old t.new) }
+    ensures played { OnOk result
+        (IsPlayed (leg_script (before reversed) t.old.shown e.now) t.old t.new) }
 {
     match e {
         Event::Initial { req, .. } => make_leg(t, *req, reversed),
@@ -94,7 +95,9 @@ fn handle(t: &mut Turn, e: &Event, reversed: bool) -> Result<(), NoMemory>
 fn make_leg(t: &mut Turn, req: ReqId, reversed: bool) -> Result<(), NoMemory>
     requires { (play_of t.old).listed + 3 < MOST_CALLS }
     ensures same { t.new.shown ≡ t.old.shown }
-    ensures played { OnOk result (IsPlayed (Make (Call.B2bCreate req None) (leg_made req (before reversed req))) t.old t.new) }
+    ensures played { OnOk result
+        (IsPlayed (Make (Call.B2bCreate req None) (leg_made req (before reversed req))) t.old
+        t.new) }
 {
     let answer = b2b_create(t, req, None)?;
     leg_made(t, req, answer, reversed)
@@ -104,7 +107,8 @@ fn make_leg(t: &mut Turn, req: ReqId, reversed: bool) -> Result<(), NoMemory>
 fn leg_made(t: &mut Turn, req: ReqId, answer: CallAnswer, reversed: bool) -> Result<(), NoMemory>
     requires { (play_of t.old).listed + 2 < MOST_CALLS }
     ensures same { t.new.shown ≡ t.old.shown }
-    ensures played { OnOk result (IsPlayed (leg_made req (before reversed req) answer) t.old t.new) }
+    ensures played { OnOk result
+        (IsPlayed (leg_made req (before reversed req) answer) t.old t.new) }
 {
     match answer {
         CallAnswer::Fine => Ok(()),
@@ -129,7 +133,8 @@ fn leg_failed(t: &mut Turn, req: ReqId, answer: CallAnswer) -> Result<(), NoMemo
 fn direct_and_send(t: &mut Turn, req: ReqId, draft: u64, reversed: bool) -> Result<(), NoMemory>
     requires { (play_of t.old).listed + 2 < MOST_CALLS }
     ensures same { t.new.shown ≡ t.old.shown }
-    ensures played { OnOk result (IsPlayed (before reversed req draft (Make (Call.Send draft) (leg_sent req))) t.old t.new) }
+    ensures played { OnOk result
+        (IsPlayed (before reversed req draft (Make (Call.Send draft) (leg_sent req))) t.old t.new) }
 {
     if reversed {
         return reverse_and_send(t, req, draft);
@@ -141,7 +146,10 @@ fn direct_and_send(t: &mut Turn, req: ReqId, draft: u64, reversed: bool) -> Resu
 fn reverse_and_send(t: &mut Turn, req: ReqId, draft: u64) -> Result<(), NoMemory>
     requires { (play_of t.old).listed + 2 < MOST_CALLS }
     ensures same { t.new.shown ≡ t.old.shown }
-    ensures played { OnOk result (IsPlayed (then_make (Call.SetDirective draft Reverse (Some req)) (Make (Call.Send draft) (leg_sent req))) t.old t.new) }
+    ensures played { OnOk result
+        (IsPlayed
+        (then_make (Call.SetDirective draft Reverse (Some req))
+        (Make (Call.Send draft) (leg_sent req))) t.old t.new) }
 {
     let number = draft_of(draft)?;
     set_directive(t, number, Directive::Reverse, Some(req))?;

@@ -76,7 +76,8 @@ pub fn proxy_to(
 ) -> Result<CallAnswer, NoMemory>
     requires { (play_of t.old).listed < MOST_CALLS }
     ensures same { t.new.shown ≡ t.old.shown }
-    ensures made { IfOk result (λ given. IsMade (Call.ProxyTo req targets options) t.old given t.new) }
+    ensures made { IfOk result
+        (λ given. IsMade (Call.ProxyTo req targets options) t.old given t.new) }
     ensures listed { OnOk result ((play_of t.new).listed ≡ (play_of t.old).listed + 1) }
 {
     match t.proxy_to(req, targets, options) {

@@ -52,7 +52,12 @@ pub fn cancel_leg(t: &mut Turn, sess: SessId) -> Result<(), NoMemory>
     requires calls { t.old.calls ≡ [] }
     requires memory { t.old.starved ≡ false }
     ensures same { t.new.shown ≡ t.old.shown }
-    ensures played { OnOk result (IsPlayed (where_some (partner t.old.shown sess) (λ other. where_some (sent_initial t.old.shown other) (λ request. only (Call.Cancel request.id)))) t.old t.new) }
+    ensures played { OnOk result
+        (IsPlayed
+        (where_some (partner t.old.shown sess)
+        (λ other.
+        where_some (sent_initial t.old.shown other)
+        (λ request. only (Call.Cancel request.id)))) t.old t.new) }
 {
     let other = partner(shown(t), sess);
     cancel_other(t, other)
@@ -63,7 +68,12 @@ fn cancel_other(t: &mut Turn, other: Option<SessId>) -> Result<(), NoMemory>
     requires calls { t.old.calls ≡ [] }
     requires memory { t.old.starved ≡ false }
     ensures same { t.new.shown ≡ t.old.shown }
-    ensures played { OnOk result (IsPlayed (where_some other (λ other. where_some (sent_initial t.old.shown other) (λ request. only (Call.Cancel request.id)))) t.old t.new) }
+    ensures played { OnOk result
+        (IsPlayed
+        (where_some other
+        (λ other.
+        where_some (sent_initial t.old.shown other)
+        (λ request. only (Call.Cancel request.id)))) t.old t.new) }
 {
     match other {
         Some(other) => cancel_first(t, other),
@@ -76,7 +86,10 @@ fn cancel_first(t: &mut Turn, other: SessId) -> Result<(), NoMemory>
     requires calls { t.old.calls ≡ [] }
     requires memory { t.old.starved ≡ false }
     ensures same { t.new.shown ≡ t.old.shown }
-    ensures played { OnOk result (IsPlayed (where_some (sent_initial t.old.shown other) (λ request. only (Call.Cancel request.id))) t.old t.new) }
+    ensures played { OnOk result
+        (IsPlayed
+        (where_some (sent_initial t.old.shown other) (λ request. only (Call.Cancel request.id)))
+        t.old t.new) }
 {
     let req = sent_initial(shown(t), other);
     cancel_some(t, req)
@@ -86,7 +99,8 @@ fn cancel_first(t: &mut Turn, other: SessId) -> Result<(), NoMemory>
 fn cancel_some(t: &mut Turn, req: Option<ReqId>) -> Result<(), NoMemory>
     requires { (play_of t.old).listed < MOST_CALLS }
     ensures same { t.new.shown ≡ t.old.shown }
-    ensures played { OnOk result (IsPlayed (where_some req (λ req. only (Call.Cancel req))) t.old t.new) }
+    ensures played { OnOk result
+        (IsPlayed (where_some req (λ req. only (Call.Cancel req))) t.old t.new) }
 {
     match req {
         Some(req) => {

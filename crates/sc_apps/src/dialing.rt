@@ -19,11 +19,11 @@ use sc_turn::Turn;
 use sc_value::{Address, CloneIn, Directive, List, NoMemory, ReqId, Text, Uri};
 use std::alloc::Global;
 
-/// Answers the request that began the application session 200 `OK`, and then sends an OPTIONS of its
-/// own (JSR 289 section 10.1) from the URI of its first parameter to that of its second, in a
-/// SipSession of its own. The router is asked from the beginning, as for a request from outside (JSR
-/// 289 section 15.2.2). Where one of both is missing or no URI, it sends nothing. At all other events
-/// it makes no call.
+/// Answers the request that began the application session 200 `OK`, and then sends an OPTIONS of
+/// its own (JSR 289 section 10.1) from the URI of its first parameter to that of its second, in a
+/// SipSession of its own. The router is asked from the beginning, as for a request from outside
+/// (JSR 289 section 15.2.2). Where one of both is missing or no URI, it sends nothing. At all other
+/// events it makes no call.
 #[derive(Clone, Copy, Debug)]
 pub struct Dials;
 
@@ -57,7 +57,10 @@ fn answer_and_dial_from(t: &mut Turn, req: ReqId) -> Result<(), NoMemory>
     requires calls { t.old.calls ≡ [] }
     requires memory { t.old.starved ≡ false }
     ensures same { t.new.shown ≡ t.old.shown }
-    ensures played { OnOk result (IsPlayed (then_make (reply req 200 ok) (dial_from (uri_param t.old.shown 0) (uri_param t.old.shown 1))) t.old t.new) }
+    ensures played { OnOk result
+        (IsPlayed
+        (then_make (reply req 200 ok)
+        (dial_from (uri_param t.old.shown 0) (uri_param t.old.shown 1))) t.old t.new) }
 {
     let from = uri_param(memory_of(t), shown(t), 0)?;
     answer_and_dial_to(t, req, &from)
@@ -68,7 +71,9 @@ fn answer_and_dial_to(t: &mut Turn, req: ReqId, from: &Option<Uri>) -> Result<()
     requires calls { t.old.calls ≡ [] }
     requires memory { t.old.starved ≡ false }
     ensures same { t.new.shown ≡ t.old.shown }
-    ensures played { OnOk result (IsPlayed (then_make (reply req 200 ok) (dial_from from.now (uri_param t.old.shown 1))) t.old t.new) }
+    ensures played { OnOk result
+        (IsPlayed (then_make (reply req 200 ok) (dial_from from.now (uri_param t.old.shown 1)))
+        t.old t.new) }
 {
     let to = uri_param(memory_of(t), shown(t), 1)?;
     answer_and_dial(t, req, from, &to)
@@ -83,7 +88,8 @@ fn answer_and_dial(
 ) -> Result<(), NoMemory>
     requires { (play_of t.old).listed + 2 < MOST_CALLS }
     ensures same { t.new.shown ≡ t.old.shown }
-    ensures played { OnOk result (IsPlayed (then_make (reply req 200 ok) (dial_from from.now to.now)) t.old t.new) }
+    ensures played { OnOk result
+        (IsPlayed (then_make (reply req 200 ok) (dial_from from.now to.now)) t.old t.new) }
 {
     reply_first_200(t, req)?;
     dial_from(t, from, to)
@@ -117,7 +123,10 @@ fn dial_to(t: &mut Turn, from: &Uri, to: &Option<Uri>) -> Result<(), NoMemory>
 fn ask_and_send(t: &mut Turn, from: &Uri, to: &Uri) -> Result<(), NoMemory>
     requires { (play_of t.old).listed + 1 < MOST_CALLS }
     ensures same { t.new.shown ≡ t.old.shown }
-    ensures played { OnOk result (IsPlayed (Make (Call.CreateRequest (dial_ask from.now to.now)) (with_number (λ draft. only (Call.Send draft)))) t.old t.new) }
+    ensures played { OnOk result
+        (IsPlayed
+        (Make (Call.CreateRequest (dial_ask from.now to.now))
+        (with_number (λ draft. only (Call.Send draft)))) t.old t.new) }
 {
     let ask = dial_ask(memory_of(t), from, to)?;
     let answer = create_request(t, ask)?;
@@ -128,7 +137,8 @@ fn ask_and_send(t: &mut Turn, from: &Uri, to: &Uri) -> Result<(), NoMemory>
 fn send_made(t: &mut Turn, answer: CallAnswer) -> Result<(), NoMemory>
     requires { (play_of t.old).listed < MOST_CALLS }
     ensures same { t.new.shown ≡ t.old.shown }
-    ensures played { OnOk result (IsPlayed (with_number (λ draft. only (Call.Send draft)) answer) t.old t.new) }
+    ensures played { OnOk result
+        (IsPlayed (with_number (λ draft. only (Call.Send draft)) answer) t.old t.new) }
 {
     match answer {
         CallAnswer::Number(draft) => send_draft(t, draft),

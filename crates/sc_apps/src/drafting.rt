@@ -62,7 +62,8 @@ pub fn set_directive(
 ) -> Result<CallAnswer, NoMemory>
     requires { (play_of t.old).listed < MOST_CALLS }
     ensures same { t.new.shown ≡ t.old.shown }
-    ensures made { IfOk result (λ given. IsMade (Call.SetDirective draft directive origin) t.old given t.new) }
+    ensures made { IfOk result
+        (λ given. IsMade (Call.SetDirective draft directive origin) t.old given t.new) }
     ensures listed { OnOk result ((play_of t.new).listed ≡ (play_of t.old).listed + 1) }
 {
     match t.set_directive(draft, directive, origin) {

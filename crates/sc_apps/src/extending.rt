@@ -16,9 +16,9 @@ use sc_terms::{Call, CallAnswer, End, Event, ListenerCharter, View};
 use sc_turn::Turn;
 use sc_value::{NoMemory, Text};
 
-/// At the first expiry of an application session gives it three minutes more (JSR 289 section 6.1.2.1):
-/// it sets the attribute `ext` to `1`, and where that is set already, lets the session expire. When the
-/// session is ready to go away it makes no call. It has no parameters.
+/// At the first expiry of an application session gives it three minutes more (JSR 289 section
+/// 6.1.2.1): it sets the attribute `ext` to `1`, and where that is set already, lets the session
+/// expire. When the session is ready to go away it makes no call. It has no parameters.
 #[derive(Clone, Copy, Debug)]
 pub struct ExtendsOnce;
 
@@ -72,7 +72,10 @@ fn extend(t: &mut Turn) -> Result<(), NoMemory>
 fn mark_and_extend(t: &mut Turn) -> Result<(), NoMemory>
     requires { (play_of t.old).listed + 1 < MOST_CALLS }
     ensures same { t.new.shown ≡ t.old.shown }
-    ensures played { OnOk result (IsPlayed (then_make (Call.SetAttribute extended_name extended_value) (only (Call.SetExpires (pos 3)))) t.old t.new) }
+    ensures played { OnOk result
+        (IsPlayed
+        (then_make (Call.SetAttribute extended_name extended_value)
+        (only (Call.SetExpires (pos 3)))) t.old t.new) }
 {
     mark(t)?;
     three_minutes(t)
@@ -82,7 +85,8 @@ fn mark_and_extend(t: &mut Turn) -> Result<(), NoMemory>
 fn mark(t: &mut Turn) -> Result<CallAnswer, NoMemory>
     requires { (play_of t.old).listed < MOST_CALLS }
     ensures same { t.new.shown ≡ t.old.shown }
-    ensures made { IfOk result (λ given. IsMade (Call.SetAttribute extended_name extended_value) t.old given t.new) }
+    ensures made { IfOk result
+        (λ given. IsMade (Call.SetAttribute extended_name extended_value) t.old given t.new) }
     ensures listed { OnOk result ((play_of t.new).listed ≡ (play_of t.old).listed + 1) }
 {
     let name = Text::from_slice(memory_of(t), b"ext")?;

@@ -59,7 +59,9 @@ fn fork(t: &mut Turn, e: &Event) -> Result<(), NoMemory>
 fn proxy_all(t: &mut Turn, req: ReqId, targets: List<Uri>) -> Result<(), NoMemory>
     requires { (play_of t.old).listed + 1 < MOST_CALLS }
     ensures same { t.new.shown ≡ t.old.shown }
-    ensures played { OnOk result (IsPlayed (Make (Call.ProxyTo req targets (proxy_options true)) (without_targets req)) t.old t.new) }
+    ensures played { OnOk result
+        (IsPlayed (Make (Call.ProxyTo req targets (proxy_options true)) (without_targets req)) t.old
+        t.new) }
 {
     let answer = proxy_to(t, req, targets, proxy_options(true))?;
     without_targets(t, req, answer)

@@ -16,14 +16,14 @@ use sc_value::{CloneIn, NoMemory, Request, Uri};
 use std::alloc::Global;
 
 /// Proxies the request that began the application session (JSR 289 section 10.2) to the URI of its
-/// first parameter. Where that is missing or no URI, it passes the request on to its own Request-URI.
-/// The application doesn't stay on the path of later requests. A request whose Max-Forwards is 0 it
-/// answers 483 `Too Many Hops`. At all other events it makes no call.
+/// first parameter. Where that is missing or no URI, it passes the request on to its own
+/// Request-URI. The application doesn't stay on the path of later requests. A request whose
+/// Max-Forwards is 0 it answers 483 `Too Many Hops`. At all other events it makes no call.
 #[derive(Clone, Copy, Debug)]
 pub struct Forwards;
 
-/// As [`Forwards`], but it stays on the path of later requests: it records its route (RFC 3261 section
-/// 16.6).
+/// As [`Forwards`], but it stays on the path of later requests: it records its route (RFC 3261
+/// section 16.6).
 #[derive(Clone, Copy, Debug)]
 pub struct Records;
 
@@ -58,7 +58,8 @@ fn forward(t: &mut Turn, e: &Event, record_route: bool) -> Result<(), NoMemory>
     requires calls { t.old.calls ≡ [] }
     requires memory { t.old.starved ≡ false }
     ensures same { t.new.shown ≡ t.old.shown }
-    ensures played { OnOk result (IsPlayed (forward_script record_route t.old.shown e.now) t.old t.new) }
+    ensures played { OnOk result
+        (IsPlayed (forward_script record_route t.old.shown e.now) t.old t.new) }
 {
     match e {
         Event::Initial { req, request, .. } => {

@@ -20,7 +20,8 @@ pub fn start_timer(
 ) -> Result<CallAnswer, NoMemory>
     requires { (play_of t.old).listed < MOST_CALLS }
     ensures same { t.new.shown ≡ t.old.shown }
-    ensures made { IfOk result (λ given. IsMade (Call.StartTimer delay_ms period info) t.old given t.new) }
+    ensures made { IfOk result
+        (λ given. IsMade (Call.StartTimer delay_ms period info) t.old given t.new) }
     ensures listed { OnOk result ((play_of t.new).listed ≡ (play_of t.old).listed + 1) }
 {
     match t.start_timer(delay_ms, period, info) {

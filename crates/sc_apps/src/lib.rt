@@ -1,5 +1,5 @@
-//! The applications that every container comes with: servlets and a listener, each of which keeps its
-//! charter (JSR 289 sections 3 and 9).
+//! The applications that every container comes with: servlets and a listener, each of which keeps
+//! its charter (JSR 289 sections 3 and 9).
 #![tactic(auto)]
 
 mod answering;

@@ -27,7 +27,8 @@ pub fn pass_on(
 ) -> Result<(), NoMemory>
     requires { (play_of t.old).listed + 2 < MOST_CALLS }
     ensures same { t.new.shown ≡ t.old.shown }
-    ensures played { OnOk result (IsPlayed (where_some other (other_leg req request.now)) t.old t.new) }
+    ensures played { OnOk result
+        (IsPlayed (where_some other (other_leg req request.now)) t.old t.new) }
 {
     match other {
         Some(other) => other_leg(t, req, request, other),
@@ -60,7 +61,14 @@ fn pass_ack(t: &mut Turn, other: SessId, body: &Text) -> Result<(), NoMemory>
 
 /// A request as the other leg sends it.
 fn inside_of(alloc: Global, request: &Request) -> Result<Inside, NoMemory>
-    ensures { IfOk result (λ ask. ask ≡ record { method = request.now.method; fields = request.now.head.others; body = request.now.head.body }) }
+    ensures { IfOk result
+        (λ ask.
+        ask
+        ≡ record {
+          method = request.now.method;
+          fields = request.now.head.others;
+          body = request.now.head.body;
+        }) }
 {
     Ok(Inside {
         method: request.method.as_text().clone_in(alloc)?,
@@ -84,7 +92,13 @@ fn send_on(t: &mut Turn, req: ReqId, request: &Request, other: SessId) -> Result
 fn send_made(t: &mut Turn, req: ReqId, answer: CallAnswer) -> Result<(), NoMemory>
     requires { (play_of t.old).listed + 1 < MOST_CALLS }
     ensures same { t.new.shown ≡ t.old.shown }
-    ensures played { OnOk result (IsPlayed (with_number (λ draft. Make (Call.Send draft) (with_number (λ n. only (Call.SetAttribute (served_name n) (decimal req.0))))) answer) t.old t.new) }
+    ensures played { OnOk result
+        (IsPlayed
+        (with_number
+        (λ draft.
+        Make (Call.Send draft)
+        (with_number (λ n. only (Call.SetAttribute (served_name n) (decimal req.0)))))
+        answer) t.old t.new) }
 {
     match answer {
         CallAnswer::Number(draft) => send_and_note(t, req, draft),
@@ -96,7 +110,11 @@ fn send_made(t: &mut Turn, req: ReqId, answer: CallAnswer) -> Result<(), NoMemor
 fn send_and_note(t: &mut Turn, req: ReqId, draft: u64) -> Result<(), NoMemory>
     requires { (play_of t.old).listed + 1 < MOST_CALLS }
     ensures same { t.new.shown ≡ t.old.shown }
-    ensures played { OnOk result (IsPlayed (Make (Call.Send draft) (with_number (λ n. only (Call.SetAttribute (served_name n) (decimal req.0))))) t.old t.new) }
+    ensures played { OnOk result
+        (IsPlayed
+        (Make (Call.Send draft)
+        (with_number (λ n. only (Call.SetAttribute (served_name n) (decimal req.0))))) t.old
+        t.new) }
 {
     let draft = draft_of(draft)?;
     let answer = send(t, draft)?;
@@ -107,7 +125,10 @@ fn send_and_note(t: &mut Turn, req: ReqId, draft: u64) -> Result<(), NoMemory>
 fn note_sent(t: &mut Turn, req: ReqId, answer: CallAnswer) -> Result<(), NoMemory>
     requires { (play_of t.old).listed < MOST_CALLS }
     ensures same { t.new.shown ≡ t.old.shown }
-    ensures played { OnOk result (IsPlayed (with_number (λ n. only (Call.SetAttribute (served_name n) (decimal req.0))) answer) t.old t.new) }
+    ensures played { OnOk result
+        (IsPlayed
+        (with_number (λ n. only (Call.SetAttribute (served_name n) (decimal req.0))) answer) t.old
+        t.new) }
 {
     match answer {
         CallAnswer::Number(number) => note(t, req, number),
@@ -129,7 +150,8 @@ pub fn served_name(alloc: Global, number: u64) -> Result<Text, NoMemory>
 fn note(t: &mut Turn, req: ReqId, number: u64) -> Result<(), NoMemory>
     requires { (play_of t.old).listed < MOST_CALLS }
     ensures same { t.new.shown ≡ t.old.shown }
-    ensures played { OnOk result (IsPlayed (only (Call.SetAttribute (served_name number) (decimal req.0))) t.old t.new) }
+    ensures played { OnOk result
+        (IsPlayed (only (Call.SetAttribute (served_name number) (decimal req.0))) t.old t.new) }
 {
     let name = served_name(memory_of(t), number)?;
     let value = decimal_text(memory_of(t), req.0)?;

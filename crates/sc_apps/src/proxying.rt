@@ -72,7 +72,8 @@ pub fn proxy(
 pub fn proxy_one(t: &mut Turn, req: ReqId, target: Uri, record_route: bool) -> Result<(), NoMemory>
     requires { (play_of t.old).listed + 1 < MOST_CALLS }
     ensures same { t.new.shown ≡ t.old.shown }
-    ensures played { OnOk result (IsPlayed (proxy_script req (target ∷ []) record_route) t.old t.new) }
+    ensures played { OnOk result
+        (IsPlayed (proxy_script req (target ∷ []) record_route) t.old t.new) }
 {
     let mut targets = List::new(memory_of(t));
     targets.push(target)?;

@@ -21,7 +21,8 @@ use std::alloc::Global;
 /// An answer with this code and reason, and nothing else.
 #[tactic(auto, unfolding(sc_hosts::specs::Scripting::reply))]
 fn plain_answer(alloc: Global, code: u16, reason: &[u8]) -> Result<Answer, NoMemory>
-    ensures { IfOk result (λ answer. (req : ReqId) → Call.Respond req answer ≡ reply req code reason.now) }
+    ensures { IfOk result
+        (λ answer. (req : ReqId) → Call.Respond req answer ≡ reply req code reason.now) }
 {
     let reason = Text::from_slice(alloc, reason)?;
     Ok(Answer {

@@ -56,7 +56,12 @@ pub fn pass_back(
     requires calls { t.old.calls ≡ [] }
     requires memory { t.old.starved ≡ false }
     ensures same { t.new.shown ≡ t.old.shown }
-    ensures played { OnOk result (IsPlayed (if is_initial t.old.shown req then where_some (partner t.old.shown sess) (λ other. only (Call.B2bRespond other (same_answer response.now))) else sent_back t.old.shown req response.now) t.old t.new) }
+    ensures played { OnOk result
+        (IsPlayed
+        (if is_initial t.old.shown req
+        then where_some (partner t.old.shown sess)
+        (λ other. only (Call.B2bRespond other (same_answer response.now)))
+        else sent_back t.old.shown req response.now) t.old t.new) }
 {
     if is_initial(shown(t), req) {
         let other = partner(shown(t), sess);
@@ -69,7 +74,10 @@ pub fn pass_back(
 fn answer_leg(t: &mut Turn, other: Option<SessId>, response: &Response) -> Result<(), NoMemory>
     requires { (play_of t.old).listed < MOST_CALLS }
     ensures same { t.new.shown ≡ t.old.shown }
-    ensures played { OnOk result (IsPlayed (where_some other (λ other. only (Call.B2bRespond other (same_answer response.now)))) t.old t.new) }
+    ensures played { OnOk result
+        (IsPlayed
+        (where_some other (λ other. only (Call.B2bRespond other (same_answer response.now))))
+        t.old t.new) }
 {
     match other {
         Some(other) => answer_other(t, other, response),
@@ -81,7 +89,8 @@ fn answer_leg(t: &mut Turn, other: Option<SessId>, response: &Response) -> Resul
 fn answer_other(t: &mut Turn, other: SessId, response: &Response) -> Result<(), NoMemory>
     requires { (play_of t.old).listed < MOST_CALLS }
     ensures same { t.new.shown ≡ t.old.shown }
-    ensures played { OnOk result (IsPlayed (only (Call.B2bRespond other (same_answer response.now))) t.old t.new) }
+    ensures played { OnOk result
+        (IsPlayed (only (Call.B2bRespond other (same_answer response.now))) t.old t.new) }
 {
     let answer = same_answer(memory_of(t), response)?;
     b2b_respond(t, other, answer)?;
@@ -99,7 +108,8 @@ fn number_attribute(view: &View, name: &[u8]) -> Option<u32>
 
 /// The request which a sent one serves.
 fn served_by(alloc: Global, view: &View, req: ReqId) -> Result<Option<u32>, NoMemory>
-    ensures { IfOk result (λ n. n ≡ option_and_then small_number (attribute (served_name req.0) view.entry.now)) }
+    ensures { IfOk result
+        (λ n. n ≡ option_and_then small_number (attribute (served_name req.0) view.entry.now)) }
 {
     let name = served_name(alloc, u64::from(req.0))?;
     Ok(number_attribute(view, name.as_bytes()))
@@ -125,7 +135,13 @@ fn answer_served(
 ) -> Result<(), NoMemory>
     requires { (play_of t.old).listed + 1 < MOST_CALLS }
     ensures same { t.new.shown ≡ t.old.shown }
-    ensures played { OnOk result (IsPlayed (where_some served (λ n. then_make (Call.Respond (record { 0 = n }) (same_answer response.now)) (if is_final response.now.code then only (Call.RemoveAttribute (served_name req.0)) else Done))) t.old t.new) }
+    ensures played { OnOk result
+        (IsPlayed
+        (where_some served
+        (λ n.
+        then_make (Call.Respond (record { 0 = n }) (same_answer response.now))
+        (if is_final response.now.code then only (Call.RemoveAttribute (served_name req.0))
+        else Done))) t.old t.new) }
 {
     match served {
         Some(served) => answer_and_forget(t, req, response, ReqId(served)),
@@ -142,7 +158,11 @@ fn answer_and_forget(
 ) -> Result<(), NoMemory>
     requires { (play_of t.old).listed + 1 < MOST_CALLS }
     ensures same { t.new.shown ≡ t.old.shown }
-    ensures played { OnOk result (IsPlayed (then_make (Call.Respond served (same_answer response.now)) (if is_final response.now.code then only (Call.RemoveAttribute (served_name req.0)) else Done)) t.old t.new) }
+    ensures played { OnOk result
+        (IsPlayed
+        (then_make (Call.Respond served (same_answer response.now))
+        (if is_final response.now.code then only (Call.RemoveAttribute (served_name req.0))
+        else Done)) t.old t.new) }
 {
     let answer = same_answer(memory_of(t), response)?;
     respond(t, served, answer)?;
@@ -153,7 +173,9 @@ fn answer_and_forget(
 fn forget_final(t: &mut Turn, req: ReqId, code: u16) -> Result<(), NoMemory>
     requires { (play_of t.old).listed < MOST_CALLS }
     ensures same { t.new.shown ≡ t.old.shown }
-    ensures played { OnOk result (IsPlayed (if is_final code then only (Call.RemoveAttribute (served_name req.0)) else Done) t.old t.new) }
+    ensures played { OnOk result
+        (IsPlayed (if is_final code then only (Call.RemoveAttribute (served_name req.0)) else Done)
+        t.old t.new) }
 {
     if is_final(code) {
         return forget(t, req);
@@ -165,7 +187,8 @@ fn forget_final(t: &mut Turn, req: ReqId, code: u16) -> Result<(), NoMemory>
 fn forget(t: &mut Turn, req: ReqId) -> Result<(), NoMemory>
     requires { (play_of t.old).listed < MOST_CALLS }
     ensures same { t.new.shown ≡ t.old.shown }
-    ensures played { OnOk result (IsPlayed (only (Call.RemoveAttribute (served_name req.0))) t.old t.new) }
+    ensures played { OnOk result
+        (IsPlayed (only (Call.RemoveAttribute (served_name req.0))) t.old t.new) }
 {
     let name = served_name(memory_of(t), u64::from(req.0))?;
     remove_attribute(t, name)?;

@@ -24,11 +24,11 @@ use sc_turn::Turn;
 use sc_value::{NoMemory, ReqId, Request, Text, TimerId};
 
 /// Answers the INVITE that began the application session 180 `Ringing`, and starts a timer (JSR 289
-/// section 8) of as many milliseconds as its first parameter says, 1,000 where that is missing or no
-/// number of 32 bits. When the timer fires it answers the INVITE 200 `OK`; but where its second
-/// parameter is `drop` it ends the application session instead. When the INVITE is cancelled it ends
-/// the timer. Another request that began the application session, and each later one but an ACK, it
-/// answers 200 `OK`. At all other events it makes no call.
+/// section 8) of as many milliseconds as its first parameter says, 1,000 where that is missing or
+/// no number of 32 bits. When the timer fires it answers the INVITE 200 `OK`; but where its second
+/// parameter is `drop` it ends the application session instead. When the INVITE is cancelled it
+/// ends the timer. Another request that began the application session, and each later one but an
+/// ACK, it answers 200 `OK`. At all other events it makes no call.
 #[derive(Clone, Copy, Debug)]
 pub struct Rings;
 
@@ -69,7 +69,10 @@ fn ring_or_answer(t: &mut Turn, req: ReqId, request: &Request) -> Result<(), NoM
     requires calls { t.old.calls ≡ [] }
     requires memory { t.old.starved ≡ false }
     ensures same { t.new.shown ≡ t.old.shown }
-    ensures played { OnOk result (IsPlayed (if same_bytes request.now.method invite then ring t.old.shown req else only (reply req 200 ok)) t.old t.new) }
+    ensures played { OnOk result
+        (IsPlayed
+        (if same_bytes request.now.method invite then ring t.old.shown req
+        else only (reply req 200 ok)) t.old t.new) }
 {
     if is_invite(request.method.as_bytes()) {
         let time = ringing_time(shown(t));
@@ -93,7 +96,8 @@ fn ring(t: &mut Turn, req: ReqId, time: u32) -> Result<(), NoMemory>
 fn answer_after(t: &mut Turn, req: ReqId, time: u32) -> Result<(), NoMemory>
     requires { (play_of t.old).listed < MOST_CALLS }
     ensures same { t.new.shown ≡ t.old.shown }
-    ensures played { OnOk result (IsPlayed (only (Call.StartTimer time Once (decimal req.0))) t.old t.new) }
+    ensures played { OnOk result
+        (IsPlayed (only (Call.StartTimer time Once (decimal req.0))) t.old t.new) }
 {
     let info = decimal_text(memory_of(t), req.0)?;
     start_timer(t, time, Period::Once, info)?;
@@ -161,7 +165,10 @@ pub fn cancel_first_timer(t: &mut Turn) -> Result<(), NoMemory>
     requires calls { t.old.calls ≡ [] }
     requires memory { t.old.starved ≡ false }
     ensures same { t.new.shown ≡ t.old.shown }
-    ensures played { OnOk result (IsPlayed (where_some (slice_get t.old.shown.timers 0) (λ timer. only (Call.CancelTimer timer.id))) t.old t.new) }
+    ensures played { OnOk result
+        (IsPlayed
+        (where_some (slice_get t.old.shown.timers 0) (λ timer. only (Call.CancelTimer timer.id)))
+        t.old t.new) }
 {
     let id = first_id(shown(t).timers.as_slice());
     stop_timer(t, id)
@@ -171,7 +178,8 @@ pub fn cancel_first_timer(t: &mut Turn) -> Result<(), NoMemory>
 fn stop_timer(t: &mut Turn, id: Option<TimerId>) -> Result<(), NoMemory>
     requires { (play_of t.old).listed < MOST_CALLS }
     ensures same { t.new.shown ≡ t.old.shown }
-    ensures played { OnOk result (IsPlayed (where_some id (λ id. only (Call.CancelTimer id))) t.old t.new) }
+    ensures played { OnOk result
+        (IsPlayed (where_some id (λ id. only (Call.CancelTimer id))) t.old t.new) }
 {
     match id {
         Some(id) => {
@@ -187,7 +195,11 @@ fn answer_or_drop(t: &mut Turn, info: &Text) -> Result<(), NoMemory>
     requires calls { t.old.calls ≡ [] }
     requires memory { t.old.starved ≡ false }
     ensures same { t.new.shown ≡ t.old.shown }
-    ensures played { OnOk result (IsPlayed (if drops t.old.shown then only Call.InvalidateApplication else where_some (small_number info.now) (λ n. only (reply (record { 0 = n }) 200 ok))) t.old t.new) }
+    ensures played { OnOk result
+        (IsPlayed
+        (if drops t.old.shown then only Call.InvalidateApplication
+        else where_some (small_number info.now) (λ n. only (reply (record { 0 = n }) 200 ok)))
+        t.old t.new) }
 {
     if drops(shown(t)) {
         return end_session(t);
@@ -209,7 +221,8 @@ fn end_session(t: &mut Turn) -> Result<(), NoMemory>
 fn answer_number(t: &mut Turn, number: Option<u32>) -> Result<(), NoMemory>
     requires { (play_of t.old).listed < MOST_CALLS }
     ensures same { t.new.shown ≡ t.old.shown }
-    ensures played { OnOk result (IsPlayed (where_some number (λ n. only (reply (record { 0 = n }) 200 ok))) t.old t.new) }
+    ensures played { OnOk result
+        (IsPlayed (where_some number (λ n. only (reply (record { 0 = n }) 200 ok))) t.old t.new) }
 {
     match number {
         Some(number) => reply_200(t, ReqId(number)),

@@ -14,7 +14,8 @@ use Rattle.sc_arrivals.specs.HostTests.{claims, awaits}
 -- the first host with a transaction that the message belongs to
 unfoldable pub first_for : Bytes → Place → Message → Net Session → Option ℕ
 first_for salt from (messages.Request request) net = first_host (claims from request) 0 net.hosts
-first_for salt from (messages.Response response) net = first_host (awaits salt net.epoch from response) 0 net.hosts
+first_for salt from (messages.Response response) net =
+    first_host (awaits salt net.epoch from response) 0 net.hosts
 
 -- the net after a message that belongs to no transaction
 unfoldable pub untaken : Setup → Place → Message → Net Session → Net Session

@@ -16,4 +16,5 @@ claims from request host = is_claimed (claim_of (peers.Outside from) request hos
 
 -- a client transaction of the host has asked for the response
 unfoldable pub awaits : Bytes → ℕ → Place → Response → Host Session → Bool
-awaits salt epoch from response host = is_some (client_for salt epoch (peers.Outside from) response host)
+awaits salt epoch from response host =
+    is_some (client_for salt epoch (peers.Outside from) response host)

@@ -24,7 +24,8 @@ fn edge_answer(
     request: &Request,
     net: &mut Net<Session>,
 ) -> Result<(), NoMemory>
-    ensures { OnOk result (net.new ≡ edge_answer config.now from code reason.now request.now net.old) }
+    ensures { OnOk result
+        (net.new ≡ edge_answer config.now from code reason.now request.now net.old) }
 {
     if is_ack(request) {
         return Ok(());
@@ -42,7 +43,8 @@ pub fn answer_unknown(
     request: &Request,
     net: &mut Net<Session>,
 ) -> Result<(), NoMemory>
-    ensures { OnOk result (net.new ≡ edge_answer config.now from 481 does_not_exist request.now net.old) }
+    ensures { OnOk result
+        (net.new ≡ edge_answer config.now from 481 does_not_exist request.now net.old) }
 {
     edge_answer(
         alloc,
@@ -64,7 +66,8 @@ pub fn answer_not_found(
     request: &Request,
     net: &mut Net<Session>,
 ) -> Result<(), NoMemory>
-    ensures { OnOk result (net.new ≡ edge_answer config.now from 404 not_found request.now net.old) }
+    ensures { OnOk result
+        (net.new ≡ edge_answer config.now from 404 not_found request.now net.old) }
 {
     edge_answer(alloc, config, from, 404, b"Not Found", request, net)
 }

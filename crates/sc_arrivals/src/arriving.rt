@@ -1,4 +1,5 @@
-//! A message comes from outside: a transaction takes it first (RFC 3261 sections 17.1.3 and 17.2.3).
+//! A message comes from outside: a transaction takes it first (RFC 3261 sections 17.1.3 and
+//! 17.2.3).
 
 ghost use Rattle.std.specs.Prelude.{◌≡◌, OnOk};
 ghost use Rattle.sc_hosts.specs.Histories.{as_session};

@@ -33,7 +33,8 @@ fn route_taken(
     route: Option<Address>,
     popped: Option<&Address>,
 ) -> Result<Option<Address>, NoMemory>
-    ensures { IfOk result (λ taken. taken ≡ (if is_some route then route else option_copied popped.entry)) }
+    ensures { IfOk result
+        (λ taken. taken ≡ (if is_some route then route else option_copied popped.entry)) }
 {
     match route {
         Some(route) => Ok(Some(route)),
@@ -51,7 +52,10 @@ fn begins_by(
     choice: Choice,
     net: &mut Net<Session>,
 ) -> Result<(), NoMemory>
-    ensures { OnOk result (net.new ≡ begins_by as_session setup.now from request.now (option_copied popped.entry) choice net.old) }
+    ensures { OnOk result
+        (net.new
+        ≡ begins_by as_session setup.now from request.now (option_copied popped.entry) choice
+        net.old) }
 {
     match choice {
         Choice::App {
@@ -92,7 +96,11 @@ fn chosen(
     request: &Request,
     position: Position,
 ) -> Result<Choice, NoMemory>
-    ensures { IfOk result (λ c. c ≡ choice_of setup.now.config setup.now.dar request.now position.region position.directive position.state) }
+    ensures { IfOk result
+        (λ c.
+        c
+        ≡ choice_of setup.now.config setup.now.dar request.now position.region
+        position.directive position.state) }
 {
     next(
         alloc,
@@ -112,7 +120,15 @@ fn begins(
     request: &Request,
     net: &mut Net<Session>,
 ) -> Result<(), NoMemory>
-    ensures { OnOk result (net.new ≡ begins_by as_session setup.now from (unrouted_initial setup.now.config request.now) (popped_route setup.now.config request.now) (choice_of setup.now.config setup.now.dar (unrouted_initial setup.now.config request.now) (position_of setup.now.config request.now).region (position_of setup.now.config request.now).directive (position_of setup.now.config request.now).state) net.old) }
+    ensures { OnOk result
+        (net.new
+        ≡ begins_by as_session setup.now from (unrouted_initial setup.now.config request.now)
+        (popped_route setup.now.config request.now)
+        (choice_of setup.now.config setup.now.dar
+        (unrouted_initial setup.now.config request.now)
+        (position_of setup.now.config request.now).region
+        (position_of setup.now.config request.now).directive
+        (position_of setup.now.config request.now).state) net.old) }
 {
     let position = position_of(alloc, &setup.config, request)?;
     let popped = popped_route(alloc, &setup.config, request)?;
@@ -131,7 +147,8 @@ pub fn initial_arrives(
     request: &Request,
     net: &mut Net<Session>,
 ) -> Result<(), NoMemory>
-    ensures { OnOk result (net.new ≡ initial_arrives as_session setup.now from request.now net.old) }
+    ensures { OnOk result
+        (net.new ≡ initial_arrives as_session setup.now from request.now net.old) }
 {
     if is_ack(request) {
         return Ok(());

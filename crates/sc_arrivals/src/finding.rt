@@ -67,7 +67,8 @@ fn awaiting_host(
     response: &Response,
     hosts: &[Host<Session>],
 ) -> Result<Option<u32>, NoMemory>
-    ensures { IfOk result (λ number. number ≡ first_host (awaits salt.now epoch from response.now) 0 hosts.now) }
+    ensures { IfOk result
+        (λ number. number ≡ first_host (awaits salt.now epoch from response.now) 0 hosts.now) }
 {
     let mut number: u32 = 0;
     for host in hosts {

@@ -17,7 +17,9 @@ use sc_wire::named_host;
 use std::alloc::Global;
 
 fn host_named(alloc: Global, uri: Option<&Uri>, net: &Net<Session>) -> Result<Option<u32>, NoMemory>
-    ensures { IfOk result (λ number. number ≡ option_and_then (λ uri. named_host uri net.now) (option_copied uri.entry)) }
+    ensures { IfOk result
+        (λ number.
+        number ≡ option_and_then (λ uri. named_host uri net.now) (option_copied uri.entry)) }
 {
     match uri {
         Some(uri) => named_host(alloc, uri, net),

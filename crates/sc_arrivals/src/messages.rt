@@ -24,7 +24,11 @@ pub fn edge_message(
     reason: &[u8],
     request: &Request,
 ) -> Result<Message, NoMemory>
-    ensures { IfOk result (λ m. m ≡ Message.Response (own_response (edge_tag config.now.salt) code reason.now request.now)) }
+    ensures { IfOk result
+        (λ m.
+        m
+        ≡ Message.Response
+        (own_response (edge_tag config.now.salt) code reason.now request.now)) }
 {
     let response = edge_response(alloc, config, code, reason, request)?;
     Ok(Message::Response(Shared::new(alloc, response)?))
@@ -48,7 +52,10 @@ pub fn take_request(
     number: u32,
     net: &mut Net<Session>,
 ) -> Result<(), NoMemory>
-    ensures { OnOk result (net.new ≡ taken_at as_session setup.now from noted.now (Message.Request request.now) number net.old) }
+    ensures { OnOk result
+        (net.new
+        ≡ taken_at as_session setup.now from noted.now (Message.Request request.now) number
+        net.old) }
 {
     let message = Message::Request(request.clone_in(alloc)?);
     taken_at(alloc, setup, from, noted, &message, number, net)

@@ -7,8 +7,12 @@ use Rattle.sc_tokens.specs.Numbers.{with_digit}
 
 -- the number with one digit more, where it is a digit and the number fits 64 bits
 unfoldable pub digit_after : ℕ → ℕ → Option ℕ
-digit_after n b = if is_ascii_digit b && nat_lt (with_digit n b) (2 ^ 64) then Some (with_digit n b) else None
+digit_after n b =
+    if is_ascii_digit b && nat_lt (with_digit n b) (2 ^ 64) then Some (with_digit n b) else None
 
 -- the number with all these digits more, where they are digits and the number fits 64 bits
 unfoldable pub digits_after : ℕ → Bytes → Option ℕ
-digits_after n text = if list_all is_ascii_digit text && nat_lt (fold with_digit n text) (2 ^ 64) then Some (fold with_digit n text) else None
+digits_after n text =
+    if list_all is_ascii_digit text && nat_lt (fold with_digit n text) (2 ^ 64)
+    then Some (fold with_digit n text)
+    else None

@@ -5,8 +5,8 @@ ghost use Rattle.sc_model.specs.BestResponses.{best_of, is_global, is_lowest, cl
 
 use sc_value::{List, Response, Shared};
 
-/// The place of the best response: that of the first 6xx, else of the first of the lowest class; None
-/// exactly where the list is empty.
+/// The place of the best response: that of the first 6xx, else of the first of the lowest class;
+/// None exactly where the list is empty.
 pub fn best(list: &List<Shared<Response>>) -> Option<usize>
     ensures best { result ≡ best_of list.now }
     ensures none { is_none result ≡ (length list.now == 0) }

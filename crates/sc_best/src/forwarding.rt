@@ -9,7 +9,8 @@ use sc_value::{CloneIn, Field, Head, List, NoMemory, Others, Reason, Response, S
 use std::alloc::Global;
 
 /// The challenges that a chosen 401 or 407 is given: the WWW-Authenticate and Proxy-Authenticate
-/// fields of all other 401 and 407 responses, in their order; none where another response is chosen.
+/// fields of all other 401 and 407 responses, in their order; none where another response is
+/// chosen.
 /// `Err` for want of memory alone.
 pub fn gather(
     alloc: Global,
@@ -94,8 +95,8 @@ fn is_challenge(field: &Field) -> bool
     same_name(name, b"WWW-Authenticate") || same_name(name, b"Proxy-Authenticate")
 }
 
-/// The chosen response as it is forwarded: a 503 made a 500, a 401 or 407 with the challenges of the
-/// others. `Err` for want of memory alone.
+/// The chosen response as it is forwarded: a 503 made a 500, a 401 or 407 with the challenges of
+/// the others. `Err` for want of memory alone.
 pub fn forwarded(
     alloc: Global,
     list: &List<Shared<Response>>,
@@ -139,7 +140,13 @@ fn forwarded_head(
     chosen: usize,
 ) -> Result<Head, NoMemory>
     requires { chosen < length responses.now }
-    ensures { IfOk result (λ head. (response : Response) → slice_get responses.now chosen ≡ Some response → head ≡ record response.head { others = response.head.others ++ gathered responses.now chosen }) }
+    ensures { IfOk result
+        (λ head.
+        (response : Response) → slice_get responses.now chosen ≡ Some response
+        → head
+        ≡ record response.head {
+          others = response.head.others ++ gathered responses.now chosen;
+        }) }
 {
     let others = forwarded_others(alloc, responses, chosen)?;
     head_with(alloc, &responses[chosen].get().head, others)
@@ -151,7 +158,10 @@ fn forwarded_others(
     chosen: usize,
 ) -> Result<Others, NoMemory>
     requires { chosen < length responses.now }
-    ensures { IfOk result (λ fields. (response : Response) → slice_get responses.now chosen ≡ Some response → fields ≡ response.head.others ++ gathered responses.now chosen) }
+    ensures { IfOk result
+        (λ fields.
+        (response : Response) → slice_get responses.now chosen ≡ Some response
+        → fields ≡ response.head.others ++ gathered responses.now chosen) }
 {
     let mut fields = responses[chosen].get().head.others.clone_in(alloc)?;
     add_gathered(alloc, responses, chosen, &mut fields)?;

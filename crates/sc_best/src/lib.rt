@@ -1,5 +1,5 @@
-//! The best of the final responses to a proxied request, and what is forwarded of it (RFC 3261 section
-//! 16.7).
+//! The best of the final responses to a proxied request, and what is forwarded of it (RFC 3261
+//! section 16.7).
 #![tactic(auto)]
 
 mod choice;

@@ -35,7 +35,8 @@ IsAbove last jobs.Stop = Unit {0}
 -- each number is above those before it
 abbrev pub Rises : List Lease → Type 0
 Rises [] = Unit {0}
-Rises (lease ∷ later) = AllByRecursion (λ (next : Lease). lease.number < next.number) later × Rises later
+Rises (lease ∷ later) =
+    AllByRecursion (λ (next : Lease). lease.number < next.number) later × Rises later
 
 -- the numbers of the leases are at most this one
 abbrev pub AreUpTo : ℕ → List Lease → Type 0
@@ -48,19 +49,53 @@ in_hand number hand = find (λ lease. nat_eq lease.number number) hand
 -- the hand without that lease
 abbrev pub without : ℕ → List Lease → List Lease
 without number [] = []
-without number (lease ∷ older) = if nat_eq lease.number number then older else lease ∷ without number older
+without number (lease ∷ older) =
+    if nat_eq lease.number number then older else lease ∷ without number older
 
 -- the view of the pass that posts, as the board is made: it has all 1,024 parts
 abbrev pub first_job_view : ℕ → JobView
-first_job_view kinds = record { first = true; parts = 1024; kinds = kinds; posted = []; last = 0; told = 0; taken = []; stops = 0; hand = [] }
+first_job_view kinds =
+    record {
+      first = true;
+      parts = 1024;
+      kinds = kinds;
+      posted = [];
+      last = 0;
+      told = 0;
+      taken = [];
+      stops = 0;
+      hand = [];
+    }
 
 -- the view of a pass as it is split off: it has one part
 abbrev pub new_job_view : ℕ → JobView
-new_job_view kinds = record { first = false; parts = 1; kinds = kinds; posted = []; last = 0; told = 0; taken = []; stops = 0; hand = [] }
+new_job_view kinds =
+    record {
+      first = false;
+      parts = 1;
+      kinds = kinds;
+      posted = [];
+      last = 0;
+      told = 0;
+      taken = [];
+      stops = 0;
+      hand = [];
+    }
 
 -- the view of a pass that was joined to another one: it has no part
 abbrev pub spent_job_view : JobView
-spent_job_view = record { first = false; parts = 0; kinds = 0; posted = []; last = 0; told = 0; taken = []; stops = 0; hand = [] }
+spent_job_view =
+    record {
+      first = false;
+      parts = 0;
+      kinds = 0;
+      posted = [];
+      last = 0;
+      told = 0;
+      taken = [];
+      stops = 0;
+      hand = [];
+    }
 
 -- a pass after one was split off from it, which takes one of its parts
 abbrev pub job_view_left : JobView → JobView
@@ -96,11 +131,17 @@ Took v job w = (w ≡ after_take v job) × JobFits v.kinds job
 
 -- what the first pass knows of the jobs in the queue: it posted them
 abbrev pub WasPosted : JobView → List Job → Type 0
-WasPosted v items = ((h : Lease → ℕ) → sum_by (job_weight h) items ≤ sum_by h v.posted) × (length items ≤ length v.posted + v.told)
+WasPosted v items =
+    ((h : Lease → ℕ) → sum_by (job_weight h) items ≤ sum_by h v.posted)
+    × (length items ≤ length v.posted + v.told)
 
--- what a pass with all parts knows: what it posted, however leases are weighed, is what it took and what the queue holds
+-- what a pass with all parts knows: what it posted, however leases are weighed, is what it took and
+-- what the queue holds
 abbrev pub IsJobWhole : JobView → List Job → Type 0
-IsJobWhole v items = v.parts ≡ 1024 → ((h : Lease → ℕ) → sum_by h v.posted ≡ sum_by h v.taken + sum_by (job_weight h) items) × Rises v.posted
+IsJobWhole v items =
+    v.parts ≡ 1024
+    → ((h : Lease → ℕ) → sum_by h v.posted ≡ sum_by h v.taken + sum_by (job_weight h) items)
+    × Rises v.posted
 
 -- what holds of each pass: one that doesn't post has posted nothing, and numbers that were posted
 -- rise
@@ -111,13 +152,17 @@ pub record IsJobView (kinds : ℕ) (v : JobView) : Type 0 where
   pub rises : Rises v.posted
   pub upto : AreUpTo v.last v.posted
 
--- Each lease that was posted is in the queue or was taken by one pass, once: however leases are weighed, all that was posted
--- weighs what the queue holds and all passes took. One pass alone posts.
+-- Each lease that was posted is in the queue or was taken by one pass, once: however leases are
+-- weighed, all that was posted weighs what the queue holds and all passes took. One pass alone
+-- posts.
 pub record JobsKept (items : List Job) (views : List JobView) : Type 0 where
   pub kinds : ℕ
   pub parts : sum_by (λ (v : JobView). v.parts) views ≡ 1024
   pub one : sum_by (λ (v : JobView). first_weight v.first) views ≡ 1
-  pub balanced : (h : Lease → ℕ) → sum_by (λ (v : JobView). sum_by h v.posted) views ≡ sum_by (λ (v : JobView). sum_by h v.taken) views + sum_by (job_weight h) items
-  pub stopped : sum_by (λ (v : JobView). v.told) views ≡ sum_by (λ (v : JobView). v.stops) views + sum_by stop_weight items
+  pub balanced : (h : Lease → ℕ)
+      → sum_by (λ (v : JobView). sum_by h v.posted) views
+      ≡ sum_by (λ (v : JobView). sum_by h v.taken) views + sum_by (job_weight h) items
+  pub stopped : sum_by (λ (v : JobView). v.told) views
+      ≡ sum_by (λ (v : JobView). v.stops) views + sum_by stop_weight items
   pub views_are : (port : ℕ) (v : JobView) → get_elem? views port ≡ some v → IsJobView kinds v
   pub fits : AllByRecursion (JobFits kinds) items

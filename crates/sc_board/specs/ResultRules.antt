@@ -17,7 +17,8 @@ has_some (done ∷ later) = true
 
 -- the view of the pass that collects, as the board is made: it has all 1,024 parts
 abbrev pub first_result_view : ResultView
-first_result_view = record { first = true; parts = 1024; brought = []; collected = []; mixed = false }
+first_result_view =
+    record { first = true; parts = 1024; brought = []; collected = []; mixed = false }
 
 -- the view of a pass as it is split off: it has one part
 abbrev pub new_result_view : ResultView
@@ -49,36 +50,43 @@ after_bring v done = record v { brought = v.brought ++ done ∷ [] }
 abbrev pub after_collect : ResultView → Done → ResultView
 after_collect v done = record v { collected = v.collected ++ done ∷ [] }
 
--- what a pass with all parts knows: what it brought, however results are weighed, is what it collected and what the queue holds
+-- what a pass with all parts knows: what it brought, however results are weighed, is what it
+-- collected and what the queue holds
 abbrev pub IsResultWhole : ResultView → List Done → Type 0
-IsResultWhole v items = v.parts ≡ 1024 → (h : Done → ℕ) → sum_by h v.brought ≡ sum_by h v.collected + sum_by h items
+IsResultWhole v items =
+    v.parts ≡ 1024 → (h : Done → ℕ) → sum_by h v.brought ≡ sum_by h v.collected + sum_by h items
 
 -- those of the results that the pass of this number brought
 abbrev pub brought_by : ℕ → List ℕ → List Done → List Done
 brought_by port [] results = []
 brought_by port (who ∷ later) [] = []
-brought_by port (who ∷ later) (done ∷ results) = if nat_eq who port then done ∷ brought_by port later results else brought_by port later results
+brought_by port (who ∷ later) (done ∷ results) =
+    if nat_eq who port then done ∷ brought_by port later results else brought_by port later results
 
--- Results stand in the order in which each pass brought them: `who` is the number of the pass that brought each, of those that
--- were collected and of those in the queue.
+-- Results stand in the order in which each pass brought them: `who` is the number of the pass that
+-- brought each, of those that were collected and of those in the queue.
 pub record AreInOrder (items : List Done) (views : List ResultView) : Type 0 where
   pub collected : List Done
   pub who : List ℕ
   pub as_many : length who ≡ length (collected ++ items)
   pub below : AllByRecursion (λ (port : ℕ). port < length views) who
-  pub first_has : (port : ℕ) (v : ResultView) → get_elem? views port ≡ some v → v.first ≡ true → v.collected ≡ collected
-  pub in_order : (port : ℕ) (v : ResultView) → get_elem? views port ≡ some v → 0 < v.parts → v.mixed ≡ false → brought_by port who (collected ++ items) ≡ v.brought
+  pub first_has : (port : ℕ) (v : ResultView) → get_elem? views port ≡ some v → v.first ≡ true
+      → v.collected ≡ collected
+  pub in_order : (port : ℕ) (v : ResultView) → get_elem? views port ≡ some v → 0 < v.parts
+      → v.mixed ≡ false → brought_by port who (collected ++ items) ≡ v.brought
 
 -- what holds of each pass: one that doesn't collect has collected nothing
 pub record IsResultView (v : ResultView) : Type 0 where
   pub plain : v.first ≡ false → v.collected ≡ []
   pub spent : v.parts ≡ 0 → v ≡ spent_result_view
 
--- Each result that was brought is in the queue or was collected, once: however results are weighed, all that was brought weighs
--- what the queue holds and what was collected. One pass alone collects.
+-- Each result that was brought is in the queue or was collected, once: however results are weighed,
+-- all that was brought weighs what the queue holds and what was collected. One pass alone collects.
 pub record ResultsKept (items : List Done) (views : List ResultView) : Type 0 where
   pub parts : sum_by (λ (v : ResultView). v.parts) views ≡ 1024
   pub one : sum_by (λ (v : ResultView). collects_weight v.first) views ≡ 1
-  pub balanced : (h : Done → ℕ) → sum_by (λ (v : ResultView). sum_by h v.brought) views ≡ sum_by (λ (v : ResultView). sum_by h v.collected) views + sum_by h items
+  pub balanced : (h : Done → ℕ)
+      → sum_by (λ (v : ResultView). sum_by h v.brought) views
+      ≡ sum_by (λ (v : ResultView). sum_by h v.collected) views + sum_by h items
   pub views_are : (port : ℕ) (v : ResultView) → get_elem? views port ≡ some v → IsResultView v
   pub order : AreInOrder items views

@@ -8,7 +8,9 @@ use Rattle.sc_board.specs.declared.results.ResultView.{ResultView}
 
 -- however leases are weighed, all are those of the results and the others, each as often
 abbrev pub IsMadeOf : List Lease → List Done → List Lease → Type 0
-IsMadeOf all results others = (h : Lease → ℕ) → sum_by h all ≡ sum_by (λ (done : Done). h done.lease) results + sum_by h others
+IsMadeOf all results others =
+    (h : Lease → ℕ)
+    → sum_by h all ≡ sum_by (λ (done : Done). h done.lease) results + sum_by h others
 
 -- both have as many parts, one at least, and the same mark
 pub record AreAlike (jobs : JobView) (results : ResultView) : Type 0 where

@@ -130,7 +130,10 @@ impl<N: Number> Split<JobView> for LetsGo<N> {
 /// A queue with room for so many jobs, and its first pass.
 pub fn new(alloc: Global, room: usize, kinds: usize) -> Result<(JobQueue, JobPass), AllocError>
     requires { 0 < room }
-    ensures { IfOk result (λ made. (ruled_capacity made.0 ≡ room) × IsPassOf made.0 made.1 × (view made.1 ≡ first_job_view kinds)) }
+    ensures { IfOk result
+        (λ made.
+        (ruled_capacity made.0 ≡ room) × IsPassOf made.0 made.1
+        × (view made.1 ≡ first_job_view kinds)) }
 {
     let (queue, mut pass) = JobQueue::ruled(alloc, room)?;
     bound::<Brand>(&queue, &mut pass, kinds);
@@ -151,7 +154,10 @@ pub fn post<R: Wait>(rt: &R, queue: &JobQueue, pass: &mut JobPass, job: Job) -> 
     requires pass { IsPassOf queue.now pass.old × ((view pass.old).first ≡ true) }
     requires job { JobFits (view pass.old).kinds job × IsAbove (view pass.old).last job }
     ensures pass { IsSamePass pass.old pass.new }
-    ensures posted { MatchResult result (λ _. view pass.new ≡ after_post (view pass.old) job) (λ back. (back ≡ job) × (view pass.new ≡ view pass.old) × Held (ruled_capacity queue.now) (WasPosted (view pass.old))) }
+    ensures posted { MatchResult result (λ _. view pass.new ≡ after_post (view pass.old) job)
+        (λ back.
+        (back ≡ job) × (view pass.new ≡ view pass.old)
+        × Held (ruled_capacity queue.now) (WasPosted (view pass.old))) }
 {
     queue.push_as::<Posts, R>(rt, pass, job)
 }
@@ -160,7 +166,9 @@ pub fn post<R: Wait>(rt: &R, queue: &JobQueue, pass: &mut JobPass, job: Job) -> 
 pub fn take<R: Wait>(rt: &R, queue: &JobQueue, pass: &mut JobPass) -> Option<Job>
     requires pass { IsPassOf queue.now pass.old × (0 < (view pass.old).parts) }
     ensures pass { IsSamePass pass.old pass.new }
-    ensures taken { MatchOption result ((view pass.new ≡ view pass.old) × Held 0 (IsJobWhole (view pass.old))) (λ job. Took (view pass.old) job (view pass.new)) }
+    ensures taken { MatchOption result
+        ((view pass.new ≡ view pass.old) × Held 0 (IsJobWhole (view pass.old)))
+        (λ job. Took (view pass.old) job (view pass.new)) }
 {
     queue.pop_as::<Takes, R>(rt, pass)
 }
@@ -178,7 +186,8 @@ pub fn is_empty(queue: &JobQueue, pass: &mut JobPass) -> bool
 pub fn let_go(queue: &JobQueue, pass: &mut JobPass, number: u64)
     requires pass { IsPassOf queue.now pass.old × (0 < (view pass.old).parts) }
     ensures pass { IsSamePass pass.old pass.new }
-    ensures hand { view pass.new ≡ record (view pass.old) { hand = without number (view pass.old).hand } }
+    ensures hand { view pass.new
+        ≡ record (view pass.old) { hand = without number (view pass.old).hand } }
 {
     let_go_of::<Brand>(queue, pass, number);
 }
@@ -187,7 +196,8 @@ fn let_go_of<N: Number>(queue: &JobQueue, pass: &mut JobPass, number: u64)
     requires pass { IsPassOf queue.now pass.old × (0 < (view pass.old).parts) }
     requires number { number ≡ N.number }
     ensures pass { IsSamePass pass.old pass.new }
-    ensures hand { view pass.new ≡ record (view pass.old) { hand = without number (view pass.old).hand } }
+    ensures hand { view pass.new
+        ≡ record (view pass.old) { hand = without number (view pass.old).hand } }
 {
     let _ = number;
     let _spent = queue.another::<LetsGo<N>>(pass);

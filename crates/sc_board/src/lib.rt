@@ -1,5 +1,5 @@
-//! The board between the rounds of a server and its workers: a queue of jobs and a queue of results,
-//! both bounded, and the workers that take jobs, make their turns and bring the results.
+//! The board between the rounds of a server and its workers: a queue of jobs and a queue of
+//! results, both bounded, and the workers that take jobs, make their turns and bring the results.
 //!
 //! The pass that [`Board::new`] gives posts jobs and collects results. A pass is split off it for
 //! each worker, and joined to it at the end. Each pass keeps, in contracts alone, what it posted,

@@ -89,7 +89,10 @@ impl Join<ResultView> for Parts {
 /// A queue with room for so many results, and its first pass.
 pub fn new(alloc: Global, room: usize) -> Result<(ResultQueue, ResultPass), AllocError>
     requires { 0 < room }
-    ensures { IfOk result (λ made. (ruled_capacity made.0 ≡ room) × IsPassOf made.0 made.1 × (view made.1 ≡ first_result_view)) }
+    ensures { IfOk result
+        (λ made.
+        (ruled_capacity made.0 ≡ room) × IsPassOf made.0 made.1
+        × (view made.1 ≡ first_result_view)) }
 {
     let (queue, pass) = ResultQueue::ruled(alloc, room)?;
     Ok((queue, pass))
@@ -104,7 +107,10 @@ pub fn bring<R: Wait>(
 ) -> Result<(), Done>
     requires pass { IsPassOf queue.now pass.old × (0 < (view pass.old).parts) }
     ensures pass { IsSamePass pass.old pass.new }
-    ensures brought { MatchResult result (λ _. view pass.new ≡ after_bring (view pass.old) done) (λ back. (back ≡ done) × (view pass.new ≡ view pass.old) × Held (ruled_capacity queue.now) (IsResultWhole (view pass.old))) }
+    ensures brought { MatchResult result (λ _. view pass.new ≡ after_bring (view pass.old) done)
+        (λ back.
+        (back ≡ done) × (view pass.new ≡ view pass.old)
+        × Held (ruled_capacity queue.now) (IsResultWhole (view pass.old))) }
 {
     queue.push_as::<Brings, R>(rt, pass, done)
 }
@@ -113,7 +119,9 @@ pub fn bring<R: Wait>(
 pub fn collect<R: Wait>(rt: &R, queue: &ResultQueue, pass: &mut ResultPass) -> Option<Done>
     requires pass { IsPassOf queue.now pass.old × ((view pass.old).first ≡ true) }
     ensures pass { IsSamePass pass.old pass.new }
-    ensures collected { MatchOption result ((view pass.new ≡ view pass.old) × Held 0 (IsResultWhole (view pass.old))) (λ done. view pass.new ≡ after_collect (view pass.old) done) }
+    ensures collected { MatchOption result
+        ((view pass.new ≡ view pass.old) × Held 0 (IsResultWhole (view pass.old)))
+        (λ done. view pass.new ≡ after_collect (view pass.old) done) }
 {
     queue.pop_as::<Collects, R>(rt, pass)
 }

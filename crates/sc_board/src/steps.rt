@@ -32,7 +32,10 @@ impl Board {
     /// `NoMemory` for want of memory, always at a room of 2^60 or more.
     pub fn new(alloc: Global, room: usize, kinds: usize) -> Result<(Board, BoardPass), NoMemory>
         requires { 0 < room }
-        ensures { IfOk result (λ made. (room_of made.0 ≡ room) × IsOf made.0 made.1 × (jobs_of made.1 ≡ first_job_view kinds) × (results_of made.1 ≡ first_result_view)) }
+        ensures { IfOk result
+            (λ made.
+            (room_of made.0 ≡ room) × IsOf made.0 made.1 × (jobs_of made.1 ≡ first_job_view kinds)
+            × (results_of made.1 ≡ first_result_view)) }
     {
         let (jobs, job_pass) = jobs::new(alloc, room, kinds)?;
         let (results, result_pass) = results::new(alloc, room)?;
@@ -60,7 +63,11 @@ impl Board {
         requires job { JobFits (jobs_of pass.old).kinds job × IsAbove (jobs_of pass.old).last job }
         ensures pass { IsOf self.now pass.new }
         ensures results { results_of pass.new ≡ results_of pass.old }
-        ensures posted { MatchResult result (λ _. jobs_of pass.new ≡ after_post (jobs_of pass.old) job) (λ back. (back ≡ job) × (jobs_of pass.new ≡ jobs_of pass.old) × Held (room_of self.now) (WasPosted (jobs_of pass.old))) }
+        ensures posted { MatchResult result
+            (λ _. jobs_of pass.new ≡ after_post (jobs_of pass.old) job)
+            (λ back.
+            (back ≡ job) × (jobs_of pass.new ≡ jobs_of pass.old)
+            × Held (room_of self.now) (WasPosted (jobs_of pass.old))) }
     {
         match jobs::post(rt, &self.jobs, &mut pass.jobs, job) {
             Ok(()) => {
@@ -77,7 +84,9 @@ impl Board {
         requires pass { IsOf self.now pass.old }
         ensures pass { IsOf self.now pass.new }
         ensures results { results_of pass.new ≡ results_of pass.old }
-        ensures taken { MatchOption result ((jobs_of pass.new ≡ jobs_of pass.old) × Held 0 (IsJobWhole (jobs_of pass.old))) (λ job. Took (jobs_of pass.old) job (jobs_of pass.new)) }
+        ensures taken { MatchOption result
+            ((jobs_of pass.new ≡ jobs_of pass.old) × Held 0 (IsJobWhole (jobs_of pass.old)))
+            (λ job. Took (jobs_of pass.old) job (jobs_of pass.new)) }
     {
         jobs::take(rt, &self.jobs, &mut pass.jobs)
     }
@@ -92,7 +101,16 @@ impl Board {
         requires pass { IsOf self.now pass.old }
         requires hand { in_hand done.lease.number (jobs_of pass.old).hand ≡ Some done.lease }
         ensures pass { IsOf self.now pass.new }
-        ensures brought { MatchResult result (λ _. (jobs_of pass.new ≡ record (jobs_of pass.old) { hand = without done.lease.number (jobs_of pass.old).hand }) × (results_of pass.new ≡ after_bring (results_of pass.old) done)) (λ back. (back ≡ done) × (jobs_of pass.new ≡ jobs_of pass.old) × (results_of pass.new ≡ results_of pass.old) × Held (room_of self.now) (IsResultWhole (results_of pass.old))) }
+        ensures brought { MatchResult result
+            (λ _.
+            (jobs_of pass.new
+            ≡ record (jobs_of pass.old) {
+              hand = without done.lease.number (jobs_of pass.old).hand;
+            }) × (results_of pass.new ≡ after_bring (results_of pass.old) done))
+            (λ back.
+            (back ≡ done) × (jobs_of pass.new ≡ jobs_of pass.old)
+            × (results_of pass.new ≡ results_of pass.old)
+            × Held (room_of self.now) (IsResultWhole (results_of pass.old))) }
     {
         let number = done.lease.number;
         match results::bring(rt, &self.results, &mut pass.results, done) {
@@ -110,7 +128,10 @@ impl Board {
         requires pass { IsOf self.now pass.old × ((jobs_of pass.old).first ≡ true) }
         ensures pass { IsOf self.now pass.new }
         ensures jobs { jobs_of pass.new ≡ jobs_of pass.old }
-        ensures collected { MatchOption result ((results_of pass.new ≡ results_of pass.old) × Held 0 (IsResultWhole (results_of pass.old))) (λ done. results_of pass.new ≡ after_collect (results_of pass.old) done) }
+        ensures collected { MatchOption result
+            ((results_of pass.new ≡ results_of pass.old)
+            × Held 0 (IsResultWhole (results_of pass.old)))
+            (λ done. results_of pass.new ≡ after_collect (results_of pass.old) done) }
     {
         results::collect(rt, &self.results, &mut pass.results)
     }
@@ -125,7 +146,10 @@ impl Board {
         ensures pass { IsOf self.now pass.new }
         ensures jobs { jobs_of pass.new ≡ job_view_left (jobs_of pass.old) }
         ensures results { results_of pass.new ≡ result_view_left (results_of pass.old) }
-        ensures made { IsOkAnd result (λ made. IsOf self.now made × (jobs_of made ≡ new_job_view (jobs_of pass.old).kinds) × (results_of made ≡ new_result_view)) }
+        ensures made { IsOkAnd result
+            (λ made.
+            IsOf self.now made × (jobs_of made ≡ new_job_view (jobs_of pass.old).kinds)
+            × (results_of made ≡ new_result_view)) }
     {
         let jobs = jobs::split(&self.jobs, &mut pass.jobs);
         let results = results::split(&self.results, &mut pass.results);
@@ -145,11 +169,15 @@ impl Board {
     ) -> Result<Vec<BoardPass>, NoMemory>
         requires pass { IsOf self.now pass.old × (count < (jobs_of pass.old).parts) }
         ensures pass { IsOf self.now pass.new }
-        ensures jobs { jobs_of pass.new ≡ record (jobs_of pass.old) { parts = (jobs_of pass.new).parts } }
-        ensures results { results_of pass.new ≡ record (results_of pass.old) { parts = (jobs_of pass.new).parts } }
-        ensures parts { IfOk result (λ made. (jobs_of pass.new).parts + vec_len made ≡ (jobs_of pass.old).parts) }
+        ensures jobs { jobs_of pass.new
+            ≡ record (jobs_of pass.old) { parts = (jobs_of pass.new).parts } }
+        ensures results { results_of pass.new
+            ≡ record (results_of pass.old) { parts = (jobs_of pass.new).parts } }
+        ensures parts { IfOk result
+            (λ made. (jobs_of pass.new).parts + vec_len made ≡ (jobs_of pass.old).parts) }
         ensures count { IfOk result (λ made. vec_len made ≡ count) }
-        ensures made { IfOk result (λ made. All (IsNewPass self.now (jobs_of pass.old).kinds) made.items) }
+        ensures made { IfOk result
+            (λ made. All (IsNewPass self.now (jobs_of pass.old).kinds) made.items) }
         ensures refused { OnErr result (jobs_of pass.new ≡ jobs_of pass.old) }
     {
         let mut made = Vec::with_capacity(alloc, count)?;
@@ -169,7 +197,8 @@ impl Board {
         requires ended { IsOf self.now ended }
         ensures pass { IsOf self.now pass.new }
         ensures jobs { jobs_of pass.new ≡ joined_job_view (jobs_of pass.old) (jobs_of ended) }
-        ensures results { results_of pass.new ≡ joined_result_view (results_of pass.old) (results_of ended) }
+        ensures results { results_of pass.new
+            ≡ joined_result_view (results_of pass.old) (results_of ended) }
     {
         let BoardPass { jobs, results } = ended;
         jobs::join(&self.jobs, &mut pass.jobs, jobs);
@@ -181,9 +210,13 @@ impl Board {
     /// hand, each once.
     pub fn is_settled(&self, pass: &mut BoardPass) -> bool
         requires pass { IsOf self.now pass.old × ((jobs_of pass.old).parts ≡ 1024) }
-        ensures pass { IsOf self.now pass.new × (jobs_of pass.new ≡ jobs_of pass.old) × (results_of pass.new ≡ results_of pass.old) }
-        ensures results { IsTrue result → (h : Done → ℕ) → sum_by h (results_of pass.old).brought ≡ sum_by h (results_of pass.old).collected }
-        ensures leases { IsTrue result → IsMadeOf (jobs_of pass.old).posted (results_of pass.old).collected (jobs_of pass.old).hand × Rises (jobs_of pass.old).posted }
+        ensures pass { IsOf self.now pass.new × (jobs_of pass.new ≡ jobs_of pass.old)
+            × (results_of pass.new ≡ results_of pass.old) }
+        ensures results { IsTrue result → (h : Done → ℕ)
+            → sum_by h (results_of pass.old).brought ≡ sum_by h (results_of pass.old).collected }
+        ensures leases { IsTrue result
+            → IsMadeOf (jobs_of pass.old).posted (results_of pass.old).collected
+            (jobs_of pass.old).hand × Rises (jobs_of pass.old).posted }
     {
         let no_jobs = jobs::is_empty(&self.jobs, &mut pass.jobs);
         let no_results = results::is_empty(&self.results, &mut pass.results);

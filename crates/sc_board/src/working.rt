@@ -29,14 +29,18 @@ const ROOM_NAP: u64 = 1;
 pub fn make_turn<G: Gate>(alloc: Global, gate: &G, apps: &Catalogue, lease: Lease) -> Done
     requires { lease.kind < length apps.now.kinds }
     ensures lease { result.lease ≡ lease }
-    ensures made { IsMadeBy (map (λ k. both_charters (stated (k.servlet.vtable, k.servlet.value)) (option_map (λ l. listens (l.vtable, l.value)) k.listener)) apps.now.kinds) result }
+    ensures made { IsMadeBy
+        (map
+        (λ k.
+        both_charters (stated (k.servlet.vtable, k.servlet.value))
+        (option_map (λ l. listens (l.vtable, l.value)) k.listener)) apps.now.kinds) result }
 {
     gate.pass(lease.app, lease.event_number);
     apps.react(alloc, lease)
 }
 
-/// Takes jobs, makes the turn of each lease behind the gate, and brings its result, until it takes a
-/// stop. While there is no job it sleeps.
+/// Takes jobs, makes the turn of each lease behind the gate, and brings its result, until it takes
+/// a stop. While there is no job it sleeps.
 pub fn work<R: Wait, G: Gate>(
     rt: &R,
     alloc: Global,
@@ -46,7 +50,13 @@ pub fn work<R: Wait, G: Gate>(
     apps: &Catalogue,
 ) -> BoardPass
     requires { MayWork board.now (length apps.now.kinds) pass }
-    ensures { HasWorked board.now (IsMadeBy (map (λ k. both_charters (stated (k.servlet.vtable, k.servlet.value)) (option_map (λ l. listens (l.vtable, l.value)) k.listener)) apps.now.kinds)) 1 pass result }
+    ensures { HasWorked board.now
+        (IsMadeBy
+        (map
+        (λ k.
+        both_charters (stated (k.servlet.vtable, k.servlet.value))
+        (option_map (λ l. listens (l.vtable, l.value)) k.listener)) apps.now.kinds)) 1 pass
+        result }
 {
     work_by(
         rt,
@@ -55,7 +65,12 @@ pub fn work<R: Wait, G: Gate>(
         &|lease: Lease| -> Done
             requires { lease.kind < length apps.now.kinds }
             ensures lease { result.lease ≡ lease }
-            ensures made { IsMadeBy (map (λ k. both_charters (stated (k.servlet.vtable, k.servlet.value)) (option_map (λ l. listens (l.vtable, l.value)) k.listener)) apps.entry.now.kinds) result }
+            ensures made { IsMadeBy
+                (map
+                (λ k.
+                both_charters (stated (k.servlet.vtable, k.servlet.value))
+                (option_map (λ l. listens (l.vtable, l.value)) k.listener))
+                apps.entry.now.kinds) result }
         { make_turn(alloc, gate, apps, lease) },
     )
 }
@@ -68,7 +83,8 @@ pub fn work_by<R: Wait, F: Fn(Lease) -> Done>(
     make: &F,
 ) -> BoardPass
     requires pass { MayMake board.now (F.pre make.now) pass }
-    requires same { (lease : Lease) (done : Done) → F.post make.now lease done → done.lease ≡ lease }
+    requires same { (lease : Lease) (done : Done) → F.post make.now lease done
+        → done.lease ≡ lease }
     ensures { HasWorked board.now (λ done. F.post make.now done.lease done) 1 pass result }
 {
     board.begun.wake_all();
@@ -89,12 +105,15 @@ fn turn<R: Wait, F: Fn(Lease) -> Done>(
     make: &F,
     lease: Lease,
 )
-    requires pass { IsOf board.now pass.old × (in_hand lease.number (jobs_of pass.old).hand ≡ Some lease) }
+    requires pass { IsOf board.now pass.old
+        × (in_hand lease.number (jobs_of pass.old).hand ≡ Some lease) }
     requires make { F.pre make.now lease }
     requires same { (done : Done) → F.post make.now lease done → done.lease ≡ lease }
     ensures pass { IsOf board.now pass.new }
-    ensures jobs { jobs_of pass.new ≡ record (jobs_of pass.old) { hand = without lease.number (jobs_of pass.old).hand } }
-    ensures results { (done : Done) × (done.lease ≡ lease) × F.post make.now lease done × (results_of pass.new ≡ after_bring (results_of pass.old) done) }
+    ensures jobs { jobs_of pass.new
+        ≡ record (jobs_of pass.old) { hand = without lease.number (jobs_of pass.old).hand } }
+    ensures results { (done : Done) × (done.lease ≡ lease) × F.post make.now lease done
+        × (results_of pass.new ≡ after_bring (results_of pass.old) done) }
 {
     let done = make(lease);
     bring(rt, board, pass, done);
@@ -102,9 +121,11 @@ fn turn<R: Wait, F: Fn(Lease) -> Done>(
 
 /// Brings a result. Where there is no room it waits until there is.
 fn bring<R: Wait>(rt: &R, board: &Board, pass: &mut BoardPass, mut done: Done)
-    requires { IsOf board.now pass.old × (in_hand done.lease.number (jobs_of pass.old).hand ≡ Some done.lease) }
+    requires { IsOf board.now pass.old
+        × (in_hand done.lease.number (jobs_of pass.old).hand ≡ Some done.lease) }
     ensures pass { IsOf board.now pass.new }
-    ensures jobs { jobs_of pass.new ≡ record (jobs_of pass.old) { hand = without done.lease.number (jobs_of pass.old).hand } }
+    ensures jobs { jobs_of pass.new
+        ≡ record (jobs_of pass.old) { hand = without done.lease.number (jobs_of pass.old).hand } }
     ensures results { results_of pass.new ≡ after_bring (results_of pass.old) done }
 {
     let pause = Bell::new();

@@ -55,7 +55,8 @@ pub record HasAll {T : Type 0} (own : T → ℕ → Bool) (es : Placed T) (ks : 
   pub all : (v p : ℕ) (x : T) → at_place p es ≡ Some x → own x v ≡ true → has_pair ks v p ≡ true
 
 -- the items are in order, and the indexes have them all
-pub record AreFound {T : Type 0} (due first : T → Option ℕ) (group_of : T → ℕ × ℕ) (es : Placed T) (i : Indexes) : Type 0 where
+pub record AreFound {T : Type 0} (due first : T → Option ℕ) (group_of : T → ℕ × ℕ) (es : Placed T)
+    (i : Indexes) : Type 0 where
   pub ordered : is_sorted nat_cmp es ≡ true
   pub dues : HasAll (λ x. is_number (due x)) es i.dues
   pub firsts : HasAll (λ x. is_number (first x)) es i.firsts

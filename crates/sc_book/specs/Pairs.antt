@@ -43,4 +43,5 @@ pub record HasOr (old own : ℕ → Bool) (place : ℕ) (ks : Pairs) : Type 0 wh
 
 -- the pairs of the one are among those of the other, but for numbers of this place that don't pass
 pub record KeptBut (own : ℕ → Bool) (place : ℕ) (ks ls : Pairs) : Type 0 where
-  pub kept : (v p : ℕ) → has_pair ks v p ≡ true → (p ≡ place → own v ≡ true) → has_pair ls v p ≡ true
+  pub kept : (v p : ℕ) → has_pair ks v p ≡ true → (p ≡ place → own v ≡ true)
+      → has_pair ls v p ≡ true

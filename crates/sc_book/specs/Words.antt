@@ -42,4 +42,5 @@ sooner (Some a) (Some b) = if nat_lt b.0 a.0 then Some b else Some a
 -- the lowest number of all items, with the key of the first item that has it
 unfoldable pub earliest : {T : Type 0} → (T → ℕ) → (T → Option ℕ) → List T → Option (ℕ × ℕ)
 earliest key number [] = None
-earliest key number (item ∷ items) = sooner (paired (number item) (key item)) (earliest key number items)
+earliest key number (item ∷ items) =
+    sooner (paired (number item) (key item)) (earliest key number items)

@@ -103,8 +103,8 @@ impl<T: Item> Base<T> {
         self.indexes.dues.places_below(moment, places)
     }
 
-    /// The lowest number of a first event of the items at other places, with the first place of an item
-    /// that has it. The cost is linear in the number of the places.
+    /// The lowest number of a first event of the items at other places, with the first place of an
+    /// item that has it. The cost is linear in the number of the places.
     pub fn first_but(&self, places: &[u64]) -> Option<(u64, u64)>
         ensures { result ≡ earliest_at T.first (free_of places.now self.now) }
     {
@@ -114,7 +114,8 @@ impl<T: Item> Base<T> {
 
 #[tactic(auto, using(crate::proofs::PlaceLaws::seen_at))]
 fn numbers_at<T: Item>(items: &BTreeMap<u64, Entry<T>>, place: u64) -> Option<Numbers>
-    ensures { result ≡ option_map (numbers_of T.due T.first T.groups) (at_place place items.now.entries) }
+    ensures { result
+        ≡ option_map (numbers_of T.due T.first T.groups) (at_place place items.now.entries) }
 {
     match items.get(&place) {
         Some(entry) => Some(entry.numbers()),
@@ -161,7 +162,8 @@ fn put_beside<T: Item>(
     ensures err { OnErr result (items.new.entries ≡ items.old.entries) }
     ensures ordered { OnOk result (IsStrictlySortedBy nat_cmp (keys_of items.new.entries)) }
     ensures grown { AllGrown indexes.old indexes.new }
-    ensures there { OnOk result (HasNumbers (Some (numbers_of T.due T.first T.groups entry)) place indexes.new) }
+    ensures there { OnOk result
+        (HasNumbers (Some (numbers_of T.due T.first T.groups entry)) place indexes.new) }
 {
     indexes.add(old, entry.numbers(), place)?;
     items.insert(place, entry)?;

@@ -15,8 +15,8 @@ use std::alloc::Global;
 use std::collections::BTreeMap;
 use std::marker::Model;
 
-/// Items by their places, of which a copy costs little: it has the same base, and changes of its own
-/// that lie over it.
+/// Items by their places, of which a copy costs little: it has the same base, and changes of its
+/// own that lie over it.
 #[derive(Drop)]
 pub struct Book<T: Item> {
     pub(crate) base: SharedBase<T>,
@@ -98,8 +98,8 @@ impl<T: Item> Book<T> {
         Ok(())
     }
 
-    /// The lowest number of a first event of the items at other places, with the first place of an item
-    /// that has it. `NoMemory` where changes didn't go into the base.
+    /// The lowest number of a first event of the items at other places, with the first place of an
+    /// item that has it. `NoMemory` where changes didn't go into the base.
     pub fn first_but(&self, places: &[u64]) -> Result<Option<(u64, u64)>, NoMemory>
         ensures { IfOk result (λ next. next ≡ earliest_at T.first (free_of places.now self.now)) }
     {
@@ -151,7 +151,8 @@ fn newest<'a, T: Item>(
     base: &'a SharedBase<T>,
     place: u64,
 ) -> Option<&'a Entry<T>>
-    ensures { option_copied result ≡ unwrap_or (option_copied change.entry) (at_place place base.entry.now) }
+    ensures { option_copied result
+        ≡ unwrap_or (option_copied change.entry) (at_place place base.entry.now) }
 {
     match change {
         Some(Some(entry)) => Some(entry),

@@ -24,7 +24,8 @@ impl Counts {
         requires items { one_at former ≤ self.items }
         requires total { weight_at former ≤ self.total }
         ensures items { IfOk result (λ counts. counts.items + one_at former ≡ self.items + 1) }
-        ensures total { IfOk result (λ counts. counts.total + weight_at former ≡ self.total + weight) }
+        ensures total { IfOk result
+            (λ counts. counts.total + weight_at former ≡ self.total + weight) }
     {
         let left = self.without(former);
         let items = one_more(left.items)?;

@@ -26,7 +26,8 @@ impl<T: Item> Model for Entry<T> {
 
     ghost view = { λ e. e.item };
 
-    ghost invariant = { λ e. (e.weight ≡ T.weight e.item) × (e.numbers ≡ numbers_of T.due T.first T.groups e.item) };
+    ghost invariant = { λ e.
+        (e.weight ≡ T.weight e.item) × (e.numbers ≡ numbers_of T.due T.first T.groups e.item) };
 }
 
 impl<T: Item> Entry<T> {

@@ -26,7 +26,8 @@ impl<T: Item> Book<T> {
         probe: &P,
     ) -> Result<Option<&Shared<T>>, NoMemory>
         requires { (x : T) → P.passes probe.now x ≡ true → belongs T.groups group x ≡ true }
-        ensures { IfOk result (λ found. option_copied found ≡ find (P.passes probe.now) (values_of self.now)) }
+        ensures { IfOk result
+            (λ found. option_copied found ≡ find (P.passes probe.now) (values_of self.now)) }
     {
         match self.first_place(alloc, group, probe)? {
             Some(place) => Ok(self.item(place)),

@@ -13,8 +13,8 @@ use crate::entry::Entry;
 use crate::indexes::Indexes;
 use std::collections::{BTreeMap, BTreeSet};
 
-/// The lowest number of a first event of the items at other places, with the first place of an item that
-/// has it.
+/// The lowest number of a first event of the items at other places, with the first place of an item
+/// that has it.
 #[tactic(auto, using(crate::proofs::FirstLaws::first_found))]
 pub fn first_in<T: Item>(
     items: &BTreeMap<u64, Entry<T>>,

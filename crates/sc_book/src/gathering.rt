@@ -20,8 +20,8 @@ use std::alloc::Global;
 use std::collections::BTreeSet;
 
 impl<T: Item> Book<T> {
-    /// The items of a group, in order. The cost is linear in their number, and logarithmic in that of
-    /// all.
+    /// The items of a group, in order. The cost is linear in their number, and logarithmic in that
+    /// of all.
     pub fn of(&self, alloc: Global, group: u64) -> Result<List<Shared<T>>, NoMemory>
         ensures { IfOk result (λ own. own ≡ filter (belongs T.groups group) (values_of self.now)) }
     {
@@ -29,10 +29,11 @@ impl<T: Item> Book<T> {
         gather(alloc, Wanted::Of(group), self, &places)
     }
 
-    /// The items that are due before a moment, in order. `NoMemory` too where changes didn't go into
-    /// the base.
+    /// The items that are due before a moment, in order. `NoMemory` too where changes didn't go
+    /// into the base.
     pub fn due_before(&self, alloc: Global, moment: u64) -> Result<List<Shared<T>>, NoMemory>
-        ensures { IfOk result (λ own. own ≡ filter (λ x. is_before moment (T.due x)) (values_of self.now)) }
+        ensures { IfOk result
+            (λ own. own ≡ filter (λ x. is_before moment (T.due x)) (values_of self.now)) }
     {
         if !self.changes.is_empty() {
             return Err(NoMemory);
@@ -81,7 +82,8 @@ fn gather<T: Item>(
     places: &BTreeSet<u64>,
 ) -> Result<List<Shared<T>>, NoMemory>
     requires { Covers (is_wanted T.due T.groups wanted) book.now places.now.keys }
-    ensures { IfOk result (λ own. own ≡ filter (is_wanted T.due T.groups wanted) (values_of book.now)) }
+    ensures { IfOk result
+        (λ own. own ≡ filter (is_wanted T.due T.groups wanted) (values_of book.now)) }
 {
     let mut own = List::new(alloc);
     add_all(alloc, wanted, book, places, &mut own)?;
@@ -95,7 +97,10 @@ fn add_all<T: Item>(
     places: &BTreeSet<u64>,
     own: &mut List<Shared<T>>,
 ) -> Result<(), NoMemory>
-    ensures gathered { OnOk result (own.new ≡ own.old ++ values_of (gathered (is_wanted T.due T.groups wanted) book.now places.now.keys)) }
+    ensures gathered { OnOk result
+        (own.new
+        ≡ own.old
+        ++ values_of (gathered (is_wanted T.due T.groups wanted) book.now places.now.keys)) }
     ensures in_order { OnOk result (IsStrictlySortedBy nat_cmp places.now.keys) }
 {
     for place in places {
@@ -110,7 +115,10 @@ fn add_wanted<T: Item>(
     entry: Option<&Entry<T>>,
     own: &mut List<Shared<T>>,
 ) -> Result<(), NoMemory>
-    ensures { OnOk result (own.new ≡ own.old ++ one_of (picked (is_wanted T.due T.groups wanted) (option_copied entry.entry))) }
+    ensures { OnOk result
+        (own.new
+        ≡ own.old
+        ++ one_of (picked (is_wanted T.due T.groups wanted) (option_copied entry.entry))) }
 {
     match entry {
         Some(entry) => {

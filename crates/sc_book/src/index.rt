@@ -57,7 +57,9 @@ impl Index {
     /// Adds the places of the numbers below this one.
     #[tactic(auto, using(crate::proofs::PlaceSets::below_there))]
     pub fn places_below(&self, past: u64, places: &mut BTreeSet<u64>) -> Result<(), NoMemory>
-        ensures { OnOk result ((v p : ℕ) → v < past → has_pair self.now v p ≡ true → has_place places.new.keys p ≡ true) }
+        ensures { OnOk result
+            ((v p : ℕ) → v < past → has_pair self.now v p ≡ true
+            → has_place places.new.keys p ≡ true) }
     {
         add_below(&self.pairs, past, places)
     }
@@ -66,7 +68,8 @@ impl Index {
     #[tactic(auto, using(crate::proofs::PlaceSets::from_more, crate::proofs::PlaceSets::from_there, crate::proofs::PlaceSets::up_more, crate::proofs::PlaceSets::up_there))]
     pub fn places_at(&self, number: u64, places: &mut BTreeSet<u64>) -> Result<(), NoMemory>
         ensures more { OnOk result (MorePlaces places.old.keys places.new.keys) }
-        ensures there { OnOk result ((p : ℕ) → has_pair self.now number p ≡ true → has_place places.new.keys p ≡ true) }
+        ensures there { OnOk result
+            ((p : ℕ) → has_pair self.now number p ≡ true → has_place places.new.keys p ≡ true) }
     {
         if number == u64::MAX {
             add_up(&self.pairs, number, places)
@@ -81,7 +84,8 @@ fn add_below(
     past: u64,
     places: &mut BTreeSet<u64>,
 ) -> Result<(), NoMemory>
-    ensures { OnOk result (places.new.keys ≡ with_places places.old.keys (pairs_below past pairs.now)) }
+    ensures { OnOk result
+        (places.new.keys ≡ with_places places.old.keys (pairs_below past pairs.now)) }
 {
     for pair in pairs.range(..(past, 0)) {
         places.insert(pair.1)?;
@@ -97,7 +101,8 @@ fn add_from(
     places: &mut BTreeSet<u64>,
 ) -> Result<(), NoMemory>
     requires { low < past }
-    ensures { OnOk result (places.new.keys ≡ with_places places.old.keys (pairs_from low past pairs.now)) }
+    ensures { OnOk result
+        (places.new.keys ≡ with_places places.old.keys (pairs_from low past pairs.now)) }
 {
     for pair in pairs.range((low, 0)..(past, 0)) {
         places.insert(pair.1)?;

@@ -16,8 +16,8 @@ pub trait Item: Drop {
     fn weight(&self) -> u64
         ensures { result ≡ weight self.now };
 
-    /// The least moment at which something of it is due, None where nothing is. `NoMemory` where the
-    /// moment is past the greatest number.
+    /// The least moment at which something of it is due, None where nothing is. `NoMemory` where
+    /// the moment is past the greatest number.
     fn due(&self) -> Result<Option<u64>, NoMemory>
         ensures { IfOk result (λ moment. moment ≡ due self.now) };
 

@@ -20,7 +20,8 @@ pub fn keep_at<T: Item, P: Probe<T>>(
     places: &BTreeSet<u64>,
     items: &mut Counted<T>,
 ) -> Result<(), NoMemory>
-    ensures left { OnOk result (items.new ≡ left_at (P.passes probe.now) items.old places.now.keys) }
+    ensures left { OnOk result
+        (items.new ≡ left_at (P.passes probe.now) items.old places.now.keys) }
     ensures fewer { AreFewer items.old items.new }
 {
     for place in places {

@@ -64,8 +64,8 @@ impl<T: Item> Line<T> {
         self.items.total()
     }
 
-    /// The first item that passes. All that pass are of the group. The cost is linear in the number of
-    /// the items of the group, and logarithmic in that of all.
+    /// The first item that passes. All that pass are of the group. The cost is linear in the number
+    /// of the items of the group, and logarithmic in that of all.
     pub fn find_first<P: Probe<T>>(
         &self,
         alloc: Global,
@@ -85,8 +85,8 @@ impl<T: Item> Line<T> {
         self.items.book().of(alloc, group)
     }
 
-    /// The items that are due before a moment, in order. The cost is linear in their number. `NoMemory`
-    /// too where changes aren't settled.
+    /// The items that are due before a moment, in order. The cost is linear in their number.
+    /// `NoMemory` too where changes aren't settled.
     pub fn due_before(&self, alloc: Global, moment: u64) -> Result<List<Shared<T>>, NoMemory>
         ensures { IfOk result (λ own. own ≡ filter (λ x. is_before moment (T.due x)) self.now) }
     {
@@ -114,8 +114,8 @@ impl<T: Item> Line<T> {
         Ok(())
     }
 
-    /// Puts an item in place of the first one that passes, where there is one. All that pass are of the
-    /// group.
+    /// Puts an item in place of the first one that passes, where there is one. All that pass are of
+    /// the group.
     pub fn set_first<P: Probe<T>>(
         &mut self,
         alloc: Global,
@@ -124,7 +124,8 @@ impl<T: Item> Line<T> {
         item: Shared<T>,
     ) -> Result<(), NoMemory>
         requires { (x : T) → P.passes probe.now x ≡ true → belongs T.groups group x ≡ true }
-        ensures ok { OnOk result (self.new ≡ change_first (P.passes probe.now) (λ _. item) self.old) }
+        ensures ok { OnOk result
+            (self.new ≡ change_first (P.passes probe.now) (λ _. item) self.old) }
         ensures err { OnErr result (self.new ≡ self.old) }
     {
         match self.items.book().first_place(alloc, group, probe)? {
@@ -151,8 +152,8 @@ impl<T: Item> Line<T> {
         }
     }
 
-    /// Takes all items of a group away that don't pass. All that aren't of the group pass. Where memory
-    /// is wanting, some may be gone.
+    /// Takes all items of a group away that don't pass. All that aren't of the group pass. Where
+    /// memory is wanting, some may be gone.
     #[tactic(auto, using(crate::proofs::RowLaws::below_fewer))]
     pub fn keep_in<P: Probe<T>>(
         &mut self,
@@ -185,8 +186,8 @@ impl<T: Item> Line<T> {
         self.next = 0;
     }
 
-    /// Lets the changes go in place, where there is no other copy. Where memory is wanting, some are
-    /// left to the next time.
+    /// Lets the changes go in place, where there is no other copy. Where memory is wanting, some
+    /// are left to the next time.
     pub fn settle(&mut self, alloc: Global)
         ensures { self.new ≡ self.old }
     {

@@ -71,8 +71,8 @@ impl<T: Keyed> Rows<T> {
         self.items.book().item(key)
     }
 
-    /// The first item that passes. All that pass are of the group. The cost is linear in the number of
-    /// the items of the group, and logarithmic in that of all.
+    /// The first item that passes. All that pass are of the group. The cost is linear in the number
+    /// of the items of the group, and logarithmic in that of all.
     pub fn find_first<P: Probe<T>>(
         &self,
         alloc: Global,
@@ -92,18 +92,20 @@ impl<T: Keyed> Rows<T> {
         self.items.book().of(alloc, group)
     }
 
-    /// The items that are due before a moment, in order. The cost is linear in their number. `NoMemory`
-    /// too where changes aren't settled.
+    /// The items that are due before a moment, in order. The cost is linear in their number.
+    /// `NoMemory` too where changes aren't settled.
     pub fn due_before(&self, alloc: Global, moment: u64) -> Result<List<Shared<T>>, NoMemory>
         ensures { IfOk result (λ own. own ≡ filter (λ x. is_before moment (T.due x)) self.now) }
     {
         self.items.book().due_before(alloc, moment)
     }
 
-    /// The lowest number of a first event of the items whose own number isn't among these, with the own
-    /// number of the first item that has it. `NoMemory` too where changes aren't settled.
+    /// The lowest number of a first event of the items whose own number isn't among these, with the
+    /// own number of the first item that has it. `NoMemory` too where changes aren't settled.
     pub fn first_but(&self, skip: &[u64]) -> Result<Option<(u64, u64)>, NoMemory>
-        ensures { IfOk result (λ next. next ≡ earliest T.key T.first (filter (λ x. is_free skip.now (T.key x)) self.now)) }
+        ensures { IfOk result
+            (λ next.
+            next ≡ earliest T.key T.first (filter (λ x. is_free skip.now (T.key x)) self.now)) }
     {
         self.items.book().first_but(skip)
     }
@@ -132,7 +134,8 @@ impl<T: Keyed> Rows<T> {
 
     /// Puts an item in place of the one of its number, where there is one.
     pub fn set(&mut self, item: Shared<T>) -> Result<(), NoMemory>
-        ensures ok { OnOk result (self.new ≡ change_first (has_key T.key (T.key item)) (λ _. item) self.old) }
+        ensures ok { OnOk result
+            (self.new ≡ change_first (has_key T.key (T.key item)) (λ _. item) self.old) }
         ensures err { OnErr result (self.new ≡ self.old) }
     {
         let key = item.get().key();
@@ -142,8 +145,8 @@ impl<T: Keyed> Rows<T> {
         }
     }
 
-    /// Puts an item in place of the first one that passes, where there is one. All that pass are of the
-    /// group. `NoMemory` too where that one has another number.
+    /// Puts an item in place of the first one that passes, where there is one. All that pass are of
+    /// the group. `NoMemory` too where that one has another number.
     pub fn set_first<P: Probe<T>>(
         &mut self,
         alloc: Global,
@@ -152,7 +155,8 @@ impl<T: Keyed> Rows<T> {
         item: Shared<T>,
     ) -> Result<(), NoMemory>
         requires { (x : T) → P.passes probe.now x ≡ true → belongs T.groups group x ≡ true }
-        ensures ok { OnOk result (self.new ≡ change_first (P.passes probe.now) (λ _. item) self.old) }
+        ensures ok { OnOk result
+            (self.new ≡ change_first (P.passes probe.now) (λ _. item) self.old) }
         ensures err { OnErr result (self.new ≡ self.old) }
     {
         let place = match self.items.book().first_place(alloc, group, probe)? {
@@ -191,8 +195,8 @@ impl<T: Keyed> Rows<T> {
         }
     }
 
-    /// Takes all items of a group away that don't pass. All that aren't of the group pass. Where memory
-    /// is wanting, some may be gone.
+    /// Takes all items of a group away that don't pass. All that aren't of the group pass. Where
+    /// memory is wanting, some may be gone.
     #[tactic(auto, using(crate::proofs::RowLaws::rows_fewer))]
     pub fn keep_in<P: Probe<T>>(
         &mut self,
@@ -224,8 +228,8 @@ impl<T: Keyed> Rows<T> {
         self.next = 0;
     }
 
-    /// Lets the changes go in place, where there is no other copy. Where memory is wanting, some are
-    /// left to the next time.
+    /// Lets the changes go in place, where there is no other copy. Where memory is wanting, some
+    /// are left to the next time.
     pub fn settle(&mut self, alloc: Global)
         ensures { self.new ≡ self.old }
     {

@@ -22,8 +22,10 @@ pub fn settle_in<T: Item>(
     base: &mut Arc<Base<T>>,
     changes: &mut BTreeMap<u64, Option<Entry<T>>>,
 )
-    ensures same { all_laid (arc_value base.new) changes.new.entries ≡ all_laid (arc_value base.old) changes.old.entries }
-    ensures kept { KeepsBook T.groups (arc_value base.old) changes.old.entries (arc_value base.new) changes.new.entries }
+    ensures same { all_laid (arc_value base.new) changes.new.entries
+        ≡ all_laid (arc_value base.old) changes.old.entries }
+    ensures kept { KeepsBook T.groups (arc_value base.old) changes.old.entries (arc_value base.new)
+        changes.new.entries }
 {
     match Arc::get_mut(base) {
         Some(own) => settle_all(alloc, own, changes),

@@ -87,8 +87,8 @@ impl<T: Item> SharedBase<T> {
         }
     }
 
-    /// The lowest number of a first event of the items at other places, with the first place of an item
-    /// that has it.
+    /// The lowest number of a first event of the items at other places, with the first place of an
+    /// item that has it.
     #[tactic(auto, using(crate::proofs::FirstLaws::none_earliest))]
     pub fn first_but(&self, places: &[u64]) -> Option<(u64, u64)>
         ensures { result ≡ earliest_at T.first (free_of places.now self.now) }
@@ -102,8 +102,10 @@ impl<T: Item> SharedBase<T> {
     /// Lets the changes go in, where nobody else has the items. Where memory is wanting some stay.
     #[tactic(auto, using(crate::proofs::FreshLaws::kept_own))]
     pub fn settle(&mut self, alloc: Global, changes: &mut BTreeMap<u64, Option<Entry<T>>>)
-        ensures same { all_laid self.new changes.new.entries ≡ all_laid self.old changes.old.entries }
-        ensures kept { KeepsBook T.groups self.old changes.old.entries self.new changes.new.entries }
+        ensures same { all_laid self.new changes.new.entries
+            ≡ all_laid self.old changes.old.entries }
+        ensures kept { KeepsBook T.groups self.old changes.old.entries self.new
+            changes.new.entries }
     {
         self.begin(alloc);
         match &mut self.base {

@@ -17,11 +17,14 @@ cancelling branch = record branch { cancelled = true; due = None }
 
 -- the response is a candidate, unless it drops out
 unfoldable pub candidate_unless : Bool → Response → Proxy → Proxy
-candidate_unless drops response proxy = if drops then proxy else record proxy { candidates = proxy.candidates ++ response ∷ [] }
+candidate_unless drops response proxy =
+    if drops then proxy else record proxy { candidates = proxy.candidates ++ response ∷ [] }
 
 -- a final response of this branch, before it ends anything else
 unfoldable pub noted : ℕ → Response → Proxy → Proxy
-noted number response proxy = with_targets (added_targets proxy response) (with_candidate response (ended_branch number response.code proxy))
+noted number response proxy =
+    with_targets (added_targets proxy response)
+    (with_candidate response (ended_branch number response.code proxy))
 
 -- what a final response ends beside its branch
 unfoldable pub ending : SessId → Response → Proxy → Proxy

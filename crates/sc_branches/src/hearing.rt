@@ -73,7 +73,8 @@ fn passing_on(
     Ok(())
 }
 
-// A final response of this branch: a 3xx that adds a target is no candidate, the others but 2xx are.
+// A final response of this branch: a 3xx that adds a target is no candidate, the others but 2xx
+// are.
 #[tactic(auto, unfolding(crate::specs::Changes::noted, crate::specs::Changes::candidate_unless, sc_hosts::specs::Branches::with_candidate, sc_hosts::specs::Branches::added_targets, sc_hosts::specs::Branches::ended_branch, sc_hosts::specs::Branches::recurses))]
 fn noted(
     alloc: Global,
@@ -126,8 +127,8 @@ pub fn ended_by(
     ending(alloc, proxy, sess, response)
 }
 
-// A response on a branch that has its final response, or that its timer ended: a 2xx is forwarded and
-// ends the search, nothing else counts.
+// A response on a branch that has its final response, or that its timer ended: a 2xx is forwarded
+// and ends the search, nothing else counts.
 #[tactic(auto, unfolding(sc_hosts::specs::Branches::after_end))]
 fn after_end(
     alloc: Global,

@@ -1,5 +1,5 @@
-//! A proxied request: its targets and branches, and what a response, a timer or a CANCEL makes of them
-//! (RFC 3261 section 16).
+//! A proxied request: its targets and branches, and what a response, a timer or a CANCEL makes of
+//! them (RFC 3261 section 16).
 #![tactic(auto)]
 
 mod changing;

@@ -26,8 +26,8 @@ pub fn starting(alloc: Global, proxy: &Proxy) -> Result<List<Uri>, NoMemory>
     Ok(uris)
 }
 
-/// Whether the best response can go: there is one, no branch is open, no target is left, and none has
-/// gone.
+/// Whether the best response can go: there is one, no branch is open, no target is left, and none
+/// has gone.
 #[tactic(auto, unfolding(sc_hosts::specs::Branches::can_choose))]
 pub fn can_choose(proxy: &Proxy) -> bool
     ensures { result ≡ can_choose proxy.now }
@@ -46,7 +46,8 @@ pub fn can_pass(proxy: &Proxy, response: &Response) -> bool
     proxy.forwarded.is_none() || (is_success(response.code) && is_invite(proxy))
 }
 
-/// Whether all is over: a final response came in this turn, no branch is open, and no target is left.
+/// Whether all is over: a final response came in this turn, no branch is open, and no target is
+/// left.
 #[tactic(auto, unfolding(sc_hosts::specs::Branches::is_exhausted))]
 pub fn is_exhausted(proxy: &Proxy) -> bool
     ensures { result ≡ is_exhausted proxy.now }
@@ -62,7 +63,9 @@ fn is_cancelled(branch: &Branch) -> bool
 }
 
 fn add_cancelled(numbers: &mut Vec<u64>, branches: &[Branch]) -> Result<(), NoMemory>
-    ensures { OnOk result (numbers.new.items ≡ numbers.old.items ++ map number_of (filter is_cancelled branches.now)) }
+    ensures { OnOk result
+        (numbers.new.items
+        ≡ numbers.old.items ++ map number_of (filter is_cancelled branches.now)) }
 {
     for branch in branches {
         if is_cancelled(branch) {

@@ -1,5 +1,5 @@
-//! What the application is told of a response on a branch, and the timer of a branch (RFC 3261 section
-//! 16.8).
+//! What the application is told of a response on a branch, and the timer of a branch (RFC 3261
+//! section 16.8).
 
 ghost use Rattle.std.specs.Prelude.{◌≡◌, ◌==◌, ◌&&◌, not, false, length, IfOk};
 ghost use Rattle.std.specs.List.{list_any};

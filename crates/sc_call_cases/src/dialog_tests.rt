@@ -1,5 +1,5 @@
-//! The call of RFC 3261 section 24.2 from both sides, without proxies that stay in the dialog and with
-//! those of section 16.12.1.1.
+//! The call of RFC 3261 section 24.2 from both sides, without proxies that stay in the dialog and
+//! with those of section 16.12.1.1.
 
 use sc_dialog::{Dialog, DialogRefused, Inside, is_askable};
 use sc_head_text::read_address;
@@ -10,8 +10,8 @@ use sc_value::{
 };
 use std::alloc::Global;
 
-// What a side sends: which side it is, whether the proxies recorded their routes, ACK or BYE, and the
-// whole request as the dialog makes it.
+// What a side sends: which side it is, whether the proxies recorded their routes, ACK or BYE, and
+// the whole request as the dialog makes it.
 #[derive(Drop)]
 struct Row {
     caller: bool,

@@ -2,8 +2,8 @@
 
 use sc_txn::{ClientOut, ClientTxn, ServerTxn, TxnState};
 
-/// A client transaction that was sent at 0 takes a response at 1, where it is given, and then one at
-/// 2: whether it is an INVITE, both codes, the code told, whether an ACK goes, and the state.
+/// A client transaction that was sent at 0 takes a response at 1, where it is given, and then one
+/// at 2: whether it is an INVITE, both codes, the code told, whether an ACK goes, and the state.
 const CLIENTS: [(bool, Option<u16>, u16, Option<u16>, bool, TxnState); 14] = [
     (true, None, 100, None, false, TxnState::Proceeding),
     (true, None, 180, Some(180), false, TxnState::Proceeding),
@@ -28,9 +28,9 @@ const CLIENTS: [(bool, Option<u16>, u16, Option<u16>, bool, TxnState); 14] = [
     (false, Some(200), 200, None, false, TxnState::Terminated),
 ];
 
-/// A server transaction is given an answer at 1, where there is one, and then one at 2: whether it is
-/// an INVITE, both codes, whether the second is sent, whether the request that comes again gets the
-/// last answer, whether an ACK is absorbed, and the state before that.
+/// A server transaction is given an answer at 1, where there is one, and then one at 2: whether it
+/// is an INVITE, both codes, whether the second is sent, whether the request that comes again gets
+/// the last answer, whether an ACK is absorbed, and the state before that.
 const SERVERS: [(bool, Option<u16>, u16, bool, bool, bool, TxnState); 11] = [
     (true, None, 100, true, true, false, TxnState::Proceeding),
     (true, Some(100), 200, true, false, false, TxnState::Accepted),

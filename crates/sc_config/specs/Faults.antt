@@ -59,15 +59,19 @@ fault_if holds kind key = if holds then Some (kind, key) else None
 -- the key is one of the container's
 unfoldable pub is_top_key : Bytes → Bool
 is_top_key key =
-    same_bytes key (codes "listen") || same_bytes key (codes "domain") || same_bytes key (codes "salt") || same_bytes key (codes "workers")
-    || same_bytes key (codes "stop_after") || same_bytes key (codes "journal_steps") || same_bytes key (codes "journal_bytes")
-    || same_bytes key (codes "epoch_steps") || same_bytes key (codes "journal_parts") || same_bytes key (codes "reuse") || same_bytes key (codes "record")
+    same_bytes key (codes "listen") || same_bytes key (codes "domain")
+    || same_bytes key (codes "salt") || same_bytes key (codes "workers")
+    || same_bytes key (codes "stop_after") || same_bytes key (codes "journal_steps")
+    || same_bytes key (codes "journal_bytes")
+    || same_bytes key (codes "epoch_steps") || same_bytes key (codes "journal_parts")
+    || same_bytes key (codes "reuse") || same_bytes key (codes "record")
     || same_bytes key (codes "hosts") || same_bytes key (codes "app")
 
 -- the key is one of an application's
 unfoldable pub is_app_key : Bytes → Bool
 is_app_key key =
-    same_bytes key (codes "name") || same_bytes key (codes "kind") || same_bytes key (codes "params") || same_bytes key (codes "expires")
+    same_bytes key (codes "name") || same_bytes key (codes "kind")
+    || same_bytes key (codes "params") || same_bytes key (codes "expires")
 
 -- the entry is wrong: its key isn't known, or it is no host with an IPv4 address
 unfoldable pub is_wrong : Wrong → Bytes → Data → Bool
@@ -99,7 +103,8 @@ wrong_text test key table = wrong_if (is_none (text_in test (get_member key tabl
 
 -- the key has no number from low to high
 unfoldable pub wrong_number : ℕ → ℕ → Bytes → Members → Option Fault
-wrong_number low high key table = wrong_if (is_none (number_in low high low (get_member key table))) key
+wrong_number low high key table =
+    wrong_if (is_none (number_in low high low (get_member key table))) key
 
 -- the key is neither true nor false
 unfoldable pub wrong_flag : Bytes → Members → Option Fault
@@ -117,7 +122,8 @@ wrong_numbers top = first_fault (
 
 -- the first key of a flag that is neither true nor false
 unfoldable pub wrong_flags : Members → Option Fault
-wrong_flags top = first_fault (wrong_flag (codes "journal_parts") top ∷ wrong_flag (codes "reuse") top ∷ [])
+wrong_flags top =
+    first_fault (wrong_flag (codes "journal_parts") top ∷ wrong_flag (codes "reuse") top ∷ [])
 
 -- `record` is there, and is no file's name
 unfoldable pub wrong_record : Members → Option Fault
@@ -151,7 +157,8 @@ wrong_params table = wrong_if (not (is_params (get_member (codes "params") table
 
 -- `expires` is no number of minutes that a session can have
 unfoldable pub wrong_expires : Members → Option Fault
-wrong_expires table = wrong_if (is_none (expires_in (get_member (codes "expires") table))) (codes "expires")
+wrong_expires table =
+    wrong_if (is_none (expires_in (get_member (codes "expires") table))) (codes "expires")
 
 -- any text
 abbrev pub is_any : Bytes → Bool
@@ -162,9 +169,12 @@ is_any text = true
 -- the first fault of an application that this check looks for
 unfoldable pub app_fault : Check → Members → Option Fault
 app_fault UnknownKeys table = wrong_key UNKNOWN_KEY AppKey table
-app_fault Missing table = first_fault (missing (codes "name") table ∷ missing (codes "kind") table ∷ [])
+app_fault Missing table =
+    first_fault (missing (codes "name") table ∷ missing (codes "kind") table ∷ [])
 app_fault Range table =
-    first_fault (wrong_text is_app_name (codes "name") table ∷ wrong_text is_any (codes "kind") table ∷ wrong_params table ∷ wrong_expires table ∷ [])
+    first_fault
+    (wrong_text is_app_name (codes "name") table ∷ wrong_text is_any (codes "kind") table
+    ∷ wrong_params table ∷ wrong_expires table ∷ [])
 
 -- of an item of `app`; what is no table has none of these faults
 abbrev pub item_fault : Check → Data → Option Fault
@@ -177,7 +187,10 @@ apps_fault check top = first_given (item_fault check) (apps_in top)
 -- the first fault of the container's own keys that this check looks for
 unfoldable pub top_fault : Check → Members → Option Fault
 top_fault UnknownKeys top = wrong_key UNKNOWN_KEY TopKey top
-top_fault Missing top = first_fault (missing (codes "listen") top ∷ missing (codes "domain") top ∷ missing (codes "salt") top ∷ missing (codes "app") top ∷ [])
+top_fault Missing top =
+    first_fault
+    (missing (codes "listen") top ∷ missing (codes "domain") top ∷ missing (codes "salt") top
+    ∷ missing (codes "app") top ∷ [])
 top_fault Range top = first_fault (
     wrong_listen top
     ∷ wrong_text is_host (codes "domain") top
@@ -197,16 +210,21 @@ table_fault check top = first_fault (top_fault check top ∷ apps_fault check to
 
 -- the text of an application's key, empty where there is none
 unfoldable pub app_text : Bytes → Data → Bytes
-app_text key app = option_map_or (λ text. text) (option_and_then as_str (option_and_then (get_member key) (as_table app))) []
+app_text key app =
+    option_map_or (λ text. text)
+    (option_and_then as_str (option_and_then (get_member key) (as_table app))) []
 
 -- the first name that stands among those before it
 unfoldable pub doubled : List Bytes → List Bytes → Option Bytes
 doubled earlier [] = None
-doubled earlier (name ∷ rest) = if list_any (λ other. same_bytes other name) earlier then Some name else doubled (earlier ++ name ∷ []) rest
+doubled earlier (name ∷ rest) =
+    if list_any (λ other. same_bytes other name) earlier then Some name
+    else doubled (earlier ++ name ∷ []) rest
 
 -- the first name that an earlier application has
 unfoldable pub double_name : List Data → Option Fault
-double_name apps = option_map (λ name. (DOUBLE_NAME, name)) (doubled [] (map (app_text (codes "name")) apps))
+double_name apps =
+    option_map (λ name. (DOUBLE_NAME, name)) (doubled [] (map (app_text (codes "name")) apps))
 
 -- one of the kinds has this name
 abbrev pub is_kind : List Bytes → Bytes → Bool
@@ -215,7 +233,8 @@ is_kind kinds name = list_any (λ kind. same_bytes kind name) kinds
 -- the first kind that is none of the kinds
 unfoldable pub unknown_kind : List Bytes → List Data → Option Fault
 unknown_kind kinds apps =
-    option_map (λ app. (UNKNOWN_KIND, app_text (codes "kind") app)) (find (λ app. not (is_kind kinds (app_text (codes "kind") app))) apps)
+    option_map (λ app. (UNKNOWN_KIND, app_text (codes "kind") app))
+    (find (λ app. not (is_kind kinds (app_text (codes "kind") app))) apps)
 
 -- the first fault of a document
 unfoldable pub first_refusal : List Bytes → Members → Option Fault

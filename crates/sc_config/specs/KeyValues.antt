@@ -19,7 +19,8 @@ text_if test (Some text) = if test text then Some text else None
 
 -- 1 to 16 letters and digits
 unfoldable pub is_salt : Bytes → Bool
-is_salt text = not (length text == 0) && nat_le (length text) 16 && list_all is_ascii_alphanumeric text
+is_salt text =
+    not (length text == 0) && nat_le (length text) 16 && list_all is_ascii_alphanumeric text
 
 -- the byte would end a quoted text or its line
 unfoldable pub is_quote_or_break : ℕ → Bool
@@ -73,7 +74,8 @@ number_within low high (negsuc n) = None
 -- the number of a key, or a standard one where the key is absent
 unfoldable pub number_in : ℕ → ℕ → ℕ → Option Data → Option ℕ
 number_in low high standard None = Some standard
-number_in low high standard (Some value) = option_and_then (number_within low high) (as_integer value)
+number_in low high standard (Some value) =
+    option_and_then (number_within low high) (as_integer value)
 
 -- true or false, false where the key is absent
 unfoldable pub flag_in : Option Data → Option Bool
@@ -101,7 +103,8 @@ text_in test value = text_if test (option_and_then as_str value)
 
 -- the name of a file: 1 to 4,096 bytes, none of them 0
 unfoldable pub is_file_name : Bytes → Bool
-is_file_name text = not (length text == 0) && nat_le (length text) 4096 && list_all (λ b. not (b == 0)) text
+is_file_name text =
+    not (length text == 0) && nat_le (length text) 4096 && list_all (λ b. not (b == 0)) text
 
 -- the name of a file, or nothing
 unfoldable pub is_file : Option Data → Bool
@@ -121,4 +124,5 @@ is_wrong_host name value = not (is_host name && is_some (host_ip value))
 -- an array of texts, or nothing
 unfoldable pub is_params : Option Data → Bool
 is_params None = true
-is_params (Some value) = is_some (as_array value) && list_all (λ d. is_some (as_str d)) (elements value)
+is_params (Some value) =
+    is_some (as_array value) && list_all (λ d. is_some (as_str d)) (elements value)

@@ -12,7 +12,8 @@ use Rattle.sc_config.specs.Documents.{Bytes, document, elements}
 use Rattle.sc_config.specs.KeyValues.{listen_in, number_in, flag_in, expires_in, host_ip}
 use Rattle.sc_config.specs.Faults.{Fault, SYNTAX, LONG, app_text, apps_in, first_refusal}
 
--- Each value below is taken from a document without fault, so what stands for an absent one is never met.
+-- Each value below is taken from a document without fault, so what stands for an absent one is
+-- never met.
 
 -- ## The applications
 
@@ -60,7 +61,8 @@ hosts_in value = option_map_or host_entries (option_and_then as_table value) []
 
 -- the number of a key, the standard one where the key is absent
 unfoldable pub number_at : ℕ → ℕ → ℕ → Bytes → Members → ℕ
-number_at low high standard key top = unwrap_or (number_in low high standard (get_member key top)) standard
+number_at low high standard key top =
+    unwrap_or (number_in low high standard (get_member key top)) standard
 
 -- the key is true, false where it is absent
 unfoldable pub flag_at : Bytes → Members → Bool
@@ -100,7 +102,8 @@ settings_in (Some top) kinds = unless_refused (first_refusal kinds top) (config_
 
 -- the settings that the text gives for a catalogue of these kinds, or the first refusal
 unfoldable pub settings_of : Bytes → List Bytes → Result Config Fault
-settings_of bytes kinds = if nat_lt 65536 (length bytes) then Err (LONG, []) else settings_in (document bytes) kinds
+settings_of bytes kinds =
+    if nat_lt 65536 (length bytes) then Err (LONG, []) else settings_in (document bytes) kinds
 
 -- the fault that a refusal tells; want of memory tells none
 unfoldable pub fault_told : ConfigRefused → Option Fault

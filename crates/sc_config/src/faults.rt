@@ -455,7 +455,8 @@ pub(crate) fn app_text<'a>(app: &'a Value, key: &str) -> &'a [u8]
 }
 
 fn has_name(apps: &[Value], name: &[u8]) -> bool
-    ensures { result ≡ list_any (λ v. same_bytes (app_text (codes "name") (view v)) name.now) apps.now }
+    ensures { result
+        ≡ list_any (λ v. same_bytes (app_text (codes "name") (view v)) name.now) apps.now }
 {
     apps.iter().any(|app| app_text(app, "name") == name)
 }
@@ -468,7 +469,8 @@ fn is_kind(kinds: &[Text], name: &[u8]) -> bool
 }
 
 fn kindless_app(kinds: &[Text], apps: &[Value]) -> Option<usize>
-    ensures { result ≡ position (λ v. not (is_kind kinds.now (app_text (codes "kind") (view v)))) apps.now }
+    ensures { result
+        ≡ position (λ v. not (is_kind kinds.now (app_text (codes "kind") (view v)))) apps.now }
 {
     apps.iter()
         .position(|app| !is_kind(kinds, app_text(app, "kind")))

@@ -39,7 +39,8 @@ fn add_params(alloc: Global, values: &[Value], params: &mut List<Text>) -> Resul
 }
 
 fn items_of<'a>(value: Option<&'a Value>) -> &'a [Value]
-    ensures { map view result.now ≡ option_map_or elements (option_map (λ v. view v.now) value.entry) [] }
+    ensures { map view result.now
+        ≡ option_map_or elements (option_map (λ v. view v.now) value.entry) [] }
 {
     match value {
         Some(value) => elements(value),
@@ -112,7 +113,8 @@ fn top_text(alloc: Global, key: &str, top: &Table) -> Result<Text, NoMemory>
 
 /// The name of the file of `record`, where the key is there.
 fn recording_of(alloc: Global, top: &Table) -> Result<Option<Text>, NoMemory>
-    ensures { IfOk result (λ name. name ≡ option_and_then as_str (get_member (codes "record") (table_view top.now))) }
+    ensures { IfOk result
+        (λ name. name ≡ option_and_then as_str (get_member (codes "record") (table_view top.now))) }
 {
     match text_at(top, "record") {
         Some(text) => Ok(Some(Text::from_slice(alloc, text.as_bytes())?)),
@@ -123,7 +125,8 @@ fn recording_of(alloc: Global, top: &Table) -> Result<Option<Text>, NoMemory>
 /// The parameters of an application.
 #[tactic(auto, unfolding(crate::specs::ReadSettings::params_in), using(crate::proofs::DocumentLaws::map_view))]
 fn params_in(alloc: Global, value: Option<&Value>) -> Result<List<Text>, NoMemory>
-    ensures { IfOk result (λ params. params ≡ params_in (option_map (λ v. view v.now) value.entry)) }
+    ensures { IfOk result
+        (λ params. params ≡ params_in (option_map (λ v. view v.now) value.entry)) }
 {
     let mut params = List::new(alloc);
     add_params(alloc, items_of(value), &mut params)?;
@@ -152,7 +155,8 @@ fn add_apps(
     apps: &[Value],
     entries: &mut List<AppEntry>,
 ) -> Result<(), NoMemory>
-    ensures { OnOk result (entries.new ≡ entries.old ++ map (λ v. app_entry kinds.now (view v)) apps.now) }
+    ensures { OnOk result
+        (entries.new ≡ entries.old ++ map (λ v. app_entry kinds.now (view v)) apps.now) }
 {
     for app in apps {
         entries.push(app_entry(alloc, kinds, app)?)?;
@@ -162,7 +166,8 @@ fn add_apps(
 
 #[tactic(auto, using(crate::proofs::DocumentLaws::map_view))]
 fn app_entries(alloc: Global, kinds: &[Text], top: &Table) -> Result<List<AppEntry>, NoMemory>
-    ensures { IfOk result (λ entries. entries ≡ map (app_entry kinds.now) (apps_in (table_view top.now))) }
+    ensures { IfOk result
+        (λ entries. entries ≡ map (app_entry kinds.now) (apps_in (table_view top.now))) }
 {
     let mut entries = List::new(alloc);
     add_apps(alloc, kinds, apps_in(top), &mut entries)?;
@@ -173,7 +178,8 @@ fn app_entries(alloc: Global, kinds: &[Text], top: &Table) -> Result<List<AppEnt
 #[tactic(auto, using(crate::proofs::DocumentLaws::few_entries))]
 fn apps_of(alloc: Global, kinds: &[Text], top: &Table) -> Result<Apps, NoMemory>
     requires { are_few (apps_in (table_view top.now)) ≡ true }
-    ensures { IfOk result (λ apps. apps ≡ map (app_entry kinds.now) (apps_in (table_view top.now))) }
+    ensures { IfOk result
+        (λ apps. apps ≡ map (app_entry kinds.now) (apps_in (table_view top.now))) }
 {
     match Apps::new(app_entries(alloc, kinds, top)?) {
         Some(apps) => Ok(apps),

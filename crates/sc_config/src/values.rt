@@ -38,7 +38,8 @@ pub(crate) fn number_in<const LOW: u64, const HIGH: u64>(
     standard: Within<LOW, HIGH>,
     value: Option<&Value>,
 ) -> Option<Within<LOW, HIGH>>
-    ensures { result ≡ number_in LOW HIGH standard.entry (option_map (λ v. view v.now) value.entry) }
+    ensures { result
+        ≡ number_in LOW HIGH standard.entry (option_map (λ v. view v.now) value.entry) }
 {
     match value {
         Some(value) => match value.as_integer() {
@@ -86,7 +87,8 @@ fn expiry_of(integer: i64) -> Option<Expires>
 
 /// The text of a key, where it has one.
 pub(crate) fn text_at<'a>(table: &'a Table, key: &str) -> Option<&'a str>
-    ensures { option_copied result ≡ option_and_then as_str (get_member key.now (table_view table.now)) }
+    ensures { option_copied result
+        ≡ option_and_then as_str (get_member key.now (table_view table.now)) }
 {
     match value_at(table, key) {
         Some(value) => value.as_str(),

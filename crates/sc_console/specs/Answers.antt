@@ -15,7 +15,9 @@ apps_text apps = flat_map app_text apps
 
 -- `list EPOCH STEPS LIVE WAITING` and a line feed
 unfoldable pub counts_text : Listing → Bytes
-counts_text listing = codes "list " ++ decimal listing.epoch ++ codes " " ++ decimal listing.steps ++ codes " " ++ decimal (length listing.live) ++ codes " " ++ decimal listing.waiting ++ 10 ∷ []
+counts_text listing =
+    codes "list " ++ decimal listing.epoch ++ codes " " ++ decimal listing.steps ++ codes " "
+    ++ decimal (length listing.live) ++ codes " " ++ decimal listing.waiting ++ 10 ∷ []
 
 -- a listing as it is written: the counts, then the sessions
 unfoldable pub list_text : Listing → Bytes

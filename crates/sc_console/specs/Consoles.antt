@@ -40,7 +40,8 @@ pub record At : Type 0 where
 
 -- a listing was written
 abbrev pub Writes : Note → Note → Bytes → Bytes → Type 0
-Writes old new out out2 = (listing : Listing) × Gave listing old new × (out2 ≡ out ++ list_text listing)
+Writes old new out out2 =
+    (listing : Listing) × Gave listing old new × (out2 ≡ out ++ list_text listing)
 
 -- a listing was written, and no order was posted
 abbrev pub Lists : At → At → Type 0
@@ -48,16 +49,22 @@ Lists old new = Writes old.floor new.floor old.out new.out × (new.view ≡ old.
 
 -- the withdrawal was ordered, in the epoch of a listing
 abbrev pub Posts : AppId → At → At → Type 0
-Posts app old new = (listing : Listing) × Gave listing old.floor new.floor × (new.view ≡ after_post old.view (record { epoch = listing.epoch; app = app })) × (new.out ≡ old.out ++ posted_text)
+Posts app old new =
+    (listing : Listing) × Gave listing old.floor new.floor
+    × (new.view ≡ after_post old.view (record { epoch = listing.epoch; app = app }))
+    × (new.out ≡ old.out ++ posted_text)
 
 -- it wasn't, as the desk was full
 abbrev pub IsFull : Desk → At → At → Type 0
-IsFull desk old new = (listing : Listing) × Gave listing old.floor new.floor × (new.view ≡ old.view) × Held (room_of desk) (IsWaiting old.view) × (new.out ≡ old.out ++ full_text)
+IsFull desk old new =
+    (listing : Listing) × Gave listing old.floor new.floor × (new.view ≡ old.view)
+    × Held (room_of desk) (IsWaiting old.view) × (new.out ≡ old.out ++ full_text)
 
 -- the answer to what was asked, and what it left
 unfoldable pub Answers : Asked → Desk → At → At → Console → Type 0
 Answers asks.List desk old new consoles.Listed = Lists old new
 Answers (asks.Drop app) desk old new consoles.Posted = Posts app old new
 Answers (asks.Drop app) desk old new consoles.Full = IsFull desk old new
-Answers asks.Nothing desk old new consoles.Unknown = (new.floor ≡ old.floor) × (new.view ≡ old.view) × (new.out ≡ old.out ++ unknown_text)
+Answers asks.Nothing desk old new consoles.Unknown =
+    (new.floor ≡ old.floor) × (new.view ≡ old.view) × (new.out ≡ old.out ++ unknown_text)
 Answers asked desk old new answer = ⊥

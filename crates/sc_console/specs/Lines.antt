@@ -15,7 +15,8 @@ named host serial = asks.Nothing
 -- by the texts of host and serial: decimals up to 2^32 - 1 and up to the greatest count
 unfoldable pub session_of : Bytes → Option Bytes → Asked
 session_of host None = asks.Nothing
-session_of host (Some serial) = named (decimal_upto 4294967295 host) (decimal_upto MOST_COUNT serial)
+session_of host (Some serial) =
+    named (decimal_upto 4294967295 host) (decimal_upto MOST_COUNT serial)
 
 -- `H S`
 unfoldable pub session_in : Option Bytes → Asked
@@ -26,4 +27,6 @@ session_in (Some text) = session_of (before 32 text) (after 32 text)
 unfoldable pub asked_of : Bytes → Asked
 asked_of line =
     if same_bytes line (codes "list") then asks.List
-    else (if same_bytes (before 32 line) (codes "drop") then session_in (after 32 line) else asks.Nothing)
+    else
+    (if same_bytes (before 32 line) (codes "drop") then session_in (after 32 line)
+    else asks.Nothing)

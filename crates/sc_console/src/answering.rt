@@ -37,7 +37,11 @@ pub fn console<R: Wait>(
 ) -> Result<Console, NoMemory>
     requires pass { IsOf desk.now pass.old × ((view_of pass.old).posts ≡ true) }
     ensures pass { IsOf desk.now pass.new × ((view_of pass.new).posts ≡ true) }
-    ensures answers { IfOk result (λ answer. Answers (asked_of line.now) desk.now (record { floor = reading.old.floor; view = view_of pass.old; out = out.old }) (record { floor = reading.new.floor; view = view_of pass.new; out = out.new }) answer) }
+    ensures answers { IfOk result
+        (λ answer.
+        Answers (asked_of line.now) desk.now
+        (record { floor = reading.old.floor; view = view_of pass.old; out = out.old })
+        (record { floor = reading.new.floor; view = view_of pass.new; out = out.new }) answer) }
 {
     match asked_of(line) {
         Asked::List => list(rt, reading, out),
@@ -51,7 +55,9 @@ pub fn console<R: Wait>(
 
 /// Answers `list`.
 fn list<R: Wait>(rt: &R, reading: &mut Reading, out: &mut Text) -> Result<Console, NoMemory>
-    ensures { IfOk result (λ answer. (answer ≡ Console.Listed) × Writes reading.old.floor reading.new.floor out.old out.new) }
+    ensures { IfOk result
+        (λ answer.
+        (answer ≡ Console.Listed) × Writes reading.old.floor reading.new.floor out.old out.new) }
 {
     let listing = reading.read(rt)?;
     write_listing(&listing, out)?;
@@ -70,7 +76,11 @@ fn order<R: Wait>(
 ) -> Result<Console, NoMemory>
     requires pass { IsOf desk.now pass.old × ((view_of pass.old).posts ≡ true) }
     ensures pass { IsOf desk.now pass.new × ((view_of pass.new).posts ≡ true) }
-    ensures answers { IfOk result (λ answer. Answers (asks.Drop app) desk.now (record { floor = reading.old.floor; view = view_of pass.old; out = out.old }) (record { floor = reading.new.floor; view = view_of pass.new; out = out.new }) answer) }
+    ensures answers { IfOk result
+        (λ answer.
+        Answers (asks.Drop app) desk.now
+        (record { floor = reading.old.floor; view = view_of pass.old; out = out.old })
+        (record { floor = reading.new.floor; view = view_of pass.new; out = out.new }) answer) }
 {
     let epoch = reading.read(rt)?.epoch;
     match desk.post_as(rt, pass, Order { epoch, app }) {

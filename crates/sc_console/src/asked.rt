@@ -25,8 +25,8 @@ pub enum Asked {
     Nothing,
 }
 
-/// What the line asks for, which is without its line feed. H and S are decimals without leading zero, of at most
-/// 4,294,967,295 and 2^63.
+/// What the line asks for, which is without its line feed. H and S are decimals without leading
+/// zero, of at most 4,294,967,295 and 2^63.
 #[tactic(auto, unfolding(crate::specs::Lines::asked_of))]
 pub fn asked_of(line: &[u8]) -> Asked
     ensures { result ≡ asked_of line.now }

@@ -7,7 +7,8 @@ use sc_edge::Listing;
 use sc_value::{AppId, NoMemory, Text, write_u64};
 use std::alloc::Global;
 
-/// Appends `list EPOCH STEPS LIVE WAITING`, and for each live session `app H S`, each with a line feed.
+/// Appends `list EPOCH STEPS LIVE WAITING`, and for each live session `app H S`, each with a line
+/// feed.
 ///
 /// # Errors
 ///

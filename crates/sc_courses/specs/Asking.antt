@@ -30,7 +30,8 @@ pub record Answered {A : Type 0} (old new : Source A) (given : List A) : Type 0 
 -- of the moments of a clock those that are later than this one and than all before them
 unfoldable pub raised : ℕ → List ℕ → List ℕ
 raised last [] = []
-raised last (moment ∷ later) = if nat_lt last moment then moment ∷ raised moment later else raised last later
+raised last (moment ∷ later) =
+    if nat_lt last moment then moment ∷ raised moment later else raised last later
 
 -- the latest of them, or this one
 unfoldable pub latest : ℕ → List ℕ → ℕ
@@ -48,7 +49,10 @@ pub record Ticked (moments : List ℕ) (deeds : List Deed) (now : ℕ) : Type 0 
 
 -- the same, but for the last answer of the clock
 unfoldable pub TickedPart : List ℕ → List Deed → Type 0
-TickedPart moments deeds = (ticks_taken deeds ≡ raised 0 moments) ⊎ ((before : List ℕ) × (last : ℕ) × (moments ≡ before ++ last ∷ []) × (ticks_taken deeds ≡ raised 0 before))
+TickedPart moments deeds =
+    (ticks_taken deeds ≡ raised 0 moments)
+    ⊎ ((before : List ℕ) × (last : ℕ) × (moments ≡ before ++ last ∷ [])
+    × (ticks_taken deeds ≡ raised 0 before))
 
 -- ## Clock and orders
 
@@ -67,7 +71,8 @@ none_given = record { moments = []; orders = [] }
 
 -- the one's answers, and then the other's
 abbrev pub given_then : Given → Given → Given
-given_then first later = record { moments = first.moments ++ later.moments; orders = first.orders ++ later.orders }
+given_then first later =
+    record { moments = first.moments ++ later.moments; orders = first.orders ++ later.orders }
 
 -- so often orders answered, and so often the clock
 pub record AreAnswers (orders moments : ℕ) (given : Given) : Type 0 where

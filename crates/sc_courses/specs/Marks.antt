@@ -29,20 +29,24 @@ is_failure answers.Fault = false
 
 -- the steps that an answer makes
 unfoldable pub marks : Polled → List Step → List Mark
-marks answer made = map (λ (s : Step). let mark : Mark = record { step = s; failed = is_failure answer } in mark) made
+marks answer made =
+    map (λ (s : Step). let mark : Mark = record { step = s; failed = is_failure answer } in mark)
+    made
 
 -- the steps are what these answers make, and this is then kept of the streams
 unfoldable pub HeardTo : Streams → List Polled → List Mark → Streams → Type 0
 HeardTo kept [] taken after = (taken ≡ []) × AllKept kept after
 HeardTo kept (answer ∷ later) taken after =
-    (made : List Step) × (rest : List Mark) × (mid : Streams) × (taken ≡ marks answer made ++ rest) × Makes kept answer made mid × HeardTo mid later rest after
+    (made : List Step) × (rest : List Mark) × (mid : Streams) × (taken ≡ marks answer made ++ rest)
+    × Makes kept answer made mid × HeardTo mid later rest after
 
 -- the steps are a beginning of what these answers make
 unfoldable pub HeardUpto : Streams → List Polled → List Mark → Type 0
 HeardUpto kept [] taken = taken ≡ []
 HeardUpto kept (answer ∷ later) taken =
     ((made : List Step) × (taken ≡ marks answer made) × MakesPart kept answer made)
-    ⊎ ((made : List Step) × (rest : List Mark) × (mid : Streams) × (taken ≡ marks answer made ++ rest) × Makes kept answer made mid × HeardUpto mid later rest)
+    ⊎ ((made : List Step) × (rest : List Mark) × (mid : Streams)
+    × (taken ≡ marks answer made ++ rest) × Makes kept answer made mid × HeardUpto mid later rest)
 
 -- the step is one that comes from a place: a message, a text that is none, a loss
 unfoldable pub is_heard : Step → Bool
@@ -71,7 +75,8 @@ TellsSo None now given = now ≡ None
 TellsSo (Some old) now given = (now ≡ Some (old ++ given)) ⊎ (now ≡ None)
 
 -- what was heard is what the answers make
-pub record Hearing (first now : Option (List Polled)) (deeds : List Deed) (streams : Streams) : Type 0 where
+pub record Hearing (first now : Option (List Polled)) (deeds : List Deed)
+    (streams : Streams) : Type 0 where
   pub given : List Polled
   pub told : TellsSo first now given
   pub heard : HeardTo no_bytes given (heard_of deeds) streams
@@ -83,7 +88,8 @@ pub record HearingPart (first now : Option (List Polled)) (deeds : List Deed) : 
   pub heard : HeardUpto no_bytes given (heard_of deeds)
 
 -- of an answer with bytes so much was heard: what is heard further of the stream comes behind it
-pub record HearsOn (first now : Option (List Polled)) (deeds : List Deed) (streams : Streams) (place : Place) (text : Bytes) : Type 0 where
+pub record HearsOn (first now : Option (List Polled)) (deeds : List Deed) (streams : Streams)
+    (place : Place) (text : Bytes) : Type 0 where
   pub given : List Polled
   pub before : List Mark
   pub mid : Streams
@@ -91,6 +97,8 @@ pub record HearsOn (first now : Option (List Polled)) (deeds : List Deed) (strea
   pub told : TellsSo first now (given ++ answers.Bytes place text ∷ [])
   pub heard : HeardTo no_bytes given before mid
   pub deeds_are : heard_of deeds ≡ before ++ marks (answers.Bytes place text) done
-  pub on : (made : List Step) (rest : Bytes) → Hears place (streams place) made rest → Hears place (mid place ++ text) (done ++ made) rest
-  pub part : (made : List Step) → HearsPart place (streams place) made → HearsPart place (mid place ++ text) (done ++ made)
+  pub on : (made : List Step) (rest : Bytes) → Hears place (streams place) made rest
+      → Hears place (mid place ++ text) (done ++ made) rest
+  pub part : (made : List Step) → HearsPart place (streams place) made
+      → HearsPart place (mid place ++ text) (done ++ made)
   pub others : (other : Place) → same_place other place ≡ false → streams other ≡ mid other

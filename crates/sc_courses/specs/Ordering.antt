@@ -1,4 +1,5 @@
--- Which orders become withdrawals: those that name a session which lives in the epoch that runs then.
+-- Which orders become withdrawals: those that name a session which lives in the epoch that runs
+-- then.
 use Rattle.std.specs.Prelude.{◌≡◌, ◌&&◌, ◌⊎◌, ◌++◌, Bool, List, [], ◌∷◌, Option, None, Some, if◌then◌else◌, nat_eq}
 use Rattle.std.specs.List.{flat_map}
 use Rattle.std.specs.Option.{is_some}
@@ -30,11 +31,14 @@ epochs_of point = point.ended ++ point.running ∷ []
 abbrev pub with_steps : Epoch → List Step → Epoch
 with_steps epoch more = record epoch { journal = epoch.journal ++ more }
 
--- the same run came on from the first point to the second: by steps of the epoch that ran, or that one ended and later ones too
+-- the same run came on from the first point to the second: by steps of the epoch that ran, or that
+-- one ended and later ones too
 unfoldable pub ComesOn : Point → Point → Type 0
 ComesOn earlier later =
-    ((more : List Step) × (later.ended ≡ earlier.ended) × (later.running ≡ with_steps earlier.running more))
-    ⊎ ((more : List Step) × (between : List Epoch) × (later.ended ≡ earlier.ended ++ with_steps earlier.running more ∷ between))
+    ((more : List Step) × (later.ended ≡ earlier.ended)
+    × (later.running ≡ with_steps earlier.running more))
+    ⊎ ((more : List Step) × (between : List Epoch)
+    × (later.ended ≡ earlier.ended ++ with_steps earlier.running more ∷ between))
 
 -- ## What is withdrawn
 
@@ -62,19 +66,29 @@ order_in epoch app = record { epoch = epoch.number; app = app }
 
 -- the order names the epoch that runs at this point, and a session that lives there
 unfoldable pub is_for : Setup → Point → Order → Bool
-is_for setup point order = nat_eq order.epoch point.running.number && is_some (live_at order.app (net_of as_session setup point.running))
+is_for setup point order =
+    nat_eq order.epoch point.running.number
+    && is_some (live_at order.app (net_of as_session setup point.running))
 
 -- the point after it: its session's withdrawal is the next step, or none is
 unfoldable pub after_order : Setup → Point → Order → Point
-after_order setup point order = if is_for setup point order then record point { running = with_steps point.running (steps.Withdraw order.app ∷ []) } else point
+after_order setup point order =
+    if is_for setup point order
+    then record point { running = with_steps point.running (steps.Withdraw order.app ∷ []) }
+    else point
 
--- from the first point to the second the run withdrew what these answers ordered, one after the other, and no other session
+-- from the first point to the second the run withdrew what these answers ordered, one after the
+-- other, and no other session
 unfoldable pub Obeys : Setup → Point → List (Option Order) → Point → Type 0
 Obeys setup earlier [] later = IsQuiet earlier later
 Obeys setup earlier (None ∷ answers) later = Obeys setup earlier answers later
-Obeys setup earlier (Some order ∷ answers) later = (point : Point) × IsQuiet earlier point × Obeys setup (after_order setup point order) answers later
+Obeys setup earlier (Some order ∷ answers) later =
+    (point : Point) × IsQuiet earlier point
+    × Obeys setup (after_order setup point order) answers later
 
 -- the same, but for the last answer
 unfoldable pub ObeysPart : Setup → Point → List (Option Order) → Point → Type 0
 ObeysPart setup earlier answers later =
-    Obeys setup earlier answers later ⊎ ((before : List (Option Order)) × (last : Option Order) × (answers ≡ before ++ last ∷ []) × Obeys setup earlier before later)
+    Obeys setup earlier answers later
+    ⊎ ((before : List (Option Order)) × (last : Option Order) × (answers ≡ before ++ last ∷ [])
+    × Obeys setup earlier before later)

@@ -1,4 +1,5 @@
--- What a notice is told of how far a run came: how many steps each epoch has so far, and what lived at the last step.
+-- What a notice is told of how far a run came: how many steps each epoch has so far, and what lived
+-- at the last step.
 use Rattle.std.specs.Prelude.{◌≡◌, ◌⊎◌, ℕ, zero, suc, List, [], ◌∷◌, ◌++◌, Option, None, Some, length, map, min}
 use Rattle.std.specs.List.{fold}
 use Rattle.sc_journal.specs.Kept.{Kept}
@@ -14,11 +15,13 @@ use Rattle.sc_courses.specs.Listings.{IsListingAt}
 -- a notice was told items of which this holds from some moment on, or it doesn't tell
 unfoldable pub TellsSuch : Told → Told → (List (Noted (Kept Step)) → Type 0) → Type 0
 TellsSuch None now holds = now ≡ None
-TellsSuch (Some old) now holds = ((items : List (Noted (Kept Step))) × (now ≡ Some (old ++ items)) × holds items) ⊎ (now ≡ None)
+TellsSuch (Some old) now holds =
+    ((items : List (Noted (Kept Step))) × (now ≡ Some (old ++ items)) × holds items) ⊎ (now ≡ None)
 
 -- ## The lengths of journals
 
--- the lengths of a journal as it grows to so many steps: 1, 2 and so on, up to the greatest number that a count has room for
+-- the lengths of a journal as it grows to so many steps: 1, 2 and so on, up to the greatest number
+-- that a count has room for
 unfoldable pub lengths : ℕ → List ℕ
 lengths zero = []
 lengths (suc count) = lengths count ++ min (suc count) 18446744073709551615 ∷ []
@@ -34,9 +37,11 @@ pub record Counting : Type 0 where
 
 -- with one item more
 unfoldable pub with_count : Counting → Noted (Kept Step) → Counting
-with_count counting (noted.Step count) = record counting { running = counting.running ++ count ∷ [] }
+with_count counting (noted.Step count) =
+    record counting { running = counting.running ++ count ∷ [] }
 with_count counting (noted.Part journal) = counting
-with_count counting (noted.Epoch number began journal) = record { ended = counting.ended ++ counting.running ∷ []; running = [] }
+with_count counting (noted.Epoch number began journal) =
+    record { ended = counting.ended ++ counting.running ∷ []; running = [] }
 with_count counting (noted.List listing) = counting
 
 -- the counts of steps among these items, epoch by epoch
@@ -45,10 +50,11 @@ counted_by items = fold with_count (record { ended = []; running = [] }) items
 
 -- these were counted of the epochs that ended, and so many steps of the one that runs
 abbrev pub AreCounted : List Epoch → ℕ → List (Noted (Kept Step)) → Type 0
-AreCounted ended count items = counted_by items ≡ record { ended = map lengths_of ended; running = lengths count }
+AreCounted ended count items =
+    counted_by items ≡ record { ended = map lengths_of ended; running = lengths count }
 
--- a notice was told each length of each epoch's journal once, in order, of the epoch that runs up to this count; or it
--- doesn't tell
+-- a notice was told each length of each epoch's journal once, in order, of the epoch that runs up
+-- to this count; or it doesn't tell
 unfoldable pub TellsLengths : Told → Told → List Epoch → ℕ → Type 0
 TellsLengths first now ended count = TellsSuch first now (AreCounted ended count)
 
@@ -78,12 +84,14 @@ last_stepped epochs = fold (λ found (epoch : Epoch). or_epoch found epoch epoch
 unfoldable pub ShowsEnd : Setup → Option Epoch → Option Listing → Type 0
 ShowsEnd setup None listing = Unit {0}
 ShowsEnd setup (Some epoch) None = ⊥
-ShowsEnd setup (Some epoch) (Some listing) = IsListingAt setup (record { ended = []; running = epoch }) listing
+ShowsEnd setup (Some epoch) (Some listing) =
+    IsListingAt setup (record { ended = []; running = epoch }) listing
 
--- the last listing that a notice was told is that of all steps of the last of these epochs that has one, if any has; or
--- it doesn't tell
+-- the last listing that a notice was told is that of all steps of the last of these epochs that has
+-- one, if any has; or it doesn't tell
 unfoldable pub TellsLast : Setup → Told → Told → List Epoch → Type 0
-TellsLast setup first now epochs = TellsSuch first now (λ items. ShowsEnd setup (last_stepped epochs) (last_listing items))
+TellsLast setup first now epochs =
+    TellsSuch first now (λ items. ShowsEnd setup (last_stepped epochs) (last_listing items))
 
 -- ## On the way
 
@@ -93,19 +101,24 @@ pub record Counts (handed : List Step) (count : ℕ) (items : List (Noted (Kept 
   pub counted : AreCounted (told_by items).ended count items
 
 -- what was shown last, with the epochs as the items tell them
-pub record Shows (setup : Setup) (handed : List Step) (running : Epoch) (items : List (Noted (Kept Step))) : Type 0 where
+pub record Shows (setup : Setup) (handed : List Step) (running : Epoch)
+    (items : List (Noted (Kept Step))) : Type 0 where
   pub handed_is : (told_by items).handed ≡ handed
-  pub shows : ShowsEnd setup (last_stepped ((told_by items).ended ++ running ∷ [])) (last_listing items)
+  pub shows : ShowsEnd setup (last_stepped ((told_by items).ended ++ running ∷ []))
+      (last_listing items)
 
--- what a notice was told of the run so far, of which so much was handed on: the lengths of its journals, and, where no step was
--- taken since the last listing, that listing is of the last step; `count` says how much was handed on
-pub record Reports (setup : Setup) (first told : Told) (count unlisted : ℕ) (handed : List Step) (running : Epoch) : Type 0 where
+-- what a notice was told of the run so far, of which so much was handed on: the lengths of its
+-- journals, and, where no step was taken since the last listing, that listing is of the last step;
+-- `count` says how much was handed on
+pub record Reports (setup : Setup) (first told : Told) (count unlisted : ℕ) (handed : List Step)
+    (running : Epoch) : Type 0 where
   pub count_is : count ≡ min (length handed) 18446744073709551615
   pub counts : TellsSuch first told (Counts handed (length running.journal))
   pub shows : unlisted ≡ 0 → TellsSuch first told (Shows setup handed running)
 
 -- the same, where a step was taken of which the notice isn't told yet
-pub record Untold (first told : Told) (count : ℕ) (handed : List Step) (running : Epoch) : Type 0 where
+pub record Untold (first told : Told) (count : ℕ) (handed : List Step)
+    (running : Epoch) : Type 0 where
   pub count_is : count ≡ min (length handed) 18446744073709551615
   pub before : ℕ
   pub more : length running.journal ≡ suc before

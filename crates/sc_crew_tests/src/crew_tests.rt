@@ -1,4 +1,5 @@
-//! The server beside two workers: what each connection is answered, in whatever order the turns are made.
+//! The server beside two workers: what each connection is answered, in whatever order the turns are
+//! made.
 
 use crate::kinds::{catalogue, catalogue_of};
 use crate::meeting::Meeting;

@@ -115,8 +115,8 @@ fn list<R: Wait + Abort>(rt: &R, alloc: Global) -> Result<(), Fail> {
     }
 }
 
-// Each call makes two steps and lives on. A listing comes once as many steps were taken as sessions live: after the calls 1, 2,
-// 4, 8 and 16, and after the last step.
+// Each call makes two steps and lives on. A listing comes once as many steps were taken as sessions
+// live: after the calls 1, 2, 4, 8 and 16, and after the last step.
 #[test]
 fn listings(rt: HostRuntime) -> Result<(), Fail> {
     list(&rt, rt.alloc())

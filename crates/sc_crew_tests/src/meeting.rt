@@ -10,8 +10,8 @@ use std::sync::Arc;
 use std::sync::atomic::{AtomicU64, Ordering};
 use std::thread;
 
-/// Answers as `Answers` does, once two turns are there at the same time. A turn that waits in vain adds
-/// one to the word a second time.
+/// Answers as `Answers` does, once two turns are there at the same time. A turn that waits in vain
+/// adds one to the word a second time.
 #[derive(Drop)]
 pub struct Meeting {
     pub word: Arc<AtomicU64>,

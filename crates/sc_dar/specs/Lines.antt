@@ -29,7 +29,8 @@ without_last text = take (length text - 1) text
 unfoldable pub without_cr : Bytes → Bytes
 without_cr line = if ends 13 line then without_last line else line
 
--- the lines of a text that is cut at each LF. What follows the last LF is a line too, unless it's empty
+-- the lines of a text that is cut at each LF. What follows the last LF is a line too, unless it's
+-- empty
 unfoldable pub ended : List Bytes → List Bytes
 ended [] = []
 ended (last ∷ []) = if length last == 0 then [] else last ∷ []
@@ -48,16 +49,19 @@ pub record Line : Type 0 where
 -- the row that ends with a backslash, with the line after it; the backslash of the last row stays
 unfoldable pub onto_next : Bytes → List Line → List Line
 onto_next row [] = record { text = row; height = 1 } ∷ []
-onto_next row (next ∷ more) = record { text = without_last row ++ next.text; height = 1 + next.height } ∷ more
+onto_next row (next ∷ more) =
+    record { text = without_last row ++ next.text; height = 1 + next.height } ∷ more
 
 -- the row is the front of the lines that go on after it, or a line before the fresh ones
 unfoldable pub before_lines : Bytes → List Line → List Line → List Line
-before_lines row joined fresh = if ends 92 row then onto_next row joined else (record { text = row; height = 1 } ∷ fresh)
+before_lines row joined fresh =
+    if ends 92 row then onto_next row joined else (record { text = row; height = 1 } ∷ fresh)
 
 -- the lines of these rows, of which the first may go on a row before it, and loses its blanks then
 unfoldable pub joined : Bool → List Bytes → List Line
 joined goes_on [] = []
-joined goes_on (row ∷ more) = before_lines (if goes_on then drop_blanks row else row) (joined true more) (joined false more)
+joined goes_on (row ∷ more) =
+    before_lines (if goes_on then drop_blanks row else row) (joined true more) (joined false more)
 
 -- the lines of the text
 unfoldable pub lines : Bytes → List Line
@@ -65,4 +69,5 @@ lines text = joined false (rows text)
 
 -- the line says nothing: it is blank, or its first byte past blanks is # or !
 unfoldable pub is_comment : Bytes → Bool
-is_comment line = length (drop_blanks line) == 0 || begins 35 (drop_blanks line) || begins 33 (drop_blanks line)
+is_comment line =
+    length (drop_blanks line) == 0 || begins 35 (drop_blanks line) || begins 33 (drop_blanks line)

@@ -19,7 +19,8 @@ pub record IsPlain (text : Bytes) : Type 0 where
 pub record AreNames (apps : List Bytes) : Type 0 where
   pub few : length apps ≤ 2 ^ 32
   pub plain : All IsPlain apps
-  pub distinct : (i j : ℕ) → i < length apps → j < length apps → get_or apps i [] ≡ get_or apps j [] → i ≡ j
+  pub distinct : (i j : ℕ) → i < length apps → j < length apps → get_or apps i [] ≡ get_or apps j []
+      → i ≡ j
 
 -- the tuple names an application, and its route is one that its text is read as
 pub record IsTuple (apps : List Bytes) (tuple : Tuple) : Type 0 where

@@ -38,18 +38,23 @@ behind_method line = drop_blanks (drop (token_end 0 line) line)
 
 -- a method, and : or =
 unfoldable pub has_separator : Bytes → Bool
-has_separator line = not (token_end 0 line == 0) && (begins 58 (behind_method line) || begins 61 (behind_method line))
+has_separator line =
+    not (token_end 0 line == 0)
+    && (begins 58 (behind_method line) || begins 61 (behind_method line))
 
 -- the list of a line that is no comment
 unfoldable pub list_in : List Bytes → List MethodList → Bytes → Result MethodList ℕ
 list_in apps lists line =
     if not (has_separator line) then Err NO_SEPARATOR
     else (if is_listed lists (method_in line) then Err DOUBLE_METHOD
-    else then_read (tuples_in apps 0 (parts false (drop 1 (behind_method line)))) (λ tuples. Ok (record { method = method_in line; tuples = tuples })))
+    else then_read (tuples_in apps 0 (parts false (drop 1 (behind_method line))))
+    (λ tuples. Ok (record { method = method_in line; tuples = tuples })))
 
 -- the list of a line, none of a comment; or the kind of what is wrong first
 unfoldable pub list_of : List Bytes → List MethodList → Bytes → Result (Option MethodList) ℕ
-list_of apps lists line = if is_comment line then Ok None else then_read (list_in apps lists line) (λ list. Ok (Some list))
+list_of apps lists line =
+    if is_comment line then Ok None
+    else then_read (list_in apps lists line) (λ list. Ok (Some list))
 
 -- a line that is read, and then the others; a refusal has this number
 unfoldable pub then_line : {A B : Type 0} → ℕ → Result A ℕ → (A → Result B Fault) → Result B Fault
@@ -57,9 +62,12 @@ then_line number (Ok a) next = next a
 then_line number (Err kind) next = Err (record { line = number; kind = kind })
 
 -- the lists of these lines behind the others, the first line having this number
-unfoldable pub judged : List Bytes → ℕ → List MethodList → List Line → Result (List MethodList) Fault
+unfoldable pub judged : List Bytes → ℕ → List MethodList → List Line
+    → Result (List MethodList) Fault
 judged apps number lists [] = Ok lists
-judged apps number lists (line ∷ more) = then_line number (list_of apps lists line.text) (λ found. judged apps (number + line.height) (lists ++ option_to_list found) more)
+judged apps number lists (line ∷ more) =
+    then_line number (list_of apps lists line.text)
+    (λ found. judged apps (number + line.height) (lists ++ option_to_list found) more)
 
 -- the table of these lists, or the fault
 unfoldable pub table_with : Result (List MethodList) Fault → Result Dar Fault
@@ -69,4 +77,6 @@ table_with (Err fault) = Err fault
 -- the table that the text gives for these applications, or the first refusal; a text of more than
 -- 65,536 bytes is refused before all lines
 unfoldable pub table_of : Bytes → List Bytes → Result Dar Fault
-table_of text apps = if nat_lt 65536 (length text) then Err (record { line = 0; kind = LONG }) else table_with (judged apps 1 [] (lines text))
+table_of text apps =
+    if nat_lt 65536 (length text) then Err (record { line = 0; kind = LONG })
+    else table_with (judged apps 1 [] (lines text))

@@ -73,7 +73,8 @@ pub record TupleTexts : Type 0 where
 unfoldable pub parts : Bool → Bytes → List Bytes
 parts quoted [] = [] ∷ []
 parts quoted (b ∷ bs) =
-    if b == 44 && not quoted then [] ∷ parts false bs else onto_first b (parts (if b == 34 then not quoted else quoted) bs)
+    if b == 44 && not quoted then [] ∷ parts false bs
+    else onto_first b (parts (if b == 34 then not quoted else quoted) bs)
 
 -- the parts behind a comma, none where there is none
 unfoldable pub parts_after : Option Bytes → List Bytes
@@ -83,16 +84,23 @@ parts_after (Some text) = parts false text
 -- the first six of the parts, where there are so many, and the others
 unfoldable pub first_six : List Bytes → Option (TupleTexts × List Bytes)
 first_six (app ∷ subscriber ∷ region ∷ route ∷ modifier ∷ order ∷ more) =
-    Some (record { app = app; subscriber = subscriber; region = region; route = route; modifier = modifier; order = order }, more)
+    Some (
+      record { app = app; subscriber = subscriber; region = region; route = route; modifier = modifier; order = order },
+      more,
+    )
 first_six fewer = None
 
 -- what stands behind the sign at the front of the text, past blanks
 unfoldable pub behind : ℕ → Bytes → Option Bytes
 behind sign text = if begins sign (drop_blanks text) then Some (drop 1 (drop_blanks text)) else None
 
--- what stands before the closing quote, where that passes as the end of the text; no CR stands in it
+-- what stands before the closing quote, where that passes as the end of the text; no CR stands in
+-- it
 unfoldable pub closed : (Bytes → Bool) → Bytes → Option Bytes
-closed is_end text = if option_map_or is_end (after 34 text) false && not (has 13 (before 34 text)) then Some (before 34 text) else None
+closed is_end text =
+    if option_map_or is_end (after 34 text) false && not (has 13 (before 34 text))
+    then Some (before 34 text)
+    else None
 
 -- the text in quotes, blanks before it, and such an end behind it
 unfoldable pub quoted : (Bytes → Bool) → Bytes → Option Bytes
@@ -102,7 +110,8 @@ quoted is_end text = option_and_then (closed is_end) (behind 34 text)
 unfoldable pub is_closing : Bytes → Bool
 is_closing text = is_some (behind 41 text)
 
--- what stands behind the tuple's bracket, up to the next comma or the end; the order is its last text
+-- what stands behind the tuple's bracket, up to the next comma or the end; the order is its last
+-- text
 unfoldable pub behind_tuple : Bytes → Option Bytes
 behind_tuple order = option_and_then (behind 41) (option_and_then (after 34) (behind 34 order))
 
@@ -117,9 +126,11 @@ opening text = option_and_then (quoted is_blank_text) (behind 40 text)
 -- the six texts without their quotes and brackets
 unfoldable pub unquoted : TupleTexts → Option TupleTexts
 unquoted t =
-    option_and_then (λ app. option_and_then (λ subscriber. option_and_then (λ region. option_and_then (λ route. option_and_then (λ modifier. option_map (λ order.
+    option_and_then
+    (λ app. option_and_then (λ subscriber. option_and_then (λ region. option_and_then (λ route. option_and_then (λ modifier. option_map (λ order.
     record { app = app; subscriber = subscriber; region = region; route = route; modifier = modifier; order = order })
-    (quoted is_closing t.order)) (quoted is_blank_text t.modifier)) (quoted is_blank_text t.route)) (quoted is_blank_text t.region)) (quoted is_blank_text t.subscriber)) (opening t.app)
+    (quoted is_closing t.order)) (quoted is_blank_text
+    t.modifier)) (quoted is_blank_text t.route)) (quoted is_blank_text t.region)) (quoted is_blank_text t.subscriber)) (opening t.app)
 
 -- ## What they say
 
@@ -163,7 +174,12 @@ sip_route (Err fault) = None
 
 -- what stands between angle brackets, or else the whole text
 unfoldable pub unbracketed : Bytes → Option Bytes
-unbracketed text = if begins 60 text then option_and_then (λ rest. if length rest == 0 then Some (before 62 (drop 1 text)) else None) (after 62 (drop 1 text)) else Some text
+unbracketed text =
+    if begins 60 text
+    then option_and_then
+    (λ rest. if length rest == 0 then Some (before 62 (drop 1 text)) else None)
+    (after 62 (drop 1 text))
+    else Some text
 
 -- no route for an empty text, else a `sip:` URI, bare or in angle brackets (RFC 3261 section 20.34)
 unfoldable pub route_of : Bytes → Option (Option Address)
@@ -179,7 +195,8 @@ tuple_of apps order t =
     then_read (given BAD_ORDER (order_of order t.order)) (λ _.
     then_read (given UNKNOWN_APPLICATION (app_of apps t.app)) (λ app.
     then_read (given BAD_ROUTE (route_of t.route)) (λ route.
-    Ok (record { app = app; subscriber = t.subscriber; region = region; route = route; modifier = modifier }))))))
+    Ok
+    (record { app = app; subscriber = t.subscriber; region = region; route = route; modifier = modifier }))))))
 
 -- a method has at most 64 tuples
 unfoldable pub counted : ℕ → Tuple → Result Tuple ℕ
@@ -189,8 +206,8 @@ counted order tuple = if nat_lt order 64 then Ok tuple else Err TOO_MANY
 unfoldable pub parted : Bytes → Tuple → Result Tuple ℕ
 parted order tuple = if is_parted order then Ok tuple else Err BAD_TUPLE
 
--- the tuple of six parts: its brackets and quotes are judged, then what it says, then whether there are too many, and
--- what stands behind it last
+-- the tuple of six parts: its brackets and quotes are judged, then what it says, then whether there
+-- are too many, and what stands behind it last
 unfoldable pub tuple_at : List Bytes → ℕ → TupleTexts → Result Tuple ℕ
 tuple_at apps order t =
     then_read (given BAD_TUPLE (unquoted t)) (λ texts.
@@ -201,7 +218,16 @@ tuple_at apps order t =
 unfoldable pub tuples_in : List Bytes → ℕ → List Bytes → Result (List Tuple) ℕ
 tuples_in apps order [] = Ok []
 tuples_in apps order (app ∷ subscriber ∷ region ∷ route ∷ modifier ∷ order_text ∷ more) =
-    then_read (tuple_at apps order (record { app = app; subscriber = subscriber; region = region; route = route; modifier = modifier; order = order_text })) (λ tuple.
+    then_read
+    (tuple_at apps order
+    (record {
+      app = app;
+      subscriber = subscriber;
+      region = region;
+      route = route;
+      modifier = modifier;
+      order = order_text;
+    })) (λ tuple.
     then_read (tuples_in apps (1 + order) more) (λ tuples.
     Ok (tuple ∷ tuples)))
 tuples_in apps order fewer = Err BAD_TUPLE

@@ -39,15 +39,18 @@ app_text apps app = unwrap_or (slice_get apps app) []
 
 -- the first three of the six texts
 unfoldable pub tuple_front : List Bytes → Tuple → Bytes
-tuple_front apps tuple = app_text apps tuple.app ++ between ++ tuple.subscriber ++ between ++ region_text tuple.region
+tuple_front apps tuple =
+    app_text apps tuple.app ++ between ++ tuple.subscriber ++ between ++ region_text tuple.region
 
 -- the last three of them
 unfoldable pub tuple_back : ℕ → Tuple → Bytes
-tuple_back order tuple = route_text tuple.route ++ between ++ modifier_text tuple.modifier ++ between ++ decimal order
+tuple_back order tuple =
+    route_text tuple.route ++ between ++ modifier_text tuple.modifier ++ between ++ decimal order
 
 -- `("app", "subscriber", "region", "route", "modifier", "order")`
 unfoldable pub tuple_text : List Bytes → ℕ → Tuple → Bytes
-tuple_text apps order tuple = codes "(\"" ++ tuple_front apps tuple ++ between ++ tuple_back order tuple ++ codes "\")"
+tuple_text apps order tuple =
+    codes "(\"" ++ tuple_front apps tuple ++ between ++ tuple_back order tuple ++ codes "\")"
 
 -- what stands before a tuple: a comma, but for the first
 unfoldable pub lead : ℕ → Bytes
@@ -56,7 +59,8 @@ lead order = if order == 0 then [] else codes ", "
 -- the tuples from this order on
 unfoldable pub tuples_text : List Bytes → ℕ → List Tuple → Bytes
 tuples_text apps order [] = []
-tuples_text apps order (tuple ∷ more) = lead order ++ tuple_text apps order tuple ++ tuples_text apps (1 + order) more
+tuples_text apps order (tuple ∷ more) =
+    lead order ++ tuple_text apps order tuple ++ tuples_text apps (1 + order) more
 
 -- `METHOD: tuples` and LF
 unfoldable pub list_text : List Bytes → MethodList → Bytes

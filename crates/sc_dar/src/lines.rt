@@ -46,7 +46,10 @@ fn first_row(text: &[u8]) -> (&[u8], &[u8])
 #[tactic(auto, using(crate::proofs::Rows::goes_on, crate::proofs::Rows::stands_alone, crate::proofs::Rows::stands_last, crate::proofs::Rows::begun))]
 pub fn first_line(alloc: Global, text: &[u8]) -> Result<FirstLine<'_>, NoMemory>
     requires { 0 < length text.now }
-    ensures exact { IfOk result (λ l. lines text.now ≡ record { text = l.front ++ l.last.now; height = l.height } ∷ lines l.rest.now) }
+    ensures exact { IfOk result
+        (λ l.
+        lines text.now
+        ≡ record { text = l.front ++ l.last.now; height = l.height } ∷ lines l.rest.now) }
     ensures less { IfOk result (λ l. l.height + length l.rest.now ≤ length text.now) }
     ensures some { IfOk result (λ l. 0 < l.height) }
 {

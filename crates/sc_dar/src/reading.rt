@@ -17,12 +17,13 @@ use std::alloc::Global;
 /// The table that a text of at most 65,536 bytes gives for the applications of these names (JSR 289
 /// appendix C). A name's place is the tuple's `app`, where several have it the first.
 ///
-/// Lines end with LF, or CR LF. A line that ends with a backslash is joined with the next one, whose
-/// leading blanks are dropped. Blank lines are comments, and so are lines whose first byte past
-/// blanks is `#` or `!`. Every other line is a method, `:` or `=`, and tuples with commas between
-/// them, as `INVITE: ("alarm", "DAR:From", "NEUTRAL", "", "NO_ROUTE", "0")`: the application, the
-/// subscriber, the region, the route, the modifier, and the tuple's order in its method, from 0.
-/// Blanks, spaces and tabs, are allowed round each sign, and none before the method.
+/// Lines end with LF, or CR LF. A line that ends with a backslash is joined with the next one,
+/// whose leading blanks are dropped. Blank lines are comments, and so are lines whose first byte
+/// past blanks is `#` or `!`. Every other line is a method, `:` or `=`, and tuples with commas
+/// between them, as `INVITE: ("alarm", "DAR:From", "NEUTRAL", "", "NO_ROUTE", "0")`: the
+/// application, the subscriber, the region, the route, the modifier, and the tuple's order in its
+/// method, from 0. Blanks, spaces and tabs, are allowed round each sign, and none before the
+/// method.
 ///
 /// # Errors
 ///
@@ -31,7 +32,8 @@ use std::alloc::Global;
 #[tactic(auto, using(crate::proofs::Kept::named_if_ok, crate::proofs::Kept::few_if_ok))]
 pub fn read(alloc: Global, b: &[u8], apps: &List<Text>) -> Result<Dar, DarRefused>
     ensures exact { IsJudged result (table_of b.now apps.now) }
-    ensures named { IfOk result (λ dar. All (λ list. All (λ tuple. tuple.app < length apps.now) list.tuples) dar.lists) }
+    ensures named { IfOk result
+        (λ dar. All (λ list. All (λ tuple. tuple.app < length apps.now) list.tuples) dar.lists) }
     ensures few { IfOk result (λ dar. All (λ list. length list.tuples ≤ 64) dar.lists) }
 {
     table_of(alloc, b, apps.as_slice())

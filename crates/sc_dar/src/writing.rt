@@ -8,9 +8,9 @@ use sc_terms::{Dar, MethodList, Modifier, Tuple};
 use sc_value::{Address, List, NoMemory, Region, Text, write_u64};
 use std::alloc::Global;
 
-/// Puts the text of a table at the end (JSR 289 appendix C): a line a method, with the names of these
-/// applications. An application that has no name here is written as an empty one. The one error is
-/// want of memory, on which `out` is as before.
+/// Puts the text of a table at the end (JSR 289 appendix C): a line a method, with the names of
+/// these applications. An application that has no name here is written as an empty one. The one
+/// error is want of memory, on which `out` is as before.
 #[tactic(auto, unfolding(crate::specs::WrittenTables::dar_text))]
 pub fn write(alloc: Global, dar: &Dar, apps: &List<Text>, out: &mut Text) -> Result<(), NoMemory>
     ensures ok { OnOk result (out.new ≡ out.old ++ dar_text dar.now apps.now) }

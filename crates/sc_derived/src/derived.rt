@@ -71,7 +71,8 @@ fn claimer_place(known: &Known, req: ReqId, tag: &Text, sessions: &[SessionView]
 
 #[tactic(auto, using(sc_value::proofs::ListFacts::find_position, sc_value::proofs::ListFacts::find_none))]
 fn claimer_among(known: &Known, req: ReqId, tag: &Text, sessions: &[SessionView]) -> Option<SessId>
-    ensures { result ≡ option_map (λ s. s.id) (find (claims_of known.now req tag.now) sessions.now) }
+    ensures { result
+        ≡ option_map (λ s. s.id) (find (claims_of known.now req tag.now) sessions.now) }
 {
     match claimer_place(known, req, tag, sessions) {
         Some(at) => Some(sessions[at].id),
@@ -82,7 +83,9 @@ fn claimer_among(known: &Known, req: ReqId, tag: &Text, sessions: &[SessionView]
 // The SipSession of the request that has this tag.
 #[tactic(auto, unfolding(sc_hosts::specs::DerivedSessions::sessions_of), using(crate::proofs::Claiming::claimer_found))]
 fn claimer(session: &Session, req: ReqId, tag: &Text) -> Option<SessId>
-    ensures { result ≡ option_map (λ s. s.id) (find (claims session.now.known tag.now) (sessions_of session.now req)) }
+    ensures { result
+        ≡ option_map (λ s. s.id)
+        (find (claims session.now.known tag.now) (sessions_of session.now req)) }
 {
     claimer_among(&session.known, req, tag, session.view.sessions.as_slice())
 }
@@ -114,7 +117,10 @@ fn take_tag(
     came: Option<&Request>,
     tag: &Text,
 ) -> Result<SessId, NoMemory>
-    ensures { IfOk result (λ sess. handled_in session.old req original.now (option_copied came.entry) (Handling.Takes tag.now) ≡ (sess, session.new)) }
+    ensures { IfOk result
+        (λ sess.
+        handled_in session.old req original.now (option_copied came.entry)
+        (Handling.Takes tag.now) ≡ (sess, session.new)) }
 {
     let tag = tag.clone_in(alloc)?;
     tag_in(&mut session.view.sessions.items, original.id, tag);
@@ -175,7 +181,8 @@ fn derived_leg(
     req: ReqId,
     came: Option<&Request>,
 ) -> Result<Leg, NoMemory>
-    ensures { IfOk result (λ l. l ≡ derived_leg (option_copied leg.entry) req (option_copied came.entry)) }
+    ensures { IfOk result
+        (λ l. l ≡ derived_leg (option_copied leg.entry) req (option_copied came.entry)) }
 {
     let caller = caller_of_leg(alloc, leg)?;
     let got = derived_got(alloc, came)?;
@@ -199,7 +206,10 @@ fn derive(
     came: Option<&Request>,
     tag: &Text,
 ) -> Result<SessId, NoMemory>
-    ensures { IfOk result (λ sess. handled_in session.old req original.now (option_copied came.entry) (Handling.Derives tag.now) ≡ (sess, session.new)) }
+    ensures { IfOk result
+        (λ sess.
+        handled_in session.old req original.now (option_copied came.entry)
+        (Handling.Derives tag.now) ≡ (sess, session.new)) }
 {
     let id = SessId(number_after(session.view.sessions.len())?);
     let derived = derived_session(alloc, &session.view, original, tag)?;
@@ -223,7 +233,8 @@ fn session_count(view: &View) -> usize
 // Whether a further SipSession can be derived from this one.
 #[tactic(auto, unfolding(sc_hosts::specs::Looking::session_count))]
 fn can_derive(session: &Session, sess: SessId) -> bool
-    ensures { result ≡ (nat_lt (session_count session.now.view) 64 && not (is_invalid session.now.known sess)) }
+    ensures { result
+        ≡ (nat_lt (session_count session.now.view) 64 && not (is_invalid session.now.known sess)) }
 {
     session_count(&session.view) < MOST_SESSIONS && !is_invalid(&session.known, sess)
 }
@@ -238,7 +249,10 @@ fn handled_unclaimed(
     came: Option<&Request>,
     tag: &Text,
 ) -> Result<SessId, NoMemory>
-    ensures { IfOk result (λ sess. handled_in session.old req original.now (option_copied came.entry) (handling_of session.old original.now tag.now None) ≡ (sess, session.new)) }
+    ensures { IfOk result
+        (λ sess.
+        handled_in session.old req original.now (option_copied came.entry)
+        (handling_of session.old original.now tag.now None) ≡ (sess, session.new)) }
 {
     if original.peer_tag.is_none() {
         return take_tag(alloc, session, req, original, came, tag);
@@ -259,7 +273,12 @@ fn handled_of(
     came: Option<&Request>,
     tag: &Text,
 ) -> Result<SessId, NoMemory>
-    ensures { IfOk result (λ sess. handled_in session.old req original.now (option_copied came.entry) (handling_of session.old original.now tag.now (find (claims session.old.known tag.now) (sessions_of session.old req))) ≡ (sess, session.new)) }
+    ensures { IfOk result
+        (λ sess.
+        handled_in session.old req original.now (option_copied came.entry)
+        (handling_of session.old original.now tag.now
+        (find (claims session.old.known tag.now) (sessions_of session.old req)))
+        ≡ (sess, session.new)) }
 {
     match claimer(session, req, tag) {
         Some(sess) => Ok(sess),
@@ -277,7 +296,11 @@ fn handled_by(
     came: Option<&Request>,
     tag: Option<&Text>,
 ) -> Result<SessId, NoMemory>
-    ensures { IfOk result (λ sess. handled_in session.old req original.now (option_copied came.entry) (handling_by session.old req original.now (option_copied tag.entry)) ≡ (sess, session.new)) }
+    ensures { IfOk result
+        (λ sess.
+        handled_in session.old req original.now (option_copied came.entry)
+        (handling_by session.old req original.now (option_copied tag.entry))
+        ≡ (sess, session.new)) }
 {
     match tag {
         Some(tag) => handled_of(alloc, session, req, original, came, tag),
@@ -295,7 +318,10 @@ fn handled_subscribed(
     came: Option<&Request>,
     tag: Option<&Text>,
 ) -> Result<SessId, NoMemory>
-    ensures { IfOk result (λ sess. handled_in session.old req original.now (option_copied came.entry) (takes_tag original.now (option_copied tag.entry)) ≡ (sess, session.new)) }
+    ensures { IfOk result
+        (λ sess.
+        handled_in session.old req original.now (option_copied came.entry)
+        (takes_tag original.now (option_copied tag.entry)) ≡ (sess, session.new)) }
 {
     match tag {
         Some(tag) if original.peer_tag.is_none() => {
@@ -313,9 +339,9 @@ fn is_subscribed(original: &SessionView, request: &Request, response: &Response)
     is_subscribe(request.method.as_bytes()) && is_success(response.code) && is_uac(original.role)
 }
 
-/// The SipSession in which a response to an initial request is handled, given the one of the request,
-/// which may take the tag, and the request itself where it came and wasn't sent; where it is a new
-/// SipSession, it is there afterwards.
+/// The SipSession in which a response to an initial request is handled, given the one of the
+/// request, which may take the tag, and the request itself where it came and wasn't sent; where it
+/// is a new SipSession, it is there afterwards.
 #[tactic(auto, unfolding(sc_hosts::specs::DerivedSessions::handling, sc_hosts::specs::DerivedSessions::handled_in))]
 pub fn handled(
     alloc: Global,
@@ -326,7 +352,11 @@ pub fn handled(
     request: &Request,
     response: &Response,
 ) -> Result<SessId, NoMemory>
-    ensures { IfOk result (λ sess. handled_in session.old req original.now (option_copied came.entry) (handling session.old req original.now request.now response.now) ≡ (sess, session.new)) }
+    ensures { IfOk result
+        (λ sess.
+        handled_in session.old req original.now (option_copied came.entry)
+        (handling session.old req original.now request.now response.now)
+        ≡ (sess, session.new)) }
 {
     let tag = tag(&response.head.to);
     if is_invite(request.method.as_bytes()) && makes_dialog(response.code) {

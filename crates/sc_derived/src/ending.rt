@@ -1,5 +1,5 @@
-//! The SipSessions of an INVITE that its first 2xx, or its failure, ends. That the first 2xx ends the
-//! other early ones is this project's profile.
+//! The SipSessions of an INVITE that its first 2xx, or its failure, ends. That the first 2xx ends
+//! the other early ones is this project's profile.
 
 ghost use Rattle.std.specs.Prelude.{◌≡◌, map, IfOk, OnOk};
 ghost use Rattle.sc_hosts.specs.DerivedSessions.{failed_session, is_overtaken, overtaken, overtaken_session, without_derived};
@@ -74,7 +74,10 @@ fn mark_legs(legs: &mut [Leg], marks: &[bool])
 }
 
 fn end_overtaken(known: &Known, req: ReqId, sess: SessId, view: &mut View)
-    ensures { view.new ≡ record view.old { sessions = map (overtaken_session known.now req sess) view.old.sessions } }
+    ensures { view.new
+        ≡ record view.old {
+          sessions = map (overtaken_session known.now req sess) view.old.sessions;
+        } }
 {
     overtaken_sessions(known, req, sess, &mut view.sessions.items);
 }

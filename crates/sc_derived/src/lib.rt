@@ -1,5 +1,5 @@
-//! Derived sessions: in which SipSession a response to an INVITE is handled, and what an answer that
-//! came first makes of the others (JSR 289 section 6.2.3).
+//! Derived sessions: in which SipSession a response to an INVITE is handled, and what an answer
+//! that came first makes of the others (JSR 289 section 6.2.3).
 #![tactic(auto)]
 
 mod derived;

@@ -24,7 +24,8 @@ impl Desk {
     /// `NoMemory` for want of memory, always at a room of 2^60 or more.
     pub fn new(alloc: Global, room: usize) -> Result<(Desk, DeskPass), NoMemory>
         requires { 0 < room }
-        ensures { IfOk result (λ made. (room_of made.0 ≡ room) × IsOf made.0 made.1 × (view_of made.1 ≡ first_view)) }
+        ensures { IfOk result
+            (λ made. (room_of made.0 ≡ room) × IsOf made.0 made.1 × (view_of made.1 ≡ first_view)) }
     {
         let (queue, pass) = desk_queue::new(alloc, room)?;
         Ok((
@@ -44,7 +45,11 @@ impl Desk {
     pub fn post_as<R: Wait>(&self, rt: &R, pass: &mut DeskPass, order: Order) -> Result<(), Order>
         requires pass { IsOf self.now pass.old × ((view_of pass.old).posts ≡ true) }
         ensures pass { IsOf self.now pass.new }
-        ensures posted { MatchResult result (λ _. view_of pass.new ≡ after_post (view_of pass.old) order) (λ back. (back ≡ order) × (view_of pass.new ≡ view_of pass.old) × Held (room_of self.now) (IsWaiting (view_of pass.old))) }
+        ensures posted { MatchResult result
+            (λ _. view_of pass.new ≡ after_post (view_of pass.old) order)
+            (λ back.
+            (back ≡ order) × (view_of pass.new ≡ view_of pass.old)
+            × Held (room_of self.now) (IsWaiting (view_of pass.old))) }
     {
         let posted = Posted {
             by: pass.number,
@@ -56,13 +61,15 @@ impl Desk {
         }
     }
 
-    /// Takes the oldest order, None only where the desk was empty at that step. The pass is the taker's. Of each
-    /// poster that has ended the orders that were taken are a beginning of those that it posted, in its order,
-    /// each once; they are all of them where the desk was empty.
+    /// Takes the oldest order, None only where the desk was empty at that step. The pass is the
+    /// taker's. Of each poster that has ended the orders that were taken are a beginning of those
+    /// that it posted, in its order, each once; they are all of them where the desk was empty.
     pub fn take_as<R: Wait>(&self, rt: &R, pass: &mut DeskPass) -> Option<Order>
         requires pass { IsOf self.now pass.old × ((view_of pass.old).first ≡ true) }
         ensures pass { IsOf self.now pass.new }
-        ensures taken { MatchOption result ((view_of pass.new ≡ view_of pass.old) × AreTakenWhole (view_of pass.old)) (λ order. TookOrder (view_of pass.old) order (view_of pass.new)) }
+        ensures taken { MatchOption result
+            ((view_of pass.new ≡ view_of pass.old) × AreTakenWhole (view_of pass.old))
+            (λ order. TookOrder (view_of pass.old) order (view_of pass.new)) }
     {
         match desk_queue::take(rt, &self.queue, &mut pass.queue) {
             Some(posted) => Some(posted.order),
@@ -70,8 +77,8 @@ impl Desk {
         }
     }
 
-    /// A pass for one more poster, with the next number. The pass is the taker's, and fewer than 4,294,967,295
-    /// posters were made before.
+    /// A pass for one more poster, with the next number. The pass is the taker's, and fewer than
+    /// 4,294,967,295 posters were made before.
     ///
     /// # Errors
     ///
@@ -81,7 +88,8 @@ impl Desk {
         requires made { (view_of pass.old).made < 4294967295 }
         ensures pass { IsOf self.now pass.new }
         ensures left { view_of pass.new ≡ one_made (view_of pass.old) }
-        ensures made { IsOkAnd result (λ made. IsOf self.now made × (view_of made ≡ poster_view (view_of pass.old).made)) }
+        ensures made { IsOkAnd result
+            (λ made. IsOf self.now made × (view_of made ≡ poster_view (view_of pass.old).made)) }
     {
         let number = pass.number;
         let queue = desk_queue::split(&self.queue, &mut pass.queue);

@@ -102,7 +102,9 @@ impl Join<DeskView> for Posters {
 /// A queue with room for so many orders, and its first pass.
 pub fn new(alloc: Global, room: usize) -> Result<(DeskQueue, QueuePass), AllocError>
     requires { 0 < room }
-    ensures { IfOk result (λ made. (ruled_capacity made.0 ≡ room) × IsPassOf made.0 made.1 × (view made.1 ≡ first_view)) }
+    ensures { IfOk result
+        (λ made.
+        (ruled_capacity made.0 ≡ room) × IsPassOf made.0 made.1 × (view made.1 ≡ first_view)) }
 {
     let (queue, pass) = DeskQueue::ruled(alloc, room)?;
     Ok((queue, pass))
@@ -118,7 +120,11 @@ pub fn post<R: Wait>(
     requires pass { IsPassOf queue.now pass.old × ((view pass.old).posts ≡ true) }
     requires by { posted.by ≡ (view pass.old).number }
     ensures pass { IsSamePass pass.old pass.new }
-    ensures posted { MatchResult result (λ _. view pass.new ≡ after_post (view pass.old) posted.order) (λ back. (back ≡ posted) × (view pass.new ≡ view pass.old) × Held (ruled_capacity queue.now) (IsWaiting (view pass.old))) }
+    ensures posted { MatchResult result
+        (λ _. view pass.new ≡ after_post (view pass.old) posted.order)
+        (λ back.
+        (back ≡ posted) × (view pass.new ≡ view pass.old)
+        × Held (ruled_capacity queue.now) (IsWaiting (view pass.old))) }
 {
     queue.push_as::<Posts, R>(rt, pass, posted)
 }
@@ -127,7 +133,9 @@ pub fn post<R: Wait>(
 pub fn take<R: Wait>(rt: &R, queue: &DeskQueue, pass: &mut QueuePass) -> Option<Posted>
     requires pass { IsPassOf queue.now pass.old × ((view pass.old).first ≡ true) }
     ensures pass { IsSamePass pass.old pass.new }
-    ensures taken { MatchOption result ((view pass.new ≡ view pass.old) × Held 0 (IsTakenUpTo (view pass.old))) (λ posted. Took (view pass.old) posted (view pass.new)) }
+    ensures taken { MatchOption result
+        ((view pass.new ≡ view pass.old) × Held 0 (IsTakenUpTo (view pass.old)))
+        (λ posted. Took (view pass.old) posted (view pass.new)) }
 {
     queue.pop_as::<Takes, R>(rt, pass)
 }

@@ -1,8 +1,8 @@
-//! An order desk: posters in other threads order that application sessions be withdrawn, and one taker, the rounds
-//! of a server, takes the orders.
+//! An order desk: posters in other threads order that application sessions be withdrawn, and one
+//! taker, the rounds of a server, takes the orders.
 //!
-//! The pass that [`Desk::new`] gives takes orders. A pass is split off it for each poster, and joined to it at the
-//! end. Each pass keeps, in contracts alone, what it posted or took.
+//! The pass that [`Desk::new`] gives takes orders. A pass is split off it for each poster, and
+//! joined to it at the end. Each pass keeps, in contracts alone, what it posted or took.
 #![tactic(auto)]
 
 mod desk;

@@ -23,7 +23,14 @@ struct Way {
 }
 
 fn names_of(alloc: Global, dialog: &Dialog) -> Result<Names, NoMemory>
-    ensures { IfOk result (λ n. n ≡ record { call_id = dialog.now.call_id; local = dialog.now.local; remote = dialog.now.remote }) }
+    ensures { IfOk result
+        (λ n.
+        n
+        ≡ record {
+          call_id = dialog.now.call_id;
+          local = dialog.now.local;
+          remote = dialog.now.remote;
+        }) }
 {
     let call_id = dialog.call_id.clone_in(alloc)?;
     let local = dialog.local.clone_in(alloc)?;
@@ -36,7 +43,14 @@ fn names_of(alloc: Global, dialog: &Dialog) -> Result<Names, NoMemory>
 }
 
 fn way_of(alloc: Global, dialog: &Dialog) -> Result<Way, NoMemory>
-    ensures { IfOk result (λ w. w ≡ record { route_set = dialog.now.route_set; target = dialog.now.target; begun_by = dialog.now.begun_by }) }
+    ensures { IfOk result
+        (λ w.
+        w
+        ≡ record {
+          route_set = dialog.now.route_set;
+          target = dialog.now.target;
+          begun_by = dialog.now.begun_by;
+        }) }
 {
     let route_set = dialog.route_set.clone_in(alloc)?;
     let begun_by = dialog.begun_by.clone_in(alloc)?;

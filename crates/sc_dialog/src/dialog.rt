@@ -17,8 +17,8 @@ use std::alloc::Global;
 use std::marker::Model;
 use std::mem;
 
-/// A dialog, seen from the own side (RFC 3261 section 12). A contract sees the dialog's state, which is
-/// that of the dialog's messages.
+/// A dialog, seen from the own side (RFC 3261 section 12). A contract sees the dialog's state,
+/// which is that of the dialog's messages.
 #[derive(Drop)]
 pub struct Dialog {
     pub(crate) call_id: HeaderValue,
@@ -36,7 +36,17 @@ impl Model for Dialog {
 
     ghost Value = { DialogState };
 
-    ghost view = { λ d. record { call_id = d.call_id; local = d.local; remote = d.remote; route_set = d.route_set; target = d.target; sent = d.sent; received = d.received; begun_by = d.begun_by } };
+    ghost view = { λ d.
+        record {
+          call_id = d.call_id;
+          local = d.local;
+          remote = d.remote;
+          route_set = d.route_set;
+          target = d.target;
+          sent = d.sent;
+          received = d.received;
+          begun_by = d.begun_by;
+        } };
 }
 
 impl Discard for Dialog {
@@ -46,8 +56,8 @@ impl Discard for Dialog {
 }
 
 impl Dialog {
-    /// The dialog of the called side: the peer's request, on which the own side puts this tag, begins
-    /// it (RFC 3261 section 12.1.1).
+    /// The dialog of the called side: the peer's request, on which the own side puts this tag,
+    /// begins it (RFC 3261 section 12.1.1).
     #[tactic(auto, using(sc_model::proofs::DialogLaws::called_dialog))]
     pub fn from_uas(alloc: Global, request: &Request, tag: &Text) -> Result<Dialog, NoMemory>
         ensures { IfOk result (λ d. d ≡ dialog_of (Beginning.Called tag.now request.now) []) }
@@ -68,8 +78,8 @@ impl Dialog {
         })
     }
 
-    /// The dialog of the calling side: the own request and the response that gave the peer's tag begin
-    /// it (RFC 3261 section 12.1.2).
+    /// The dialog of the calling side: the own request and the response that gave the peer's tag
+    /// begin it (RFC 3261 section 12.1.2).
     #[tactic(auto, using(sc_model::proofs::DialogLaws::calling_dialog))]
     pub fn from_uac(
         alloc: Global,
@@ -137,14 +147,16 @@ impl Dialog {
         self.sent
     }
 
-    /// The next request of the own side (RFC 3261 section 12.2.1.1), numbered one above the last one.
-    /// It has no Via and no Contact. For want of memory nothing is changed.
+    /// The next request of the own side (RFC 3261 section 12.2.1.1), numbered one above the last
+    /// one. It has no Via and no Contact. For want of memory nothing is changed.
     #[tactic(auto, using(sc_model::proofs::DialogLaws::follows_next))]
     pub fn next_request(&mut self, alloc: Global, ask: &Inside) -> Result<Request, NoMemory>
         requires asked { IsTrue (is_askable ask.now) }
         requires number { self.old.sent < 2147483647 }
         ensures made { IfOk result (λ r. r ≡ next_request self.old ask.now) }
-        ensures ok { OnOk result (Follows self.old (Passed.By_self (Message.Request (next_request self.old ask.now))) self.new) }
+        ensures ok { OnOk result
+            (Follows self.old (Passed.By_self (Message.Request (next_request self.old ask.now)))
+            self.new) }
         ensures err { OnErr result (self.new ≡ self.old) }
     {
         match next_request(alloc, self, ask) {
@@ -165,9 +177,15 @@ impl Dialog {
     /// - `NoMemory`: want of memory.
     #[tactic(auto, using(sc_model::proofs::DialogLaws::follows_request))]
     pub fn on_request(&mut self, alloc: Global, request: &Request) -> Result<(), DialogRefused>
-        ensures ok { OnOk result (Follows self.old (Passed.By_peer (Message.Request request.now)) self.new) }
-        ensures low { IsErrOf result (DialogRefused.LowCseq self.old.received request.now.head.cseq.number) ↔ (request.now.head.cseq.number < self.old.received) }
-        ensures only { IfErr result (λ e. (e ≡ DialogRefused.NoMemory → ⊥) → e ≡ DialogRefused.LowCseq self.old.received request.now.head.cseq.number) }
+        ensures ok { OnOk result
+            (Follows self.old (Passed.By_peer (Message.Request request.now)) self.new) }
+        ensures low { IsErrOf result
+            (DialogRefused.LowCseq self.old.received request.now.head.cseq.number) ↔
+            (request.now.head.cseq.number < self.old.received) }
+        ensures only { IfErr result
+            (λ e.
+            (e ≡ DialogRefused.NoMemory → ⊥)
+            → e ≡ DialogRefused.LowCseq self.old.received request.now.head.cseq.number) }
         ensures err { OnErr result (self.new ≡ self.old) }
     {
         let got = request.head.cseq.number;
@@ -185,7 +203,12 @@ impl Dialog {
 
     /// Takes a request whose number isn't too low.
     fn accept(&mut self, alloc: Global, request: &Request) -> Result<(), NoMemory>
-        ensures ok { OnOk result (self.new ≡ record self.old { target = unwrap_or (request_target request.now) self.old.target; received = request.now.head.cseq.number }) }
+        ensures ok { OnOk result
+            (self.new
+            ≡ record self.old {
+              target = unwrap_or (request_target request.now) self.old.target;
+              received = request.now.head.cseq.number;
+            }) }
         ensures err { OnErr result (self.new ≡ self.old) }
     {
         self.set_target(alloc, request_target(request))?;
@@ -197,20 +220,23 @@ impl Dialog {
     /// memory nothing is changed.
     #[tactic(auto, using(sc_model::proofs::DialogLaws::follows_response))]
     pub fn on_response(&mut self, alloc: Global, response: &Response) -> Result<(), NoMemory>
-        ensures ok { OnOk result (Follows self.old (Passed.By_peer (Message.Response response.now)) self.new) }
+        ensures ok { OnOk result
+            (Follows self.old (Passed.By_peer (Message.Response response.now)) self.new) }
         ensures err { OnErr result (self.new ≡ self.old) }
     {
         let target = response_target(&self.begun_by, response);
         self.set_target(alloc, target)
     }
 
-    /// The ACK to a 2xx, which takes the number of its INVITE (RFC 3261 section 13.2.2.4). It has no
-    /// Via and no Contact. The dialog stays as it is.
+    /// The ACK to a 2xx, which takes the number of its INVITE (RFC 3261 section 13.2.2.4). It has
+    /// no Via and no Contact. The dialog stays as it is.
     #[tactic(auto, using(sc_model::proofs::DialogLaws::follows_ack))]
     pub fn ack(&self, alloc: Global, number: u32, body: &Text) -> Result<Request, NoMemory>
         requires { number ≤ 2147483647 }
         ensures made { IfOk result (λ r. r ≡ ack_request self.now number body.now) }
-        ensures stays { number ≤ self.now.sent → Follows self.now (Passed.By_self (Message.Request (ack_request self.now number body.now))) self.now }
+        ensures stays { number ≤ self.now.sent
+            → Follows self.now
+            (Passed.By_self (Message.Request (ack_request self.now number body.now))) self.now }
     {
         ack_request(alloc, self, number, body)
     }
@@ -218,7 +244,12 @@ impl Dialog {
     /// The peer's request gives the target where it has one, and its number where that is greater
     /// than all before.
     pub fn hear_request(&mut self, alloc: Global, request: &Request) -> Result<(), NoMemory>
-        ensures { OnOk result (self.new ≡ record self.old { target = unwrap_or (request_target request.now) self.old.target; received = max self.old.received request.now.head.cseq.number }) }
+        ensures { OnOk result
+            (self.new
+            ≡ record self.old {
+              target = unwrap_or (request_target request.now) self.old.target;
+              received = max self.old.received request.now.head.cseq.number;
+            }) }
     {
         self.set_target(alloc, request_target(request))?;
         self.received = self.received.max(request.head.cseq.number);
@@ -227,7 +258,12 @@ impl Dialog {
 
     /// The peer's response gives the target where it has one.
     pub fn hear_response(&mut self, alloc: Global, response: &Response) -> Result<(), NoMemory>
-        ensures { OnOk result (self.new ≡ record self.old { target = unwrap_or (response_target self.old.begun_by response.now) self.old.target }) }
+        ensures { OnOk result
+            (self.new
+            ≡ record self.old {
+              target = unwrap_or (response_target self.old.begun_by response.now)
+                  self.old.target;
+            }) }
     {
         let target = response_target(&self.begun_by, response);
         self.set_target(alloc, target)
@@ -241,7 +277,11 @@ impl Dialog {
     }
 
     fn set_target(&mut self, alloc: Global, target: Option<&Uri>) -> Result<(), NoMemory>
-        ensures ok { OnOk result (self.new ≡ record self.old { target = unwrap_or (option_copied target.entry) self.old.target }) }
+        ensures ok { OnOk result
+            (self.new
+            ≡ record self.old {
+              target = unwrap_or (option_copied target.entry) self.old.target;
+            }) }
         ensures err { OnErr result (self.new ≡ self.old) }
     {
         match target {
@@ -268,7 +308,8 @@ fn uac_target(
     request: &Request,
     response: &Response,
 ) -> Result<Uri, NoMemory>
-    ensures { IfOk result (λ u. u ≡ unwrap_or (response_target begun_by.now response.now) request.now.uri) }
+    ensures { IfOk result
+        (λ u. u ≡ unwrap_or (response_target begun_by.now response.now) request.now.uri) }
 {
     match response_target(begun_by, response) {
         Some(uri) => uri.clone_in(alloc),
@@ -277,7 +318,8 @@ fn uac_target(
 }
 
 fn uas_target(alloc: Global, request: &Request) -> Result<Uri, NoMemory>
-    ensures { IfOk result (λ u. u ≡ unwrap_or (request_target request.now) request.now.head.from.uri) }
+    ensures { IfOk result
+        (λ u. u ≡ unwrap_or (request_target request.now) request.now.head.from.uri) }
 {
     match request_target(request) {
         Some(uri) => uri.clone_in(alloc),

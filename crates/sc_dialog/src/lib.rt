@@ -1,8 +1,8 @@
-//! Dialogs (RFC 3261 section 12): their state, kept message by message, and the requests that are made
-//! in them.
+//! Dialogs (RFC 3261 section 12): their state, kept message by message, and the requests that are
+//! made in them.
 //!
-//! A dialog keeps its state and not its messages. The contracts say for every list of messages that a
-//! dialog stands for, which list it stands for after a call.
+//! A dialog keeps its state and not its messages. The contracts say for every list of messages that
+//! a dialog stands for, which list it stands for after a call.
 #![tactic(auto)]
 
 mod copies;

@@ -139,7 +139,14 @@ fn later_head(
 }
 
 fn names_of(alloc: Global, dialog: &Dialog) -> Result<Names, NoMemory>
-    ensures { IfOk result (λ n. n ≡ record { from = dialog.now.local; to = dialog.now.remote; call_id = dialog.now.call_id }) }
+    ensures { IfOk result
+        (λ n.
+        n
+        ≡ record {
+          from = dialog.now.local;
+          to = dialog.now.remote;
+          call_id = dialog.now.call_id;
+        }) }
 {
     let call_id = dialog.call_id().clone_in(alloc)?;
     let from = dialog.local().clone_in(alloc)?;
@@ -156,7 +163,19 @@ fn head_of(
     others: Others,
     body: Text,
 ) -> Head
-    ensures { result ≡ record { via = []; route = route; record_route = []; from = names.from; to = names.to; call_id = names.call_id; cseq = cseq; contact = []; others = others; body = body } }
+    ensures { result
+        ≡ record {
+          via = [];
+          route = route;
+          record_route = [];
+          from = names.from;
+          to = names.to;
+          call_id = names.call_id;
+          cseq = cseq;
+          contact = [];
+          others = others;
+          body = body;
+        } }
 {
     Head {
         via: List::new(alloc),

@@ -17,12 +17,18 @@ pub struct Sides {
     pub remote: Address,
 }
 
-/// The sides of a dialog that a request of the peer with this head begins, on which the own side puts
-/// the tag.
+/// The sides of a dialog that a request of the peer with this head begins, on which the own side
+/// puts the tag.
 // The own tag is a token; it is tested, since no type says so.
 #[tactic(auto, using(sc_model::proofs::ParamFacts::token_is_value, sc_model::proofs::ParamFacts::token_is_line))]
 pub fn called_sides(alloc: Global, head: &Head, tag: &[u8]) -> Result<Sides, NoMemory>
-    ensures { IfOk result (λ s. s ≡ record { local = bare head.now.to.uri (Some tag.now); remote = bare head.now.from.uri (tag_of head.now.from) }) }
+    ensures { IfOk result
+        (λ s.
+        s
+        ≡ record {
+          local = bare head.now.to.uri (Some tag.now);
+          remote = bare head.now.from.uri (tag_of head.now.from);
+        }) }
 {
     if !is_token(tag) {
         return Err(NoMemory);
@@ -34,7 +40,13 @@ pub fn called_sides(alloc: Global, head: &Head, tag: &[u8]) -> Result<Sides, NoM
 
 /// The sides of a dialog that an own request begins, with the response that gave the peer's tag.
 pub fn calling_sides(alloc: Global, own: &Head, peer: &Head) -> Result<Sides, NoMemory>
-    ensures { IfOk result (λ s. s ≡ record { local = bare own.now.from.uri (tag_of own.now.from); remote = bare own.now.to.uri (tag_of peer.now.to) }) }
+    ensures { IfOk result
+        (λ s.
+        s
+        ≡ record {
+          local = bare own.now.from.uri (tag_of own.now.from);
+          remote = bare own.now.to.uri (tag_of peer.now.to);
+        }) }
 {
     let local = side_of(alloc, &own.from.uri, &own.from)?;
     let remote = side_of(alloc, &own.to.uri, &peer.to)?;

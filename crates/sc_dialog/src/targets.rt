@@ -18,8 +18,8 @@ pub fn request_target(request: &Request) -> Option<&Uri>
     }
 }
 
-/// The target that a response of the peer gives, in a dialog that began with this request of the own
-/// side, or with one of the peer.
+/// The target that a response of the peer gives, in a dialog that began with this request of the
+/// own side, or with one of the peer.
 #[tactic(auto, unfolding(sc_model::specs::Dialogs::response_target))]
 pub fn response_target<'a>(begun: &Option<CSeq>, response: &'a Response) -> Option<&'a Uri>
     ensures { option_copied result ≡ response_target begun.now response.now }
@@ -78,7 +78,8 @@ fn last_uri(contacts: &[Contact]) -> Option<&Uri>
 
 /// The URI of this Contact, or where it is `*` the earlier one.
 fn later_uri<'a>(earlier: Option<&'a Uri>, contact: &'a Contact) -> Option<&'a Uri>
-    ensures { option_copied result ≡ option_or (contact_uri contact.now) (option_copied earlier.entry) }
+    ensures { option_copied result
+        ≡ option_or (contact_uri contact.now) (option_copied earlier.entry) }
 {
     match contact {
         Contact::At(address) => Some(&address.uri),

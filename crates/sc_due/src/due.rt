@@ -68,7 +68,9 @@ impl<T> Due<T> {
         requires { IsNone (held_at self.old key) }
         ensures ok { OnOk result (self.new ≡ with_entry self.old key what) }
         ensures err { OnErr result (self.new ≡ self.old) }
-        ensures made { OnOk result ((events : List DueEvent) → IsHeldAfter events self.old → IsHeldAfter (events ++ Made key ∷ []) self.new) }
+        ensures made { OnOk result
+            ((events : List DueEvent) → IsHeldAfter events self.old
+            → IsHeldAfter (events ++ Made key ∷ []) self.new) }
     {
         self.kept.insert(key, what)?;
         Ok(())
@@ -79,7 +81,8 @@ impl<T> Due<T> {
     pub fn cancel(&mut self, key: DueKey) -> Option<T>
         ensures what { result ≡ held_at self.old key }
         ensures held { self.new ≡ without_entry self.old key }
-        ensures ended { (events : List DueEvent) → IsHeldAfter events self.old → IsHeldAfter (events ++ Ended key ∷ []) self.new }
+        ensures ended { (events : List DueEvent) → IsHeldAfter events self.old
+            → IsHeldAfter (events ++ Ended key ∷ []) self.new }
     {
         self.kept.remove(&key)
     }
@@ -90,10 +93,15 @@ impl<T> Due<T> {
         ensures due { IfSome result (λ r. r.0.due ≤ now) }
         ensures held { IfSome result (λ r. self.old ≡ r ∷ self.new) }
         ensures least { IfSome result (λ r. All (IsLtBy due_order r.0) (keys_of self.new)) }
-        ensures none { IfNone result ((key : DueEntry) → IsSome (held_at self.old key) → now < key.due) }
+        ensures none { IfNone result
+            ((key : DueEntry) → IsSome (held_at self.old key) → now < key.due) }
         ensures kept { IfNone result (self.new ≡ self.old) }
-        ensures first { (events : List DueEvent) → IsHeldAfter events self.old → option_map (λ r. r.0) result ≡ slice_get (due_by events now) 0 }
-        ensures ended { IfSome result (λ r. (events : List DueEvent) → IsHeldAfter events self.old → IsHeldAfter (events ++ Ended r.0 ∷ []) self.new) }
+        ensures first { (events : List DueEvent) → IsHeldAfter events self.old
+            → option_map (λ r. r.0) result ≡ slice_get (due_by events now) 0 }
+        ensures ended { IfSome result
+            (λ r.
+            (events : List DueEvent) → IsHeldAfter events self.old
+            → IsHeldAfter (events ++ Ended r.0 ∷ []) self.new) }
     {
         let due = match self.kept.first_key_value() {
             Some((key, _)) => key.due,

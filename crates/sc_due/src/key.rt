@@ -49,7 +49,8 @@ impl Ord for DueKey {
 impl PartialOrd for DueKey {
     ghost partial_cmp = { as_partial_cmp due_order };
 
-    ghost laws = { partial_order_from_own_ties (Prim.search (comparing, rules) depth 9) (Prim.search (comparing, rules) depth 9) };
+    ghost laws = { partial_order_from_own_ties (Prim.search (comparing, rules) depth 9)
+        (Prim.search (comparing, rules) depth 9) };
 
     fn partial_cmp(&self, other: &DueKey) -> Option<Ordering> {
         Some(self.cmp(other))

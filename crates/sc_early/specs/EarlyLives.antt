@@ -1,4 +1,5 @@
--- Sessions of the kind that gives provisional responses reliably, over their whole lives (RFC 3262).
+-- Sessions of the kind that gives provisional responses reliably, over their whole lives (RFC
+-- 3262).
 use Rattle.std.specs.Prelude.{◌≡◌, ◌≤◌, ◌^◌, ℕ, List, [], ◌∷◌, Option, None, Some}
 use Rattle.std.specs.List.{filter_map}
 use Rattle.sc_value.specs.declared.ids.AppId.{AppId}
@@ -28,13 +29,16 @@ event_in config session turn = (prepared config turn.ringing session turn.waitin
 unfoldable pub ArePlayed : Config → History → List Turn → Type 0
 ArePlayed config history [] = Unit {0}
 ArePlayed config history (turn ∷ earlier) =
-    PlaysEarly (shown_in config (session_after config history earlier) turn) (event_in config (session_after config history earlier) turn) turn.calls × ArePlayed config history earlier
+    PlaysEarly (shown_in config (session_after config history earlier) turn)
+    (event_in config (session_after config history earlier) turn) turn.calls
+    × ArePlayed config history earlier
 
 -- nothing is remembered of an INVITE that comes
 unfoldable pub AreUnknown : Config → History → List Turn → Type 0
 AreUnknown config history [] = Unit {0}
 AreUnknown config history (turn ∷ earlier) =
-    ((told : Event) → event_in config (session_after config history earlier) turn ≡ Some told → IsUnknown (shown_in config (session_after config history earlier) turn) told)
+    ((told : Event) → event_in config (session_after config history earlier) turn ≡ Some told
+    → IsUnknown (shown_in config (session_after config history earlier) turn) told)
     × AreUnknown config history earlier
 
 -- no offer is refused behind its response
@@ -55,15 +59,18 @@ HasRoom session = session.view.next_request ≤ 2 ^ 64
 abbrev pub IsEarly : Setup → AppId → Type 0
 IsEarly setup app = charters_of setup app.host ≡ Some (charters.Early, None)
 
--- the acts of the INVITE of this number that the turns of a history made: each begins with what the one before left, the first with
--- nothing, and the offers that were accepted have the RSeq numbers 1, 2, 3 and so on
+-- the acts of the INVITE of this number that the turns of a history made: each begins with what the
+-- one before left, the first with nothing, and the offers that were accepted have the RSeq numbers
+-- 1, 2, 3 and so on
 pub record HasActs (config : Config) (history : History) (n : ℕ) : Type 0 where
   pub acts : List Happened
   pub are : AreActs config history n history.turns acts
   pub chain : IsTrace n Fresh acts
   pub counted : CountFrom 0 (filter_map offered acts)
 
--- what the session is comes of a history with these turns, and nothing is remembered of an INVITE that comes in it
-pub record HasUnknown (setup : Setup) (app : AppId) (given : List Told) (session : Session) (inbox : List Waiting) : Type 0 where
+-- what the session is comes of a history with these turns, and nothing is remembered of an INVITE
+-- that comes in it
+pub record HasUnknown (setup : Setup) (app : AppId) (given : List Told) (session : Session)
+    (inbox : List Waiting) : Type 0 where
   pub lived : HasLived setup app given session inbox
   pub unknown : AreUnknown setup.config lived.history lived.history.turns

@@ -24,7 +24,12 @@ moment_at (moment ∷ left) last (suc n) = moment_at left moment n
 
 -- the clock after one more call
 abbrev pub after_now : ClockState → ClockState
-after_now clock = record { left = tail_of clock.left; last = moment_at clock.left clock.last 0; asked = one_more clock.asked }
+after_now clock =
+    record {
+      left = tail_of clock.left;
+      last = moment_at clock.left clock.last 0;
+      asked = one_more clock.asked;
+    }
 
 -- orders of a list, one answer a call, and then none for ever
 pub record OrdersState : Type 0 where

@@ -20,7 +20,8 @@ Appends (Some old) new answer = new ≡ Some (old ++ answer ∷ [])
 -- a poll tells its answer; after `Closed` none is told, since all are `Closed`
 abbrev pub Answers : EdgeState → EdgeState → Got → List ℕ → Type 0
 Answers old new answer room =
-    (old.is_closed ≡ false → Appends old.polled new.polled (polled_of answer room)) × (old.is_closed ≡ true → new.polled ≡ old.polled)
+    (old.is_closed ≡ false → Appends old.polled new.polled (polled_of answer room))
+    × (old.is_closed ≡ true → new.polled ≡ old.polled)
 
 -- the answer says that nothing comes any more
 abbrev pub is_end : Got → Bool
@@ -46,11 +47,14 @@ PollBlames old new got.Fault = Rose old.faults new.faults
 
 -- a place whose connection was closed or ended: at an address that is cut the next put fails
 abbrev pub Halts : EdgeState → EdgeState → Place → Type 0
-Halts old new place = (new.is_silent place ≡ true) × (is_back place ≡ false → old.is_cut place ≡ true → new.is_barred place ≡ true)
+Halts old new place =
+    (new.is_silent place ≡ true)
+    × (is_back place ≡ false → old.is_cut place ≡ true → new.is_barred place ≡ true)
 
 -- a place that failed: a peer's connection is gone for ever
 abbrev pub Fails : EdgeState → EdgeState → Place → Type 0
-Fails old new place = (new.is_silent place ≡ true) × (is_back place ≡ true → new.is_barred place ≡ true)
+Fails old new place =
+    (new.is_silent place ≡ true) × (is_back place ≡ true → new.is_barred place ≡ true)
 
 -- a poll names no silent place, and makes one silent that ended or failed
 abbrev pub Names : EdgeState → EdgeState → Got → Type 0
@@ -69,7 +73,8 @@ IsPart put.Failed len = Unit {0}
 
 -- the place took the bytes of the answer, and no others
 abbrev pub Took : EdgeState → EdgeState → Place → List ℕ → Put → Type 0
-Took old new place bytes (put.Wrote count) = Takes (old.took place) (new.took place) (take count bytes)
+Took old new place bytes (put.Wrote count) =
+    Takes (old.took place) (new.took place) (take count bytes)
 Took old new place bytes put.NotYet = new.took place ≡ old.took place
 Took old new place bytes put.Failed = new.took place ≡ old.took place
 
@@ -81,9 +86,12 @@ cut_after before put.Failed len = before
 
 -- a failed put was counted and leaves the place failed; any other leaves a peer's place as it was
 abbrev pub Leaves : EdgeState → EdgeState → Place → Put → Type 0
-Leaves old new place (put.Wrote count) = is_back place ≡ true → old.is_silent place ≡ true → new.is_silent place ≡ true
-Leaves old new place put.NotYet = is_back place ≡ true → old.is_silent place ≡ true → new.is_silent place ≡ true
-Leaves old new place put.Failed = Fails old new place × Rose (old.faults_at place) (new.faults_at place)
+Leaves old new place (put.Wrote count) =
+    is_back place ≡ true → old.is_silent place ≡ true → new.is_silent place ≡ true
+Leaves old new place put.NotYet =
+    is_back place ≡ true → old.is_silent place ≡ true → new.is_silent place ≡ true
+Leaves old new place put.Failed =
+    Fails old new place × Rose (old.faults_at place) (new.faults_at place)
 
 -- a closed place: a peer's connection is gone for ever
 abbrev pub Shuts : EdgeState → EdgeState → Place → Type 0
@@ -91,10 +99,11 @@ Shuts old new place = Halts old new place × (is_back place ≡ true → new.is_
 
 -- it told nothing that came, counted no poll and answered no `Closed`
 abbrev pub StaysPolled : EdgeState → EdgeState → Type 0
-StaysPolled old new = (new.polls ≡ old.polls) × (new.polled ≡ old.polled) × (new.is_closed ≡ old.is_closed)
+StaysPolled old new =
+    (new.polls ≡ old.polls) × (new.polled ≡ old.polled) × (new.is_closed ≡ old.is_closed)
 
--- a put that failed is told behind what came before it, also behind a `Closed`, or nothing that comes is told
--- from now on; any other put tells nothing
+-- a put that failed is told behind what came before it, also behind a `Closed`, or nothing that
+-- comes is told from now on; any other put tells nothing
 abbrev pub PutTells : EdgeState → EdgeState → Place → Put → Type 0
 PutTells old new place (put.Wrote count) = new.polled ≡ old.polled
 PutTells old new place put.NotYet = new.polled ≡ old.polled

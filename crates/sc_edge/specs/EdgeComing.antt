@@ -46,7 +46,8 @@ is_passed places polled.Fault = false
 -- the list from its first item on that isn't passed over
 unfoldable pub live_from : PlacesState → List Polled → List Polled
 live_from places [] = []
-live_from places (item ∷ items) = if is_passed places item then live_from places items else (item ∷ items)
+live_from places (item ∷ items) =
+    if is_passed places item then live_from places items else (item ∷ items)
 
 -- as much of the item as there is room for
 abbrev pub front : ℕ → Polled → Polled
@@ -122,7 +123,8 @@ count_of got.Fault = 0
 -- the answers with their bytes, which stand one after the other
 abbrev pub joined : List Got → List ℕ → List Polled
 joined [] bytes = []
-joined (answer ∷ answers) bytes = polled_of answer bytes ∷ joined answers (drop (count_of answer) bytes)
+joined (answer ∷ answers) bytes =
+    polled_of answer bytes ∷ joined answers (drop (count_of answer) bytes)
 
 -- how many answers an item gives at most
 abbrev pub weight : Polled → ℕ
@@ -143,4 +145,5 @@ counts answers = sum_by count_of answers
 
 -- a put to this place failed, and there was room for that
 abbrev pub failed_put : ComingState → Place → ComingState
-failed_put coming place = record coming { polled = coming.polled ++ polled.Failed place ∷ []; spare = coming.spare - 1 }
+failed_put coming place =
+    record coming { polled = coming.polled ++ polled.Failed place ∷ []; spare = coming.spare - 1 }

@@ -95,7 +95,9 @@ share_at shares puts = unwrap_or (slice_get shares puts) (share.AtMost 184467440
 
 -- what a put of a piece of this length comes to, with room for so many bytes
 abbrev pub put_share : Share → ℕ → ℕ → Put
-put_share (share.AtMost most) left len = if nat_lt 0 len && nat_eq left 0 then put.Failed else put.Wrote (min (min len (max most 1)) left)
+put_share (share.AtMost most) left len =
+    if nat_lt 0 len && nat_eq left 0 then put.Failed
+    else put.Wrote (min (min len (max most 1)) left)
 put_share share.NotYet left len = put.NotYet
 
 -- what was taken is a part of the piece, and there was room for it
@@ -118,7 +120,8 @@ places_put places known put.Failed len = with_known places (failed known)
 
 -- what places took after a put there of these bytes
 abbrev pub taken_put : TakenState → Place → List ℕ → Put → TakenState
-taken_put taken to bytes (put.Wrote count) = record taken { kept = taken.kept ++ tagged to (take count bytes) }
+taken_put taken to bytes (put.Wrote count) =
+    record taken { kept = taken.kept ++ tagged to (take count bytes) }
 taken_put taken to bytes put.NotYet = taken
 taken_put taken to bytes put.Failed = taken
 
@@ -139,7 +142,9 @@ abbrev pub after_put : MemoryState → Place → List ℕ → MemoryState
 after_put edge to bytes = record edge {
   coming = coming_put edge.coming to (next_put edge to (length bytes));
   tells = tells_put edge.tells edge.coming (next_put edge to (length bytes));
-  places = places_put edge.places (known_at edge.places to) (next_put edge to (length bytes)) (length bytes);
+  places =
+      places_put edge.places (known_at edge.places to) (next_put edge to (length bytes))
+      (length bytes);
   taken = taken_put edge.taken to bytes (next_put edge to (length bytes));
   puts = one_more edge.puts;
 }
@@ -151,7 +156,8 @@ told_closes tells closes = if tells then Some closes else None
 -- a close more, where there is room for it
 abbrev pub closes_after : Option (List Closing) → ℕ → Closing → Option (List Closing)
 closes_after None room closing = None
-closes_after (Some closes) room closing = if nat_lt (length closes) room then Some (closes ++ closing ∷ []) else None
+closes_after (Some closes) room closing =
+    if nat_lt (length closes) room then Some (closes ++ closing ∷ []) else None
 
 -- the edge after a close of this place; how often it was polled is noted with it
 abbrev pub after_close : MemoryState → Place → MemoryState

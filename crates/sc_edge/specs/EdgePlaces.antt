@@ -52,12 +52,14 @@ missed places new = record places { others = new.faults }
 
 -- the places after an item was changed
 abbrev pub changed : PlacesState → Known → PlacesState
-changed places new = record places { known = change_first (is_of new.place) (λ _. new) places.known }
+changed places new =
+    record places { known = change_first (is_of new.place) (λ _. new) places.known }
 
 -- the places after this was noted of one, which was found or wasn't
 abbrev pub stored : PlacesState → Known → Option Known → PlacesState
 stored places new (Some old) = changed places new
-stored places new None = if nat_lt (length places.known) places.room then grown places new else missed places new
+stored places new None =
+    if nat_lt (length places.known) places.room then grown places new else missed places new
 
 -- the places after this was noted of one of them
 abbrev pub with_known : PlacesState → Known → PlacesState
@@ -65,24 +67,37 @@ with_known places new = stored places new (find (is_of new.place) places.known)
 
 -- a place that ended
 abbrev pub ended : Known → Known
-ended known = record known { is_silent = true; is_barred = known.is_barred || (not (is_back known.place) && known.is_cut) }
+ended known =
+    record known {
+      is_silent = true;
+      is_barred = known.is_barred || (not (is_back known.place) && known.is_cut);
+    }
 
 -- a place that failed
 abbrev pub failed : Known → Known
-failed known = record known { is_silent = true; is_barred = is_back known.place; faults = risen known.faults }
+failed known =
+    record known { is_silent = true; is_barred = is_back known.place; faults = risen known.faults }
 
 -- a place that was closed
 abbrev pub shut : Known → Known
-shut known = record known { is_silent = true; is_barred = known.is_barred || is_back known.place || known.is_cut }
+shut known =
+    record known {
+      is_silent = true;
+      is_barred = known.is_barred || is_back known.place || known.is_cut;
+    }
 
 -- a place that took so many bytes of a piece of this length
 abbrev pub served : Known → ℕ → ℕ → Known
 served known count len =
-    record known { is_silent = known.is_silent && is_back known.place; is_cut = if nat_lt 0 count then nat_lt count len else known.is_cut }
+    record known {
+      is_silent = known.is_silent && is_back known.place;
+      is_cut = if nat_lt 0 count then nat_lt count len else known.is_cut;
+    }
 
 -- a place of which nothing was noted yet
 abbrev pub fresh : Place → Known
-fresh place = record { place = place; is_silent = false; is_barred = false; is_cut = false; faults = 0 }
+fresh place =
+    record { place = place; is_silent = false; is_barred = false; is_cut = false; faults = 0 }
 
 -- the place that an answer names
 abbrev pub named : Polled → List Known
@@ -95,4 +110,5 @@ named polled.Fault = []
 
 -- the places that answers name, with room for more
 abbrev pub places_of : List Polled → ℕ → PlacesState
-places_of coming room = record { known = flat_map named coming; room = length coming + room; others = 0 }
+places_of coming room =
+    record { known = flat_map named coming; room = length coming + room; others = 0 }

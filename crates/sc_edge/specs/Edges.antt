@@ -16,8 +16,8 @@ pub record EdgeState : Type 0 where
   -- the faults of its listener, and those of each place
   pub faults : ℕ
   pub faults_at : Place → ℕ
-  -- what came, in order: what its polls answered, up to the first `Closed`, and a `Failed` of the place for
-  -- each put that failed; `None` where it isn't told
+  -- what came, in order: what its polls answered, up to the first `Closed`, and a `Failed` of the
+  -- place for each put that failed; `None` where it isn't told
   pub polled : Option (List Polled)
   -- it has answered `Closed`
   pub is_closed : Bool
@@ -29,8 +29,8 @@ pub record EdgeState : Type 0 where
   pub is_silent : Place → Bool
   -- the next put to the place fails
   pub is_barred : Place → Bool
-  -- the last put there that took bytes took only a part of its piece; said of addresses alone, no call says
-  -- it of a peer's connection
+  -- the last put there that took bytes took only a part of its piece; said of addresses alone, no
+  -- call says it of a peer's connection
   pub is_cut : Place → Bool
 
 -- a peer opened the connection
@@ -40,15 +40,20 @@ is_back (To ip port) = false
 
 -- no count of faults falls
 abbrev pub CountsOn : EdgeState → EdgeState → Type 0
-CountsOn old new = (old.faults ≤ new.faults) × ((place : Place) → old.faults_at place ≤ new.faults_at place)
+CountsOn old new =
+    (old.faults ≤ new.faults) × ((place : Place) → old.faults_at place ≤ new.faults_at place)
 
 -- a silent place stays silent, and where its next put is to fail, that stays so
 abbrev pub Stays : EdgeState → EdgeState → Place → Type 0
-Stays old new place = old.is_silent place ≡ true → (new.is_silent place ≡ true) × (old.is_barred place ≡ true → new.is_barred place ≡ true)
+Stays old new place =
+    old.is_silent place ≡ true
+    → (new.is_silent place ≡ true) × (old.is_barred place ≡ true → new.is_barred place ≡ true)
 
 -- the place took nothing, so an address is cut where it was
 abbrev pub Stands : EdgeState → EdgeState → Place → Type 0
-Stands old new place = (new.took place ≡ old.took place) × (is_back place ≡ false → new.is_cut place ≡ old.is_cut place)
+Stands old new place =
+    (new.took place ≡ old.took place)
+    × (is_back place ≡ false → new.is_cut place ≡ old.is_cut place)
 
 -- bytes that came are at least one, and fit the room
 abbrev pub IsWithin : Got → ℕ → Type 0

@@ -31,4 +31,7 @@ fails shelf name = is_listed shelf.failing (one_more shelf.reads) || is_none (he
 -- the shelf after a read of this name
 abbrev pub after_read : ShelfState → List ℕ → ShelfState
 after_read shelf name =
-    record shelf { reads = one_more shelf.reads; faults = if fails shelf name then one_more shelf.faults else shelf.faults }
+    record shelf {
+      reads = one_more shelf.reads;
+      faults = if fails shelf name then one_more shelf.faults else shelf.faults;
+    }

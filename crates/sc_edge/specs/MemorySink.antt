@@ -18,7 +18,9 @@ pub record SinkState : Type 0 where
 
 -- whether the next put, of a piece of this length, fails
 abbrev pub refuses : SinkState → ℕ → Bool
-refuses sink len = is_listed sink.failing (one_more sink.puts) || (nat_lt 0 len && nat_le sink.room (length sink.kept))
+refuses sink len =
+    is_listed sink.failing (one_more sink.puts)
+    || (nat_lt 0 len && nat_le sink.room (length sink.kept))
 
 -- how many bytes of a piece of this length it takes
 abbrev pub share : SinkState → ℕ → ℕ

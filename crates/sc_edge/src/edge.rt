@@ -86,17 +86,21 @@ pub trait Edge {
     /// Puts bytes to a place, from the front of the piece. The first put to an address connects to
     /// it, and so does the first after its connection ended, failed or was closed; after an end or
     /// a close that put fails where the last put there that took bytes took only a part of its
-    /// piece. A put to a peer's connection that failed or was closed fails. A put that fails is told
-    /// in order with what the polls answered, as a failure of its place.
+    /// piece. A put to a peer's connection that failed or was closed fails. A put that fails is
+    /// told in order with what the polls answered, as a failure of its place.
     fn put(&mut self, to: Place, bytes: &[u8]) -> Put
         ensures later { CountsOn (state self.old) (state self.new) }
         ensures bound { IsPart result (length bytes.now) }
         ensures barred { (state self.old).is_barred to ≡ true → result ≡ Put.Failed }
         ensures took { Took (state self.old) (state self.new) to bytes.now result }
-        ensures cut { is_back to ≡ false → (state self.new).is_cut to ≡ cut_after ((state self.old).is_cut to) result (length bytes.now) }
+        ensures cut { is_back to ≡ false
+            → (state self.new).is_cut to
+            ≡ cut_after ((state self.old).is_cut to) result (length bytes.now) }
         ensures leaves { Leaves (state self.old) (state self.new) to result }
-        ensures stays { (place : Place) → same_place to place ≡ false → Stays (state self.old) (state self.new) place }
-        ensures stands { (place : Place) → same_place to place ≡ false → Stands (state self.old) (state self.new) place }
+        ensures stays { (place : Place) → same_place to place ≡ false
+            → Stays (state self.old) (state self.new) place }
+        ensures stands { (place : Place) → same_place to place ≡ false
+            → Stands (state self.old) (state self.new) place }
         ensures polled { IsNoPoll (state self.old) (state self.new) }
         ensures tells { PutTells (state self.old) (state self.new) to result }
         ensures closes { (state self.new).closes ≡ (state self.old).closes };

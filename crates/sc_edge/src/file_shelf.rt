@@ -10,7 +10,8 @@ use std::marker::Model;
 use std::rt::Files;
 use std::{fs, io, str};
 
-/// The files of the system, read by their names, which have to be UTF-8. What they hold is not told.
+/// The files of the system, read by their names, which have to be UTF-8. What they hold is not
+/// told.
 #[derive(Drop)]
 pub struct FileShelf<'a, R> {
     rt: &'a R,
@@ -76,7 +77,8 @@ fn front_of<R: Files>(rt: &R, alloc: Global, name: &[u8], most: usize) -> io::Re
     Ok(bytes)
 }
 
-// The answer for an item that begins with these bytes, which are all of it if they are at most `max`.
+// The answer for an item that begins with these bytes, which are all of it if they are at most
+// `max`.
 fn whole(alloc: Global, front: Vec<u8>, max: usize) -> Shelved
     ensures { Gives result (Some front.items) max ⊥ }
 {

@@ -1,8 +1,8 @@
-//! The outside of the container: where it reads texts by their names ([`Shelf`]), where it puts bytes
-//! ([`Sink`]), the connections that it serves ([`Edge`]), where moments ([`Clock`]) and orders to
-//! withdraw ([`Orders`]) come from, who is told how the run goes on ([`Notice`]), and what a worker
-//! passes before a turn ([`Gate`]). Each has forms in memory, which tell what they hold and fail where
-//! they are told to; shelf and sink have real ones over the system.
+//! The outside of the container: where it reads texts by their names ([`Shelf`]), where it puts
+//! bytes ([`Sink`]), the connections that it serves ([`Edge`]), where moments ([`Clock`]) and
+//! orders to withdraw ([`Orders`]) come from, who is told how the run goes on ([`Notice`]), and
+//! what a worker passes before a turn ([`Gate`]). Each has forms in memory, which tell what they
+//! hold and fail where they are told to; shelf and sink have real ones over the system.
 //!
 //! Where one can fail it counts its faults, in counts that never fall and stay at their greatest
 //! value. An answer that blames the outside comes only where its count rose.

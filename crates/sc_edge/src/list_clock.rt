@@ -32,7 +32,8 @@ impl Model for ListClock {
 
     ghost view = { λ s. record { left = drop s.next s.moments; last = s.last; asked = s.asked } };
 
-    ghost invariant = { λ s. (list_all (λ m. nat_le m (2 ^ 63)) (drop s.next s.moments) ≡ true) × (s.last ≤ 2 ^ 63) };
+    ghost invariant = { λ s.
+        (list_all (λ m. nat_le m (2 ^ 63)) (drop s.next s.moments) ≡ true) × (s.last ≤ 2 ^ 63) };
 }
 
 // Whether none of them is later than a clock may tell.
@@ -75,7 +76,9 @@ impl Clock for ListClock {
     fn now(&mut self) -> u64
         ensures asked { self.new.asked ≡ one_more self.old.asked }
         ensures told { IsTold (Some (moment_at self.old.left self.old.last 0)) result }
-        ensures comes { (n : ℕ) → Some (moment_at self.new.left self.new.last n) ≡ Some (moment_at self.old.left self.old.last (n + 1)) }
+        ensures comes { (n : ℕ)
+            → Some (moment_at self.new.left self.new.last n)
+            ≡ Some (moment_at self.old.left self.old.last (n + 1)) }
         ensures bound { result ≤ 2 ^ 63 }
         ensures after { self.new ≡ after_now self.old }
     {

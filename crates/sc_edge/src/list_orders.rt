@@ -53,7 +53,8 @@ impl Orders for ListOrders {
     fn next(&mut self) -> Option<Order>
         ensures asked { self.new.asked ≡ one_more self.old.asked }
         ensures told { IsTold (Some (order_at self.old.left 0)) result }
-        ensures comes { (n : ℕ) → Some (order_at self.new.left n) ≡ Some (order_at self.old.left (n + 1)) }
+        ensures comes { (n : ℕ)
+            → Some (order_at self.new.left n) ≡ Some (order_at self.old.left (n + 1)) }
         ensures after { self.new ≡ after_next self.old }
     {
         self.asked = counted(self.asked);

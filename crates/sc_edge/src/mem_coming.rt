@@ -11,8 +11,8 @@ use std::alloc::Global;
 use std::marker::Model;
 
 // What comes to an edge in memory, from the item `next` on without its first `from` bytes, and what
-// came so far: what its polls answered, and its failed puts. There is the memory for all answers that
-// are still to come, and for `spare` failed puts.
+// came so far: what its polls answered, and its failed puts. There is the memory for all answers
+// that are still to come, and for `spare` failed puts.
 #[derive(Drop)]
 pub struct Coming {
     items: List<Polled>,
@@ -31,9 +31,23 @@ impl Model for Coming {
 
     ghost Value = { ComingState };
 
-    ghost view = { λ s. record { left = left_of s.from (drop s.next s.items); polled = joined s.answers.items s.bytes.items; is_closed = s.is_closed; spare = s.spare } };
+    ghost view = { λ s.
+        record {
+          left = left_of s.from (drop s.next s.items);
+          polled = joined s.answers.items s.bytes.items;
+          is_closed = s.is_closed;
+          spare = s.spare;
+        } };
 
-    ghost invariant = { λ s. (counts s.answers.items ≡ length s.bytes.items) × (s.is_closed ≡ false → vec_len s.answers + weights (left_of s.from (drop s.next s.items)) + 1 + s.spare ≤ vec_capacity s.answers) × (s.is_closed ≡ false → vec_len s.bytes + weights (left_of s.from (drop s.next s.items)) ≤ vec_capacity s.bytes) × (vec_len s.answers + s.spare ≤ vec_capacity s.answers) };
+    ghost invariant = { λ s.
+        (counts s.answers.items ≡ length s.bytes.items)
+        × (s.is_closed ≡ false
+        → vec_len s.answers + weights (left_of s.from (drop s.next s.items)) + 1
+        + s.spare ≤ vec_capacity s.answers)
+        × (s.is_closed ≡ false
+        → vec_len s.bytes
+        + weights (left_of s.from (drop s.next s.items)) ≤ vec_capacity s.bytes)
+        × (vec_len s.answers + s.spare ≤ vec_capacity s.answers) };
 }
 
 // How many answers the item gives at most.
@@ -73,7 +87,8 @@ fn is_skipped(item: &Polled, from: usize, places: &Places) -> bool
 
 // Where the first item stands that isn't passed over.
 fn first_live(items: &[Polled], next: usize, from: usize, places: &Places) -> (usize, usize)
-    ensures { left_of result.1 (drop result.0 items.now) ≡ live_from places.now (left_of from (drop next items.now)) }
+    ensures { left_of result.1 (drop result.0 items.now)
+        ≡ live_from places.now (left_of from (drop next items.now)) }
 {
     let mut next = next;
     let mut from = from;
@@ -87,8 +102,8 @@ fn first_live(items: &[Polled], next: usize, from: usize, places: &Places) -> (u
     (next, from)
 }
 
-// Copies bytes from `from` on into the room, as many as there is room for, and answers how many, and
-// where they end.
+// Copies bytes from `from` on into the room, as many as there is room for, and answers how many,
+// and where they end.
 fn copy(bytes: &[u8], from: usize, room: &mut [u8]) -> (usize, usize)
     ensures count { result.0 ≡ length (take (length room.old) (drop from bytes.now)) }
     ensures bytes { take result.0 room.new ≡ take (length room.old) (drop from bytes.now) }
@@ -107,7 +122,9 @@ fn give(item: &Polled, from: usize, room: &mut [u8]) -> (Got, usize, usize)
     ensures got { result.0 ≡ got_of (front (length room.old) (less from item.now)) }
     ensures bytes { polled_of result.0 room.new ≡ front (length room.old) (less from item.now) }
     ensures steps { result.1 ≤ 1 }
-    ensures left { (xs : List Polled) → left_of result.2 (drop result.1 (item.now ∷ xs)) ≡ after_item (length room.old) (less from item.now) xs }
+    ensures left { (xs : List Polled)
+        → left_of result.2 (drop result.1 (item.now ∷ xs))
+        ≡ after_item (length room.old) (less from item.now) xs }
 {
     match item {
         Polled::Bytes(place, bytes) => {
@@ -122,12 +139,16 @@ fn give(item: &Polled, from: usize, room: &mut [u8]) -> (Got, usize, usize)
     }
 }
 
-// The answer of the items from `next` on, without the first `from` bytes, and where the rest begins.
+// The answer of the items from `next` on, without the first `from` bytes, and where the rest
+// begins.
 #[tactic(auto, using(crate::proofs::ComingFacts::drop_steps))]
 fn give_next(items: &[Polled], next: usize, from: usize, room: &mut [u8]) -> (Got, usize, usize)
-    ensures got { result.0 ≡ got_of (answer_of (length room.old) (left_of from (drop next items.now))) }
-    ensures bytes { polled_of result.0 room.new ≡ answer_of (length room.old) (left_of from (drop next items.now)) }
-    ensures left { left_of result.2 (drop result.1 items.now) ≡ rest_of (length room.old) (left_of from (drop next items.now)) }
+    ensures got { result.0
+        ≡ got_of (answer_of (length room.old) (left_of from (drop next items.now))) }
+    ensures bytes { polled_of result.0 room.new
+        ≡ answer_of (length room.old) (left_of from (drop next items.now)) }
+    ensures left { left_of result.2 (drop result.1 items.now)
+        ≡ rest_of (length room.old) (left_of from (drop next items.now)) }
 {
     match items.get(next) {
         None => (Got::Closed, next, from),
@@ -174,10 +195,13 @@ fn note(answers: &mut Vec<Got>, bytes: &mut Vec<u8>, got: Got, room: &[u8])
     requires answers { vec_len answers.old < vec_capacity answers.old }
     requires bytes { vec_len bytes.old + count_of got ≤ vec_capacity bytes.old }
     requires counted { counts answers.old.items ≡ length bytes.old.items }
-    ensures told { joined answers.new.items bytes.new.items ≡ joined answers.old.items bytes.old.items ++ polled_of got room.now ∷ [] }
+    ensures told { joined answers.new.items bytes.new.items
+        ≡ joined answers.old.items bytes.old.items ++ polled_of got room.now ∷ [] }
     ensures counted { counts answers.new.items ≡ length bytes.new.items }
-    ensures answers { (vec_len answers.new ≡ vec_len answers.old + 1) × (vec_capacity answers.old ≤ vec_capacity answers.new) }
-    ensures bytes { (vec_len bytes.new ≡ vec_len bytes.old + count_of got) × (vec_capacity bytes.old ≤ vec_capacity bytes.new) }
+    ensures answers { (vec_len answers.new ≡ vec_len answers.old + 1)
+        × (vec_capacity answers.old ≤ vec_capacity answers.new) }
+    ensures bytes { (vec_len bytes.new ≡ vec_len bytes.old + count_of got)
+        × (vec_capacity bytes.old ≤ vec_capacity bytes.new) }
 {
     add_bytes(bytes, &room[..bytes_of(got)]);
     add_answer(answers, got);
@@ -193,7 +217,8 @@ fn ends(got: Got) -> bool
 impl Coming {
     // These items are to come, with room for `spare` failed puts.
     pub(crate) fn new(alloc: Global, items: List<Polled>, spare: usize) -> Result<Coming, NoMemory>
-        ensures { IfOk result (λ s. s ≡ record { left = items; polled = []; is_closed = false; spare = spare }) }
+        ensures { IfOk result
+            (λ s. s ≡ record { left = items; polled = []; is_closed = false; spare = spare }) }
     {
         let count = weights_of(items.as_slice())?;
         let more = spare.checked_add(1).ok_or(NoMemory)?;
@@ -215,7 +240,8 @@ impl Coming {
     pub(crate) fn poll(&mut self, places: &Places, room: &mut [u8]) -> Got
         requires { 0 < length room.old }
         ensures got { result ≡ got_of (next_answer places.now self.old (length room.old)) }
-        ensures bytes { polled_of result room.new ≡ next_answer places.now self.old (length room.old) }
+        ensures bytes { polled_of result room.new
+            ≡ next_answer places.now self.old (length room.old) }
         ensures after { self.new ≡ after_answer places.now self.old (length room.old) }
     {
         if self.is_closed {

@@ -25,8 +25,8 @@ use std::marker::Model;
 /// that gives nothing any more, and give a piece in parts where the room is too short for it. Its
 /// puts take what a second list says, and then all that there is room for; they fail where they are
 /// told to, at a peer's place that failed or was closed, and where no room is left for a piece that
-/// isn't empty or for one place more. It tells what came, its failed puts among that, until there is
-/// no room for one of these.
+/// isn't empty or for one place more. It tells what came, its failed puts among that, until there
+/// is no room for one of these.
 #[derive(Drop)]
 pub struct MemEdge {
     coming: Coming,
@@ -49,7 +49,20 @@ impl Model for MemEdge {
 
     ghost Value = { MemoryState };
 
-    ghost view = { λ s. record { coming = s.coming; tells = s.tells_coming; places = s.places; taken = s.taken; closes = told_closes s.tells_closes s.closes.items; room = s.room; shares = s.shares; failing = s.failing; polls = s.polls; puts = s.puts; faults = s.faults } };
+    ghost view = { λ s.
+        record {
+          coming = s.coming;
+          tells = s.tells_coming;
+          places = s.places;
+          taken = s.taken;
+          closes = told_closes s.tells_closes s.closes.items;
+          room = s.room;
+          shares = s.shares;
+          failing = s.failing;
+          polls = s.polls;
+          puts = s.puts;
+          faults = s.faults;
+        } };
 
     ghost invariant = { λ s. s.room ≤ vec_capacity s.closes };
 }
@@ -133,7 +146,8 @@ impl MemEdge {
         requires { 0 < length room.old }
         ensures got { result ≡ next_got self.old (length room.old) }
         ensures len { length room.new ≡ length room.old }
-        ensures bytes { polled_of result room.new ≡ next_answer self.old.places self.old.coming (length room.old) }
+        ensures bytes { polled_of result room.new
+            ≡ next_answer self.old.places self.old.coming (length room.old) }
         ensures after { self.new ≡ after_poll self.old (length room.old) }
     {
         self.polls = counted(self.polls);
@@ -159,7 +173,8 @@ impl MemEdge {
 
     fn put_next(&mut self, to: Place, bytes: &[u8]) -> Put
         ensures put { result ≡ next_put self.old to (length bytes.now) }
-        ensures fits { IsPut result (length bytes.now) (self.old.taken.room - length self.old.taken.kept) }
+        ensures fits { IsPut result (length bytes.now)
+            (self.old.taken.room - length self.old.taken.kept) }
         ensures after { self.new ≡ after_put self.old to bytes.now }
     {
         let put = self.choose(to, bytes.len());
@@ -200,7 +215,8 @@ impl Edge for MemEdge {
         ensures ended { Ends (edge_state self.old) (edge_state self.new) result }
         ensures named { Names (edge_state self.old) (edge_state self.new) result }
         ensures stays { (place : Place) → Stays (edge_state self.old) (edge_state self.new) place }
-        ensures stands { (place : Place) → Stands (edge_state self.old) (edge_state self.new) place }
+        ensures stands { (place : Place)
+            → Stands (edge_state self.old) (edge_state self.new) place }
         ensures closes { (edge_state self.new).closes ≡ (edge_state self.old).closes }
 
         // It answers the next item that it doesn't pass over.
@@ -215,10 +231,14 @@ impl Edge for MemEdge {
         ensures bound { IsPart result (length bytes.now) }
         ensures barred { (edge_state self.old).is_barred to ≡ true → result ≡ Put.Failed }
         ensures took { Took (edge_state self.old) (edge_state self.new) to bytes.now result }
-        ensures cut { is_back to ≡ false → (edge_state self.new).is_cut to ≡ cut_after ((edge_state self.old).is_cut to) result (length bytes.now) }
+        ensures cut { is_back to ≡ false
+            → (edge_state self.new).is_cut to
+            ≡ cut_after ((edge_state self.old).is_cut to) result (length bytes.now) }
         ensures leaves { Leaves (edge_state self.old) (edge_state self.new) to result }
-        ensures stays { (place : Place) → same_place to place ≡ false → Stays (edge_state self.old) (edge_state self.new) place }
-        ensures stands { (place : Place) → same_place to place ≡ false → Stands (edge_state self.old) (edge_state self.new) place }
+        ensures stays { (place : Place) → same_place to place ≡ false
+            → Stays (edge_state self.old) (edge_state self.new) place }
+        ensures stands { (place : Place) → same_place to place ≡ false
+            → Stands (edge_state self.old) (edge_state self.new) place }
         ensures polled { IsNoPoll (edge_state self.old) (edge_state self.new) }
         ensures tells { PutTells (edge_state self.old) (edge_state self.new) to result }
         ensures closes { (edge_state self.new).closes ≡ (edge_state self.old).closes }
@@ -234,9 +254,11 @@ impl Edge for MemEdge {
         ensures later { CountsOn (edge_state self.old) (edge_state self.new) }
         ensures shut { Shuts (edge_state self.old) (edge_state self.new) at }
         ensures stays { (place : Place) → Stays (edge_state self.old) (edge_state self.new) place }
-        ensures stands { (place : Place) → Stands (edge_state self.old) (edge_state self.new) place }
+        ensures stands { (place : Place)
+            → Stands (edge_state self.old) (edge_state self.new) place }
         ensures polled { StaysPolled (edge_state self.old) (edge_state self.new) }
-        ensures closes { Notes (edge_state self.old).closes (edge_state self.new).closes (record { place = at; polls = (edge_state self.old).polls }) }
+        ensures closes { Notes (edge_state self.old).closes (edge_state self.new).closes
+            (record { place = at; polls = (edge_state self.old).polls }) }
         ensures after { self.new ≡ after_close self.old at }
     {
         self.close_next(at);

@@ -91,7 +91,8 @@ pub(crate) fn take_put(taken: &mut Taken, to: Place, bytes: &[u8], put: Put)
 #[tactic(auto, unfolding(crate::specs::EdgeMemory::told_closes))]
 pub(crate) fn note_close(closes: &mut Vec<Closing>, tells: &mut bool, room: usize, closing: Closing)
     requires { room ≤ vec_capacity closes.old }
-    ensures told { told_closes tells.new closes.new.items ≡ closes_after (told_closes tells.old closes.old.items) room closing }
+    ensures told { told_closes tells.new closes.new.items
+        ≡ closes_after (told_closes tells.old closes.old.items) room closing }
     ensures capacity { room ≤ vec_capacity closes.new }
 {
     if *tells {

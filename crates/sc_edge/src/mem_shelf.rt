@@ -33,7 +33,8 @@ impl Model for MemShelf {
 
     ghost Value = { ShelfState };
 
-    ghost view = { λ s. record { items = s.items; failing = s.failing; reads = s.reads; faults = s.faults } };
+    ghost view = { λ s.
+        record { items = s.items; failing = s.failing; reads = s.reads; faults = s.faults } };
 }
 
 impl MemShelf {
@@ -67,7 +68,8 @@ impl Shelf for MemShelf {
     fn read(&mut self, name: &Text, max: usize) -> Shelved
         ensures same { (n : List ℕ) → held self.new.items n ≡ held self.old.items n }
         ensures later { self.old.faults ≤ self.new.faults }
-        ensures gives { Gives result (held self.old.items name.now) max (Rose self.old.faults self.new.faults) }
+        ensures gives { Gives result (held self.old.items name.now) max
+            (Rose self.old.faults self.new.faults) }
 
         // It fails exactly where it is told to, or nothing stands under the name.
         ensures failed { (result ≡ Shelved.Failed) ↔ IsTrue (fails self.old name.now) }

@@ -27,18 +27,37 @@ impl Model for MemSink {
 
     ghost Value = { SinkState };
 
-    ghost view = { λ s. record { kept = s.kept.items; room = s.room; most = s.most; failing = s.failing; puts = s.puts; faults = s.faults } };
+    ghost view = { λ s.
+        record {
+          kept = s.kept.items;
+          room = s.room;
+          most = s.most;
+          failing = s.failing;
+          puts = s.puts;
+          faults = s.faults;
+        } };
 
-    ghost invariant = { λ s. (vec_len s.kept ≤ s.room) × (s.room ≤ vec_capacity s.kept) × (0 < s.most) };
+    ghost invariant = { λ s.
+        (vec_len s.kept ≤ s.room) × (s.room ≤ vec_capacity s.kept) × (0 < s.most) };
 }
 
 impl MemSink {
     /// An empty sink that keeps at most `room` bytes, for which it takes the memory now. The puts
-    /// whose numbers stand in `failing` fail, where the first put has number 1. A put takes all that
-    /// there is room for.
+    /// whose numbers stand in `failing` fail, where the first put has number 1. A put takes all
+    /// that there is room for.
     pub fn new(alloc: Global, room: usize, failing: List<u64>) -> Result<MemSink, NoMemory>
         ensures empty { room ≡ 0 → IsOk result }
-        ensures made { IfOk result (λ s. s ≡ record { kept = []; room = room; most = usize.MAX; failing = failing; puts = 0; faults = 0 }) }
+        ensures made { IfOk result
+            (λ s.
+            s
+            ≡ record {
+              kept = [];
+              room = room;
+              most = usize.MAX;
+              failing = failing;
+              puts = 0;
+              faults = 0;
+            }) }
     {
         let kept = Vec::with_capacity(alloc, room)?;
         Ok(MemSink {
@@ -83,8 +102,10 @@ impl Sink for MemSink {
     fn put(&mut self, bytes: &[u8]) -> Result<usize, Failed>
         ensures later { self.old.faults ≤ self.new.faults }
         ensures bound { IfOk result (λ n. (n ≤ length bytes.now) × (0 < length bytes.now → 0 < n)) }
-        ensures taken { IfOk result (λ n. Takes (Some self.old.kept) (Some self.new.kept) (take n bytes.now)) }
-        ensures failed { OnErr result ((Some self.new.kept ≡ Some self.old.kept) × Rose self.old.faults self.new.faults) }
+        ensures taken { IfOk result
+            (λ n. Takes (Some self.old.kept) (Some self.new.kept) (take n bytes.now)) }
+        ensures failed { OnErr result
+            ((Some self.new.kept ≡ Some self.old.kept) × Rose self.old.faults self.new.faults) }
 
         // It fails exactly where it is told to, or no room is left for a piece that isn't empty.
         ensures refused { is_err result ≡ refuses self.old (length bytes.now) }

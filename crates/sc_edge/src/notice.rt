@@ -36,8 +36,8 @@ pub trait Notice<J: Drop> {
     fn list(&mut self, listing: Listing)
         ensures { Notes (noted self.old) (noted self.new) (Noted.List listing) };
 
-    /// Here are the steps of the running epoch that were kept so far; the epoch goes on. A notice that
-    /// doesn't tell may let them go.
+    /// Here are the steps of the running epoch that were kept so far; the epoch goes on. A notice
+    /// that doesn't tell may let them go.
     fn part(&mut self, journal: J)
         ensures { Notes (noted self.old) (noted self.new) (Noted.Part journal) };
 }

@@ -19,6 +19,7 @@ pub trait Sink {
     fn put(&mut self, bytes: &[u8]) -> Result<usize, Failed>
         ensures later { faults self.old ≤ faults self.new }
         ensures bound { IfOk result (λ n. (n ≤ length bytes.now) × (0 < length bytes.now → 0 < n)) }
-        ensures taken { IfOk result (λ n. Takes (took self.old) (took self.new) (take n bytes.now)) }
+        ensures taken { IfOk result
+            (λ n. Takes (took self.old) (took self.new) (take n bytes.now)) }
         ensures failed { OnErr result ((took self.new ≡ took self.old) × Rose (faults self.old) (faults self.new)) };
 }

@@ -23,4 +23,5 @@ with_value value field = record field { value = value }
 
 -- a request proxied to so many targets more, by its number and that of its SipSession
 unfoldable pub proxied_at : ReqId → SessId → ℕ → View → View
-proxied_at req sess count view = change_session sess proxying (change_request req (proxied_request count) view)
+proxied_at req sess count view =
+    change_session sess proxying (change_request req (proxied_request count) view)

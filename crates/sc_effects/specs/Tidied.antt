@@ -12,7 +12,8 @@ is_there sessions sess = not (is_gone (find (is_session sess) sessions))
 
 -- a request that waits for ACKs of SipSessions that are there alone
 unfoldable pub with_there_in : List SessionView → RequestView → RequestView
-with_there_in sessions request = record request { unacked = filter (is_there sessions) request.unacked }
+with_there_in sessions request =
+    record request { unacked = filter (is_there sessions) request.unacked }
 
 -- the request is shown, as these SipSessions are
 unfoldable pub stands_in : List SessionView → RequestView → Bool

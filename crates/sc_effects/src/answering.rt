@@ -49,7 +49,8 @@ fn response_in(
     tagged: bool,
     code: u16,
 )
-    ensures { sessions.new ≡ change_first (is_session sess) (with_response request.now tagged code) sessions.old }
+    ensures { sessions.new
+        ≡ change_first (is_session sess) (with_response request.now tagged code) sessions.old }
 {
     match session_place(sessions, sess) {
         Some(at) => with_response(&mut sessions[at], request, tagged, code),

@@ -25,7 +25,8 @@ use sc_value::{List, NoMemory, sum_u32};
 use std::alloc::Global;
 
 fn expires_after(view: &mut View, minutes: i32) -> Result<(), NoMemory>
-    ensures { OnOk result (view.new ≡ record view.old { expires = moment_after view.old.now minutes }) }
+    ensures { OnOk result
+        (view.new ≡ record view.old { expires = moment_after view.old.now minutes }) }
 {
     let expires = moment_after(view.now, minutes)?;
     view.expires = expires;
@@ -138,7 +139,8 @@ pub fn answer_of(play: &Play, call: &Call) -> CallAnswer
 // What a call leaves, accepted or refused, and what it answers.
 #[tactic(auto, unfolding(sc_hosts::specs::Effects::played_by, sc_hosts::specs::Effects::answer_of, sc_hosts::specs::Effects::answer_by))]
 fn played_by(alloc: Global, play: &mut Play, call: &Call) -> Result<CallAnswer, NoMemory>
-    ensures play { OnOk result (play.new ≡ played_by play.old call.now (refusal play.old call.now)) }
+    ensures play { OnOk result
+        (play.new ≡ played_by play.old call.now (refusal play.old call.now)) }
     ensures answer { IfOk result (λ answer. answer ≡ answer_of play.old call.now) }
 {
     match refusal(play, call) {
@@ -185,7 +187,8 @@ pub fn begun(alloc: Global, view: View) -> Play
 }
 
 fn list_all(alloc: Global, play: &mut Play, made: &[CallRecord]) -> Result<(), NoMemory>
-    ensures { OnOk result (play.new ≡ fold (λ play made. after_listed play made.call) play.old made.now) }
+    ensures { OnOk result
+        (play.new ≡ fold (λ play made. after_listed play made.call) play.old made.now) }
 {
     for call in made {
         let _answer = after_listed(alloc, play, &call.call)?;

@@ -40,7 +40,8 @@ fn proxied_request(request: &mut RequestView, count: usize) -> Result<(), NoMemo
 
 #[tactic(auto, using(sc_value::proofs::ListFacts::change_first_position, sc_value::proofs::ListFacts::change_first_none))]
 fn proxied_in(requests: &mut [RequestView], req: ReqId, count: usize) -> Result<(), NoMemory>
-    ensures { OnOk result (requests.new ≡ change_first (is_request req) (proxied_request count) requests.old) }
+    ensures { OnOk result
+        (requests.new ≡ change_first (is_request req) (proxied_request count) requests.old) }
 {
     match request_place(requests, req) {
         Some(at) => proxied_request(&mut requests[at], count),
@@ -145,7 +146,8 @@ fn with_value(field: &mut Field, value: Text)
 
 #[tactic(auto, using(sc_value::proofs::ListFacts::change_first_position, sc_value::proofs::ListFacts::change_first_none))]
 fn value_in(fields: &mut [Field], name: &[u8], value: Text)
-    ensures { fields.new ≡ change_first (λ field. same_bytes field.name name.now) (with_value value) fields.old }
+    ensures { fields.new
+        ≡ change_first (λ field. same_bytes field.name name.now) (with_value value) fields.old }
 {
     match field_place(fields, name) {
         Some(at) => with_value(&mut fields[at], value),

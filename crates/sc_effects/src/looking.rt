@@ -60,7 +60,10 @@ fn link_in(sessions: &mut [SessionView], sess: SessId, other: Option<SessId>)
 }
 
 fn link_one(view: &mut View, sess: SessId, other: Option<SessId>)
-    ensures { view.new ≡ record view.old { sessions = change_first (is_session sess) (linked_to other) view.old.sessions } }
+    ensures { view.new
+        ≡ record view.old {
+          sessions = change_first (is_session sess) (linked_to other) view.old.sessions;
+        } }
 {
     link_in(&mut view.sessions.items, sess, other);
 }

@@ -38,7 +38,13 @@ fn sent_view(alloc: Global, view: &View, draft: Draft) -> RequestView
 }
 
 fn send_draft(alloc: Global, view: &mut View, draft: Draft) -> Result<(), NoMemory>
-    ensures { OnOk result (view.new ≡ record view.old { requests = view.old.requests ++ sent_view view.old draft ∷ []; next_request = view.old.next_request + 1; counter = view.old.counter + 1 }) }
+    ensures { OnOk result
+        (view.new
+        ≡ record view.old {
+          requests = view.old.requests ++ sent_view view.old draft ∷ [];
+          next_request = view.old.next_request + 1;
+          counter = view.old.counter + 1;
+        }) }
 {
     let next_request = sum_u32(view.next_request, 1)?;
     let counter = sum(view.counter, 1)?;

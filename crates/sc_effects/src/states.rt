@@ -34,7 +34,9 @@ fn is_ringing(code: u16) -> bool
 
 // The state after a final response, and after every other the given one.
 fn final_state(failed: State, code: u16, other: State) -> State
-    ensures { result ≡ (if is_failure code then failed else (if is_success code then State.Confirmed else other)) }
+    ensures { result
+        ≡ (if is_failure code then failed
+        else (if is_success code then State.Confirmed else other)) }
 {
     if is_failure(code) {
         return failed;
@@ -219,7 +221,8 @@ fn state_place(fields: &[Field]) -> Option<usize>
 
 #[tactic(auto, using(sc_value::proofs::ListFacts::find_position, sc_value::proofs::ListFacts::find_none))]
 fn state_field(fields: &[Field]) -> Option<&Field>
-    ensures { option_copied result ≡ find (λ field. same_name field.name subscription_state) fields.now }
+    ensures { option_copied result
+        ≡ find (λ field. same_name field.name subscription_state) fields.now }
 {
     match state_place(fields) {
         Some(at) => Some(&fields[at]),

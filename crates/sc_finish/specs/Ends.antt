@@ -15,7 +15,8 @@ use Rattle.sc_hosts.specs.Working.{worked_all}
 -- by a call, by its expiry, or as it is still ready
 unfoldable pub ends : Queued → Bool → Session → Bool
 ends event ended session =
-    ended || (is_expiry event && has_expired session.view) || (is_ready_event event && is_ready session && session.view.ready_flag)
+    ended || (is_expiry event && has_expired session.view)
+    || (is_ready_event event && is_ready session && session.view.ready_flag)
 
 -- what is left: of a session that ends nothing is swept
 unfoldable pub left_by : Bool → Session → Session
@@ -23,4 +24,6 @@ left_by ends session = lightened (if ends then session else swept session)
 
 -- the outcome of a turn that begins with this
 unfoldable pub outcome_from : Config → Prepared → Waiting → List CallRecord → End → Outcome
-outcome_from config shown waiting made end = outcome_of waiting.event (finished config waiting.event shown.req end (worked_all config shown made))
+outcome_from config shown waiting made end =
+    outcome_of waiting.event
+    (finished config waiting.event shown.req end (worked_all config shown made))

@@ -21,9 +21,14 @@ passed config view branch request = on_branch config view branch (passed_request
 -- with a proxy of one branch
 unfoldable pub sends_on : Kept → ℕ → Request → Working → Working
 sends_on kept branch sent working =
-    giving (orders.Send branch sent ∷ []) (record working { known = record working.known { proxies = working.known.proxies ++ sent_proxy kept branch ∷ [] } })
+    giving (orders.Send branch sent ∷ [])
+    (record working {
+      known =
+          record working.known { proxies = working.known.proxies ++ sent_proxy kept branch ∷ [] };
+    })
 
 -- the container answers a request by itself
 unfoldable pub answers_alone : Config → RequestView → Answer → Working → Working
 answers_alone config request answer working =
-    in_view (answered (Some request) answer.code working.play.view) (answering config (Some request) answer working)
+    in_view (answered (Some request) answer.code working.play.view)
+    (answering config (Some request) answer working)

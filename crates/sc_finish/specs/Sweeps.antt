@@ -14,7 +14,8 @@ use Rattle.sc_model.specs.SessionStates.{ack}
 
 -- the SipSession is ready and goes away by itself
 unfoldable pub goes : Known → View → SessionView → Bool
-goes known view session = session.ready_flag && not session.gone && is_session_ready known view session
+goes known view session =
+    session.ready_flag && not session.gone && is_session_ready known view session
 
 -- the number of a SipSession
 abbrev pub id_of : SessionView → SessId

@@ -72,7 +72,8 @@ pub fn answers_alone(
     answer: &Answer,
     working: &mut Working,
 ) -> Result<(), NoMemory>
-    ensures { OnOk result (working.new ≡ answers_alone config.now request.now answer.now working.old) }
+    ensures { OnOk result
+        (working.new ≡ answers_alone config.now request.now answer.now working.old) }
 {
     answering(alloc, config, request, answer, working)?;
     answered(&mut working.play.view, request, answer.code);

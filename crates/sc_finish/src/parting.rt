@@ -91,8 +91,8 @@ fn first_tag(view: &View) -> &[u8]
     own_tag_of(view, SessId(1))
 }
 
-/// What the invalidation of an application session sends: 500 to what was handled, 481 to what waits,
-/// and then the CANCELs.
+/// What the invalidation of an application session sends: 500 to what was handled, 481 to what
+/// waits, and then the CANCELs.
 #[tactic(auto, using(crate::proofs::Partings::goodbye_made))]
 pub fn goodbye(
     alloc: Global,

@@ -1,5 +1,5 @@
-//! Whether a SipSession, or the application session, is ready to go away (JSR 289 sections 6.1.2.2 and
-//! 6.2.4).
+//! Whether a SipSession, or the application session, is ready to go away (JSR 289 sections 6.1.2.2
+//! and 6.2.4).
 
 ghost use Rattle.std.specs.Prelude.{◌≡◌, not, false};
 ghost use Rattle.std.specs.List.{list_any, list_all};
@@ -39,7 +39,8 @@ fn any_open_in(sess: SessId, requests: &[RequestView]) -> bool
 }
 
 fn leaves(known: &Known, req: ReqId) -> bool
-    ensures { result ≡ option_map_or (λ proxy. not (records_route proxy)) (proxy_of known.now req) false }
+    ensures { result
+        ≡ option_map_or (λ proxy. not (records_route proxy)) (proxy_of known.now req) false }
 {
     match proxy_of(known, req) {
         Some(proxy) => !records_route(proxy),
@@ -48,7 +49,10 @@ fn leaves(known: &Known, req: ReqId) -> bool
 }
 
 fn first_leaves(known: &Known, first: Option<ReqId>) -> bool
-    ensures { result ≡ option_map_or (λ req. option_map_or (λ proxy. not (records_route proxy)) (proxy_of known.now req) false) first false }
+    ensures { result
+        ≡ option_map_or
+        (λ req. option_map_or (λ proxy. not (records_route proxy)) (proxy_of known.now req) false)
+        first false }
 {
     match first {
         Some(req) => leaves(known, req),
@@ -67,8 +71,8 @@ fn has_left(known: &Known, sess: SessId) -> bool
     }
 }
 
-// Whether the SipSession ended, or its application proxies and left the path of the dialog, or it is
-// that of a UAC whose request failed.
+// Whether the SipSession ended, or its application proxies and left the path of the dialog, or it
+// is that of a UAC whose request failed.
 #[tactic(auto, unfolding(sc_hosts::specs::Finishing::is_idle))]
 fn is_idle(known: &Known, session: &SessionView) -> bool
     ensures { result ≡ is_idle known.now session.now }

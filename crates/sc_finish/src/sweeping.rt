@@ -30,7 +30,8 @@ fn add_going(
     sessions: &[SessionView],
     going: &mut List<SessId>,
 ) -> Result<(), NoMemory>
-    ensures { OnOk result (going.new ≡ going.old ++ map id_of (filter (goes known.now view.entry.now) sessions.now)) }
+    ensures { OnOk result
+        (going.new ≡ going.old ++ map id_of (filter (goes known.now view.entry.now) sessions.now)) }
 {
     for session in sessions {
         if goes(known, view, session) {
@@ -41,7 +42,9 @@ fn add_going(
 }
 
 fn going_of(alloc: Global, known: &Known, view: &View) -> Result<List<SessId>, NoMemory>
-    ensures { IfOk result (λ going. going ≡ map id_of (filter (goes known.now view.entry.now) view.entry.now.sessions)) }
+    ensures { IfOk result
+        (λ going.
+        going ≡ map id_of (filter (goes known.now view.entry.now) view.entry.now.sessions)) }
 {
     let mut going = List::new(alloc);
     add_going(known, view, view.sessions.as_slice(), &mut going)?;

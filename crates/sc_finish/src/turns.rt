@@ -16,8 +16,8 @@ use sc_value::{NoMemory, ReqId};
 use sc_work::worked_all;
 use std::alloc::Global;
 
-/// What follows the calls: drafts that were left, the answer to a fault, proxies, and a later request
-/// that is passed on.
+/// What follows the calls: drafts that were left, the answer to a fault, proxies, and a later
+/// request that is passed on.
 #[tactic(auto, unfolding(sc_hosts::specs::Finishing::finished))]
 fn finished(
     alloc: Global,
@@ -55,7 +55,8 @@ fn is_ready_event(event: &Queued) -> bool
     }
 }
 
-/// Whether the application session is invalidated: by a call, by its expiry, or as it is still ready.
+/// Whether the application session is invalidated: by a call, by its expiry, or as it is still
+/// ready.
 #[tactic(auto, unfolding(crate::specs::Ends::ends))]
 fn ends(event: &Queued, ended: bool, session: &Session) -> bool
     ensures { result ≡ ends event.now ended session.now }
@@ -121,8 +122,8 @@ pub fn outcome_from(
     outcome_of(alloc, &waiting.event, working)
 }
 
-/// The outcome of a turn: what the application session is afterwards, what it sends, and whether it is
-/// invalidated. The branches are given whose INVITE has had a provisional response.
+/// The outcome of a turn: what the application session is afterwards, what it sends, and whether it
+/// is invalidated. The branches are given whose INVITE has had a provisional response.
 #[tactic(auto, unfolding(sc_hosts::specs::Finishing::outcome, crate::specs::Ends::outcome_from))]
 pub fn outcome(
     alloc: Global,
@@ -134,7 +135,8 @@ pub fn outcome(
     made: &[CallRecord],
     end: End,
 ) -> Result<Outcome, NoMemory>
-    ensures { IfOk result (λ o. o ≡ outcome config.now ringing.now session waiting.now now made.now end) }
+    ensures { IfOk result
+        (λ o. o ≡ outcome config.now ringing.now session waiting.now now made.now end) }
 {
     let shown = prepared(alloc, config, ringing, session, waiting, now)?;
     outcome_from(alloc, config, shown, waiting, made, end)

@@ -23,14 +23,17 @@ pub record IsNew (known : Known) : Type 0 where
   pub leases_is : known.leases ≡ 0
 
 -- what follows the lines that are left, behind what was taken, follows all lines
-pub record Leads (setup : Setup) (all : List Line) (known : Known) (kept : Streams) (later : List Line) : Type 0 where
+pub record Leads (setup : Setup) (all : List Line) (known : Known) (kept : Streams)
+    (later : List Line) : Type 0 where
   pub setup_is : known.setup ≡ setup
   pub epoch_is : known.epoch ≡ 0
   pub began_is : known.began ≡ 0
   pub untaken : IsUntaken known
   pub free : IsFree known
-  pub follows : (taken : List Step) → FollowsFrom as_session setup (net_of known) kept later taken → Follows as_session setup all (known.journal ++ taken)
-  pub upto : (taken : List Step) → UptoFrom as_session setup (net_of known) kept later taken → Upto as_session setup all (known.journal ++ taken)
+  pub follows : (taken : List Step) → FollowsFrom as_session setup (net_of known) kept later taken
+      → Follows as_session setup all (known.journal ++ taken)
+  pub upto : (taken : List Step) → UptoFrom as_session setup (net_of known) kept later taken
+      → Upto as_session setup all (known.journal ++ taken)
 
 -- the lines ask for a lawful step that the journal has no room for
 unfoldable pub IsDueWithoutRoom : Setup → List Line → List Step → Type 0
@@ -43,15 +46,18 @@ IsDueWithoutRoom setup lines journal =
 -- why the lines were not followed to their end
 unfoldable pub IsStoppedIn : Setup → List Line → List Step → StepRefused → Type 0
 IsStoppedIn setup lines journal refused.NoMemory = Upto as_session setup lines journal
-IsStoppedIn setup lines journal (refused.JournalFull steps bytes) = Upto as_session setup lines journal × IsDueWithoutRoom setup lines journal
+IsStoppedIn setup lines journal (refused.JournalFull steps bytes) =
+    Upto as_session setup lines journal × IsDueWithoutRoom setup lines journal
 
 -- where the lines were left
-pub record IsLeft (setup : Setup) (lines : List Line) (known : Known) (cause : StepRefused) : Type 0 where
+pub record IsLeft (setup : Setup) (lines : List Line) (known : Known)
+    (cause : StepRefused) : Type 0 where
   pub setup_is : known.setup ≡ setup
   pub epoch_is : known.epoch ≡ 0
   pub began_is : known.began ≡ 0
   pub untaken : IsUntaken known
-  pub stopped : IsLawful as_session setup 0 0 known.journal → IsStoppedIn setup lines known.journal cause
+  pub stopped : IsLawful as_session setup 0 0 known.journal
+      → IsStoppedIn setup lines known.journal cause
 
 -- all lines were followed
 pub record IsFollowed (setup : Setup) (lines : List Line) (known : Known) : Type 0 where

@@ -52,7 +52,8 @@ unfoldable pub IsStopped : Known → Step → StepRefused → Type 0
 IsStopped known step refused.NoMemory = Unit {0}
 IsStopped known step (refused.JournalFull steps bytes) = IsDue known step
 
--- how far it came: the steps have this property, and where the journal was full they have it with one more
+-- how far it came: the steps have this property, and where the journal was full they have it with
+-- one more
 pub record CameTo (P : List Step → Type 0) (old new : Known) (made : List Step) : Type 0 where
   pub came : Came old new made
   pub good : P made
@@ -61,7 +62,8 @@ pub record CameTo (P : List Step → Type 0) (old new : Known) (made : List Step
 -- property
 unfoldable pub HasDue : (List Step → Type 0) → Known → List Step → StepRefused → Type 0
 HasDue P new made refused.NoMemory = Unit {0}
-HasDue P new made (refused.JournalFull steps bytes) = (step : Step) × IsDue new step × P (made ++ step ∷ [])
+HasDue P new made (refused.JournalFull steps bytes) =
+    (step : Step) × IsDue new step × P (made ++ step ∷ [])
 
 -- not all was done: it came so far, for this cause
 unfoldable pub IsCut : (List Step → Type 0) → Known → Known → StepRefused → Type 0
@@ -73,19 +75,23 @@ IsDone P old new = (made : List Step) × CameTo P old new made × IsFree new
 
 -- the steps are those that these bytes of a place make, or a beginning of them
 unfoldable pub HearsUpto : Place → Bytes → List Step → Type 0
-HearsUpto place bytes taken = HearsPart place bytes taken ⊎ ((rest : Bytes) × Hears place bytes taken rest)
+HearsUpto place bytes taken =
+    HearsPart place bytes taken ⊎ ((rest : Bytes) × Hears place bytes taken rest)
 
 -- the steps are those of the line, or a beginning of them
 unfoldable pub DoesUpto : Known → Streams → Line → List Step → Type 0
 DoesUpto known kept line taken =
-    DoesPart as_session known.setup (net_of known) kept line taken ⊎ ((after : Streams) × Does as_session known.setup (net_of known) kept line taken after)
+    DoesPart as_session known.setup (net_of known) kept line taken
+    ⊎ ((after : Streams) × Does as_session known.setup (net_of known) kept line taken after)
 
 -- the session was ended, or it didn't live
 unfoldable pub Withdrew : Known → Known → AppId → Bool → Type 0
-Withdrew old new app true = (is_some (live_at app (net_of old)) ≡ true) × TookStep old new (steps.Withdraw app)
+Withdrew old new app true =
+    (is_some (live_at app (net_of old)) ≡ true) × TookStep old new (steps.Withdraw app)
 Withdrew old new app false = (is_some (live_at app (net_of old)) ≡ false) × (new ≡ old)
 
 -- why it wasn't ended, though it lives
 unfoldable pub IsStillThere : Known → AppId → StepRefused → Type 0
 IsStillThere known app refused.NoMemory = Unit {0}
-IsStillThere known app (refused.JournalFull most bytes) = (is_some (live_at app (net_of known)) ≡ true) × IsDue known (steps.Withdraw app)
+IsStillThere known app (refused.JournalFull most bytes) =
+    (is_some (live_at app (net_of known)) ≡ true) × IsDue known (steps.Withdraw app)

@@ -22,11 +22,13 @@ turn_at known app event calls end = steps.Turn app event (net_of known).moment c
 
 -- a turn of this event was taken
 unfoldable pub TookTurnOf : Known → Known → AppId → ℕ → Type 0
-TookTurnOf old new app event = (calls : List CallRecord) × (end : End) × TookStep old new (turn_at old app event calls end)
+TookTurnOf old new app event =
+    (calls : List CallRecord) × (end : End) × TookStep old new (turn_at old app event calls end)
 
 -- a turn of this event is due that the journal has no room for
 unfoldable pub IsTurnDue : Known → AppId → ℕ → Type 0
-IsTurnDue known app event = (calls : List CallRecord) × (end : End) × IsDue known (turn_at known app event calls end)
+IsTurnDue known app event =
+    (calls : List CallRecord) × (end : End) × IsDue known (turn_at known app event calls end)
 
 -- the run stands as it was
 pub record IsSameRun (old new : Known) : Type 0 where
@@ -53,23 +55,32 @@ pub record IsLent (known : Known) (lease : Lease) : Type 0 where
 -- the lowest event that waits is lent out, or none waits
 unfoldable pub Lends : Known → Known → Option Lease → Type 0
 Lends old new None = (new ≡ old) × (next_event (net_of old) ≡ None)
-Lends old new (Some lease) = IsSameRun old new × IsLent new lease × (next_event (net_of old) ≡ Some (record { app = lease.app; number = lease.event_number }))
+Lends old new (Some lease) =
+    IsSameRun old new × IsLent new lease
+    × (next_event (net_of old) ≡ Some (record { app = lease.app; number = lease.event_number }))
 
 -- the first event of this session is lent out, or none waits for it
 unfoldable pub LendsOf : AppId → Known → Known → Option Lease → Type 0
 LendsOf app old new None = (new ≡ old) × (first_number (live_at app (net_of old)) ≡ None)
-LendsOf app old new (Some lease) = IsSameRun old new × IsLent new lease × (lease.app ≡ app) × (first_number (live_at app (net_of old)) ≡ Some lease.event_number)
+LendsOf app old new (Some lease) =
+    IsSameRun old new × IsLent new lease × (lease.app ≡ app)
+    × (first_number (live_at app (net_of old)) ≡ Some lease.event_number)
 
 -- a turn of the lowest event was taken, or none was due
 unfoldable pub TookTurn : Known → Known → Bool → Type 0
-TookTurn old new true = (next : Next) × (next_event (net_of old) ≡ Some next) × TookTurnOf old new next.app next.number × (length old.journal < old.setup.config.journal_steps)
+TookTurn old new true =
+    (next : Next) × (next_event (net_of old) ≡ Some next) × TookTurnOf old new next.app next.number
+    × (length old.journal < old.setup.config.journal_steps)
 TookTurn old new false = (new ≡ old) × (next_event (net_of old) ≡ None)
 
 -- why no turn could be taken
 unfoldable pub IsRunStopped : Known → StepRefused → Type 0
 IsRunStopped known refused.NoMemory = Unit {0}
-IsRunStopped known (refused.JournalFull steps bytes) = (next : Next) × (next_event (net_of known) ≡ Some next) × IsTurnDue known next.app next.number
+IsRunStopped known (refused.JournalFull steps bytes) =
+    (next : Next) × (next_event (net_of known) ≡ Some next) × IsTurnDue known next.app next.number
 
 -- the steps are one turn of the first event of this session, where one waits, or none yet
 unfoldable pub TurnsUpto : Known → AppId → List Step → Type 0
-TurnsUpto known app taken = (taken ≡ []) ⊎ IsTurnOf app (net_of known).moment (first_number (live_at app (net_of known))) taken
+TurnsUpto known app taken =
+    (taken ≡ [])
+    ⊎ IsTurnOf app (net_of known).moment (first_number (live_at app (net_of known))) taken

@@ -38,12 +38,16 @@ with_stream bytes pending = record pending { stream = bytes }
 -- a message was heard, or all that there is to hear
 unfoldable pub HeardOne : Place → Bytes → Bytes → Known → Known → Bool → Type 0
 HeardOne place before after old new true =
-    (len : ℕ) × (message : Message) × (front_behind before ≡ Whole len message) × (after ≡ drop len (behind_breaks before)) × TookStep old new (steps.In place message) × (length old.journal < old.setup.config.journal_steps)
+    (len : ℕ) × (message : Message) × (front_behind before ≡ Whole len message)
+    × (after ≡ drop len (behind_breaks before)) × TookStep old new (steps.In place message)
+    × (length old.journal < old.setup.config.journal_steps)
 HeardOne place before after old new false = IsDone (λ made. Hears place before made after) old new
 
 -- the steps of a text that is no message, or a beginning of them
 unfoldable pub BadUpto : Place → Bad → List Step → Type 0
-BadUpto place bad made = (made ≡ []) ⊎ ((made ≡ steps.Bad place bad ∷ []) ⊎ (made ≡ steps.Bad place bad ∷ steps.Lost place ∷ []))
+BadUpto place bad made =
+    (made ≡ [])
+    ⊎ ((made ≡ steps.Bad place bad ∷ []) ⊎ (made ≡ steps.Bad place bad ∷ steps.Lost place ∷ []))
 
 -- the step of a tick, or none yet
 unfoldable pub TicksUpto : ℕ → ℕ → List Step → Type 0

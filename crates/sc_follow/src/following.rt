@@ -29,14 +29,20 @@ pub fn follow(
 ) -> Result<(), StepRefused>
     requires new { IsNew switch.old }
     requires right { IsSetup switch.old.setup }
-    requires kinds { switch.old.setup.kinds ≡ map (λ k. both_charters (stated (k.servlet.vtable, k.servlet.value)) (option_map (λ l. listens (l.vtable, l.value)) k.listener)) apps.now.kinds }
+    requires kinds { switch.old.setup.kinds
+        ≡ map
+        (λ k.
+        both_charters (stated (k.servlet.vtable, k.servlet.value))
+        (option_map (λ l. listens (l.vtable, l.value)) k.listener)) apps.now.kinds }
     ensures setup { switch.new.setup ≡ switch.old.setup }
     ensures epoch { switch.new.epoch ≡ 0 }
     ensures began { switch.new.began ≡ 0 }
     ensures handed { switch.new.handed ≡ [] }
     ensures untaken { IsUntaken switch.new }
-    ensures follows { OnOk result (Follows as_session switch.old.setup lines.now switch.new.journal) }
-    ensures stopped { IfErr result (λ cause. IsStoppedIn switch.old.setup lines.now switch.new.journal cause) }
+    ensures follows { OnOk result
+        (Follows as_session switch.old.setup lines.now switch.new.journal) }
+    ensures stopped { IfErr result
+        (λ cause. IsStoppedIn switch.old.setup lines.now switch.new.journal cause) }
 {
     let followed = follow_lines(alloc, switch, lines, apps);
     let _ = switch.journal();
@@ -51,7 +57,11 @@ fn follow_lines(
 ) -> Result<(), StepRefused>
     requires new { IsNew switch.old }
     requires right { IsSetup switch.old.setup }
-    requires kinds { switch.old.setup.kinds ≡ map (λ k. both_charters (stated (k.servlet.vtable, k.servlet.value)) (option_map (λ l. listens (l.vtable, l.value)) k.listener)) apps.now.kinds }
+    requires kinds { switch.old.setup.kinds
+        ≡ map
+        (λ k.
+        both_charters (stated (k.servlet.vtable, k.servlet.value))
+        (option_map (λ l. listens (l.vtable, l.value)) k.listener)) apps.now.kinds }
     ensures ok { OnOk result (IsFollowed switch.old.setup lines.now switch.new) }
     ensures err { IfErr result (λ cause. IsLeft switch.old.setup lines.now switch.new cause) }
 {

@@ -30,8 +30,11 @@ pub fn hear_text(
 ) -> Result<(), StepRefused>
     requires untaken { IsUntaken switch.old }
     requires free { IsFree switch.old }
-    ensures ok { OnOk result (IsDone (λ made. Hears place (stream.old ++ text.now) made stream.new) switch.old switch.new) }
-    ensures err { IfErr result (λ cause. IsCut (HearsUpto place (stream.old ++ text.now)) switch.old switch.new cause) }
+    ensures ok { OnOk result
+        (IsDone (λ made. Hears place (stream.old ++ text.now) made stream.new) switch.old
+        switch.new) }
+    ensures err { IfErr result
+        (λ cause. IsCut (HearsUpto place (stream.old ++ text.now)) switch.old switch.new cause) }
 {
     match stream.feed(text) {
         Ok(()) => hear_all(alloc, switch, place, stream),
@@ -47,8 +50,10 @@ fn hear_all(
 ) -> Result<(), StepRefused>
     requires untaken { IsUntaken switch.old }
     requires free { IsFree switch.old }
-    ensures ok { OnOk result (IsDone (λ made. Hears place stream.old made stream.new) switch.old switch.new) }
-    ensures err { IfErr result (λ cause. IsCut (HearsUpto place stream.old) switch.old switch.new cause) }
+    ensures ok { OnOk result
+        (IsDone (λ made. Hears place stream.old made stream.new) switch.old switch.new) }
+    ensures err { IfErr result
+        (λ cause. IsCut (HearsUpto place stream.old) switch.old switch.new cause) }
 {
     while hear(alloc, switch, place, stream)? {}
     Ok(())
@@ -63,8 +68,10 @@ fn hear(
 ) -> Result<bool, StepRefused>
     requires untaken { IsUntaken switch.old }
     requires free { IsFree switch.old }
-    ensures heard { IfOk result (λ more. HeardOne place stream.old stream.new switch.old switch.new more) }
-    ensures err { IfErr result (λ cause. IsCut (HearsUpto place stream.old) switch.old switch.new cause) }
+    ensures heard { IfOk result
+        (λ more. HeardOne place stream.old stream.new switch.old switch.new more) }
+    ensures err { IfErr result
+        (λ cause. IsCut (HearsUpto place stream.old) switch.old switch.new cause) }
 {
     match stream.next() {
         Heard::Message(message) => take_message(alloc, switch, place, message),
@@ -85,7 +92,10 @@ fn take_message(
     requires via { HasVia message }
     requires untaken { IsUntaken switch.old }
     requires free { IsFree switch.old }
-    ensures ok { IfOk result (λ more. (more ≡ true) × TookStep switch.old switch.new (Step.In place message) × (length switch.old.journal < switch.old.setup.config.journal_steps)) }
+    ensures ok { IfOk result
+        (λ more.
+        (more ≡ true) × TookStep switch.old switch.new (Step.In place message)
+        × (length switch.old.journal < switch.old.setup.config.journal_steps)) }
     ensures same { OnErr result (switch.new ≡ switch.old) }
     ensures stopped { IfErr result (λ cause. IsStopped switch.old (Step.In place message) cause) }
 {
@@ -105,7 +115,11 @@ fn end_bad(
 ) -> Result<bool, StepRefused>
     requires untaken { IsUntaken switch.old }
     requires free { IsFree switch.old }
-    ensures ok { IfOk result (λ more. (more ≡ false) × IsDone (λ made. made ≡ Step.Bad place bad ∷ Step.Lost place ∷ []) switch.old switch.new) }
+    ensures ok { IfOk result
+        (λ more.
+        (more ≡ false)
+        × IsDone (λ made. made ≡ Step.Bad place bad ∷ Step.Lost place ∷ []) switch.old
+        switch.new) }
     ensures empty { OnOk result (stream.new ≡ []) }
     ensures err { IfErr result (λ cause. IsCut (BadUpto place bad) switch.old switch.new cause) }
 {
@@ -124,7 +138,8 @@ fn end_long(
 ) -> Result<bool, StepRefused>
     requires untaken { IsUntaken switch.old }
     requires free { IsFree switch.old }
-    ensures ok { IfOk result (λ more. (more ≡ false) × TookStep switch.old switch.new (Step.Lost place)) }
+    ensures ok { IfOk result
+        (λ more. (more ≡ false) × TookStep switch.old switch.new (Step.Lost place)) }
     ensures empty { OnOk result (stream.new ≡ []) }
     ensures same { OnErr result (switch.new ≡ switch.old) }
     ensures stopped { IfErr result (λ cause. IsStopped switch.old (Step.Lost place) cause) }
@@ -145,7 +160,8 @@ fn break_off(
 ) -> Result<(), StepRefused>
     requires untaken { IsUntaken switch.old }
     requires free { IsFree switch.old }
-    ensures ok { OnOk result (IsDone (λ made. made ≡ Step.Bad place bad ∷ Step.Lost place ∷ []) switch.old switch.new) }
+    ensures ok { OnOk result
+        (IsDone (λ made. made ≡ Step.Bad place bad ∷ Step.Lost place ∷ []) switch.old switch.new) }
     ensures empty { OnOk result (stream.new ≡ []) }
     ensures err { IfErr result (λ cause. IsCut (BadUpto place bad) switch.old switch.new cause) }
 {

@@ -36,11 +36,21 @@ pub fn do_line(
     line: &Line,
 ) -> Result<(), StepRefused>
     requires right { IsSetup switch.old.setup }
-    requires kinds { switch.old.setup.kinds ≡ map (λ k. both_charters (stated (k.servlet.vtable, k.servlet.value)) (option_map (λ l. listens (l.vtable, l.value)) k.listener)) apps.now.kinds }
+    requires kinds { switch.old.setup.kinds
+        ≡ map
+        (λ k.
+        both_charters (stated (k.servlet.vtable, k.servlet.value))
+        (option_map (λ l. listens (l.vtable, l.value)) k.listener)) apps.now.kinds }
     requires untaken { IsUntaken switch.old }
     requires free { IsFree switch.old }
-    ensures ok { OnOk result (IsDone (λ made. Does as_session switch.old.setup (net_of switch.old) (bytes_of streams.old) line.now made (bytes_of streams.new)) switch.old switch.new) }
-    ensures err { IfErr result (λ cause. IsCut (DoesUpto switch.old (bytes_of streams.old) line.now) switch.old switch.new cause) }
+    ensures ok { OnOk result
+        (IsDone
+        (λ made.
+        Does as_session switch.old.setup (net_of switch.old) (bytes_of streams.old) line.now
+        made (bytes_of streams.new)) switch.old switch.new) }
+    ensures err { IfErr result
+        (λ cause.
+        IsCut (DoesUpto switch.old (bytes_of streams.old) line.now) switch.old switch.new cause) }
 {
     match line {
         Line::In(place, text) => do_in(alloc, switch, streams, *place, text.as_bytes()),
@@ -63,8 +73,15 @@ fn do_in(
 ) -> Result<(), StepRefused>
     requires untaken { IsUntaken switch.old }
     requires free { IsFree switch.old }
-    ensures ok { OnOk result (IsDone (λ made. Does as_session switch.old.setup (net_of switch.old) (bytes_of streams.old) (Line.In place text.now) made (bytes_of streams.new)) switch.old switch.new) }
-    ensures err { IfErr result (λ cause. IsCut (DoesUpto switch.old (bytes_of streams.old) (Line.In place text.now)) switch.old switch.new cause) }
+    ensures ok { OnOk result
+        (IsDone
+        (λ made.
+        Does as_session switch.old.setup (net_of switch.old) (bytes_of streams.old)
+        (Line.In place text.now) made (bytes_of streams.new)) switch.old switch.new) }
+    ensures err { IfErr result
+        (λ cause.
+        IsCut (DoesUpto switch.old (bytes_of streams.old) (Line.In place text.now)) switch.old
+        switch.new cause) }
 {
     match open_stream(alloc, streams, place) {
         Ok(()) => hear_kept(alloc, switch, streams, place, text),
@@ -83,8 +100,15 @@ fn hear_kept(
     requires there { is_some (find (is_at place) streams.old) ≡ true }
     requires untaken { IsUntaken switch.old }
     requires free { IsFree switch.old }
-    ensures ok { OnOk result (IsDone (λ made. Does as_session switch.old.setup (net_of switch.old) (bytes_of streams.old) (Line.In place text.now) made (bytes_of streams.new)) switch.old switch.new) }
-    ensures err { IfErr result (λ cause. IsCut (DoesUpto switch.old (bytes_of streams.old) (Line.In place text.now)) switch.old switch.new cause) }
+    ensures ok { OnOk result
+        (IsDone
+        (λ made.
+        Does as_session switch.old.setup (net_of switch.old) (bytes_of streams.old)
+        (Line.In place text.now) made (bytes_of streams.new)) switch.old switch.new) }
+    ensures err { IfErr result
+        (λ cause.
+        IsCut (DoesUpto switch.old (bytes_of streams.old) (Line.In place text.now)) switch.old
+        switch.new cause) }
 {
     hear_at(alloc, switch, &mut streams.items, place, text)
 }
@@ -101,8 +125,15 @@ fn hear_at(
     requires there { is_some (find (is_at place) streams.old) ≡ true }
     requires untaken { IsUntaken switch.old }
     requires free { IsFree switch.old }
-    ensures ok { OnOk result (IsDone (λ made. Does as_session switch.old.setup (net_of switch.old) (bytes_of streams.old) (Line.In place text.now) made (bytes_of streams.new)) switch.old switch.new) }
-    ensures err { IfErr result (λ cause. IsCut (DoesUpto switch.old (bytes_of streams.old) (Line.In place text.now)) switch.old switch.new cause) }
+    ensures ok { OnOk result
+        (IsDone
+        (λ made.
+        Does as_session switch.old.setup (net_of switch.old) (bytes_of streams.old)
+        (Line.In place text.now) made (bytes_of streams.new)) switch.old switch.new) }
+    ensures err { IfErr result
+        (λ cause.
+        IsCut (DoesUpto switch.old (bytes_of streams.old) (Line.In place text.now)) switch.old
+        switch.new cause) }
 {
     match place_of(streams, place) {
         Some(at) => hear_text(alloc, switch, place, &mut streams[at].stream, text),
@@ -115,8 +146,10 @@ fn hear_at(
 fn do_tick(alloc: Global, switch: &mut Switch, now: u64) -> Result<(), StepRefused>
     requires untaken { IsUntaken switch.old }
     requires free { IsFree switch.old }
-    ensures ok { OnOk result (IsDone (λ made. made ≡ tick_to (net_of switch.old).moment now) switch.old switch.new) }
-    ensures err { IfErr result (λ cause. IsCut (TicksUpto (net_of switch.old).moment now) switch.old switch.new cause) }
+    ensures ok { OnOk result
+        (IsDone (λ made. made ≡ tick_to (net_of switch.old).moment now) switch.old switch.new) }
+    ensures err { IfErr result
+        (λ cause. IsCut (TicksUpto (net_of switch.old).moment now) switch.old switch.new cause) }
 {
     if is_tickable(switch.now(), now) {
         tick(alloc, switch, now)
@@ -141,8 +174,15 @@ fn do_lost(
 ) -> Result<(), StepRefused>
     requires untaken { IsUntaken switch.old }
     requires free { IsFree switch.old }
-    ensures ok { OnOk result (IsDone (λ made. Does as_session switch.old.setup (net_of switch.old) (bytes_of streams.old) (Line.Lost place) made (bytes_of streams.new)) switch.old switch.new) }
-    ensures err { IfErr result (λ cause. IsCut (DoesUpto switch.old (bytes_of streams.old) (Line.Lost place)) switch.old switch.new cause) }
+    ensures ok { OnOk result
+        (IsDone
+        (λ made.
+        Does as_session switch.old.setup (net_of switch.old) (bytes_of streams.old)
+        (Line.Lost place) made (bytes_of streams.new)) switch.old switch.new) }
+    ensures err { IfErr result
+        (λ cause.
+        IsCut (DoesUpto switch.old (bytes_of streams.old) (Line.Lost place)) switch.old switch.new
+        cause) }
 {
     match lost(alloc, switch, place) {
         Ok(()) => {
@@ -157,8 +197,13 @@ fn do_lost(
 fn do_drop(alloc: Global, switch: &mut Switch, app: AppId) -> Result<(), StepRefused>
     requires untaken { IsUntaken switch.old }
     requires free { IsFree switch.old }
-    ensures ok { OnOk result (IsDone (λ made. made ≡ withdrawal app (is_some (live_at app (net_of switch.old)))) switch.old switch.new) }
-    ensures err { IfErr result (λ cause. IsCut (WithdrawsUpto app (is_some (live_at app (net_of switch.old)))) switch.old switch.new cause) }
+    ensures ok { OnOk result
+        (IsDone (λ made. made ≡ withdrawal app (is_some (live_at app (net_of switch.old))))
+        switch.old switch.new) }
+    ensures err { IfErr result
+        (λ cause.
+        IsCut (WithdrawsUpto app (is_some (live_at app (net_of switch.old)))) switch.old
+        switch.new cause) }
 {
     match withdraw(alloc, switch, app) {
         Ok(_) => Ok(()),

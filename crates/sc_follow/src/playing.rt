@@ -24,11 +24,20 @@ use std::alloc::Global;
 /// before it stand.
 pub fn play(alloc: Global, switch: &mut Switch, apps: &Catalogue) -> Result<(), StepRefused>
     requires right { IsSetup switch.old.setup }
-    requires kinds { switch.old.setup.kinds ≡ map (λ k. both_charters (stated (k.servlet.vtable, k.servlet.value)) (option_map (λ l. listens (l.vtable, l.value)) k.listener)) apps.now.kinds }
+    requires kinds { switch.old.setup.kinds
+        ≡ map
+        (λ k.
+        both_charters (stated (k.servlet.vtable, k.servlet.value))
+        (option_map (λ l. listens (l.vtable, l.value)) k.listener)) apps.now.kinds }
     requires untaken { IsUntaken switch.old }
     requires free { IsFree switch.old }
-    ensures ok { OnOk result (IsDone (IsWholeRun as_session switch.old.setup (net_of switch.old)) switch.old switch.new) }
-    ensures err { IfErr result (λ cause. IsCut (IsPartRun as_session switch.old.setup (net_of switch.old)) switch.old switch.new cause) }
+    ensures ok { OnOk result
+        (IsDone (IsWholeRun as_session switch.old.setup (net_of switch.old)) switch.old
+        switch.new) }
+    ensures err { IfErr result
+        (λ cause.
+        IsCut (IsPartRun as_session switch.old.setup (net_of switch.old)) switch.old switch.new
+        cause) }
 {
     while take_turn(alloc, switch, apps)? {}
     Ok(())
@@ -42,7 +51,11 @@ pub fn play(alloc: Global, switch: &mut Switch, apps: &Catalogue) -> Result<(), 
 #[tactic(auto, unfolding(crate::specs::Playing::IsRunStopped))]
 fn take_turn(alloc: Global, switch: &mut Switch, apps: &Catalogue) -> Result<bool, StepRefused>
     requires right { IsSetup switch.old.setup }
-    requires kinds { switch.old.setup.kinds ≡ map (λ k. both_charters (stated (k.servlet.vtable, k.servlet.value)) (option_map (λ l. listens (l.vtable, l.value)) k.listener)) apps.now.kinds }
+    requires kinds { switch.old.setup.kinds
+        ≡ map
+        (λ k.
+        both_charters (stated (k.servlet.vtable, k.servlet.value))
+        (option_map (λ l. listens (l.vtable, l.value)) k.listener)) apps.now.kinds }
     requires untaken { IsUntaken switch.old }
     requires free { IsFree switch.old }
     ensures took { IfOk result (λ more. TookTurn switch.old switch.new more) }
@@ -71,11 +84,19 @@ pub fn play_of(
     app: AppId,
 ) -> Result<(), StepRefused>
     requires right { IsSetup switch.old.setup }
-    requires kinds { switch.old.setup.kinds ≡ map (λ k. both_charters (stated (k.servlet.vtable, k.servlet.value)) (option_map (λ l. listens (l.vtable, l.value)) k.listener)) apps.now.kinds }
+    requires kinds { switch.old.setup.kinds
+        ≡ map
+        (λ k.
+        both_charters (stated (k.servlet.vtable, k.servlet.value))
+        (option_map (λ l. listens (l.vtable, l.value)) k.listener)) apps.now.kinds }
     requires untaken { IsUntaken switch.old }
     requires free { IsFree switch.old }
-    ensures ok { OnOk result (IsDone (IsTurnOf app (net_of switch.old).moment (first_number (live_at app (net_of switch.old)))) switch.old switch.new) }
-    ensures err { IfErr result (λ cause. IsCut (TurnsUpto switch.old app) switch.old switch.new cause) }
+    ensures ok { OnOk result
+        (IsDone
+        (IsTurnOf app (net_of switch.old).moment (first_number (live_at app (net_of switch.old))))
+        switch.old switch.new) }
+    ensures err { IfErr result
+        (λ cause. IsCut (TurnsUpto switch.old app) switch.old switch.new cause) }
 {
     match lend_of(alloc, switch, app) {
         Ok(Some(lease)) => match bring(alloc, switch, apps, lease) {
@@ -119,12 +140,17 @@ fn bring(
     lease: Lease,
 ) -> Result<(), StepRefused>
     requires right { IsSetup switch.old.setup }
-    requires kinds { switch.old.setup.kinds ≡ map (λ k. both_charters (stated (k.servlet.vtable, k.servlet.value)) (option_map (λ l. listens (l.vtable, l.value)) k.listener)) apps.now.kinds }
+    requires kinds { switch.old.setup.kinds
+        ≡ map
+        (λ k.
+        both_charters (stated (k.servlet.vtable, k.servlet.value))
+        (option_map (λ l. listens (l.vtable, l.value)) k.listener)) apps.now.kinds }
     requires lent { IsLent switch.old lease }
     ensures ok { OnOk result (TookTurnOf switch.old switch.new lease.app lease.event_number) }
     ensures room { OnOk result (length switch.old.journal < switch.old.setup.config.journal_steps) }
     ensures err { OnErr result (switch.new ≡ switch.old) }
-    ensures stopped { IfErr result (λ cause. IsTurnStopped switch.old lease.app lease.event_number cause) }
+    ensures stopped { IfErr result
+        (λ cause. IsTurnStopped switch.old lease.app lease.event_number cause) }
 {
     settle(alloc, switch, apps.react(alloc, lease))
 }
@@ -135,10 +161,12 @@ fn settle(alloc: Global, switch: &mut Switch, done: Done) -> Result<(), StepRefu
     requires right { IsSetup switch.old.setup }
     requires lent { IsLent switch.old done.lease }
     requires fits { Fits switch.old.setup switch.old.kept done }
-    ensures ok { OnOk result (TookTurnOf switch.old switch.new done.lease.app done.lease.event_number) }
+    ensures ok { OnOk result
+        (TookTurnOf switch.old switch.new done.lease.app done.lease.event_number) }
     ensures room { OnOk result (length switch.old.journal < switch.old.setup.config.journal_steps) }
     ensures err { OnErr result (switch.new ≡ switch.old) }
-    ensures stopped { IfErr result (λ cause. IsTurnStopped switch.old done.lease.app done.lease.event_number cause) }
+    ensures stopped { IfErr result
+        (λ cause. IsTurnStopped switch.old done.lease.app done.lease.event_number cause) }
 {
     if let End::Starved = done.end {
         done.discard();

@@ -30,7 +30,8 @@ pub fn place_of(streams: &[Pending], place: Place) -> Option<usize>
 #[tactic(auto, using(crate::proofs::Places::there_at, crate::proofs::Places::added_same, crate::proofs::Places::added_there))]
 pub fn open_stream(alloc: Global, streams: &mut List<Pending>, place: Place) -> Result<(), NoMemory>
     ensures there { OnOk result (is_some (find (is_at place) streams.new) ≡ true) }
-    ensures same { OnOk result ((other : Place) → bytes_of streams.new other ≡ bytes_of streams.old other) }
+    ensures same { OnOk result
+        ((other : Place) → bytes_of streams.new other ≡ bytes_of streams.old other) }
 {
     match place_of(streams.as_slice(), place) {
         Some(_) => Ok(()),
@@ -39,7 +40,8 @@ pub fn open_stream(alloc: Global, streams: &mut List<Pending>, place: Place) -> 
 }
 
 fn add_stream(alloc: Global, streams: &mut List<Pending>, place: Place) -> Result<(), NoMemory>
-    ensures { OnOk result (streams.new ≡ streams.old ++ record { place = place; stream = [] } ∷ []) }
+    ensures { OnOk result
+        (streams.new ≡ streams.old ++ record { place = place; stream = [] } ∷ []) }
 {
     streams.push(Pending {
         place,

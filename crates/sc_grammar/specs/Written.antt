@@ -64,7 +64,8 @@ scheme = codes "sip:"
 -- `sip:user@host:port;params?headers`
 unfoldable pub sip_uri_text : SipUri → Bytes
 sip_uri_text uri =
-    scheme ++ ended_text uri.user 64 ++ uri.host ++ port_text uri.port ++ params_text uri.params ++ signed_text 63 uri.headers
+    scheme ++ ended_text uri.user 64 ++ uri.host ++ port_text uri.port ++ params_text uri.params
+    ++ signed_text 63 uri.headers
 
 -- a URI; one of another scheme stands as it came
 unfoldable pub uri_text : Uri → Bytes
@@ -74,7 +75,8 @@ uri_text (Other text) = text
 -- `display <uri>;params`, the display only where there is one
 unfoldable pub address_text : Address → Bytes
 address_text address =
-    ended_text address.display 32 ++ 60 ∷ [] ++ uri_text address.uri ++ 62 ∷ [] ++ params_text address.params
+    ended_text address.display 32 ++ 60 ∷ [] ++ uri_text address.uri ++ 62 ∷ []
+    ++ params_text address.params
 
 -- `*`, or an address
 unfoldable pub contact_text : Contact → Bytes
@@ -86,7 +88,8 @@ contact_text (At address) = address_text address
 -- `SIP/2.0/TCP host:port;params`
 unfoldable pub via_text : Via → Bytes
 via_text via =
-    version ++ 47 ∷ [] ++ via.transport ++ 32 ∷ [] ++ (via.host ++ port_text via.port ++ params_text via.params)
+    version ++ 47 ∷ [] ++ via.transport ++ 32 ∷ []
+    ++ (via.host ++ port_text via.port ++ params_text via.params)
 
 -- `number method`
 unfoldable pub cseq_text : CSeq → Bytes
@@ -124,22 +127,26 @@ hops_line (Some hops) = line max_forwards_name (decimal hops)
 -- the lists of Via, Route and Record-Route
 unfoldable pub routing_lines : Head → Bytes
 routing_lines head =
-    flat_map via_line head.via ++ flat_map route_line head.route ++ flat_map record_route_line head.record_route
+    flat_map via_line head.via ++ flat_map route_line head.route
+    ++ flat_map record_route_line head.record_route
 
 -- From, To, Call-ID and CSeq
 unfoldable pub dialog_lines : Head → Bytes
 dialog_lines head =
-    line from_name (address_text head.from) ++ line to_name (address_text head.to) ++ line call_id_name head.call_id ++ line cseq_name (cseq_text head.cseq)
+    line from_name (address_text head.from) ++ line to_name (address_text head.to)
+    ++ line call_id_name head.call_id ++ line cseq_name (cseq_text head.cseq)
 
 -- Contact, all others and Content-Length
 unfoldable pub closing_lines : Head → Bytes
 closing_lines head =
-    flat_map contact_line head.contact ++ flat_map field_line head.others ++ line content_length_name (decimal (length head.body))
+    flat_map contact_line head.contact ++ flat_map field_line head.others
+    ++ line content_length_name (decimal (length head.body))
 
 -- all that follows the start line
 unfoldable pub head_text : Option ℕ → Head → Bytes
 head_text hops head =
-    routing_lines head ++ hops_line hops ++ dialog_lines head ++ closing_lines head ++ crlf ++ head.body
+    routing_lines head ++ hops_line hops ++ dialog_lines head ++ closing_lines head ++ crlf
+    ++ head.body
 
 -- ## Messages
 
@@ -155,5 +162,6 @@ status_line response =
 
 -- the written form
 unfoldable pub written : Message → Bytes
-written (messages.Request request) = request_line request ++ head_text (Some request.hops) request.head
+written (messages.Request request) =
+    request_line request ++ head_text (Some request.hops) request.head
 written (messages.Response response) = status_line response ++ head_text None response.head

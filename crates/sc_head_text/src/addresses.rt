@@ -23,9 +23,10 @@ use sc_uri_text::copy_of;
 use sc_value::{Address, Contact, List, Param};
 use std::alloc::Global;
 
-/// The address of a From or To: `display <uri>;params`, or a bare URI, whose semicolons begin header
-/// parameters (RFC 3261 sections 20.20 and 20.39). A display is kept as written: a quoted string,
-/// or tokens with blanks between. The value is of one line, so nothing of the address ends its line.
+/// The address of a From or To: `display <uri>;params`, or a bare URI, whose semicolons begin
+/// header parameters (RFC 3261 sections 20.20 and 20.39). A display is kept as written: a quoted
+/// string, or tokens with blanks between. The value is of one line, so nothing of the address ends
+/// its line.
 /// `Fault` exactly where the value is outside the grammar; `NoMemory` says nothing of it.
 pub fn read_address(alloc: Global, b: &[u8]) -> Result<Address, Unread>
     requires { is_one_line b.now ≡ true }
@@ -37,8 +38,8 @@ pub fn read_address(alloc: Global, b: &[u8]) -> Result<Address, Unread>
 }
 
 /// The addresses of a Route or Record-Route, commas between, in their order (RFC 3261 sections
-/// 20.30 and 20.34). A bare URI ends at a comma too. The value is of one line. `Fault` exactly where
-/// an item is outside the grammar; `NoMemory` says nothing of the value.
+/// 20.30 and 20.34). A bare URI ends at a comma too. The value is of one line. `Fault` exactly
+/// where an item is outside the grammar; `NoMemory` says nothing of the value.
 #[tactic(auto, unfolding(sc_syntax::specs::Addresses::addresses_of, crate::specs::Parts::parts_behind))]
 pub fn read_addresses(alloc: Global, b: &[u8]) -> Result<List<Address>, Unread>
     requires { is_one_line b.now ≡ true }

@@ -17,9 +17,12 @@ ghost use Rattle.sc_value.specs.ContactRules.{IsContact};
 /// other (RFC 3261 section 25.1). The contract is the law, and the call does nothing.
 pub fn written_is_read()
     ensures vias { (via : Via) → IsVia via → vias_of (via_text via) ≡ Some (via ∷ []) }
-    ensures address { (address : Address) → IsAddress address → address_of (address_text address) ≡ Some address }
-    ensures addresses { (address : Address) → IsAddress address → addresses_of (address_text address) ≡ Some (address ∷ []) }
-    ensures contacts { (contact : Contact) → IsContact contact → contacts_of (contact_text contact) ≡ Some (contact ∷ []) }
+    ensures address { (address : Address) → IsAddress address
+        → address_of (address_text address) ≡ Some address }
+    ensures addresses { (address : Address) → IsAddress address
+        → addresses_of (address_text address) ≡ Some (address ∷ []) }
+    ensures contacts { (contact : Contact) → IsContact contact
+        → contacts_of (contact_text contact) ≡ Some (contact ∷ []) }
     ensures hops { (hops : ℕ) → hops < 256 → hops_of (decimal hops) ≡ Some hops }
     ensures len { (len : ℕ) → len < 2 ^ 64 → number_of (decimal len) ≡ Some len }
     ensures cseq { (cseq : CSeq) → IsCSeq cseq → cseq_of (cseq_text cseq) ≡ Some cseq }

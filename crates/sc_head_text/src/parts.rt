@@ -32,7 +32,8 @@ pub fn read_parts<T: Readable>(
     start: Scan,
 ) -> Result<List<T>, Unread>
     requires { list_all is_one_line (parts_behind start sign (option_copied text)) ≡ true }
-    ensures { Gives result (all_read T.read_of (parts_behind start sign (option_copied text.entry))) }
+    ensures { Gives result
+        (all_read T.read_of (parts_behind start sign (option_copied text.entry))) }
 {
     let mut items = List::new(alloc);
     let mut rest = text;
@@ -63,7 +64,9 @@ fn put_last<T: Readable>(items: &mut List<T>, item: T) -> Result<(), NoMemory>
 // The first part, and what stands behind its separator, where there is one.
 #[tactic(auto, unfolding(crate::specs::Parts::parts_behind), using(crate::proofs::PartSteps::parts_last, crate::proofs::PartSteps::parts_more))]
 pub fn split_part(text: &[u8], sign: u8, at: Scan) -> (&[u8], Option<&[u8]>)
-    ensures exact { (restart : Scan) → parts restart sign at text.now ≡ result.0.now ∷ parts_behind restart sign (option_copied result.1) }
+    ensures exact { (restart : Scan)
+        → parts restart sign at text.now
+        ≡ result.0.now ∷ parts_behind restart sign (option_copied result.1) }
     ensures less { IfSome result.1 (λ rest. length rest.now < length text.now) }
 {
     let len = part_len(text, sign, at);

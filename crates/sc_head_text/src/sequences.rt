@@ -14,8 +14,8 @@ use sc_value::{CSeq, Token, is_token};
 use std::alloc::Global;
 
 /// The number and the method of a CSeq: a number from 0 to 2,147,483,647, leading zeros allowed,
-/// blanks, and a token (RFC 3261 section 20.16). `Fault` exactly where the value is another; `NoMemory`
-/// says nothing of it.
+/// blanks, and a token (RFC 3261 section 20.16). `Fault` exactly where the value is another;
+/// `NoMemory` says nothing of it.
 #[tactic(auto, unfolding(sc_syntax::specs::Sequences::cseq_of))]
 pub fn read_cseq(alloc: Global, b: &[u8]) -> Result<CSeq, Unread>
     ensures exact { Gives result (cseq_of b.now) }

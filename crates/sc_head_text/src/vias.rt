@@ -119,7 +119,10 @@ fn build(
     requires transport { is_token transport.now ≡ true }
     requires host { is_host host.now ≡ true }
     requires params { AreHeaderParams params }
-    ensures { IfOk result (λ via. via ≡ record { transport = transport.now; host = host.now; port = port; params = params }) }
+    ensures { IfOk result
+        (λ via.
+        via
+        ≡ record { transport = transport.now; host = host.now; port = port; params = params }) }
 {
     let transport = Text::from_slice(alloc, transport)?;
     let host = Text::from_slice(alloc, host)?;

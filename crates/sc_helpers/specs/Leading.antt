@@ -12,7 +12,8 @@ use Rattle.sc_apps.specs.Scripted.{IsPlayed}
 
 -- these calls were made: then the script goes on, or it is done whatever would follow
 unfoldable pub IsLed : (Script → Script) → Bool → Working → Working → Type 0
-IsLed part true old mid = (script : Script) (last : Working) → IsPlayed script mid last → IsPlayed (part script) old last
+IsLed part true old mid =
+    (script : Script) (last : Working) → IsPlayed script mid last → IsPlayed (part script) old last
 IsLed part false old mid = (script : Script) → IsPlayed (part script) old mid
 
 -- a timer is cancelled where there is one

@@ -23,7 +23,9 @@ is_called name field = same_name field.name name
 
 -- a Supported or Require header with this option
 unfoldable pub is_listing : Bytes → Field → Bool
-is_listing option field = (same_name field.name supported_word || same_name field.name require_word) && list_any (same_name option) (items_of field.value)
+is_listing option field =
+    (same_name field.name supported_word || same_name field.name require_word)
+    && list_any (same_name option) (items_of field.value)
 
 -- there are three words, as a RAck has them (RFC 3262 section 7.2)
 unfoldable pub is_three : List Bytes → Bool

@@ -25,7 +25,9 @@ fn answer_of(
     reason: &[u8],
     fields: List<Field>,
 ) -> Result<Answer, NoMemory>
-    ensures { IfOk result (λ answer. (req : ReqId) → Call.Respond req answer ≡ answer_with req code reason.now fields) }
+    ensures { IfOk result
+        (λ answer.
+        (req : ReqId) → Call.Respond req answer ≡ answer_with req code reason.now fields) }
 {
     let reason = Text::from_slice(alloc, reason)?;
     Ok(Answer {
@@ -46,7 +48,8 @@ fn answer_with(
 ) -> Result<CallAnswer, NoMemory>
     requires { (play_of t.old).listed < MOST_CALLS }
     ensures same { t.new.shown ≡ t.old.shown }
-    ensures made { IfOk result (λ given. IsMade (answer_with req code reason.now fields) t.old given t.new) }
+    ensures made { IfOk result
+        (λ given. IsMade (answer_with req code reason.now fields) t.old given t.new) }
     ensures listed { OnOk result ((play_of t.new).listed ≡ (play_of t.old).listed + 1) }
 {
     let answer = answer_of(memory_of(t), code, reason, fields)?;
@@ -64,7 +67,8 @@ pub fn answer_only(
 ) -> Result<(), NoMemory>
     requires { (play_of t.old).listed < MOST_CALLS }
     ensures same { t.new.shown ≡ t.old.shown }
-    ensures played { OnOk result (IsPlayed (only (answer_with req code reason.now fields)) t.old t.new) }
+    ensures played { OnOk result
+        (IsPlayed (only (answer_with req code reason.now fields)) t.old t.new) }
 {
     answer_with(t, req, code, reason, fields)?;
     Ok(())
@@ -81,7 +85,8 @@ pub fn answer_first(
 ) -> Result<bool, NoMemory>
     requires { (play_of t.old).listed < MOST_CALLS }
     ensures same { t.new.shown ≡ t.old.shown }
-    ensures led { IfOk result (λ on. IsLed (accepted_then (answer_with req code reason.now fields)) on t.old t.new) }
+    ensures led { IfOk result
+        (λ on. IsLed (accepted_then (answer_with req code reason.now fields)) on t.old t.new) }
     ensures listed { OnOk result ((play_of t.new).listed ≡ (play_of t.old).listed + 1) }
 {
     let answer = answer_with(t, req, code, reason, fields)?;
@@ -93,7 +98,8 @@ pub fn answer_first(
 pub fn reply_first(t: &mut Turn, req: ReqId, code: u16, reason: &[u8]) -> Result<bool, NoMemory>
     requires { (play_of t.old).listed < MOST_CALLS }
     ensures same { t.new.shown ≡ t.old.shown }
-    ensures led { IfOk result (λ on. IsLed (accepted_then (reply req code reason.now)) on t.old t.new) }
+    ensures led { IfOk result
+        (λ on. IsLed (accepted_then (reply req code reason.now)) on t.old t.new) }
     ensures listed { OnOk result ((play_of t.new).listed ≡ (play_of t.old).listed + 1) }
 {
     let answer = sc_apps::reply(t, req, code, reason)?;
@@ -106,7 +112,16 @@ fn plain_answer(
     reason: &[u8],
     fields: List<Field>,
 ) -> Result<Answer, NoMemory>
-    ensures { IfOk result (λ answer. answer ≡ record { code = code; reason = reason.now; fields = fields; contact = []; body = [] }) }
+    ensures { IfOk result
+        (λ answer.
+        answer
+        ≡ record {
+          code = code;
+          reason = reason.now;
+          fields = fields;
+          contact = [];
+          body = [];
+        }) }
 {
     let reason = Text::from_slice(alloc, reason)?;
     Ok(Answer {
@@ -130,7 +145,8 @@ pub fn try_answer(
 ) -> Result<u8, Stopped>
     requires few { made < 100 }
     ensures same { turn.new.shown ≡ turn.old.shown }
-    ensures led { Leads (accepted_then (answer_with req code reason.now fields)) made turn.old result turn.new }
+    ensures led { Leads (accepted_then (answer_with req code reason.now fields)) made turn.old
+        result turn.new }
     ensures count { IfOk result (λ after. after ≡ made + 1) }
 {
     match plain_answer(memory_of(turn), code, reason, fields) {

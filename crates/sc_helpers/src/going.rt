@@ -19,7 +19,8 @@ use std::alloc::Global;
 pub fn set_attribute(t: &mut Turn, name: Text, value: Text) -> Result<bool, NoMemory>
     requires { (play_of t.old).listed < MOST_CALLS }
     ensures same { t.new.shown ≡ t.old.shown }
-    ensures led { IfOk result (λ on. IsLed (accepted_then (Call.SetAttribute name value)) on t.old t.new) }
+    ensures led { IfOk result
+        (λ on. IsLed (accepted_then (Call.SetAttribute name value)) on t.old t.new) }
     ensures listed { OnOk result ((play_of t.new).listed ≡ (play_of t.old).listed + 1) }
 {
     let answer = sc_apps::set_attribute(t, name, value)?;
@@ -30,7 +31,8 @@ pub fn set_attribute(t: &mut Turn, name: Text, value: Text) -> Result<bool, NoMe
 fn remove_attribute(t: &mut Turn, name: &[u8]) -> Result<bool, NoMemory>
     requires { (play_of t.old).listed < MOST_CALLS }
     ensures same { t.new.shown ≡ t.old.shown }
-    ensures led { IfOk result (λ on. IsLed (accepted_then (Call.RemoveAttribute name.now)) on t.old t.new) }
+    ensures led { IfOk result
+        (λ on. IsLed (accepted_then (Call.RemoveAttribute name.now)) on t.old t.new) }
     ensures listed { OnOk result ((play_of t.new).listed ≡ (play_of t.old).listed + 1) }
 {
     let name = Text::from_slice(memory_of(t), name)?;
@@ -95,7 +97,8 @@ fn inside_of(
     fields: List<Field>,
     body: &[u8],
 ) -> Result<Inside, NoMemory>
-    ensures { IfOk result (λ ask. ask ≡ record { method = method.now; fields = fields; body = body.now }) }
+    ensures { IfOk result
+        (λ ask. ask ≡ record { method = method.now; fields = fields; body = body.now }) }
 {
     let method = Text::from_slice(alloc, method)?;
     let body = Text::from_slice(alloc, body)?;
@@ -115,7 +118,12 @@ fn create(
 ) -> Result<CallAnswer, NoMemory>
     requires { (play_of t.old).listed < MOST_CALLS }
     ensures same { t.new.shown ≡ t.old.shown }
-    ensures made { IfOk result (λ given. IsMade (Call.CreateInDialog sess (record { method = method.now; fields = fields; body = body.now })) t.old given t.new) }
+    ensures made { IfOk result
+        (λ given.
+        IsMade
+        (Call.CreateInDialog sess
+        (record { method = method.now; fields = fields; body = body.now })) t.old given
+        t.new) }
     ensures listed { OnOk result ((play_of t.new).listed ≡ (play_of t.old).listed + 1) }
 {
     let ask = inside_of(memory_of(t), method, fields, body)?;
@@ -133,7 +141,8 @@ pub fn send_in(
 ) -> Result<bool, NoMemory>
     requires { (play_of t.old).listed + 1 < MOST_CALLS }
     ensures same { t.new.shown ≡ t.old.shown }
-    ensures led { IfOk result (λ on. IsLed (send_in sess method.now fields body.now) on t.old t.new) }
+    ensures led { IfOk result
+        (λ on. IsLed (send_in sess method.now fields body.now) on t.old t.new) }
     ensures listed { OnOk result ((play_of t.new).listed ≤ (play_of t.old).listed + 2) }
 {
     match create(t, sess, method, fields, body)? {

@@ -15,8 +15,10 @@ use sc_value::SessId;
 pub fn cut(text: &[u8], sign: u8) -> (&[u8], Option<&[u8]>)
     ensures front { result.0.now ≡ before sign text.now }
     ensures rest { option_copied result.1 ≡ after sign text.now }
-    ensures pieces { pieces sign text.now ≡ result.0.now ∷ more_pieces sign (option_copied result.1) }
-    ensures less { IfSome result.1 (λ rest. length result.0.now + length rest.now + 1 ≡ length text.now) }
+    ensures pieces { pieces sign text.now
+        ≡ result.0.now ∷ more_pieces sign (option_copied result.1) }
+    ensures less { IfSome result.1
+        (λ rest. length result.0.now + length rest.now + 1 ≡ length text.now) }
 {
     sc_uri_text::cut(text, sign)
 }
@@ -68,7 +70,8 @@ fn session_number(text: &[u8]) -> Option<SessId>
 /// The pieces between spaces where they are three.
 #[tactic(auto, unfolding(crate::specs::Parts::more_pieces), using(crate::proofs::Cuts::four_pieces, crate::proofs::Cuts::one_piece, crate::proofs::Cuts::two_pieces))]
 pub fn three_pieces(text: &[u8]) -> Option<(&[u8], &[u8], &[u8])>
-    ensures some { IfSome result (λ three. pieces 32 text.now ≡ three.0.now ∷ three.1.now ∷ three.2.now ∷ []) }
+    ensures some { IfSome result
+        (λ three. pieces 32 text.now ≡ three.0.now ∷ three.1.now ∷ three.2.now ∷ []) }
     ensures none { IfNone result (is_three (pieces 32 text.now) ≡ false) }
 {
     let (a, rest) = cut(text, b' ');

@@ -1,4 +1,5 @@
-//! The calls of a helper one after another: each tells how many were accepted with it, or where they stopped.
+//! The calls of a helper one after another: each tells how many were accepted with it, or where
+//! they stopped.
 
 ghost use Rattle.std.specs.Prelude.{◌≡◌, ◌≤◌, ◌+◌, ◌<◌, IfOk};
 ghost use Rattle.sc_hosts.specs.HelperParts.{accepted_then};
@@ -27,7 +28,8 @@ pub fn try_respond(turn: &mut Turn, made: u8, req: ReqId, answer: Answer) -> Res
 pub fn try_set_attribute(turn: &mut Turn, made: u8, name: Text, value: Text) -> Result<u8, Stopped>
     requires few { made < 100 }
     ensures same { turn.new.shown ≡ turn.old.shown }
-    ensures led { Leads (accepted_then (Call.SetAttribute name value)) made turn.old result turn.new }
+    ensures led { Leads (accepted_then (Call.SetAttribute name value)) made turn.old result
+        turn.new }
     ensures count { IfOk result (λ after. after ≡ made + 1) }
 {
     let told = turn.set_attribute(name, value);
@@ -63,7 +65,8 @@ pub fn try_cancel_some(turn: &mut Turn, made: u8, id: Option<TimerId>) -> Result
 #[tactic(auto, unfolding(sc_turn::specs::Working::Answers), using(crate::proofs::Steps::given_number, crate::proofs::Steps::given_refused, crate::proofs::Steps::accepted_same, crate::proofs::Steps::refused_same))]
 pub fn try_start_timer(turn: &mut Turn, made: u8, delay_ms: u32, info: Text) -> Result<u64, Stopped>
     ensures same { turn.new.shown ≡ turn.old.shown }
-    ensures given { Gives (Call.StartTimer delay_ms Period.Once info) made turn.old result turn.new }
+    ensures given { Gives (Call.StartTimer delay_ms Period.Once info) made turn.old result
+        turn.new }
 {
     match turn.start_timer(delay_ms, Period::Once, info) {
         Ok(id) => Ok(u64::from(id.0)),

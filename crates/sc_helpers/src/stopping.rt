@@ -9,7 +9,8 @@ use sc_value::NoMemory;
 /// Where the calls of a helper stopped: the turn refused one of them, and none is made behind it.
 #[derive(Clone, Copy, Debug, PartialEq, Eq)]
 pub struct Stopped {
-    /// Why the turn refused the call. It is `NoMemory` too where memory was wanting for what the call names.
+    /// Why the turn refused the call. It is `NoMemory` too where memory was wanting for what the
+    /// call names.
     pub refusal: Refusal,
     /// How many calls of the helper were accepted before that one.
     pub made: u8,

@@ -1,5 +1,5 @@
--- What follows from a turn before readiness is looked for: left drafts, the answer to a fault, and what
--- proxies do (RFC 3261 section 16).
+-- What follows from a turn before readiness is looked for: left drafts, the answer to a fault, and
+-- what proxies do (RFC 3261 section 16).
 use Rattle.std.specs.Prelude.{ℕ, ◌+◌, ◌==◌, [], ◌∷◌, ◌++◌, Bool, true, false, not, ◌&&◌, ◌||◌, Option, None, Some, is_some, is_none, option_and_then, unwrap_or, if◌then◌else◌, map, drop}
 use Rattle.std.specs.List.{fold}
 use Rattle.sc_value.specs.declared.ids.Directive.TheVariants.{Continue}
@@ -60,7 +60,8 @@ without_left view draft = if draft.initial then removed draft.sess view else vie
 
 -- the turn without the drafts that the application left unsent
 unfoldable pub drafts_ended : Working → Working
-drafts_ended working = in_view (tidy (fold without_left working.play.view working.play.drafts)) working
+drafts_ended working =
+    in_view (tidy (fold without_left working.play.view working.play.drafts)) working
 
 -- ## A fault: the event's request is answered 500 where it was left without an answer
 
@@ -69,12 +70,14 @@ unfoldable pub fault_at : Config → Option RequestView → Working → Working
 fault_at config None working = working
 fault_at config (Some request) working =
     if is_owed request && not request.proxied
-    then in_view (answered (Some request) 500 working.play.view) (answering config (Some request) (bare_answer 500 server_error) working) else working
+    then in_view (answered (Some request) 500 working.play.view)
+    (answering config (Some request) (bare_answer 500 server_error) working) else working
 
 -- what follows from how the turn ended: only a fault of the application has an answer
 unfoldable pub faulted : Config → Option ReqId → End → Working → Working
 faulted config req ends.Fine working = working
-faulted config req ends.Fault working = fault_at config (option_and_then (request_in working.play.view) req) working
+faulted config req ends.Fault working =
+    fault_at config (option_and_then (request_in working.play.view) req) working
 faulted config req ends.Starved working = working
 
 -- ## Proxies act
@@ -86,31 +89,48 @@ in_proxy req change working = record working { known = change_proxy req change w
 -- a target gets its branch, and the router goes on behind the place of the application
 unfoldable pub started : Config → Proxy → Working → Uri → Working
 started config proxy working uri =
-    in_proxy proxy.req (λ p. record p { branches = p.branches ++ new_branch proxy (next_branch working) working.play.view.now ∷ []; targets = drop 1 p.targets })
+    in_proxy proxy.req
+    (λ p.
+    record p {
+      branches = p.branches ++ new_branch proxy (next_branch working) working.play.view.now
+          ∷ [];
+      targets = drop 1 p.targets;
+    })
     (in_view (drawn working.play.view)
-    (giving (orders.Begin (next_branch working) Continue working.known.region (Some (working.known.order + 1))
-    (on_branch config working.play.view (next_branch working) (proxied_request config working.play.view (records_route proxy) uri proxy.request)) ∷ []) working))
+    (giving
+    (orders.Begin (next_branch working) Continue working.known.region
+    (Some (working.known.order + 1))
+    (on_branch config working.play.view (next_branch working)
+    (proxied_request config working.play.view (records_route proxy) uri proxy.request))
+    ∷ []) working))
 
 -- the code of a final response that was forwarded first
 unfoldable pub with_forwarded : ℕ → Proxy → Proxy
-with_forwarded code proxy = if is_final code && is_none proxy.forwarded then record proxy { forwarded = Some code } else proxy
+with_forwarded code proxy =
+    if is_final code && is_none proxy.forwarded then record proxy { forwarded = Some code }
+    else proxy
 
--- the SipSession after a response that was forwarded in it, to an initial request that the view shows no
--- more: the first SipSession of the request is gone, and a later 2xx came in one of its own
+-- the SipSession after a response that was forwarded in it, to an initial request that the view
+-- shows no more: the first SipSession of the request is gone, and a later 2xx came in one of its
+-- own
 unfoldable pub moved_on : Proxy → Response → SessionView → SessionView
 moved_on proxy response session =
     if is_some proxy.options
-    then in_state (after_initial session.role proxy.request.method (is_some (tag_of response.head.to)) session.state response.code) session else session
+    then in_state
+    (after_initial session.role proxy.request.method (is_some (tag_of response.head.to))
+    session.state response.code) session else session
 
 -- the view after a response that was forwarded in a SipSession, by whether it shows the request
 -- still
 unfoldable pub forwarded_view : Proxy → SessId → Option RequestView → Response → View → View
 forwarded_view proxy sess None response view = change_session sess (moved_on proxy response) view
-forwarded_view proxy sess (Some request) response view = tidy (answered_in sess request (is_some (tag_of response.head.to)) response.code view)
+forwarded_view proxy sess (Some request) response view =
+    tidy (answered_in sess request (is_some (tag_of response.head.to)) response.code view)
 
 -- the 2xx to a SUBSCRIBE that is forwarded gives the SipSession its tag
 unfoldable pub subscribed_tag : Option Bytes → SessionView → SessionView
-subscribed_tag tag session = if is_none session.peer_tag then record session { peer_tag = tag } else session
+subscribed_tag tag session =
+    if is_none session.peer_tag then record session { peer_tag = tag } else session
 
 -- the view with that tag, where the response is the 2xx to an initial SUBSCRIBE
 unfoldable pub with_subscribed : Proxy → SessId → Response → View → View
@@ -122,13 +142,17 @@ with_subscribed proxy sess response view =
 unfoldable pub forwards : Proxy → SessId → Response → Working → Working
 forwards proxy sess response working =
     in_proxy proxy.req (with_forwarded response.code)
-    (in_view (forwarded_view proxy sess (request_in working.play.view proxy.req) response (with_subscribed proxy sess response working.play.view))
+    (in_view
+    (forwarded_view proxy sess (request_in working.play.view proxy.req) response
+    (with_subscribed proxy sess response working.play.view))
     (giving (orders.Respond proxy.event response ∷ []) working))
 
 -- what waits is forwarded as it came, where it can go still (RFC 3261 section 16.7, step 5)
 unfoldable pub passes : Proxy → Option Passing → Working → Working
 passes proxy None working = working
-passes proxy (Some passing) working = if can_pass proxy passing.response then forwards proxy passing.sess passing.response working else working
+passes proxy (Some passing) working =
+    if can_pass proxy passing.response then forwards proxy passing.sess passing.response working
+    else working
 
 -- the best response goes in the first SipSession of the request
 unfoldable pub forwards_best : Proxy → Option Response → Working → Working
@@ -137,24 +161,33 @@ forwards_best proxy (Some response) working = forwards proxy proxy.sess response
 
 -- the best response is forwarded once it can go (RFC 3261 section 16.7, step 6)
 unfoldable pub chooses : Proxy → Working → Working
-chooses proxy working = if can_choose proxy then forwards_best proxy (best_response proxy.candidates) working else working
+chooses proxy working =
+    if can_choose proxy then forwards_best proxy (best_response proxy.candidates) working
+    else working
 
 -- a SipSession of the request without a confirmed dialog: an early one, or a derived one that is
 -- INITIAL
 unfoldable pub is_over : Known → ReqId → SessId → SessionView → Bool
 is_over known req original session =
-    is_of known req session && (is_early session.state || (is_initial_state session.state && not (same_session session.id original)))
+    is_of known req session
+    && (is_early session.state
+    || (is_initial_state session.state && not (same_session session.id original)))
 
 -- such a SipSession ended
 unfoldable pub closed_session : Known → ReqId → SessId → SessionView → SessionView
-closed_session known req original session = if is_over known req original session then in_state Terminated session else session
+closed_session known req original session =
+    if is_over known req original session then in_state Terminated session else session
 
 -- once the search of an initial request is exhausted, its SipSessions without a confirmed dialog
 -- end
 unfoldable pub closes : Proxy → Working → Working
 closes proxy working =
     if is_exhausted proxy && is_some proxy.options
-    then in_view (record working.play.view { sessions = map (closed_session working.known proxy.req proxy.sess) working.play.view.sessions }) working else working
+    then in_view
+    (record working.play.view {
+      sessions = map (closed_session working.known proxy.req proxy.sess)
+          working.play.view.sessions;
+    }) working else working
 
 -- the branch as the turn leaves it: a CANCEL that it was to get has been given out
 unfoldable pub rested_branch : Branch → Branch
@@ -162,7 +195,12 @@ rested_branch branch = record branch { cancelled = false }
 
 -- the proxy between turns: nothing waits to be forwarded, to be cancelled or to be looked at
 unfoldable pub rested : Proxy → Proxy
-rested proxy = record proxy { branches = map rested_branch proxy.branches; passing = None; heard_final = false }
+rested proxy =
+    record proxy {
+      branches = map rested_branch proxy.branches;
+      passing = None;
+      heard_final = false;
+    }
 
 -- the proxy as it is now
 unfoldable pub proxy_now : Proxy → Working → Proxy
@@ -170,7 +208,8 @@ proxy_now proxy working = unwrap_or (proxy_of working.known proxy.req) proxy
 
 -- the CANCELs of the branches that are to be cancelled (RFC 3261 section 16.10)
 unfoldable pub sends_cancels : Proxy → Working → Working
-sends_cancels proxy working = giving (map (λ branch. orders.Cancel branch) (cancelled_now (proxy_now proxy working))) working
+sends_cancels proxy working =
+    giving (map (λ branch. orders.Cancel branch) (cancelled_now (proxy_now proxy working))) working
 
 -- new branches, then what is forwarded, then CANCELs in the order of branches
 unfoldable pub acted : Config → Proxy → Working → Working
@@ -182,7 +221,8 @@ acted config proxy working =
 
 -- a proxy whose SipSession the application ended does nothing
 unfoldable pub acts : Config → Working → Proxy → Working
-acts config working proxy = if is_invalid working.known proxy.sess then working else acted config proxy working
+acts config working proxy =
+    if is_invalid working.known proxy.sess then working else acted config proxy working
 
 -- in order of the requests' numbers
 unfoldable pub all_act : Config → Working → Working
@@ -194,18 +234,22 @@ all_act config working = fold (acts config) working working.known.proxies
 unfoldable pub hops_spent : Config → RequestView → Working → Working
 hops_spent config request working =
     if is_owed request
-    then in_view (answered (Some request) 483 working.play.view) (answering config (Some request) (bare_answer 483 too_many_hops) working) else working
+    then in_view (answered (Some request) 483 working.play.view)
+    (answering config (Some request) (bare_answer 483 too_many_hops) working) else working
 
 -- a proxy of one branch
 unfoldable pub sent_proxy : Kept → ℕ → Proxy
 sent_proxy kept branch =
-    record (new_proxy kept.id kept.sess (event_of kept.way) kept.request None) { branches = record { number = branch; ended = None; cancelled = false; due = None } ∷ [] }
+    record (new_proxy kept.id kept.sess (event_of kept.way) kept.request None) {
+      branches = record { number = branch; ended = None; cancelled = false; due = None } ∷ [];
+    }
 
 -- a later request goes on along its dialog, on a branch of its own; an ACK without transaction (RFC
 -- 3261 section 16.6)
 unfoldable pub passed_on : Config → Kept → Working → Working
 passed_on config kept working =
-    let sent : Request = on_branch config working.play.view (next_branch working) (passed_request kept.request) in
+    let sent : Request = on_branch config working.play.view (next_branch working)
+    (passed_request kept.request) in
     in_view (drawn working.play.view)
     (if same_bytes kept.request.method ack then giving (orders.Acknowledge sent ∷ []) working
     else giving (orders.Send (next_branch working) sent ∷ [])
@@ -216,12 +260,15 @@ unfoldable pub passed_later : Config → RequestView → Option Kept → Working
 passed_later config request None working = working
 passed_later config request (Some kept) working =
     if request.initial || not request.proxied || is_invalid working.known request.sess then working
-    else (if request.hops == 0 then hops_spent config request working else passed_on config kept working)
+    else
+    (if request.hops == 0 then hops_spent config request working
+    else passed_on config kept working)
 
 -- the same for a request that the view shows
 unfoldable pub passed_request_of : Config → Option RequestView → Working → Working
 passed_request_of config None working = working
-passed_request_of config (Some request) working = passed_later config request (kept_of working.known request.id) working
+passed_request_of config (Some request) working =
+    passed_later config request (kept_of working.known request.id) working
 
 -- the event is a later request
 unfoldable pub is_request_event : Queued → Bool
@@ -231,4 +278,6 @@ is_request_event event = false
 -- where the turn's event is a later request, it is passed on after the calls
 unfoldable pub passes_later : Config → Queued → Option ReqId → Working → Working
 passes_later config event req working =
-    if is_request_event event then passed_request_of config (option_and_then (request_in working.play.view) req) working else working
+    if is_request_event event
+    then passed_request_of config (option_and_then (request_in working.play.view) req) working
+    else working

@@ -36,50 +36,80 @@ use Rattle.sc_model.specs.DialogRequests.{cancel}
 -- the first host of which the test holds
 unfoldable pub first_host : {S : Type 0} → (Host S → Bool) → ℕ → List (Host S) → Option ℕ
 first_host test number [] = None
-first_host test number (host ∷ hosts) = if test host then Some number else first_host test (number + 1) hosts
+first_host test number (host ∷ hosts) =
+    if test host then Some number else first_host test (number + 1) hosts
 
 -- the host takes it
-unfoldable pub host_takes : {S : Type 0} → Form S → Setup → Place → Option Note → Message → ℕ → Option (Host S) → Net S → Net S
+unfoldable pub host_takes : {S : Type 0} → Form S → Setup → Place → Option Note → Message → ℕ
+    → Option (Host S) → Net S → Net S
 host_takes form setup from noted message number None net = net
 host_takes form setup from noted message number (Some host) net =
-    placed number (takes form setup.config (record { host = number; epoch = net.epoch; from = peers.Outside from; now = net.moment; count = net.count }) noted message host) net
+    placed number
+    (takes form setup.config
+    (record {
+      host = number;
+      epoch = net.epoch;
+      from = peers.Outside from;
+      now = net.moment;
+      count = net.count;
+    }) noted message host) net
 
 -- the host of this number takes it
-unfoldable pub taken_at : {S : Type 0} → Form S → Setup → Place → Option Note → Message → ℕ → Net S → Net S
-taken_at form setup from noted message number net = host_takes form setup from noted message number (host_at number net) net
+unfoldable pub taken_at : {S : Type 0} → Form S → Setup → Place → Option Note → Message → ℕ → Net S
+    → Net S
+taken_at form setup from noted message number net =
+    host_takes form setup from noted message number (host_at number net) net
 
 -- an answer outside any session; an ACK gets none
 unfoldable pub edge_answer : {S : Type 0} → Config → Place → ℕ → Bytes → Request → Net S → Net S
 edge_answer config from code reason request net =
     if same_bytes (method_of request) ack then net
-    else put 0 (peers.Outside from) (messages.Response (own_response (edge_tag config.salt) code reason request)) None net
+    else put 0 (peers.Outside from)
+    (messages.Response (own_response (edge_tag config.salt) code reason request)) None net
 
 -- a request without To tag begins a session where the router has an application for it
-unfoldable pub begins_by : {S : Type 0} → Form S → Setup → Place → Request → Option Address → Choice → Net S → Net S
+unfoldable pub begins_by : {S : Type 0} → Form S → Setup → Place → Request → Option Address → Choice
+    → Net S → Net S
 begins_by form setup from request popped (choices.App host order region subscriber route) net =
-    taken_at form setup from (Some (record { order = order; region = region; subscriber = subscriber; popped = if is_some route then route else popped })) (messages.Request request) host net
-begins_by form setup from request popped (choices.Send routes) net = edge_answer setup.config from 404 not_found request net
-begins_by form setup from request popped choices.Onward net = edge_answer setup.config from 404 not_found request net
-begins_by form setup from request popped choices.NotFound net = edge_answer setup.config from 404 not_found request net
+    taken_at form setup from
+    (Some
+    (record {
+      order = order;
+      region = region;
+      subscriber = subscriber;
+      popped = if is_some route then route else popped;
+    })) (messages.Request request) host net
+begins_by form setup from request popped (choices.Send routes) net =
+    edge_answer setup.config from 404 not_found request net
+begins_by form setup from request popped choices.Onward net =
+    edge_answer setup.config from 404 not_found request net
+begins_by form setup from request popped choices.NotFound net =
+    edge_answer setup.config from 404 not_found request net
 
 -- a request without To tag; an ACK is dropped, and BYE, PRACK and UPDATE begin nothing
 unfoldable pub initial_arrives : {S : Type 0} → Form S → Setup → Place → Request → Net S → Net S
 initial_arrives form setup from request net =
     if same_bytes (method_of request) ack then net
-    else (if is_never_initial request then edge_answer setup.config from 481 does_not_exist request net
+    else
+    (if is_never_initial request then edge_answer setup.config from 481 does_not_exist request net
     else (let position : Position = position_of setup.config request in
     let unrouted : Request = unrouted_initial setup.config request in
-    begins_by form setup from unrouted (popped_route setup.config request) (choice_of setup.config setup.dar unrouted position.region position.directive position.state) net))
+    begins_by form setup from unrouted (popped_route setup.config request)
+    (choice_of setup.config setup.dar unrouted position.region position.directive position.state)
+    net))
 
 -- a request with a To tag, at the host whose session it names; 481 where there is none
 unfoldable pub later_at : {S : Type 0} → Form S → Setup → Place → Request → Option ℕ → Net S → Net S
-later_at form setup from request None net = edge_answer setup.config from 481 does_not_exist request net
-later_at form setup from request (Some number) net = taken_at form setup from None (messages.Request request) number net
+later_at form setup from request None net =
+    edge_answer setup.config from 481 does_not_exist request net
+later_at form setup from request (Some number) net =
+    taken_at form setup from None (messages.Request request) number net
 
 -- by the own URI with which it comes
 unfoldable pub later_arrives : {S : Type 0} → Form S → Setup → Place → Request → Net S → Net S
 later_arrives form setup from request net =
-    later_at form setup from request (option_and_then (λ uri. named_host uri net) (own_uri setup.config request)) net
+    later_at form setup from request
+    (option_and_then (λ uri. named_host uri net) (own_uri setup.config request)) net
 
 -- a request that belongs to no transaction; a CANCEL gets 481 (RFC 3261 section 9.2)
 unfoldable pub unclaimed : {S : Type 0} → Form S → Setup → Place → Request → Net S → Net S
@@ -89,21 +119,30 @@ unclaimed form setup from request net =
     else initial_arrives form setup from request net)
 
 -- a transaction takes it first
-unfoldable pub request_by : {S : Type 0} → Form S → Setup → Place → Request → Option ℕ → Net S → Net S
+unfoldable pub request_by : {S : Type 0} → Form S → Setup → Place → Request → Option ℕ → Net S
+    → Net S
 request_by form setup from request None net = unclaimed form setup from request net
-request_by form setup from request (Some number) net = taken_at form setup from None (messages.Request request) number net
+request_by form setup from request (Some number) net =
+    taken_at form setup from None (messages.Request request) number net
 
 -- a response, at the host whose client transaction it belongs to; others are dropped
-unfoldable pub response_by : {S : Type 0} → Form S → Setup → Place → Response → Option ℕ → Net S → Net S
+unfoldable pub response_by : {S : Type 0} → Form S → Setup → Place → Response → Option ℕ → Net S
+    → Net S
 response_by form setup from response None net = net
-response_by form setup from response (Some number) net = taken_at form setup from None (messages.Response response) number net
+response_by form setup from response (Some number) net =
+    taken_at form setup from None (messages.Response response) number net
 
 -- what a message that comes from outside makes of the net
 unfoldable pub arrived : {S : Type 0} → Form S → Setup → Place → Message → Net S → Net S
 arrived form setup from (messages.Request request) net =
-    request_by form setup from request (first_host (λ host. is_claimed (claim_of (peers.Outside from) request host)) 0 net.hosts) net
+    request_by form setup from request
+    (first_host (λ host. is_claimed (claim_of (peers.Outside from) request host)) 0 net.hosts) net
 arrived form setup from (messages.Response response) net =
-    response_by form setup from response (first_host (λ host. is_some (client_for setup.config.salt net.epoch (peers.Outside from) response host)) 0 net.hosts) net
+    response_by form setup from response
+    (first_host
+    (λ host.
+    is_some (client_for setup.config.salt net.epoch (peers.Outside from) response host)) 0
+    net.hosts) net
 
 -- ## A text that is no message: 400 where it can be answered (RFC 3261 section 21.4.1)
 
@@ -111,4 +150,5 @@ arrived form setup from (messages.Response response) net =
 unfoldable pub bad_by : {S : Type 0} → Config → Place → Option Answerable → Net S → Net S
 bad_by config from None net = net
 bad_by config from (Some heads) net =
-    if same_bytes heads.cseq.method ack then net else put 0 (peers.Outside from) (messages.Response (bad_response config.salt heads)) None net
+    if same_bytes heads.cseq.method ack then net
+    else put 0 (peers.Outside from) (messages.Response (bad_response config.salt heads)) None net

@@ -1,6 +1,6 @@
--- A proxied request: its targets and branches, and what a response, a timer or a CANCEL makes of them
--- (RFC 3261 section 16). How targets follow each other and which responses the application is told is
--- this project's profile.
+-- A proxied request: its targets and branches, and what a response, a timer or a CANCEL makes of
+-- them (RFC 3261 section 16). How targets follow each other and which responses the application is
+-- told is this project's profile.
 use Rattle.std.specs.Prelude.{ℕ, ◌+◌, ◌-◌, ◌*◌, ◌==◌, List, [], ◌∷◌, ◌++◌, Bool, true, false, not, ◌&&◌, ◌||◌, Option, None, Some, is_none, option_map, option_and_then, nat_lt, nat_le, if◌then◌else◌, length, map, filter, take}
 use Rattle.std.specs.List.{find, list_any, filter_map}
 use Rattle.std.specs.Option.{option_map_or}
@@ -64,8 +64,8 @@ records_route proxy = option_map_or (λ (o : ProxyOptions). o.record_route) prox
 unfoldable pub is_parallel : Proxy → Bool
 is_parallel proxy = option_map_or (λ (o : ProxyOptions). o.parallel) proxy.options true
 
--- the moment at which the timer of a branch is due that is begun at this one (RFC 3261 section 16.6,
--- timer C)
+-- the moment at which the timer of a branch is due that is begun at this one (RFC 3261 section
+-- 16.6, timer C)
 unfoldable pub branch_due : Proxy → ℕ → Option ℕ
 branch_due proxy now = option_map (λ (o : ProxyOptions). now + o.timeout * 1000) proxy.options
 
@@ -90,7 +90,8 @@ sip_uri (Other text) = None
 
 -- the `sip:` URIs of its Contacts, in order
 unfoldable pub contacts_of : Response → List Uri
-contacts_of response = filter_map (λ contact. option_and_then sip_uri (contact_uri contact)) response.head.contact
+contacts_of response =
+    filter_map (λ contact. option_and_then sip_uri (contact_uri contact)) response.head.contact
 
 -- a URI of the same written text is among them
 unfoldable pub was_tried : List Uri → Uri → Bool
@@ -99,19 +100,22 @@ was_tried tried uri = list_any (λ t. same_bytes (uri_text t) (uri_text uri)) tr
 -- those whose written text was not tried, each once
 unfoldable pub untried : List Uri → List Uri → List Uri
 untried tried [] = []
-untried tried (uri ∷ uris) = if was_tried tried uri then untried tried uris else (uri ∷ untried (tried ++ uri ∷ []) uris)
+untried tried (uri ∷ uris) =
+    if was_tried tried uri then untried tried uris else (uri ∷ untried (tried ++ uri ∷ []) uris)
 
 -- the targets that a response adds
 unfoldable pub added_targets : Proxy → Response → List Uri
 added_targets proxy response =
     if is_redirect response.code && recurses proxy && not proxy.settled
-    then take (MOST_BRANCHES - length proxy.tried) (untried proxy.tried (contacts_of response)) else []
+    then take (MOST_BRANCHES - length proxy.tried) (untried proxy.tried (contacts_of response)) else
+    []
 
 -- ## What a response makes of it
 
 -- a change of the branch of this number
 abbrev pub change_branch : ℕ → (Branch → Branch) → Proxy → Proxy
-change_branch number change proxy = record proxy { branches = change_first (is_branch number) change proxy.branches }
+change_branch number change proxy =
+    record proxy { branches = change_first (is_branch number) change proxy.branches }
 
 -- each open branch is to be cancelled
 unfoldable pub cancelled_branch : Branch → Branch
@@ -119,11 +123,13 @@ cancelled_branch branch = if is_open branch then record branch { cancelled = tru
 
 -- no further target, and a CANCEL to each open branch
 unfoldable pub stopped : Proxy → Proxy
-stopped proxy = record proxy { targets = []; settled = true; branches = map cancelled_branch proxy.branches }
+stopped proxy =
+    record proxy { targets = []; settled = true; branches = map cancelled_branch proxy.branches }
 
 -- a 101 to 199 begins the timer again
 unfoldable pub rung : ℕ → ℕ → Proxy → Proxy
-rung number now proxy = change_branch number (λ branch. record branch { due = branch_due proxy now }) proxy
+rung number now proxy =
+    change_branch number (λ branch. record branch { due = branch_due proxy now }) proxy
 
 -- the branch with the code of its final response; its timer runs no more
 unfoldable pub with_end : ℕ → Branch → Branch
@@ -131,7 +137,8 @@ with_end code branch = record branch { ended = Some code; cancelled = false; due
 
 -- the proxy with this branch ended, and that noted for this turn
 unfoldable pub ended_branch : ℕ → ℕ → Proxy → Proxy
-ended_branch number code proxy = record (change_branch number (with_end code) proxy) { heard_final = true }
+ended_branch number code proxy =
+    record (change_branch number (with_end code) proxy) { heard_final = true }
 
 -- a 3xx that adds a target is no candidate; the others but 2xx are
 unfoldable pub with_candidate : Response → Proxy → Proxy
@@ -141,11 +148,13 @@ with_candidate response proxy =
 
 -- the proxy with these targets more, which wait
 unfoldable pub with_targets : List Uri → Proxy → Proxy
-with_targets uris proxy = record proxy { tried = proxy.tried ++ uris; targets = proxy.targets ++ uris }
+with_targets uris proxy =
+    record proxy { tried = proxy.tried ++ uris; targets = proxy.targets ++ uris }
 
 -- the response is to be forwarded at the end of the turn, in this SipSession
 unfoldable pub passing_on : SessId → Response → Proxy → Proxy
-passing_on sess response proxy = record proxy { passing = Some (record { sess = sess; response = response }) }
+passing_on sess response proxy =
+    record proxy { passing = Some (record { sess = sess; response = response }) }
 
 -- what the first final response of a branch makes of the proxy (RFC 3261 section 16.7)
 unfoldable pub ended_by : ℕ → SessId → Response → Proxy → Proxy
@@ -154,10 +163,11 @@ ended_by number sess response proxy =
     if is_success response.code then passing_on sess response (stopped ended)
     else (if is_global response.code then stopped ended else ended)
 
--- a response on a branch that has its final response, or that its timer ended: a 2xx is forwarded and ends
--- the search, nothing else counts
+-- a response on a branch that has its final response, or that its timer ended: a 2xx is forwarded
+-- and ends the search, nothing else counts
 unfoldable pub after_end : SessId → Response → Proxy → Proxy
-after_end sess response proxy = if is_success response.code then passing_on sess response (stopped proxy) else proxy
+after_end sess response proxy =
+    if is_success response.code then passing_on sess response (stopped proxy) else proxy
 
 -- what a response on this branch makes of the proxy, handled in this SipSession at this moment
 unfoldable pub heard : ℕ → SessId → Response → ℕ → Proxy → Proxy
@@ -172,26 +182,31 @@ heard number sess response now proxy =
 unfoldable pub leaves_target : Proxy → Response → Bool
 leaves_target proxy response = not (length proxy.targets == 0) && not (ends_search response.code)
 
--- the final response ends the last branch: no branch is open then, no target is left, and it adds none
+-- the final response ends the last branch: no branch is open then, no target is left, and it adds
+-- none
 unfoldable pub ends_last : ℕ → Response → Proxy → Bool
 ends_last number response proxy =
-    not (has_open (ended_branch number response.code proxy)) && not (leaves_target proxy response) && length (added_targets proxy response) == 0
+    not (has_open (ended_branch number response.code proxy)) && not (leaves_target proxy response)
+    && length (added_targets proxy response) == 0
 
 -- told as a response, and not as that of one branch
 unfoldable pub is_told_whole : ℕ → Response → Proxy → Bool
 is_told_whole number response proxy =
-    not (is_final response.code) || (is_success response.code && is_invite proxy) || ends_last number response proxy
+    not (is_final response.code) || (is_success response.code && is_invite proxy)
+    || ends_last number response proxy
 
 -- ## The timer of a branch (RFC 3261 section 16.8)
 
 -- the timer of an open branch that was due at this moment, and wasn't begun again since
 unfoldable pub is_timed_out : ℕ → ℕ → Proxy → Bool
 is_timed_out number due proxy =
-    option_map_or (λ branch. is_open branch && option_map_or (λ d. d == due) branch.due false) (branch_in proxy number) false
+    option_map_or (λ branch. is_open branch && option_map_or (λ d. d == due) branch.due false)
+    (branch_in proxy number) false
 
 -- an INVITE that has a provisional response is cancelled
 unfoldable pub to_cancel : ℕ → Proxy → Proxy
-to_cancel number proxy = change_branch number (λ branch. record branch { cancelled = true; due = None }) proxy
+to_cancel number proxy =
+    change_branch number (λ branch. record branch { cancelled = true; due = None }) proxy
 
 -- ## How a request becomes proxied
 
@@ -215,18 +230,22 @@ new_proxy req sess event request how = record {
 
 -- a branch as it is begun at this moment
 unfoldable pub new_branch : Proxy → ℕ → ℕ → Branch
-new_branch proxy number now = record { number = number; ended = None; cancelled = false; due = branch_due proxy now }
+new_branch proxy number now =
+    record { number = number; ended = None; cancelled = false; due = branch_due proxy now }
 
 -- ## What it sends at the end of a turn
 
 -- the targets that are started now: all of them, or the next one where no branch is open
 unfoldable pub starting : Proxy → List Uri
-starting proxy = if is_parallel proxy then proxy.targets else (if has_open proxy then [] else take 1 proxy.targets)
+starting proxy =
+    if is_parallel proxy then proxy.targets
+    else (if has_open proxy then [] else take 1 proxy.targets)
 
 -- the best response can go: there is one, no branch is open, no target is left, and none has gone
 unfoldable pub can_choose : Proxy → Bool
 can_choose proxy =
-    not (length proxy.candidates == 0) && not (has_open proxy) && length proxy.targets == 0 && is_none proxy.forwarded
+    not (length proxy.candidates == 0) && not (has_open proxy) && length proxy.targets == 0
+    && is_none proxy.forwarded
 
 -- what waits can go: once a final response was forwarded only a further 2xx to INVITE
 unfoldable pub can_pass : Proxy → Response → Bool
@@ -235,7 +254,10 @@ can_pass proxy response = is_none proxy.forwarded || (is_success response.code &
 -- the branches that get a CANCEL, in their order: only those of an INVITE ever do
 unfoldable pub cancelled_now : Proxy → List ℕ
 cancelled_now proxy =
-    if is_invite proxy then map (λ branch. branch.number) (filter (λ branch. is_open branch && branch.cancelled) proxy.branches) else []
+    if is_invite proxy
+    then map (λ branch. branch.number)
+    (filter (λ branch. is_open branch && branch.cancelled) proxy.branches)
+    else []
 
 -- the search has ended in this turn: no branch is open and no target left
 unfoldable pub is_exhausted : Proxy → Bool

@@ -53,12 +53,17 @@ unfoldable pub IsSilent : List CallRecord → End → Type 0
 IsSilent made end = (made ≡ []) × (end ≡ ends.Fine)
 
 -- what a servlet, or the listener where there is one, may do at an event
-unfoldable pub Called : Charter → Option ListenerCharter → View → Event → Bool → List CallRecord → End → Type 0
-Called charter listener view event false made end = IsAnswered view made × Plays view (servlet_script charter view event) made end
+unfoldable pub Called : Charter → Option ListenerCharter → View → Event → Bool → List CallRecord
+    → End → Type 0
+Called charter listener view event false made end =
+    IsAnswered view made × Plays view (servlet_script charter view event) made end
 Called charter None view event true made end = IsSilent made end
-Called charter (Some listener) view event true made end = IsAnswered view made × Plays view (listener_script listener view event) made end
+Called charter (Some listener) view event true made end =
+    IsAnswered view made × Plays view (listener_script listener view event) made end
 
 -- what a turn may bring that showed this view and event. A turn that wants memory is never taken
-unfoldable pub Allowed : Charter → Option ListenerCharter → View → Option Event → List CallRecord → End → Type 0
+unfoldable pub Allowed : Charter → Option ListenerCharter → View → Option Event → List CallRecord
+    → End → Type 0
 Allowed charter listener view None made end = IsSilent made end
-Allowed charter listener view (Some event) made end = (end ≢ ends.Starved) × Called charter listener view event (is_listened event) made end
+Allowed charter listener view (Some event) made end =
+    (end ≢ ends.Starved) × Called charter listener view event (is_listened event) made end

@@ -45,7 +45,14 @@ answer_script event = Done
 
 -- all targets at once, 3xx followed, the application told; 181 seconds for each branch
 unfoldable pub proxy_options : Bool → ProxyOptions
-proxy_options record_route = record { parallel = true; recurse = true; supervised = true; record_route = record_route; timeout = 181 }
+proxy_options record_route =
+    record {
+      parallel = true;
+      recurse = true;
+      supervised = true;
+      record_route = record_route;
+      timeout = 181;
+    }
 
 -- 483 where the request may go no further
 unfoldable pub without_hops : ReqId → CallAnswer → Script
@@ -53,7 +60,8 @@ without_hops req answer = if is_no_hops answer then only (reply req 483 too_many
 
 -- the request is proxied to these targets
 unfoldable pub proxy_script : ReqId → List Uri → Bool → Script
-proxy_script req targets record_route = Make (calls.ProxyTo req targets (proxy_options record_route)) (without_hops req)
+proxy_script req targets record_route =
+    Make (calls.ProxyTo req targets (proxy_options record_route)) (without_hops req)
 
 -- to the parameter's URI where there is a readable one, else on to the Request-URI
 unfoldable pub forward_script : Bool → View → Event → Script
@@ -68,29 +76,36 @@ user_of (Other text) = None
 
 -- the user in From is one of the application's parameters, byte for byte
 unfoldable pub is_blocked : View → Request → Bool
-is_blocked view request = option_map_or (λ user. list_any (same_bytes user) view.params) (user_of request.head.from.uri) false
+is_blocked view request =
+    option_map_or (λ user. list_any (same_bytes user) view.params) (user_of request.head.from.uri)
+    false
 
 -- `block`: 403 to the users of its parameters; others are proxied, and it leaves their path
 unfoldable pub block_script : View → Event → Script
 block_script view (events.Initial req sess region subscriber popped request) =
-    if is_blocked view request then only (reply req 403 forbidden) else proxy_script req (request.uri ∷ []) false
+    if is_blocked view request then only (reply req 403 forbidden)
+    else proxy_script req (request.uri ∷ []) false
 block_script view event = Done
 
 -- 500 where there is no target, 483 where the request may go no further
 unfoldable pub without_targets : ReqId → CallAnswer → Script
-without_targets req answer = if is_bad_text answer then only (reply req 500 server_error) else without_hops req answer
+without_targets req answer =
+    if is_bad_text answer then only (reply req 500 server_error) else without_hops req answer
 
 -- `fork`: the request is proxied to all URIs of the parameters at once
 unfoldable pub fork_script : View → Event → Script
 fork_script view (events.Initial req sess region subscriber popped request) =
-    Make (calls.ProxyTo req (filter_map readable view.params) (proxy_options true)) (without_targets req)
+    Make (calls.ProxyTo req (filter_map readable view.params) (proxy_options true))
+    (without_targets req)
 fork_script view event = Done
 
 -- ## Back-to-back user agents: b2b, reverse (JSR 289 section 12)
 
 -- where the second leg can't be made
 unfoldable pub leg_failed : ReqId → CallAnswer → Script
-leg_failed req answer = if is_no_hops answer then only (reply req 483 too_many_hops) else only (reply req 500 server_error)
+leg_failed req answer =
+    if is_no_hops answer then only (reply req 483 too_many_hops)
+    else only (reply req 500 server_error)
 
 -- 500 on the first leg where the second one couldn't be sent
 unfoldable pub leg_sent : ReqId → CallAnswer → Script
@@ -102,20 +117,29 @@ leg_made req before answers.Fine = Done
 leg_made req before (answers.Number draft) = before draft (Make (calls.Send draft) (leg_sent req))
 leg_made req before (answers.Refused refused) = leg_failed req (answers.Refused refused)
 
--- `r` and the number of a request that was sent: the attribute that names the request which it serves
+-- `r` and the number of a request that was sent: the attribute that names the request which it
+-- serves
 unfoldable pub served_name : ℕ → Bytes
 served_name n = 114 ∷ decimal n
 
 -- a request of the peer, sent on in the dialog of the other leg
 unfoldable pub sent_on : ReqId → Request → SessId → Script
 sent_on req request other =
-    Make (calls.CreateInDialog other (record { method = request.method; fields = request.head.others; body = request.head.body }))
+    Make
+    (calls.CreateInDialog other
+    (record {
+      method = request.method;
+      fields = request.head.others;
+      body = request.head.body;
+    }))
     (with_number (λ draft. Make (calls.Send draft)
     (with_number (λ n. only (calls.SetAttribute (served_name n) (decimal req.0))))))
 
 -- a later request of one leg, on the other one; an ACK acknowledges the 2xx there
 unfoldable pub other_leg : ReqId → Request → SessId → Script
-other_leg req request other = if same_bytes request.method ack then only (calls.Ack other request.head.body) else sent_on req request other
+other_leg req request other =
+    if same_bytes request.method ack then only (calls.Ack other request.head.body)
+    else sent_on req request other
 
 -- a response to a request that was sent on
 unfoldable pub sent_back : View → ReqId → Response → Script
@@ -130,19 +154,24 @@ is_initial view req = option_map_or (λ request. request.initial) (request_in vi
 
 -- the initial request that was sent in a SipSession
 unfoldable pub sent_initial : View → SessId → Option RequestView
-sent_initial view sess = find (λ request. request.initial && not request.received && request.sess.0 == sess.0) view.requests
+sent_initial view sess =
+    find (λ request. request.initial && not request.received && request.sess.0 == sess.0)
+    view.requests
 
 -- a back-to-back user agent with these calls before its second leg is sent: what comes on a leg
 -- goes on to the other one
 unfoldable pub leg_script : (ReqId → ℕ → Script → Script) → View → Event → Script
-leg_script before view (events.Initial req sess region subscriber popped request) = Make (calls.B2bCreate req None) (leg_made req (before req))
-leg_script before view (events.Request req sess request) = where_some (partner view sess) (other_leg req request)
+leg_script before view (events.Initial req sess region subscriber popped request) =
+    Make (calls.B2bCreate req None) (leg_made req (before req))
+leg_script before view (events.Request req sess request) =
+    where_some (partner view sess) (other_leg req request)
 leg_script before view (events.Response req sess response) =
     if is_initial view req then where_some (partner view sess) (λ other. only (calls.B2bRespond other (same_answer response)))
     else sent_back view req response
 leg_script before view (events.Branch req sess response) = Done
 leg_script before view (events.Cancelled req sess) =
-    where_some (partner view sess) (λ other. where_some (sent_initial view other) (λ request. only (calls.Cancel request.id)))
+    where_some (partner view sess)
+    (λ other. where_some (sent_initial view other) (λ request. only (calls.Cancel request.id)))
 leg_script before view (events.Timer id info) = Done
 leg_script before view events.Expired = Done
 leg_script before view events.Ready = Done
@@ -153,7 +182,9 @@ b2b_script view event = leg_script (λ req draft script. script) view event
 
 -- the router is asked for the other region
 unfoldable pub reverse_script : View → Event → Script
-reverse_script view event = leg_script (λ req draft script. then_make (calls.SetDirective draft Reverse (Some req)) script) view event
+reverse_script view event =
+    leg_script (λ req draft script. then_make (calls.SetDirective draft Reverse (Some req)) script)
+    view event
 
 -- ## dial
 
@@ -180,7 +211,8 @@ unfoldable pub dial_script : View → Event → Script
 dial_script view (events.Initial req sess region subscriber popped request) =
     then_make (reply req 200 ok)
     (where_some (uri_param view 0) (λ from. where_some (uri_param view 1) (λ to.
-    Make (calls.CreateRequest (dial_ask from to)) (with_number (λ draft. only (calls.Send draft))))))
+    Make (calls.CreateRequest (dial_ask from to))
+    (with_number (λ draft. only (calls.Send draft))))))
 dial_script view event = Done
 
 -- ## ringer
@@ -199,17 +231,22 @@ drops view = option_map_or (same_bytes drop_word) (param_at view 1) false
 
 -- 180, and a timer that names the request
 unfoldable pub ring : View → ReqId → Script
-ring view req = then_make (reply req 180 ringing) (only (calls.StartTimer (ringing_time view) Once (decimal req.0)))
+ring view req =
+    then_make (reply req 180 ringing)
+    (only (calls.StartTimer (ringing_time view) Once (decimal req.0)))
 
 -- `ringer`: an INVITE rings for a time and is answered 200 then, or dropped with its session
 unfoldable pub ringer_script : View → Event → Script
-ringer_script view (events.Initial req sess region subscriber popped request) = if same_bytes request.method invite then ring view req else only (reply req 200 ok)
+ringer_script view (events.Initial req sess region subscriber popped request) =
+    if same_bytes request.method invite then ring view req else only (reply req 200 ok)
 ringer_script view (events.Request req sess request) = reply_ok req request
 ringer_script view (events.Response req sess response) = Done
 ringer_script view (events.Branch req sess response) = Done
-ringer_script view (events.Cancelled req sess) = where_some (slice_get view.timers 0) (λ timer. only (calls.CancelTimer timer.id))
+ringer_script view (events.Cancelled req sess) =
+    where_some (slice_get view.timers 0) (λ timer. only (calls.CancelTimer timer.id))
 ringer_script view (events.Timer id info) =
-    if drops view then only calls.InvalidateApplication else where_some (small_number info) (λ n. only (reply (record { 0 = n }) 200 ok))
+    if drops view then only calls.InvalidateApplication
+    else where_some (small_number info) (λ n. only (reply (record { 0 = n }) 200 ok))
 ringer_script view events.Expired = Done
 ringer_script view events.Ready = Done
 
@@ -227,5 +264,6 @@ extended_value = codes "1"
 unfoldable pub extend_script : View → Event → Script
 extend_script view events.Expired =
     if is_some (attribute extended_name view) then Done
-    else then_make (calls.SetAttribute extended_name extended_value) (only (calls.SetExpires (pos 3)))
+    else then_make (calls.SetAttribute extended_name extended_value)
+    (only (calls.SetExpires (pos 3)))
 extend_script view event = Done

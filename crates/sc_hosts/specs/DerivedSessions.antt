@@ -27,7 +27,9 @@ use Rattle.sc_hosts.specs.Legs.{first_got, leg_of, new_leg, same_tag}
 
 -- the SipSession is one of the request: its first one, or one derived for another To tag
 unfoldable pub is_of : Known → ReqId → SessionView → Bool
-is_of known req session = option_map_or (λ leg. option_map_or (same_request req) leg.first false) (leg_of known session.id) false
+is_of known req session =
+    option_map_or (λ leg. option_map_or (same_request req) leg.first false)
+    (leg_of known session.id) false
 
 -- the SipSessions of the request, in order
 unfoldable pub sessions_of : Session → ReqId → List SessionView
@@ -35,7 +37,9 @@ sessions_of session req = filter (is_of session.known req) session.view.sessions
 
 -- it has this tag; one that was overtaken has lost it
 unfoldable pub claims : Known → Bytes → SessionView → Bool
-claims known tag session = same_tag session.peer_tag (Some tag) && not (option_map_or (λ leg. leg.overtaken) (leg_of known session.id) false)
+claims known tag session =
+    same_tag session.peer_tag (Some tag)
+    && not (option_map_or (λ leg. leg.overtaken) (leg_of known session.id) false)
 
 -- where a response with this tag is handled, given the original
 pub data Handling : Type 0 where
@@ -51,13 +55,15 @@ unfoldable pub handling_of : Session → SessionView → Bytes → Option Sessio
 handling_of session original tag (Some claimer) = In claimer.id
 handling_of session original tag None =
     if is_none original.peer_tag then Takes tag
-    else (if nat_lt (session_count session.view) MOST_SESSIONS && not (option_map_or (λ leg. leg.invalidated) (leg_of session.known original.id) false)
+    else
+    (if nat_lt (session_count session.view) MOST_SESSIONS && not (option_map_or (λ leg. leg.invalidated) (leg_of session.known original.id) false)
     then Derives tag else In original.id)
 
 -- the same, where a response may have no To tag: it is one in the original
 unfoldable pub handling_by : Session → ReqId → SessionView → Option Bytes → Handling
 handling_by session req original None = In original.id
-handling_by session req original (Some tag) = handling_of session original tag (find (claims session.known tag) (sessions_of session req))
+handling_by session req original (Some tag) =
+    handling_of session original tag (find (claims session.known tag) (sessions_of session req))
 
 -- in the original, which takes the tag where it has none
 unfoldable pub takes_tag : SessionView → Option Bytes → Handling
@@ -66,14 +72,17 @@ takes_tag original (Some tag) = if is_none original.peer_tag then Takes tag else
 
 -- a 2xx to SUBSCRIBE that its UAC gets
 unfoldable pub is_subscribed : SessionView → Request → Response → Bool
-is_subscribed original request response = same_bytes request.method subscribe && is_success response.code && is_uac original.role
+is_subscribed original request response =
+    same_bytes request.method subscribe && is_success response.code && is_uac original.role
 
--- only a 101 to 299 to the initial INVITE has a SipSession by its tag; the 2xx to a SUBSCRIBE gives its
--- SipSession the tag
+-- only a 101 to 299 to the initial INVITE has a SipSession by its tag; the 2xx to a SUBSCRIBE gives
+-- its SipSession the tag
 unfoldable pub handling : Session → ReqId → SessionView → Request → Response → Handling
 handling session req original request response =
     if same_bytes request.method invite && makes_dialog response.code then handling_by session req original (tag_of response.head.to)
-    else (if is_subscribed original request response then takes_tag original (tag_of response.head.to) else In original.id)
+    else
+    (if is_subscribed original request response then takes_tag original (tag_of response.head.to)
+    else In original.id)
 
 -- the SipSession derived for this tag: as the original, INITIAL, unlinked and not gone
 unfoldable pub derived_session : View → SessionView → Bytes → SessionView
@@ -86,7 +95,8 @@ derived_session view original tag = record original {
   gone = false;
 }
 
--- a derived SipSession has had the request that it is of, where that came, and no other of its original's
+-- a derived SipSession has had the request that it is of, where that came, and no other of its
+-- original's
 unfoldable pub derived_got : Option Request → List Got
 derived_got None = []
 derived_got (Some came) = first_got came
@@ -94,19 +104,27 @@ derived_got (Some came) = first_got came
 -- what is known of a derived SipSession: the request that it is of, and its caller's tag
 unfoldable pub derived_leg : Option Leg → ReqId → Option Request → Leg
 derived_leg None req came = record (new_leg (Some req)) { got = derived_got came }
-derived_leg (Some leg) req came = record (new_leg (Some req)) { caller = leg.caller; got = derived_got came }
+derived_leg (Some leg) req came =
+    record (new_leg (Some req)) { caller = leg.caller; got = derived_got came }
 
--- the SipSession in which a response to the request is handled, and the session with it; the request is given where it
--- came, and none where it is one's own
-unfoldable pub handled_in : Session → ReqId → SessionView → Option Request → Handling → SessId × Session
+-- the SipSession in which a response to the request is handled, and the session with it; the
+-- request is given where it came, and none where it is one's own
+unfoldable pub handled_in : Session → ReqId → SessionView → Option Request → Handling
+    → SessId × Session
 handled_in session req original came (In sess) = (sess, session)
-handled_in session req original came (Takes tag) =
-    (original.id, record session { view = change_session original.id (λ s. record s { peer_tag = Some tag }) session.view })
+handled_in session req original came (Takes tag) = (
+  original.id,
+  record session {
+    view = change_session original.id (λ s. record s { peer_tag = Some tag }) session.view;
+  },
+)
 handled_in session req original came (Derives tag) = (
   record { 0 = length session.view.sessions + 1 },
   record session {
-    view = record session.view { sessions = session.view.sessions ++ derived_session session.view original tag ∷ [] };
-    known = record session.known { legs = session.known.legs ++ derived_leg (leg_of session.known original.id) req came ∷ [] };
+    view =
+        record session.view { sessions = session.view.sessions ++ derived_session session.view original tag ∷ [] };
+    known =
+        record session.known { legs = session.known.legs ++ derived_leg (leg_of session.known original.id) req came ∷ [] };
   },
 )
 
@@ -114,33 +132,42 @@ handled_in session req original came (Derives tag) = (
 
 -- another SipSession of the request, with an early dialog
 unfoldable pub is_overtaken : Known → ReqId → SessId → SessionView → Bool
-is_overtaken known req sess session = is_of known req session && is_early session.state && not session.gone && not (same_session session.id sess)
+is_overtaken known req sess session =
+    is_of known req session && is_early session.state && not session.gone
+    && not (same_session session.id sess)
 
 -- such a one, TERMINATED
 unfoldable pub overtaken_session : Known → ReqId → SessId → SessionView → SessionView
-overtaken_session known req sess session = if is_overtaken known req sess session then in_state Terminated session else session
+overtaken_session known req sess session =
+    if is_overtaken known req sess session then in_state Terminated session else session
 
 -- the legs, with a mark on those of such SipSessions, which lose their tags by it
 unfoldable pub overtaken_legs : Known → ReqId → SessId → List SessionView → List Leg → List Leg
 overtaken_legs known req sess [] legs = legs
 overtaken_legs known req sess (session ∷ sessions) [] = []
 overtaken_legs known req sess (session ∷ sessions) (leg ∷ legs) =
-    (if is_overtaken known req sess session then record leg { overtaken = true } else leg) ∷ overtaken_legs known req sess sessions legs
+    (if is_overtaken known req sess session then record leg { overtaken = true } else leg)
+    ∷ overtaken_legs known req sess sessions legs
 
 -- the application session once the first 2xx came in this SipSession
 unfoldable pub overtaken : ReqId → SessId → Session → Session
 overtaken req sess session = record session {
-  view = record session.view { sessions = map (overtaken_session session.known req sess) session.view.sessions };
-  known = record session.known { legs = overtaken_legs session.known req sess session.view.sessions session.known.legs };
+  view =
+      record session.view { sessions = map (overtaken_session session.known req sess) session.view.sessions };
+  known =
+      record session.known { legs = overtaken_legs session.known req sess session.view.sessions session.known.legs };
 }
 
 -- a failure of a UAC's INVITE ends its derived SipSessions
 unfoldable pub failed_session : Known → ReqId → SessId → SessionView → SessionView
 failed_session known req original session =
-    if is_of known req session && not (same_session session.id original) then in_state Terminated session else session
+    if is_of known req session && not (same_session session.id original)
+    then in_state Terminated session
+    else session
 
 -- the application session once its own INVITE failed
 unfoldable pub without_derived : ReqId → SessId → Session → Session
 without_derived req original session = record session {
-  view = record session.view { sessions = map (failed_session session.known req original) session.view.sessions };
+  view =
+      record session.view { sessions = map (failed_session session.known req original) session.view.sessions };
 }

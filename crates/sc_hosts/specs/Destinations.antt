@@ -29,21 +29,25 @@ literal text = whole (read_ipv4 text)
 
 -- the address of a name; of two that differ in case alone the first counts
 unfoldable pub named_address : Config → Bytes → Option Bytes
-named_address config host = option_map (λ entry. entry.ip) (find (λ entry. same_name entry.name host) config.hosts)
+named_address config host =
+    option_map (λ entry. entry.ip) (find (λ entry. same_name entry.name host) config.hosts)
 
 -- the IPv4 address of a host: as a literal, as `localhost`, or by the settings
 unfoldable pub address_of : Config → Bytes → Option Bytes
 address_of config host =
-    option_or (literal host) (if same_name host localhost then Some (127 ∷ 0 ∷ 0 ∷ 1 ∷ []) else named_address config host)
+    option_or (literal host)
+    (if same_name host localhost then Some (127 ∷ 0 ∷ 0 ∷ 1 ∷ []) else named_address config host)
 
 -- the address and port that a URI names; a port that is absent is 5060
 unfoldable pub place_of_uri : Config → Uri → Option Place
-place_of_uri config (Sip uri) = option_map (λ ip. To ip (unwrap_or uri.port 5060)) (address_of config uri.host)
+place_of_uri config (Sip uri) =
+    option_map (λ ip. To ip (unwrap_or uri.port 5060)) (address_of config uri.host)
 place_of_uri config (Other text) = None
 
 -- the first Route, or the Request-URI
 unfoldable pub next_uri : Request → Uri
-next_uri request = unwrap_or (option_map (λ route. route.uri) (slice_get request.head.route 0)) request.uri
+next_uri request =
+    unwrap_or (option_map (λ route. route.uri) (slice_get request.head.route 0)) request.uri
 
 -- where a request goes that leaves, none where its host has no address
 unfoldable pub destination : Config → Request → Option Place

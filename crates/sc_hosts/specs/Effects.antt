@@ -36,7 +36,16 @@ use Rattle.sc_hosts.specs.ViewChanges.{tidy, answered, invalidated, new_session,
 -- a draft more, numbered on within the turn
 unfoldable pub with_draft : Bytes → ℕ → Bool → Bool → SessId → Play → Play
 with_draft method hops initial ends sess play = record play {
-  drafts = play.drafts ++ record { number = play.drafted + 1; sess = sess; initial = initial; method = method; hops = hops; ends = ends } ∷ [];
+  drafts =
+      play.drafts
+      ++ record {
+        number = play.drafted + 1;
+        sess = sess;
+        initial = initial;
+        method = method;
+        hops = hops;
+        ends = ends;
+      } ∷ [];
   drafted = play.drafted + 1;
 }
 
@@ -46,11 +55,14 @@ with_view view play = record play { view = view }
 
 -- an initial request of one's own is drafted, in a SipSession of its own
 unfoldable pub created : Ask → Play → Play
-created ask play = with_draft ask.method 70 true (ends_subscription ask.method ask.fields) (new_session play.view) (with_view (with_own_session play.view) play)
+created ask play =
+    with_draft ask.method 70 true (ends_subscription ask.method ask.fields) (new_session play.view)
+    (with_view (with_own_session play.view) play)
 
 -- a request in the dialog of a SipSession is drafted
 unfoldable pub created_later : SessId → Inside → Play → Play
-created_later sess ask play = with_draft ask.method 70 false (ends_subscription ask.method ask.fields) sess play
+created_later sess ask play =
+    with_draft ask.method 70 false (ends_subscription ask.method ask.fields) sess play
 
 -- the second leg of a received request is drafted: its SipSession is linked, and it has a hop less
 unfoldable pub created_leg : Option RequestView → Play → Play
@@ -77,7 +89,8 @@ sent_view view draft = record {
 
 -- the turn without the draft of this number
 abbrev pub without_draft : ℕ → Play → Play
-without_draft number play = record play { drafts = remove_first (λ draft. draft.number == number) play.drafts }
+without_draft number play =
+    record play { drafts = remove_first (λ draft. draft.number == number) play.drafts }
 
 -- a request is sent: it gets its number and draws its branch
 unfoldable pub sent : ℕ → Option Draft → Play → Play
@@ -92,39 +105,57 @@ sent number (Some draft) play = without_draft number (with_view (record play.vie
 unfoldable pub discarded : ℕ → Option Draft → Play → Play
 discarded number None play = play
 discarded number (Some draft) play =
-    without_draft number (if draft.initial then with_view (tidy (removed draft.sess play.view)) play else play)
+    without_draft number
+    (if draft.initial then with_view (tidy (removed draft.sess play.view)) play else play)
 
 -- ## ACK
 
 -- a sent INVITE whose 2xx in this SipSession is acknowledged
 unfoldable pub without_session : SessId → RequestView → RequestView
-without_session sess request = record request { unacked = remove_first (same_session sess) request.unacked }
+without_session sess request =
+    record request { unacked = remove_first (same_session sess) request.unacked }
 
 -- the ACK of the sent INVITE of lowest number draws its branch
 unfoldable pub acked : SessId → View → View
-acked sess view = tidy (record view { requests = change_first (awaits_ack sess) (without_session sess) view.requests; counter = view.counter + 1 })
+acked sess view =
+    tidy
+    (record view {
+      requests = change_first (awaits_ack sess) (without_session sess) view.requests;
+      counter = view.counter + 1;
+    })
 
 -- ## Proxies
 
 -- the request is proxied, to so many targets more
 unfoldable pub proxied_request : ℕ → RequestView → RequestView
-proxied_request count request = record request { proxied = true; branches = request.branches + count }
+proxied_request count request =
+    record request { proxied = true; branches = request.branches + count }
 
 -- the SipSession then waits for the tag of the callee
 unfoldable pub proxying : SessionView → SessionView
-proxying session = if is_proxy session.role then session else record session { role = roles.Proxy; peer_tag = None }
+proxying session =
+    if is_proxy session.role then session
+    else record session { role = roles.Proxy; peer_tag = None }
 
 -- the view once a received request is proxied to so many targets
 unfoldable pub proxied : Option RequestView → ℕ → View → View
 proxied None count view = view
-proxied (Some request) count view = change_session request.sess proxying (change_request request.id (proxied_request count) view)
+proxied (Some request) count view =
+    change_session request.sess proxying (change_request request.id (proxied_request count) view)
 
 -- ## Timers, attributes, flags
 
 -- a timer more, due after so many milliseconds
 unfoldable pub with_timer : ℕ → Period → Bytes → View → View
 with_timer delay period info view = record view {
-  timers = view.timers ++ record { id = record { 0 = view.next_timer }; due = view.now + delay; period = period; info = info } ∷ [];
+  timers =
+      view.timers
+      ++ record {
+        id = record { 0 = view.next_timer };
+        due = view.now + delay;
+        period = period;
+        info = info;
+      } ∷ [];
   next_timer = view.next_timer + 1;
 }
 
@@ -137,13 +168,15 @@ with_attribute name value fields =
 -- the application session, or a SipSession, goes away by itself once ready, or doesn't
 unfoldable pub flagged : Target → Bool → View → View
 flagged targets.Application flag view = record view { ready_flag = flag }
-flagged (targets.Session sess) flag view = change_session sess (λ session. record session { ready_flag = flag }) view
+flagged (targets.Session sess) flag view =
+    change_session sess (λ session. record session { ready_flag = flag }) view
 
 -- ## Each call
 
 -- what is left of the view and the drafts after an accepted call
 unfoldable pub after_call : Play → Call → Play
-after_call play (calls.Respond req answer) = with_view (answered (request_in play.view req) answer.code play.view) play
+after_call play (calls.Respond req answer) =
+    with_view (answered (request_in play.view req) answer.code play.view) play
 after_call play (calls.CreateRequest ask) = created ask play
 after_call play (calls.CreateInDialog sess ask) = created_later sess ask play
 after_call play (calls.B2bCreate req uri) = created_leg (request_in play.view req) play
@@ -152,17 +185,27 @@ after_call play (calls.Send draft) = sent draft (draft_in play draft) play
 after_call play (calls.Discard draft) = discarded draft (draft_in play draft) play
 after_call play (calls.Ack sess body) = with_view (acked sess play.view) play
 after_call play (calls.Cancel req) = play
-after_call play (calls.ProxyTo req uris how) = with_view (proxied (request_in play.view req) (length uris) play.view) play
+after_call play (calls.ProxyTo req uris how) =
+    with_view (proxied (request_in play.view req) (length uris) play.view) play
 after_call play (calls.ProxyCancel req) = play
-after_call play (calls.B2bRespond sess answer) = with_view (answered (begun_by play.view sess) answer.code play.view) play
+after_call play (calls.B2bRespond sess answer) =
+    with_view (answered (begun_by play.view sess) answer.code play.view) play
 after_call play (calls.Link a b) = with_view (linked a b play.view) play
 after_call play (calls.Unlink a) = with_view (unlinked a play.view) play
-after_call play (calls.StartTimer delay period info) = with_view (with_timer delay period info play.view) play
-after_call play (calls.CancelTimer id) = with_view (record play.view { timers = remove_first (is_timer id) play.view.timers }) play
-after_call play (calls.SetAttribute name value) = with_view (record play.view { attributes = with_attribute name value play.view.attributes }) play
+after_call play (calls.StartTimer delay period info) =
+    with_view (with_timer delay period info play.view) play
+after_call play (calls.CancelTimer id) =
+    with_view (record play.view { timers = remove_first (is_timer id) play.view.timers }) play
+after_call play (calls.SetAttribute name value) =
+    with_view (record play.view { attributes = with_attribute name value play.view.attributes })
+    play
 after_call play (calls.RemoveAttribute name) =
-    with_view (record play.view { attributes = remove_first (λ field. same_bytes field.name name) play.view.attributes }) play
-after_call play (calls.SetExpires minutes) = with_view (record play.view { expires = moment_after play.view.now minutes }) play
+    with_view
+    (record play.view {
+      attributes = remove_first (λ field. same_bytes field.name name) play.view.attributes;
+    }) play
+after_call play (calls.SetExpires minutes) =
+    with_view (record play.view { expires = moment_after play.view.now minutes }) play
 after_call play (calls.SetReadyFlag target flag) = with_view (flagged target flag play.view) play
 after_call play (calls.InvalidateSession sess) = with_view (invalidated sess play.view) play
 after_call play calls.InvalidateApplication = record play { ended = true }
@@ -210,7 +253,9 @@ played_by play call (Some refused) = play
 
 -- the play after a call, accepted or refused: it is listed
 unfoldable pub after_listed : Play → Call → Play
-after_listed play call = let after = played_by play call (refusal play call) in record after { listed = after.listed + 1 }
+after_listed play call =
+    let after = played_by play call (refusal play call) in
+    record after { listed = after.listed + 1 }
 
 -- as a turn begins
 unfoldable pub begun : View → Play

@@ -1,6 +1,6 @@
--- The events of an application session over a journal: which were queued, which were handled by a turn,
--- which wait, and which were dropped or answered as the session ended. And what a reader from outside is
--- shown of a net.
+-- The events of an application session over a journal: which were queued, which were handled by a
+-- turn, which wait, and which were dropped or answered as the session ended. And what a reader from
+-- outside is shown of a net.
 use Rattle.std.specs.Prelude.{ℕ, ◌+◌, List, [], ◌∷◌, ◌++◌, Option, None, Some, is_some, if◌then◌else◌, nat_lt, length, map, filter, slice_get}
 use Rattle.std.specs.List.{filter_map}
 use Rattle.std.specs.Option.{option_map_or}
@@ -25,7 +25,8 @@ use Rattle.sc_hosts.specs.Transacting.{is_same_app}
 
 -- the numbers of the events that wait in a session
 unfoldable pub waiting_in : {S : Type 0} → AppId → Net S → List ℕ
-waiting_in app net = option_map_or (λ live. map (λ waiting. waiting.number) live.inbox) (live_at app net) []
+waiting_in app net =
+    option_map_or (λ live. map (λ waiting. waiting.number) live.inbox) (live_at app net) []
 
 -- ## What a turn queues before it ends its session
 
@@ -33,23 +34,34 @@ waiting_in app net = option_map_or (λ live. map (λ waiting. waiting.number) li
 unfoldable pub opened : {S : Type 0} → Form S → Setup → AppId → Turn → Outcome → Net S → Net S
 opened form setup app turn done net =
     obeyed setup app done.orders
-    (change_host app.host (λ host. record host { sessions = change_first (is_live app.serial) (turned_live form setup.config net.moment turn done) host.sessions }) net)
+    (change_host app.host
+    (λ host.
+    record host {
+      sessions = change_first (is_live app.serial)
+          (turned_live form setup.config net.moment turn done) host.sessions;
+    }) net)
 
 -- the same for the first event that waits, if one does
-unfoldable pub opened_first : {S : Type 0} → Form S → Setup → AppId → Live S → Option Waiting → ℕ → List CallRecord → End → Net S → Net S
+unfoldable pub opened_first : {S : Type 0} → Form S → Setup → AppId → Live S → Option Waiting → ℕ
+    → List CallRecord → End → Net S → Net S
 opened_first form setup app live None now made end net = net
 opened_first form setup app live (Some waiting) now made end net =
-    opened form setup app (turn_of net app waiting now made end) (outcome_by form setup.config live.session (turn_of net app waiting now made end)) net
+    opened form setup app (turn_of net app waiting now made end)
+    (outcome_by form setup.config live.session (turn_of net app waiting now made end)) net
 
 -- the same for a session that may not live
-unfoldable pub opened_by : {S : Type 0} → Form S → Setup → AppId → Option (Live S) → ℕ → List CallRecord → End → Net S → Net S
+unfoldable pub opened_by : {S : Type 0} → Form S → Setup → AppId → Option (Live S) → ℕ
+    → List CallRecord → End → Net S → Net S
 opened_by form setup app None now made end net = net
-opened_by form setup app (Some live) now made end net = opened_first form setup app live (slice_get live.inbox 0) now made end net
+opened_by form setup app (Some live) now made end net =
+    opened_first form setup app live (slice_get live.inbox 0) now made end net
 
 -- the net as its own turn is about to end a session
 unfoldable pub before_end : {S : Type 0} → Form S → Setup → AppId → Net S → Step → Net S
 before_end form setup app net (steps.Turn other event now made end) =
-    if is_same_app app other then opened_by form setup other (live_at other net) now made end (record net { sent = [] }) else net
+    if is_same_app app other
+    then opened_by form setup other (live_at other net) now made end (record net { sent = [] })
+    else net
 before_end form setup app net step = net
 
 -- ## Queued
@@ -67,17 +79,21 @@ queued_by form setup app net step =
 -- those that these steps queued, from this net on
 unfoldable pub queued_from : {S : Type 0} → Form S → Setup → AppId → Net S → List Step → List ℕ
 queued_from form setup app net [] = []
-queued_from form setup app net (step ∷ steps) = queued_by form setup app net step ++ queued_from form setup app (after_step form setup net step) steps
+queued_from form setup app net (step ∷ steps) =
+    queued_by form setup app net step
+    ++ queued_from form setup app (after_step form setup net step) steps
 
 -- all events of a session, in the order in which they were queued
 unfoldable pub queued : {S : Type 0} → Form S → Setup → ℕ → ℕ → AppId → List Step → List ℕ
-queued form setup epoch began app journal = queued_from form setup app (start setup epoch began) journal
+queued form setup epoch began app journal =
+    queued_from form setup app (start setup epoch began) journal
 
 -- ## Handled, and waiting
 
 -- the event of a step that is a turn of this session
 unfoldable pub handled_by : AppId → Step → Option ℕ
-handled_by app (steps.Turn other event now calls end) = if is_same_app app other then Some event else None
+handled_by app (steps.Turn other event now calls end) =
+    if is_same_app app other then Some event else None
 handled_by app step = None
 
 -- those of the session's turns
@@ -93,23 +109,29 @@ waiting form setup epoch began app journal = waiting_in app (chained form setup 
 -- those that a step dropped, or answered, as it ended the session
 unfoldable pub purged_by : {S : Type 0} → Form S → Setup → AppId → Net S → Step → List ℕ
 purged_by form setup app net step =
-    if is_some (live_at app (after_step form setup net step)) then [] else waiting_in app (before_end form setup app net step)
+    if is_some (live_at app (after_step form setup net step)) then []
+    else waiting_in app (before_end form setup app net step)
 
 -- those that these steps dropped or answered, from this net on
 unfoldable pub purged_from : {S : Type 0} → Form S → Setup → AppId → Net S → List Step → List ℕ
 purged_from form setup app net [] = []
-purged_from form setup app net (step ∷ steps) = purged_by form setup app net step ++ purged_from form setup app (after_step form setup net step) steps
+purged_from form setup app net (step ∷ steps) =
+    purged_by form setup app net step
+    ++ purged_from form setup app (after_step form setup net step) steps
 
 -- those that were dropped, or answered, as the session ended
 unfoldable pub purged : {S : Type 0} → Form S → Setup → ℕ → ℕ → AppId → List Step → List ℕ
-purged form setup epoch began app journal = purged_from form setup app (start setup epoch began) journal
+purged form setup epoch began app journal =
+    purged_from form setup app (start setup epoch began) journal
 
 -- ## Listings
 
 -- the sessions that live, by host and serial
 unfoldable pub live_from : {S : Type 0} → ℕ → List (Host S) → List AppId
 live_from number [] = []
-live_from number (host ∷ hosts) = map (λ live. record { host = number; serial = live.serial }) host.sessions ++ live_from (number + 1) hosts
+live_from number (host ∷ hosts) =
+    map (λ live. record { host = number; serial = live.serial }) host.sessions
+    ++ live_from (number + 1) hosts
 
 -- the epoch, how many steps there were, which sessions live, and how many events wait
 pub record Listing : Type 0 where

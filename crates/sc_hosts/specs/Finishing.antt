@@ -1,6 +1,6 @@
--- A turn ends: what the container does after its calls, in this order: drafts that were left, the answer
--- to a fault, proxies, a later request that is passed on, and the end of what is ready (JSR 289 sections
--- 6.1.2 and 6.2.4, RFC 3261 section 16).
+-- A turn ends: what the container does after its calls, in this order: drafts that were left, the
+-- answer to a fault, proxies, a later request that is passed on, and the end of what is ready (JSR
+-- 289 sections 6.1.2 and 6.2.4, RFC 3261 section 16).
 use Rattle.std.specs.Prelude.{ℕ, ◌==◌, List, [], ◌∷◌, ◌++◌, Bool, true, false, not, ◌&&◌, ◌||◌, Option, is_some, is_none, if◌then◌else◌, length, filter}
 use Rattle.std.specs.List.{list_any, list_all, flat_map, fold}
 use Rattle.std.specs.Option.{option_map_or}
@@ -52,7 +52,11 @@ is_open_in sess request = same_session request.sess sess && lacks_final request
 -- the application left the path of later requests
 unfoldable pub has_left : Known → SessId → Bool
 has_left known sess =
-    option_map_or (λ leg. option_map_or (λ req. option_map_or (λ proxy. not (records_route proxy)) (proxy_of known req) false) leg.first false) (leg_of known sess) false
+    option_map_or
+    (λ leg.
+    option_map_or
+    (λ req. option_map_or (λ proxy. not (records_route proxy)) (proxy_of known req) false)
+    leg.first false) (leg_of known sess) false
 
 -- ended, or a proxy that left the path of its dialog, or a UAC whose request failed
 unfoldable pub is_idle : Known → SessionView → Bool
@@ -64,7 +68,8 @@ is_idle known session =
 -- the SipSession is ready to go away (JSR 289 section 6.2.4): it is idle, and none of its requests
 -- is open
 unfoldable pub is_session_ready : Known → View → SessionView → Bool
-is_session_ready known view session = is_idle known session && not (list_any (is_open_in session.id) view.requests)
+is_session_ready known view session =
+    is_idle known session && not (list_any (is_open_in session.id) view.requests)
 
 -- it is gone, or ready to go
 unfoldable pub is_session_done : Known → View → SessionView → Bool
@@ -72,40 +77,57 @@ is_session_done known view session = session.gone || is_session_ready known view
 
 -- the application session is ready to go away
 unfoldable pub is_ready : Session → Bool
-is_ready session = list_all (is_session_done session.known session.view) session.view.sessions && length session.view.timers == 0
+is_ready session =
+    list_all (is_session_done session.known session.view) session.view.sessions
+    && length session.view.timers == 0
 
 -- ## What goes away
 
 -- the view without this SipSession, where it goes away by itself
 unfoldable pub swept_one : Known → View → View → SessionView → View
 swept_one known before view session =
-    if session.ready_flag && not session.gone && is_session_ready known before session then removed session.id view else view
+    if session.ready_flag && not session.gone && is_session_ready known before session
+    then removed session.id view
+    else view
 
 -- each ready SipSession with its flag set
 unfoldable pub swept : Session → Session
-swept session = record session { view = tidy (fold (swept_one session.known session.view) session.view session.view.sessions) }
+swept session =
+    record session {
+      view = tidy (fold (swept_one session.known session.view) session.view session.view.sessions);
+    }
 
 -- a received ACK stands in its own turn alone
 unfoldable pub without_acks : View → View
-without_acks view = record view { requests = filter (λ request. not (request.received && same_bytes request.method ack)) view.requests }
+without_acks view =
+    record view {
+      requests = filter (λ request. not (request.received && same_bytes request.method ack))
+          view.requests;
+    }
 
 -- the request began the SipSession of this leg, which the application didn't end
 unfoldable pub can_derive : Kept → Option Leg → Bool
-can_derive kept leg = option_map_or (λ l. option_map_or (same_request kept.id) l.first false && not l.invalidated) leg false
+can_derive kept leg =
+    option_map_or (λ l. option_map_or (same_request kept.id) l.first false && not l.invalidated) leg
+    false
 
 -- a 2xx can still come to the INVITE: its SipSession takes it, or a further one is derived for it
 unfoldable pub can_succeed : View → Option Leg → Kept → Bool
-can_succeed view leg kept = same_bytes kept.request.method invite && (not (is_gone (session_in view kept.sess)) || can_derive kept leg)
+can_succeed view leg kept =
+    same_bytes kept.request.method invite
+    && (not (is_gone (session_in view kept.sess)) || can_derive kept leg)
 
 -- what can still be needed of a request
 unfoldable pub is_needed : View → Option Leg → Kept → Way → Bool
 is_needed view leg kept (Received event) = option_map_or lacks_final (request_in view kept.id) false
-is_needed view leg kept (Sent branch) = is_some (request_in view kept.id) || can_succeed view leg kept
+is_needed view leg kept (Sent branch) =
+    is_some (request_in view kept.id) || can_succeed view leg kept
 
 -- the session without the requests that aren't needed any more
 unfoldable pub lightened : Session → Session
 lightened session = record session {
-  known = record session.known { kept = filter (λ kept. is_needed session.view (leg_of session.known kept.sess) kept kept.way) session.known.kept };
+  known =
+      record session.known { kept = filter (λ kept. is_needed session.view (leg_of session.known kept.sess) kept kept.way) session.known.kept };
 }
 
 -- ## The whole turn
@@ -139,7 +161,9 @@ finished config event req end working =
 -- what a turn leaves: the session, what it sends, and whether it ends
 unfoldable pub outcome_of : Queued → Working → Outcome
 outcome_of event working = record {
-  session = lightened (if is_ended event working then session_in_play working else swept (session_in_play working));
+  session =
+      lightened
+      (if is_ended event working then session_in_play working else swept (session_in_play working));
   orders = working.orders;
   ends = is_ended event working;
 }
@@ -148,7 +172,8 @@ outcome_of event working = record {
 unfoldable pub outcome : Config → List ℕ → Session → Waiting → ℕ → List CallRecord → End → Outcome
 outcome config heard session waiting now made end =
     let shown : Prepared = prepared config heard session waiting now in
-    outcome_of waiting.event (finished config waiting.event shown.req end (worked_all config shown made))
+    outcome_of waiting.event
+    (finished config waiting.event shown.req end (worked_all config shown made))
 
 -- ## Goodbye: what invalidation sends
 
@@ -157,9 +182,11 @@ unfoldable pub waiting_answer : Bytes → Waiting → List Order
 waiting_answer tag waiting = unanswered waiting.event
   where
     unanswered : Queued → List Order
-    unanswered (queued.Initial region subscriber popped request) = orders.Respond waiting.number (own_response tag 481 does_not_exist request) ∷ []
+    unanswered (queued.Initial region subscriber popped request) =
+        orders.Respond waiting.number (own_response tag 481 does_not_exist request) ∷ []
     unanswered (queued.Request request) =
-        if same_bytes request.method ack then [] else orders.Respond waiting.number (own_response [] 481 does_not_exist request) ∷ []
+        if same_bytes request.method ack then []
+        else orders.Respond waiting.number (own_response [] 481 does_not_exist request) ∷ []
     unanswered event = []
 
 -- 500 to what was handled, 481 to what waits, and then the CANCELs
@@ -167,7 +194,8 @@ unfoldable pub goodbye : Config → Session → List Waiting → List Order
 goodbye config session inbox =
     filter is_answer (goodbyes config session.view session.known (λ sess. true))
     ++ flat_map (waiting_answer (own_tag_of session.view FIRST_SESSION)) inbox
-    ++ filter (λ order. not (is_answer order)) (goodbyes config session.view session.known (λ sess. true))
+    ++ filter (λ order. not (is_answer order))
+    (goodbyes config session.view session.known (λ sess. true))
   where
     is_answer : Order → Bool
     is_answer (orders.Respond event response) = true

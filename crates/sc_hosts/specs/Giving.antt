@@ -34,19 +34,23 @@ giving given working = record working { orders = working.orders ++ given }
 -- the answer to a kept request, by its server transaction; a sent request gets none
 unfoldable pub answer_order : Config → View → Bool → Answer → Kept → Way → List Order
 answer_order config view initial answer kept (Received event) =
-    orders.Respond event (given_response config view (own_tag_of view kept.sess) initial kept.request answer) ∷ []
+    orders.Respond event
+    (given_response config view (own_tag_of view kept.sess) initial kept.request answer) ∷ []
 answer_order config view initial answer kept (Sent branch) = []
 
 -- the answer to a request that may not be kept any more
 unfoldable pub answers : Config → Answer → View → Option Kept → Bool → List Order
 answers config answer view None initial = []
-answers config answer view (Some kept) initial = answer_order config view initial answer kept kept.way
+answers config answer view (Some kept) initial =
+    answer_order config view initial answer kept kept.way
 
 -- the answer to a received request that is shown
 unfoldable pub answering : Config → Option RequestView → Answer → Working → Working
 answering config None answer working = working
 answering config (Some request) answer working =
-    giving (answers config answer working.play.view (kept_of working.known request.id) request.initial) working
+    giving
+    (answers config answer working.play.view (kept_of working.known request.id) request.initial)
+    working
 
 -- ## Drafts
 
@@ -56,7 +60,10 @@ writes draft working = record working { written = working.written ++ draft ∷ [
 
 -- a further SipSession has its leg, of which nothing is known yet
 abbrev pub with_leg : Working → Working
-with_leg working = record working { known = record working.known { legs = working.known.legs ++ new_leg None ∷ [] } }
+with_leg working =
+    record working {
+      known = record working.known { legs = working.known.legs ++ new_leg None ∷ [] };
+    }
 
 -- an initial request of one's own, with a Call-ID and a From tag that are drawn for it
 unfoldable pub drafts_own : Ask → Working → Working
@@ -64,12 +71,20 @@ drafts_own ask working = with_leg (writes (record {
   number = working.play.drafted + 1;
   directive = ask.directive;
   origin = ask.origin;
-  asked = asked.Initial (asked_request (new_call_id working.play.view) (new_tag working.play.view) ask);
+  asked =
+      asked.Initial (asked_request (new_call_id working.play.view) (new_tag working.play.view) ask);
 }) working)
 
 -- a request in a dialog; it is made once it is sent
 unfoldable pub drafts_later : Inside → Working → Working
-drafts_later ask working = writes (record { number = working.play.drafted + 1; directive = Continue; origin = None; asked = asked.Later ask }) working
+drafts_later ask working =
+    writes
+    (record {
+      number = working.play.drafted + 1;
+      directive = Continue;
+      origin = None;
+      asked = asked.Later ask;
+    }) working
 
 -- the second leg of a received request
 unfoldable pub drafts_leg : ReqId → Option Uri → Option Kept → Working → Working
@@ -78,7 +93,9 @@ drafts_leg req uri (Some kept) working = with_leg (writes (record {
   number = working.play.drafted + 1;
   directive = Continue;
   origin = Some req;
-  asked = asked.Initial (leg_request (new_call_id working.play.view) (new_tag working.play.view) uri kept.request);
+  asked =
+      asked.Initial
+      (leg_request (new_call_id working.play.view) (new_tag working.play.view) uri kept.request);
 }) working)
 
 -- the draft has this number
@@ -88,9 +105,12 @@ is_written number draft = draft.number == number
 -- how the router is to go on for a draft, and from which received request
 unfoldable pub directs : ℕ → Directive → Option ReqId → Working → Working
 directs number directive origin working = record working {
-  written = change_first (is_written number) (λ draft. record draft { directive = directive; origin = origin }) working.written;
+  written =
+      change_first (is_written number)
+      (λ draft. record draft { directive = directive; origin = origin }) working.written;
 }
 
 -- the content of a draft that was sent or dropped is let go
 unfoldable pub forgets : ℕ → Working → Working
-forgets number working = record working { written = remove_first (is_written number) working.written }
+forgets number working =
+    record working { written = remove_first (is_written number) working.written }

@@ -1,5 +1,6 @@
--- The charters of servlets for reliable provisional responses (RFC 3262), session timers (RFC 4028) and
--- event notification (RFC 6665), as the calls that they make. What they remember stands in attributes.
+-- The charters of servlets for reliable provisional responses (RFC 3262), session timers (RFC 4028)
+-- and event notification (RFC 6665), as the calls that they make. What they remember stands in
+-- attributes.
 use Rattle.std.specs.Prelude.{ℕ, ◌==◌, List, [], Bool, not, ◌&&◌, ◌||◌, Option, None, Some, is_some, option_map, option_and_then, if◌then◌else◌, codes, decimal, length, map, nat_lt, slice_get, filter}
 use Rattle.std.specs.List.{find, list_any}
 use Rattle.sc_value.specs.declared.ids.ReqId.{ReqId}
@@ -25,15 +26,20 @@ text_is a b = same_bytes a b
 
 -- a decimal without leading zero
 unfoldable pub strict_number : Bytes → Option ℕ
-strict_number text = option_and_then (λ n. if same_bytes (decimal n) text then Some n else None) (number_of text)
+strict_number text =
+    option_and_then (λ n. if same_bytes (decimal n) text then Some n else None) (number_of text)
 
 -- the SipSession whose number of 32 bits the text is
 unfoldable pub session_number : Bytes → Option SessId
-session_number text = option_and_then (λ n. if nat_lt n 4294967296 then Some (record { 0 = n }) else None) (strict_number text)
+session_number text =
+    option_and_then (λ n. if nat_lt n 4294967296 then Some (record { 0 = n }) else None)
+    (strict_number text)
 
 -- the value of the first header of this name
 unfoldable pub field_of : Bytes → Request → Option Bytes
-field_of name request = option_map (λ field. field.value) (find (λ field. same_name field.name name) request.head.others)
+field_of name request =
+    option_map (λ field. field.value)
+    (find (λ field. same_name field.name name) request.head.others)
 
 -- the items between commas
 unfoldable pub items_of : Bytes → List Bytes
@@ -41,7 +47,8 @@ items_of value = map trimmed (pieces 44 value)
 
 -- the words between blanks
 unfoldable pub words_of : Bytes → List Bytes
-words_of value = filter (λ word. not (length word == 0)) (pieces 32 (map (λ b. if b == 9 then 32 else b) value))
+words_of value =
+    filter (λ word. not (length word == 0)) (pieces 32 (map (λ b. if b == 9 then 32 else b) value))
 
 -- the header of what a sender supports (RFC 3261 section 20.37)
 unfoldable pub supported_word : Bytes
@@ -54,13 +61,18 @@ require_word = codes "Require"
 -- a Supported or Require header has this option (RFC 3261 sections 20.32 and 20.37)
 unfoldable pub lists_option : Bytes → Request → Bool
 lists_option option request =
-    list_any (λ field. (same_name field.name supported_word || same_name field.name require_word) && list_any (same_name option) (items_of field.value)) request.head.others
+    list_any
+    (λ field.
+    (same_name field.name supported_word || same_name field.name require_word)
+    && list_any (same_name option) (items_of field.value)) request.head.others
 
 -- ## Calls
 
 -- `respond` with this code and reason and these headers, without Contact and body
 unfoldable pub answer_with : ReqId → ℕ → Bytes → List Field → Call
-answer_with req code reason fields = calls.Respond req (record { code = code; reason = reason; fields = fields; contact = []; body = [] })
+answer_with req code reason fields =
+    calls.Respond req
+    (record { code = code; reason = reason; fields = fields; contact = []; body = [] })
 
 -- a header
 unfoldable pub field : Bytes → Bytes → Field
@@ -78,13 +90,18 @@ send_in sess method fields body script =
 
 -- what was answered is dropped where there is such an attribute
 unfoldable pub remove_then : Bytes → View → Script → Script
-remove_then name view script = if is_some (attribute name view) then accepted_then (calls.RemoveAttribute name) script else script
+remove_then name view script =
+    if is_some (attribute name view) then accepted_then (calls.RemoveAttribute name) script
+    else script
 
 -- this timer is cancelled where it is active; then the script goes on
 unfoldable pub cancel_then : ℕ → View → Script → Script
 cancel_then timer view script =
-    if is_some (timer_in view (record { 0 = timer })) then accepted_then (calls.CancelTimer (record { 0 = timer })) script else script
+    if is_some (timer_in view (record { 0 = timer }))
+    then accepted_then (calls.CancelTimer (record { 0 = timer })) script
+    else script
 
 -- the first active timer is cancelled
 unfoldable pub cancel_first_timer : View → Script
-cancel_first_timer view = where_some (slice_get view.timers 0) (λ timer. only (calls.CancelTimer timer.id))
+cancel_first_timer view =
+    where_some (slice_get view.timers 0) (λ timer. only (calls.CancelTimer timer.id))

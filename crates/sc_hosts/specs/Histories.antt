@@ -1,5 +1,5 @@
--- An application session as its whole life: how it began, and its turns; and the two forms in which the
--- hosts keep sessions.
+-- An application session as its whole life: how it began, and its turns; and the two forms in which
+-- the hosts keep sessions.
 use Rattle.std.specs.Prelude.{ℕ, List, [], ◌∷◌}
 use Rattle.sc_value.specs.declared.ids.AppId.{AppId}
 use Rattle.sc_value.specs.declared.message.Request.{Request}
@@ -22,12 +22,15 @@ pub record History : Type 0 where
 
 -- what a session is after a turn
 unfoldable pub after_turn : Config → Turn → Session → Session
-after_turn config turn session = (outcome config turn.ringing session turn.waiting turn.now turn.calls turn.end).session
+after_turn config turn session =
+    (outcome config turn.ringing session turn.waiting turn.now turn.calls turn.end).session
 
 -- what it is after these turns, the newest first
 unfoldable pub session_after : Config → History → List Turn → Session
-session_after config history [] = fresh config history.app history.epoch history.began history.noted history.request
-session_after config history (turn ∷ earlier) = after_turn config turn (session_after config history earlier)
+session_after config history [] =
+    fresh config history.app history.epoch history.began history.noted history.request
+session_after config history (turn ∷ earlier) =
+    after_turn config turn (session_after config history earlier)
 
 -- what it is
 unfoldable pub session_of : Config → History → Session

@@ -43,7 +43,10 @@ quiet host count = record { host = host; reply = None; count = count }
 unfoldable pub queue : {S : Type 0} → ℕ → ℕ → Queued → ℕ → Host S → Taken S
 queue serial now event count host =
     if is_some (live_in serial host)
-    then quiet (record host { sessions = change_first (is_live serial) (with_event (count + 1) now event) host.sessions }) (count + 1)
+    then quiet
+    (record host {
+      sessions = change_first (is_live serial) (with_event (count + 1) now event) host.sessions;
+    }) (count + 1)
     else quiet host count
 
 -- as many events wait as may
@@ -56,4 +59,5 @@ is_full_at serial host = option_map_or is_full (live_in serial host) false
 
 -- the host answers with this message at once
 abbrev pub replying : {S : Type 0} → Peer → Message → Taken S → Taken S
-replying peer message taken = record taken { reply = Some (record { peer = peer; message = message }) }
+replying peer message taken =
+    record taken { reply = Some (record { peer = peer; message = message }) }

@@ -1,5 +1,6 @@
--- What an application session knows beside its view: how it begins, in which SipSession a message is
--- handled, and what a message makes of the SipSession (RFC 3261 sections 12 and 13, JSR 289 section 6).
+-- What an application session knows beside its view: how it begins, in which SipSession a message
+-- is handled, and what a message makes of the SipSession (RFC 3261 sections 12 and 13, JSR 289
+-- section 6).
 use Rattle.std.specs.Prelude.{ℕ, ◌-◌, List, [], ◌∷◌, ◌++◌, Bool, true, false, not, ◌&&◌, ◌||◌, Option, None, Some, is_some, option_map, option_and_then, unwrap_or, nat_lt, max, if◌then◌else◌, slice_get}
 use Rattle.std.specs.List.{find, list_any}
 use Rattle.std.specs.Option.{option_map_or}
@@ -42,7 +43,15 @@ change_leg sess change known = record known { legs = change_nth (sess.0 - 1) cha
 
 -- a leg of which nothing is known yet
 unfoldable pub new_leg : Option ReqId → Leg
-new_leg first = record { first = first; caller = None; dialog = None; got = []; invalidated = false; overtaken = false }
+new_leg first =
+    record {
+      first = first;
+      caller = None;
+      dialog = None;
+      got = [];
+      invalidated = false;
+      overtaken = false;
+    }
 
 -- ## How an application session begins
 
@@ -90,7 +99,8 @@ first_view config app epoch began request = record {
 
 -- the number of the request that begins a SipSession, by its sender's tag
 unfoldable pub first_got : Request → List Got
-first_got request = record { tag = tag_of request.head.from; number = request.head.cseq.number } ∷ []
+first_got request =
+    record { tag = tag_of request.head.from; number = request.head.cseq.number } ∷ []
 
 -- the leg of the first SipSession: the dialog on the called side, in case it answers, and the
 -- caller's tag, in case it proxies
@@ -142,24 +152,28 @@ to_tag request = tag_of request.head.to
 -- a proxied dialog has two peers, whose requests come in both directions
 unfoldable pub between_peers : Option Bytes → Option Bytes → Request → Bool
 between_peers caller callee request =
-    (same_tag caller (from_tag request) && same_tag callee (to_tag request)) || (same_tag callee (from_tag request) && same_tag caller (to_tag request))
+    (same_tag caller (from_tag request) && same_tag callee (to_tag request))
+    || (same_tag callee (from_tag request) && same_tag caller (to_tag request))
 
 -- the request is one of the SipSession's dialog: between the two peers of a proxied one, else from
 -- the peer to the own side
 unfoldable pub in_dialog_by : SessionView → Option Bytes → Request → Bool
 in_dialog_by session caller request =
     if is_proxy session.role then between_peers caller session.peer_tag request
-    else same_tag (Some session.own_tag) (to_tag request) && same_tag session.peer_tag (from_tag request)
+    else same_tag (Some session.own_tag) (to_tag request)
+    && same_tag session.peer_tag (from_tag request)
 
 -- an open dialog of this Call-ID and these tags
 unfoldable pub takes_request : Known → Request → SessionView → Bool
 takes_request known request session =
-    is_open_state session.state && not session.gone && same_bytes session.call_id request.head.call_id
+    is_open_state session.state && not session.gone
+    && same_bytes session.call_id request.head.call_id
     && in_dialog_by session (option_and_then (λ leg. leg.caller) (leg_of known session.id)) request
 
 -- the SipSession in whose dialog a later request came
 unfoldable pub session_for : Session → Request → Option SessId
-session_for session request = option_map (λ s. s.id) (find (takes_request session.known request) session.view.sessions)
+session_for session request =
+    option_map (λ s. s.id) (find (takes_request session.known request) session.view.sessions)
 
 -- the greatest number that came before from this tag
 unfoldable pub greatest_got : Option Bytes → List Got → ℕ
@@ -172,10 +186,13 @@ with_got tag number got =
     then change_first (λ g. same_tag g.tag tag) (λ g. record g { number = max g.number number }) got
     else got ++ record { tag = tag; number = number } ∷ []
 
--- the number is lower than one that came before (RFC 3261 section 12.2.2). An ACK may have a lower one
+-- the number is lower than one that came before (RFC 3261 section 12.2.2). An ACK may have a lower
+-- one
 unfoldable pub is_low : Option Leg → Request → Bool
 is_low leg request =
-    not (same_bytes request.method ack) && option_map_or (λ l. nat_lt request.head.cseq.number (greatest_got (from_tag request) l.got)) leg false
+    not (same_bytes request.method ack)
+    && option_map_or
+    (λ l. nat_lt request.head.cseq.number (greatest_got (from_tag request) l.got)) leg false
 
 -- ## The dialog after a message
 
@@ -185,17 +202,22 @@ retargeted dialog (By_peer (messages.Request request)) = record dialog {
   target = unwrap_or (request_target request) dialog.target;
   received = max dialog.received request.head.cseq.number;
 }
-retargeted dialog (By_peer (messages.Response response)) = record dialog { target = unwrap_or (response_target dialog.begun_by response) dialog.target }
-retargeted dialog (By_self (messages.Request request)) = record dialog { sent = max dialog.sent request.head.cseq.number }
+retargeted dialog (By_peer (messages.Response response)) =
+    record dialog { target = unwrap_or (response_target dialog.begun_by response) dialog.target }
+retargeted dialog (By_self (messages.Request request)) =
+    record dialog { sent = max dialog.sent request.head.cseq.number }
 retargeted dialog (By_self (messages.Response response)) = dialog
 
 -- the dialog of the leg after a message
 unfoldable pub in_dialog : Passed → Leg → Leg
-in_dialog passed leg = record leg { dialog = option_map (λ dialog. retargeted dialog passed) leg.dialog }
+in_dialog passed leg =
+    record leg { dialog = option_map (λ dialog. retargeted dialog passed) leg.dialog }
 
 -- the leg after a request of the peer
 unfoldable pub with_request : Request → Leg → Leg
-with_request request leg = in_dialog (By_peer (messages.Request request)) (record leg { got = with_got (from_tag request) request.head.cseq.number leg.got })
+with_request request leg =
+    in_dialog (By_peer (messages.Request request))
+    (record leg { got = with_got (from_tag request) request.head.cseq.number leg.got })
 
 -- the response makes the dialog of the request: a 101 to 299 to INVITE, a 2xx to SUBSCRIBE
 unfoldable pub makes_dialog_of : Request → Response → Bool
@@ -203,16 +225,23 @@ makes_dialog_of request response =
     if same_bytes request.method invite then is_success response.code || (makes_dialog response.code && is_some (tag_of response.head.to))
     else same_bytes request.method subscribe && is_success response.code
 
--- a response is one to the request on whose branch it came, whatever number its CSeq has (RFC 3261 section
--- 17.1.3)
+-- a response is one to the request on whose branch it came, whatever number its CSeq has (RFC 3261
+-- section 17.1.3)
 unfoldable pub as_answer : Request → Response → Response
-as_answer request response = record response { head = record response.head { cseq = record response.head.cseq { number = request.head.cseq.number } } }
+as_answer request response =
+    record response {
+      head =
+          record response.head { cseq = record response.head.cseq { number = request.head.cseq.number } };
+    }
 
 -- the dialog is that of the response that made it
 unfoldable pub answered_leg : Request → Response → Leg → Leg
 answered_leg request response leg =
     if is_some leg.dialog then in_dialog (By_peer (messages.Response response)) leg
-    else (if makes_dialog_of request response then record leg { dialog = Some (dialog_of (Calling request response) []) } else leg)
+    else
+    (if makes_dialog_of request response
+    then record leg { dialog = Some (dialog_of (Calling request response) []) }
+    else leg)
 
 -- the leg after a response to this request
 unfoldable pub with_answer : Request → Response → Leg → Leg

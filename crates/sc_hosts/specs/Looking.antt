@@ -114,11 +114,13 @@ session_count view = length (filter (λ session. not session.gone) view.sessions
 
 -- a change of the request of this number
 abbrev pub change_request : ReqId → (RequestView → RequestView) → View → View
-change_request req change view = record view { requests = change_first (is_request req) change view.requests }
+change_request req change view =
+    record view { requests = change_first (is_request req) change view.requests }
 
 -- a change of the SipSession of this number
 abbrev pub change_session : SessId → (SessionView → SessionView) → View → View
-change_session sess change view = record view { sessions = change_first (is_session sess) change view.sessions }
+change_session sess change view =
+    record view { sessions = change_first (is_session sess) change view.sessions }
 
 -- the SipSession in this state
 unfoldable pub in_state : State → SessionView → SessionView
@@ -143,4 +145,5 @@ unlinked sess view = change_session sess (linked_to None) (unlinked_from (partne
 
 -- the SipSession gone, with its link
 unfoldable pub removed : SessId → View → View
-removed sess view = change_session sess (λ session. record session { gone = true }) (unlinked sess view)
+removed sess view =
+    change_session sess (λ session. record session { gone = true }) (unlinked sess view)

@@ -39,7 +39,8 @@ own_via config epoch app branch = record {
   transport = tcp;
   host = ip_text config.listen.0;
   port = Some config.listen.1;
-  params = record { name = branch_name; value = Some (branch_text config.salt epoch app branch) } ∷ [];
+  params =
+      record { name = branch_name; value = Some (branch_text config.salt epoch app branch) } ∷ [];
 }
 
 -- the address of a URI, without display name and parameters
@@ -48,11 +49,13 @@ plain uri = record { display = None; uri = Sip uri; params = [] }
 
 -- the Record-Route and Contact of an application session
 unfoldable pub own_address : Config → ℕ → AppId → Address
-own_address config epoch app = plain (session_uri (ip_text config.listen.0) config.listen.1 epoch app)
+own_address config epoch app =
+    plain (session_uri (ip_text config.listen.0) config.listen.1 epoch app)
 
 -- the request with this Via on top
 abbrev pub with_via : Via → Request → Request
-with_via via request = record request { head = record request.head { via = via ∷ request.head.via } }
+with_via via request =
+    record request { head = record request.head { via = via ∷ request.head.via } }
 
 -- the request as it is sent on this branch
 unfoldable pub on_branch : Config → View → ℕ → Request → Request
@@ -65,7 +68,9 @@ with_contact contacts request = record request { head = record request.head { co
 -- a request that an application makes has the own Contact where it sets the target of a dialog
 unfoldable pub from_here : Config → View → Request → Request
 from_here config view request =
-    if sets_target request.method then with_contact (At (own_address config view.epoch view.app) ∷ []) request else request
+    if sets_target request.method
+    then with_contact (At (own_address config view.epoch view.app) ∷ []) request
+    else request
 
 -- ## Initial requests
 
@@ -89,8 +94,8 @@ asked_request call_id tag ask = record {
   };
 }
 
--- the second leg of a back-to-back agent (JSR 289 section 12.3): what the application didn't change is
--- that of the first
+-- the second leg of a back-to-back agent (JSR 289 section 12.3): what the application didn't change
+-- is that of the first
 unfoldable pub leg_request : Bytes → Bytes → Option Uri → Request → Request
 leg_request call_id tag uri request = record {
   method = request.method;
@@ -110,14 +115,16 @@ leg_request call_id tag uri request = record {
   };
 }
 
--- a proxied request (RFC 3261 section 16.6): the target, one hop less, and the own Record-Route on top
--- where the application stays on the path
+-- a proxied request (RFC 3261 section 16.6): the target, one hop less, and the own Record-Route on
+-- top where the application stays on the path
 unfoldable pub proxied_request : Config → View → Bool → Uri → Request → Request
 proxied_request config view record_route target request = record request {
   uri = target;
   hops = request.hops - 1;
   head = record request.head {
-    record_route = if record_route then own_address config view.epoch view.app ∷ request.head.record_route else request.head.record_route;
+    record_route =
+        if record_route then own_address config view.epoch view.app ∷ request.head.record_route
+        else request.head.record_route;
   };
 }
 
@@ -139,13 +146,18 @@ begins_dialog request = same_bytes request.method invite || same_bytes request.m
 unfoldable pub with_routes : Bool → Request → Response → Response
 with_routes initial request response =
     if initial && begins_dialog request && makes_dialog response.code
-    then record response { head = record response.head { record_route = request.head.record_route } } else response
+    then
+    record response { head = record response.head { record_route = request.head.record_route } }
+    else response
 
 -- an answer that sets the target of a dialog has the own Contact
 unfoldable pub answered_here : Config → View → Request → Response → Response
 answered_here config view request response =
     if sets_target request.method && makes_dialog response.code
-    then record response { head = record response.head { contact = At (own_address config view.epoch view.app) ∷ [] } } else response
+    then
+    record response {
+      head = record response.head { contact = At (own_address config view.epoch view.app) ∷ [] };
+    } else response
 
 -- the response to a received request that an application gives
 unfoldable pub given_response : Config → View → Bytes → Bool → Request → Answer → Response
@@ -154,7 +166,8 @@ given_response config view tag initial request answer =
 
 -- an answer of code and reason alone
 unfoldable pub bare_answer : ℕ → Bytes → Answer
-bare_answer code reason = record { code = code; reason = reason; fields = []; contact = []; body = [] }
+bare_answer code reason =
+    record { code = code; reason = reason; fields = []; contact = []; body = [] }
 
 -- a response that the container gives by itself
 unfoldable pub own_response : Bytes → ℕ → Bytes → Request → Response
@@ -187,11 +200,13 @@ bad_response salt heads = record {
 
 -- a response without its top Via
 unfoldable pub without_via : Response → Response
-without_via response = record response { head = record response.head { via = drop 1 response.head.via } }
+without_via response =
+    record response { head = record response.head { via = drop 1 response.head.via } }
 
 -- ## CANCEL, and the ACK to another final response than 2xx (RFC 3261 sections 9.1 and 17.1.1.3)
 
--- with the top Via, Request-URI, Route, From, Call-ID and CSeq number of the INVITE, and with this To
+-- with the top Via, Request-URI, Route, From, Call-ID and CSeq number of the INVITE, and with this
+-- To
 unfoldable pub kin : Bytes → Address → Request → Request
 kin method to request = record {
   method = method;

@@ -63,9 +63,13 @@ change_host number change net = record net { hosts = change_nth number change ne
 
 -- outside at once, or onto the wire
 unfoldable pub put : {S : Type 0} → ℕ → Peer → Message → Option Note → Net S → Net S
-put sender (peers.Outside place) message noted net = record net { sent = net.sent ++ record { place = place; message = message } ∷ [] }
+put sender (peers.Outside place) message noted net =
+    record net { sent = net.sent ++ record { place = place; message = message } ∷ [] }
 put sender (peers.Inside host) message noted net =
-    record net { wire = net.wire ++ record { sender = sender; receiver = host; message = message; note = noted } ∷ [] }
+    record net {
+      wire = net.wire
+          ++ record { sender = sender; receiver = host; message = message; note = noted } ∷ [];
+    }
 put sender peers.Nowhere message noted net = net
 
 -- what a host answers at once, sent
@@ -75,12 +79,15 @@ put_reply sender (Some reply) net = put sender reply.peer reply.message None net
 
 -- the host of this number took a message
 unfoldable pub placed : {S : Type 0} → ℕ → Taken S → Net S → Net S
-placed number taken net = put_reply number taken.reply (record (change_host number (λ host. taken.host) net) { count = taken.count })
+placed number taken net =
+    put_reply number taken.reply
+    (record (change_host number (λ host. taken.host) net) { count = taken.count })
 
 -- an event for a session, where it lives
 unfoldable pub queued_at : {S : Type 0} → AppId → Queued → Option (Host S) → Net S → Net S
 queued_at app event None net = net
-queued_at app event (Some host) net = placed app.host (queue app.serial net.moment event net.count host) net
+queued_at app event (Some host) net =
+    placed app.host (queue app.serial net.moment event net.count host) net
 
 -- an event for a session, where its host is there
 unfoldable pub queue_for : {S : Type 0} → AppId → Queued → Net S → Net S
@@ -91,34 +98,54 @@ queue_for app event net = queued_at app event (host_at app.host net) net
 -- the host answers its own request, which goes nowhere
 unfoldable pub tell_own : {S : Type 0} → Config → AppId → ℕ → ℕ → Bytes → Request → Net S → Net S
 tell_own config app branch code reason request net =
-    queue_for app (queued.Response branch (without_via (own_response (edge_tag config.salt) code reason request))) net
+    queue_for app
+    (queued.Response branch
+    (without_via (own_response (edge_tag config.salt) code reason request))) net
 
 -- a request with its client transaction
 unfoldable pub send_to : {S : Type 0} → AppId → ℕ → Peer → Option Note → Request → Net S → Net S
 send_to app branch peer noted request net =
     put app.host peer (messages.Request request) noted
-    (change_host app.host (with_client (record { app = app; branch = branch; peer = peer; request = request; sent = net.moment; passed = [] })) net)
+    (change_host app.host
+    (with_client
+    (record {
+      app = app;
+      branch = branch;
+      peer = peer;
+      request = request;
+      sent = net.moment;
+      passed = [];
+    })) net)
 
 -- a request that leaves for this place; where there is none its session is told 503
-unfoldable pub leave_for : {S : Type 0} → Config → AppId → ℕ → Request → Option Place → Net S → Net S
-leave_for config app branch request None net = tell_own config app branch 503 unavailable request net
-leave_for config app branch request (Some place) net = send_to app branch (peers.Outside place) None request net
+unfoldable pub leave_for : {S : Type 0} → Config → AppId → ℕ → Request → Option Place → Net S
+    → Net S
+leave_for config app branch request None net =
+    tell_own config app branch 503 unavailable request net
+leave_for config app branch request (Some place) net =
+    send_to app branch (peers.Outside place) None request net
 
 -- a request that leaves
 unfoldable pub leave : {S : Type 0} → Config → AppId → ℕ → Request → Net S → Net S
-leave config app branch request net = leave_for config app branch request (destination config request) net
+leave config app branch request net =
+    leave_for config app branch request (destination config request) net
 
 -- the request with these Routes on top
 abbrev pub with_routes : List Address → Request → Request
-with_routes routes request = record request { head = record request.head { route = routes ++ request.head.route } }
+with_routes routes request =
+    record request { head = record request.head { route = routes ++ request.head.route } }
 
 -- an initial request goes where the router says
 unfoldable pub begin_by : {S : Type 0} → Config → AppId → ℕ → Request → Choice → Net S → Net S
 begin_by config app branch request (choices.App host order region subscriber popped) net =
-    send_to app branch (peers.Inside host) (Some (record { order = order; region = region; subscriber = subscriber; popped = popped })) request net
-begin_by config app branch request (choices.Send routes) net = leave config app branch (with_routes routes request) net
+    send_to app branch (peers.Inside host)
+    (Some (record { order = order; region = region; subscriber = subscriber; popped = popped }))
+    request net
+begin_by config app branch request (choices.Send routes) net =
+    leave config app branch (with_routes routes request) net
 begin_by config app branch request choices.Onward net = leave config app branch request net
-begin_by config app branch request choices.NotFound net = tell_own config app branch 404 not_found request net
+begin_by config app branch request choices.NotFound net =
+    tell_own config app branch 404 not_found request net
 
 -- this host has a live session that the URI names
 unfoldable pub has_named : {S : Type 0} → ℕ → Uri → ℕ → Host S → Bool
@@ -127,7 +154,8 @@ has_named epoch uri number host = is_some (named_live epoch number uri host)
 -- the first such host of a list, counted from this number
 unfoldable pub named_from : {S : Type 0} → ℕ → Uri → ℕ → List (Host S) → Option ℕ
 named_from epoch uri number [] = None
-named_from epoch uri number (host ∷ hosts) = if has_named epoch uri number host then Some number else named_from epoch uri (number + 1) hosts
+named_from epoch uri number (host ∷ hosts) =
+    if has_named epoch uri number host then Some number else named_from epoch uri (number + 1) hosts
 
 -- the number of the first host with a live session that the URI names
 unfoldable pub named_host : {S : Type 0} → Uri → Net S → Option ℕ
@@ -135,8 +163,10 @@ named_host uri net = named_from net.epoch uri 0 net.hosts
 
 -- a later request goes to that host; where there is none its session is told 481
 unfoldable pub send_named : {S : Type 0} → Config → AppId → ℕ → Request → Option ℕ → Net S → Net S
-send_named config app branch request None net = tell_own config app branch 481 does_not_exist request net
-send_named config app branch request (Some host) net = send_to app branch (peers.Inside host) None request net
+send_named config app branch request None net =
+    tell_own config app branch 481 does_not_exist request net
+send_named config app branch request (Some host) net =
+    send_to app branch (peers.Inside host) None request net
 
 -- a request with a To tag: by an own URI to its session, else outside
 unfoldable pub send_later : {S : Type 0} → Config → AppId → ℕ → Request → Net S → Net S
@@ -157,25 +187,33 @@ peer_of_place (Some place) = peers.Outside place
 -- an ACK has no transaction; where it can't go it is dropped
 unfoldable pub acknowledge : {S : Type 0} → Config → AppId → Request → Net S → Net S
 acknowledge config app request net =
-    put app.host (if is_own config (next_uri request) then peer_of_host (named_host (next_uri request) net) else peer_of_place (destination config request))
+    put app.host
+    (if is_own config (next_uri request) then peer_of_host (named_host (next_uri request) net)
+    else peer_of_place (destination config request))
     (messages.Request request) None net
 
 -- a CANCEL goes with its own client transaction
 unfoldable pub send_cancel : {S : Type 0} → AppId → Client → Net S → Net S
 send_cancel app client net =
-    put app.host client.peer (messages.Request (cancel_of client.request)) None (change_host app.host (with_client (cancelling net.moment client)) net)
+    put app.host client.peer (messages.Request (cancel_of client.request)) None
+    (change_host app.host (with_client (cancelling net.moment client)) net)
 
 -- a CANCEL is asked for: it goes now, or waits for a provisional response (RFC 3261 section 9.1)
 unfoldable pub cancel_by : {S : Type 0} → AppId → ℕ → Client → Net S → Net S
 cancel_by app branch client net =
-    let asked : Net _ = change_host app.host (pass_client app branch false (client_items.CancelAsked net.moment)) net in
-    if (out_of_client client (client_items.CancelAsked net.moment)).cancel then send_cancel app client asked else asked
+    let asked : Net _ = change_host app.host
+    (pass_client app branch false (client_items.CancelAsked net.moment)) net in
+    if (out_of_client client (client_items.CancelAsked net.moment)).cancel
+    then send_cancel app client asked
+    else asked
 
 -- only an INVITE is cancelled; where it may go at once alone, only one that is proceeding
 unfoldable pub cancel_for : {S : Type 0} → AppId → ℕ → Bool → Option Client → Net S → Net S
 cancel_for app branch at_once None net = net
 cancel_for app branch at_once (Some client) net =
-    if is_invite_client client && (not at_once || is_proceeding (state_of_client client)) then cancel_by app branch client net else net
+    if is_invite_client client && (not at_once || is_proceeding (state_of_client client))
+    then cancel_by app branch client net
+    else net
 
 -- the client transaction of a session's branch, not that of its CANCEL
 unfoldable pub client_at : {S : Type 0} → AppId → ℕ → Option (Host S) → Option Client
@@ -184,7 +222,11 @@ client_at app branch (Some host) = find (is_client app branch false) host.client
 
 -- a server transaction after this response
 unfoldable pub answered_server : ℕ → ℕ → Response → Server → Server
-answered_server code now response server = record server { passed = server_items.AnswerGiven code now ∷ server.passed; last = Some response }
+answered_server code now response server =
+    record server {
+      passed = server_items.AnswerGiven code now ∷ server.passed;
+      last = Some response;
+    }
 
 -- a response goes by its server transaction, where that lets it go
 unfoldable pub respond_by : {S : Type 0} → ℕ → ℕ → Response → Option Server → Net S → Net S
@@ -192,7 +234,13 @@ respond_by number event response None net = net
 respond_by number event response (Some server) net =
     if is_sent (is_invite_server server) server.passed response.code
     then put number server.peer (messages.Response response) None
-    (change_host number (λ host. tidied (record host { servers = change_first (is_server event) (answered_server response.code net.moment response) host.servers })) net)
+    (change_host number
+    (λ host.
+    tidied
+    (record host {
+      servers = change_first (is_server event)
+          (answered_server response.code net.moment response) host.servers;
+    })) net)
     else net
 
 -- the server transaction of an event
@@ -202,13 +250,17 @@ server_at event (Some host) = find (is_server event) host.servers
 
 -- one order of a session
 unfoldable pub obey : {S : Type 0} → Setup → AppId → Net S → Order → Net S
-obey setup app net (orders.Respond event response) = respond_by app.host event response (server_at event (host_at app.host net)) net
+obey setup app net (orders.Respond event response) =
+    respond_by app.host event response (server_at event (host_at app.host net)) net
 obey setup app net (orders.Begin branch directive region state request) =
-    begin_by setup.config app branch request (choice_of setup.config setup.dar request region directive state) net
+    begin_by setup.config app branch request
+    (choice_of setup.config setup.dar request region directive state) net
 obey setup app net (orders.Send branch request) = send_later setup.config app branch request net
 obey setup app net (orders.Acknowledge request) = acknowledge setup.config app request net
-obey setup app net (orders.Cancel branch) = cancel_for app branch false (client_at app branch (host_at app.host net)) net
-obey setup app net (orders.CancelNow branch) = cancel_for app branch true (client_at app branch (host_at app.host net)) net
+obey setup app net (orders.Cancel branch) =
+    cancel_for app branch false (client_at app branch (host_at app.host net)) net
+obey setup app net (orders.CancelNow branch) =
+    cancel_for app branch true (client_at app branch (host_at app.host net)) net
 
 -- all of them, in their order
 unfoldable pub obeyed : {S : Type 0} → Setup → AppId → List Order → Net S → Net S
@@ -224,12 +276,21 @@ is_busy net = not (length net.wire == 0)
 unfoldable pub deliver_at : {S : Type 0} → Form S → Setup → Entry → Option (Host S) → Net S → Net S
 deliver_at form setup entry None net = net
 deliver_at form setup entry (Some host) net =
-    placed entry.receiver (takes form setup.config (record { host = entry.receiver; epoch = net.epoch; from = peers.Inside entry.sender; now = net.moment; count = net.count }) entry.note entry.message host) net
+    placed entry.receiver
+    (takes form setup.config
+    (record {
+      host = entry.receiver;
+      epoch = net.epoch;
+      from = peers.Inside entry.sender;
+      now = net.moment;
+      count = net.count;
+    }) entry.note entry.message host) net
 
 -- this message leaves the wire and is taken
 unfoldable pub deliver_entry : {S : Type 0} → Form S → Setup → Option Entry → Net S → Net S
 deliver_entry form setup None net = net
-deliver_entry form setup (Some entry) net = deliver_at form setup entry (host_at entry.receiver net) (record net { wire = drop 1 net.wire })
+deliver_entry form setup (Some entry) net =
+    deliver_at form setup entry (host_at entry.receiver net) (record net { wire = drop 1 net.wire })
 
 -- the first message of the wire is taken by its host
 unfoldable pub deliver_first : {S : Type 0} → Form S → Setup → Net S → Net S
@@ -237,11 +298,14 @@ deliver_first form setup net = deliver_entry form setup (slice_get net.wire 0) n
 
 -- the rank of a request: 5, of a CANCEL or an ACK 2
 unfoldable pub rank_of_request : Request → ℕ
-rank_of_request request = if same_bytes (method_of request) cancel || same_bytes (method_of request) ack then 2 else 5
+rank_of_request request =
+    if same_bytes (method_of request) cancel || same_bytes (method_of request) ack then 2 else 5
 
 -- the rank of a response: of a provisional one 4, of a final one 3, of one to a CANCEL 1
 unfoldable pub rank_of_response : Response → ℕ
-rank_of_response response = if same_bytes response.head.cseq.method cancel then 1 else (if is_final response.code then 3 else 4)
+rank_of_response response =
+    if same_bytes response.head.cseq.method cancel then 1
+    else (if is_final response.code then 3 else 4)
 
 -- what a message can still cause on the wire: a request its answers, a provisional answer a CANCEL
 -- that waits, a final one its ACK, a CANCEL its answer. What it causes has a lower rank

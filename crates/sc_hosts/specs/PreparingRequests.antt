@@ -29,16 +29,30 @@ use Rattle.sc_model.specs.BestResponses.{server_error}
 
 -- nobody is called
 unfoldable pub silent : Session → List Order → Prepared
-silent session given = record { view = session.view; known = session.known; event = None; req = None; orders = given }
+silent session given =
+    record { view = session.view; known = session.known; event = None; req = None; orders = given }
 
 -- this event is shown, with the number of the request that it is about
 unfoldable pub showing : Session → Event → Option ReqId → List Order → Prepared
-showing session event req given = record { view = session.view; known = session.known; event = Some event; req = req; orders = given }
+showing session event req given =
+    record {
+      view = session.view;
+      known = session.known;
+      event = Some event;
+      req = req;
+      orders = given;
+    }
 
 -- shown where the SipSession is there
 unfoldable pub showing_in : Session → SessId → Event → Option ReqId → List Order → Prepared
 showing_in session sess event req given =
-    record { view = session.view; known = session.known; event = if is_gone_in session.view sess then None else Some event; req = req; orders = given }
+    record {
+      view = session.view;
+      known = session.known;
+      event = if is_gone_in session.view sess then None else Some event;
+      req = req;
+      orders = given;
+    }
 
 -- ## Requests
 
@@ -64,19 +78,28 @@ request_view req sess initial passed request = record {
 
 -- a number for a request is used up
 abbrev pub numbered : Session → Session
-numbered session = record session { view = record session.view { next_request = session.view.next_request + 1 } }
+numbered session =
+    record session { view = record session.view { next_request = session.view.next_request + 1 } }
 
 -- an INVITE is noted, as it can be cancelled
 unfoldable pub with_invited : ℕ → ReqId → SessId → Request → Known → Known
 with_invited number req sess request known =
-    if same_bytes request.method invite then record known { invited = known.invited ++ record { event = number; req = req; sess = sess } ∷ [] } else known
+    if same_bytes request.method invite
+    then record known {
+      invited = known.invited ++ record { event = number; req = req; sess = sess } ∷ [];
+    }
+    else known
 
 -- the request is there, with its number
 unfoldable pub received : Session → ℕ → SessId → Bool → Bool → Request → Session
 received session number sess initial passed request = record {
-  view = record (numbered session).view { requests = session.view.requests ++ request_view (next_id session) sess initial passed request ∷ [] };
+  view =
+      record (numbered session).view { requests = session.view.requests ++ request_view (next_id session) sess initial passed request ∷ [] };
   known = with_invited number (next_id session) sess request (record session.known {
-    kept = session.known.kept ++ record { id = next_id session; sess = sess; way = Received number; request = request } ∷ [];
+    kept =
+        session.known.kept
+        ++ record { id = next_id session; sess = sess; way = Received number; request = request }
+        ∷ [];
   });
 }
 
@@ -85,13 +108,17 @@ received session number sess initial passed request = record {
 -- an answer of the container to a request that has a To tag; an ACK has none
 unfoldable pub refused : ℕ → ℕ → Bytes → Request → List Order
 refused number code reason request =
-    if same_bytes request.method ack then [] else orders.Respond number (own_response [] code reason request) ∷ []
+    if same_bytes request.method ack then []
+    else orders.Respond number (own_response [] code reason request) ∷ []
 
 -- a number that is too low: the answer counts in the SipSession like any other
 unfoldable pub too_low : Session → ℕ → SessId → Request → Prepared
 too_low session number sess request =
     let after : Session = record (received session number sess false false request) {
-      view = answered (request_in (received session number sess false false request).view (next_id session)) 500 (received session number sess false false request).view;
+      view =
+          answered
+          (request_in (received session number sess false false request).view (next_id session)) 500
+          (received session number sess false false request).view;
     } in silent after (refused number 500 server_error request)
 
 -- a request of the dialog is shown; in a proxied dialog it is one that is passed on
@@ -105,9 +132,12 @@ taken session number found request =
 unfoldable pub taken_in : Session → ℕ → SessId → Option SessionView → Request → Prepared
 taken_in session number sess None request = silent (numbered session) []
 taken_in session number sess (Some found) request =
-    if is_low (leg_of session.known sess) request then too_low session number sess request else taken session number found request
+    if is_low (leg_of session.known sess) request then too_low session number sess request
+    else taken session number found request
 
 -- a later request; where no SipSession has its dialog it is answered 481, and nobody is called
 unfoldable pub prepared_request : Session → ℕ → Request → Option SessId → Prepared
-prepared_request session number request None = silent (numbered session) (refused number 481 does_not_exist request)
-prepared_request session number request (Some sess) = taken_in session number sess (session_in session.view sess) request
+prepared_request session number request None =
+    silent (numbered session) (refused number 481 does_not_exist request)
+prepared_request session number request (Some sess) =
+    taken_in session number sess (session_in session.view sess) request

@@ -81,7 +81,8 @@ named play (calls.Respond req answer) = session_of_request play req ∷ []
 named play (calls.CreateRequest ask) = of_origin play ask.origin
 named play (calls.CreateInDialog sess ask) = known_session play sess ∷ []
 named play (calls.B2bCreate req uri) = session_of_request play req ∷ []
-named play (calls.SetDirective draft directive origin) = session_of_draft play draft ∷ of_origin play origin
+named play (calls.SetDirective draft directive origin) =
+    session_of_draft play draft ∷ of_origin play origin
 named play (calls.Send draft) = session_of_draft play draft ∷ []
 named play (calls.Discard draft) = session_of_draft play draft ∷ []
 named play (calls.Ack sess body) = known_session play sess ∷ []
@@ -105,7 +106,8 @@ named play calls.InvalidateApplication = []
 unfoldable pub name_refusal : View → List (Option SessId) → Option Refusal
 name_refusal view names =
     if list_any is_none names then Some NotYours
-    else (if list_any (λ name. option_map_or (is_gone_in view) name true) names then Some Invalidated
+    else
+    (if list_any (λ name. option_map_or (is_gone_in view) name true) names then Some Invalidated
     else None)
 
 -- ## Texts (RFC 3261 sections 7.3 and 25.1)
@@ -121,7 +123,10 @@ has_system_name fields = list_any (λ field. is_system_name field.name) fields
 -- a code outside 101 to 699, then a reason of more than one line, then a field
 unfoldable pub answer_text : Answer → Option Refusal
 answer_text answer =
-    option_or (first_of ((nat_lt answer.code 101 || nat_lt 699 answer.code, BadText 0) ∷ (not (is_one_line answer.reason), BadText 1) ∷ [])) (bad_field answer.fields)
+    option_or
+    (first_of
+    ((nat_lt answer.code 101 || nat_lt 699 answer.code, BadText 0)
+    ∷ (not (is_one_line answer.reason), BadText 1) ∷ [])) (bad_field answer.fields)
 
 -- a method that is no token, or is ACK or CANCEL
 unfoldable pub is_bad_method : Bytes → Bool
@@ -129,18 +134,24 @@ is_bad_method method = not (is_token method) || same_bytes method ack || same_by
 
 -- a faulty text of a request that is asked for: its method, then its fields
 unfoldable pub asked_text : Bytes → List Field → Option Refusal
-asked_text method fields = option_or (first_of ((is_bad_method method, BadText 0) ∷ [])) (bad_field fields)
+asked_text method fields =
+    option_or (first_of ((is_bad_method method, BadText 0) ∷ [])) (bad_field fields)
 
 -- an answer may carry a Contact of its own where it is a 3xx, a 485, a 200 to OPTIONS, or answers a
 -- REGISTER (RFC 3261 sections 10.3, 11.2 and 21)
 unfoldable pub may_have_contact : Bytes → ℕ → Bool
 may_have_contact method code =
-    (nat_le 300 code && nat_lt code 400) || code == 485 || (code == 200 && same_bytes method options) || same_bytes method register
+    (nat_le 300 code && nat_lt code 400) || code == 485
+    || (code == 200 && same_bytes method options) || same_bytes method register
 
 -- an answer with a header of the container's own, or with a Contact that it may not have
 unfoldable pub has_system_answer : Bytes → Answer → Bool
-has_system_answer method answer = has_system_name answer.fields || (not (length answer.contact == 0) && not (may_have_contact method answer.code))
+has_system_answer method answer =
+    has_system_name answer.fields
+    || (not (length answer.contact == 0) && not (may_have_contact method answer.code))
 
 -- a request with a header of the container's own, or with a Contact that isn't a REGISTER
 unfoldable pub has_system_ask : Ask → Bool
-has_system_ask ask = has_system_name ask.fields || (not (length ask.contact == 0) && not (same_bytes ask.method register))
+has_system_ask ask =
+    has_system_name ask.fields
+    || (not (length ask.contact == 0) && not (same_bytes ask.method register))

@@ -49,11 +49,18 @@ is_new Reverse = false
 
 -- the origin is a request that came and began its SipSession
 unfoldable pub is_origin : Play → Option ReqId → Bool
-is_origin play origin = option_map_or (λ req. option_map_or (λ request. request.received && request.initial) (request_in play.view req) false) origin false
+is_origin play origin =
+    option_map_or
+    (λ req.
+    option_map_or (λ request. request.received && request.initial) (request_in play.view req)
+    false) origin false
 
 -- the origin is a request that was sent
 unfoldable pub is_sent_origin : Play → Option ReqId → Bool
-is_sent_origin play origin = option_map_or (λ req. option_map_or (λ request. not request.received) (request_in play.view req) false) origin false
+is_sent_origin play origin =
+    option_map_or
+    (λ req. option_map_or (λ request. not request.received) (request_in play.view req) false) origin
+    false
 
 -- what `create_request` refuses
 unfoldable pub create_refusal : Play → Ask → Option Refusal
@@ -97,7 +104,9 @@ b2b_refusal play (Some request) =
 unfoldable pub directive_refusal : Play → Option Draft → Directive → Option ReqId → Option Refusal
 directive_refusal play None directive origin = Some NotYours
 directive_refusal play (Some draft) directive origin =
-    first_of ((not draft.initial || (not (is_new directive) && not (is_origin play origin)), NotInitial) ∷ [])
+    first_of
+    ((not draft.initial || (not (is_new directive) && not (is_origin play origin)), NotInitial)
+    ∷ [])
 
 -- the SipSession is TERMINATED
 unfoldable pub is_ended_session : Option SessionView → Bool
@@ -107,7 +116,11 @@ is_ended_session session = option_map_or (λ s. is_terminated s.state) session f
 unfoldable pub send_refusal : Play → Option Draft → Option Refusal
 send_refusal play None = Some NotYours
 send_refusal play (Some draft) =
-    first_of ((not draft.initial && is_ended_session (session_in play.view draft.sess), WrongState Terminated) ∷ [])
+    first_of
+    ((
+      not draft.initial && is_ended_session (session_in play.view draft.sess),
+      WrongState Terminated,
+    ) ∷ [])
 
 -- the sent INVITE whose 2xx in this SipSession has no ACK
 abbrev pub awaits_ack : SessId → RequestView → Bool
@@ -118,8 +131,11 @@ awaits_ack sess request = list_any (same_session sess) request.unacked
 unfoldable pub cancel_refusal : View → Option RequestView → Option Refusal
 cancel_refusal view None = Some NotYours
 cancel_refusal view (Some request) =
-    option_or (first_of ((request.received || not (same_bytes request.method invite), NotSent) ∷ []))
-    (if is_some request.answered then option_map (λ session. WrongState session.state) (session_in view request.sess) else None)
+    option_or
+    (first_of ((request.received || not (same_bytes request.method invite), NotSent) ∷ []))
+    (if is_some request.answered
+    then option_map (λ session. WrongState session.state) (session_in view request.sess)
+    else None)
 
 -- the SipSession isn't INITIAL any more
 unfoldable pub is_begun : Option SessionView → Bool
@@ -143,7 +159,8 @@ proxy_refusal play (Some request) count how =
     ∷ (not request.initial, NotInitial)
     ∷ (is_some request.answered && not request.proxied, AlreadyAnswered)
     ∷ (is_some request.answered, AlreadyProxy)
-    ∷ [])) (option_or (if not request.proxied && is_begun (session_in play.view request.sess) then state_refusal (session_in play.view request.sess) else None)
+    ∷ [])) (option_or (if not request.proxied && is_begun (session_in play.view request.sess) then
+    state_refusal (session_in play.view request.sess) else None)
     (first_of (
     (request.hops == 0, NoHops)
     ∷ (count == 0, BadText 0)
@@ -154,25 +171,32 @@ proxy_refusal play (Some request) count how =
 -- what `proxy_cancel` refuses: other than a proxied request that waits for its final response
 unfoldable pub proxy_cancel_refusal : Option RequestView → Option Refusal
 proxy_cancel_refusal None = Some NotYours
-proxy_cancel_refusal (Some request) = first_of ((not request.proxied, NotSent) ∷ (is_some request.answered, AlreadyAnswered) ∷ [])
+proxy_cancel_refusal (Some request) =
+    first_of ((not request.proxied, NotSent) ∷ (is_some request.answered, AlreadyAnswered) ∷ [])
 
 -- the received request that began the SipSession
 unfoldable pub begun_by : View → SessId → Option RequestView
-begun_by view sess = find (λ request. request.received && request.initial && same_session request.sess sess) view.requests
+begun_by view sess =
+    find (λ request. request.received && request.initial && same_session request.sess sess)
+    view.requests
 
 -- what `b2b_respond` refuses: an unlinked SipSession, and what `respond` refuses of its initial
 -- request
 unfoldable pub b2b_respond_refusal : View → SessId → Answer → Option Refusal
 b2b_respond_refusal view sess answer =
     if is_none (partner view sess) then Some NotLinked
-    else option_map_or (λ request. respond_refusal request answer) (begun_by view sess) (Some NotYours)
+    else option_map_or (λ request. respond_refusal request answer) (begun_by view sess)
+    (Some NotYours)
 
 -- what `link` refuses: itself, an ended SipSession, and one that is linked (JSR 289 section 12)
 unfoldable pub link_refusal : View → SessId → SessId → Option Refusal
 link_refusal view a b =
     option_or (first_of (
     (same_session a b, AlreadyLinked a)
-    ∷ (is_ended_session (session_in view a) || is_ended_session (session_in view b), WrongState Terminated)
+    ∷ (
+      is_ended_session (session_in view a) || is_ended_session (session_in view b),
+      WrongState Terminated,
+    )
     ∷ [])) (option_or (linked_refusal (partner view a)) (linked_refusal (partner view b)))
 
 -- a timer that is due again after no time
@@ -183,7 +207,9 @@ is_zero_period (Delay n) = n == 0
 
 -- the bytes of the attributes, without one of this name
 unfoldable pub attribute_bytes : Bytes → List Field → ℕ
-attribute_bytes name fields = sum_by (λ field. length field.name + length field.value) (filter (λ field. not (same_bytes field.name name)) fields)
+attribute_bytes name fields =
+    sum_by (λ field. length field.name + length field.value)
+    (filter (λ field. not (same_bytes field.name name)) fields)
 
 -- there is an attribute of this name
 unfoldable pub is_set : Bytes → List Field → Bool
@@ -191,26 +217,40 @@ is_set name fields = list_any (λ field. same_bytes field.name name) fields
 
 -- the call's own refusal
 unfoldable pub own_refusal : Play → Call → Option Refusal
-own_refusal play (calls.Respond req answer) = option_map_or (λ request. respond_refusal request answer) (request_in play.view req) (Some NotYours)
+own_refusal play (calls.Respond req answer) =
+    option_map_or (λ request. respond_refusal request answer) (request_in play.view req)
+    (Some NotYours)
 own_refusal play (calls.CreateRequest ask) = create_refusal play ask
 own_refusal play (calls.CreateInDialog sess ask) = dialog_refusal (session_in play.view sess) ask
 own_refusal play (calls.B2bCreate req uri) = b2b_refusal play (request_in play.view req)
-own_refusal play (calls.SetDirective draft directive origin) = directive_refusal play (draft_in play draft) directive origin
+own_refusal play (calls.SetDirective draft directive origin) =
+    directive_refusal play (draft_in play draft) directive origin
 own_refusal play (calls.Send draft) = send_refusal play (draft_in play draft)
 own_refusal play (calls.Discard draft) = None
-own_refusal play (calls.Ack sess body) = first_of ((not (list_any (awaits_ack sess) play.view.requests), NotSent) ∷ [])
+own_refusal play (calls.Ack sess body) =
+    first_of ((not (list_any (awaits_ack sess) play.view.requests), NotSent) ∷ [])
 own_refusal play (calls.Cancel req) = cancel_refusal play.view (request_in play.view req)
-own_refusal play (calls.ProxyTo req uris how) = proxy_refusal play (request_in play.view req) (length uris) how
+own_refusal play (calls.ProxyTo req uris how) =
+    proxy_refusal play (request_in play.view req) (length uris) how
 own_refusal play (calls.ProxyCancel req) = proxy_cancel_refusal (request_in play.view req)
 own_refusal play (calls.B2bRespond sess answer) = b2b_respond_refusal play.view sess answer
 own_refusal play (calls.Link a b) = link_refusal play.view a b
 own_refusal play (calls.Unlink a) = first_of ((is_none (partner play.view a), NotLinked) ∷ [])
 own_refusal play (calls.StartTimer delay period info) =
-    first_of ((is_zero_period period, BadText 1) ∷ (nat_le MOST_TIMERS (length play.view.timers), Limit MOST_TIMERS) ∷ [])
-own_refusal play (calls.CancelTimer id) = first_of ((is_none (timer_in play.view id), NotYours) ∷ [])
+    first_of
+    ((is_zero_period period, BadText 1)
+    ∷ (nat_le MOST_TIMERS (length play.view.timers), Limit MOST_TIMERS) ∷ [])
+own_refusal play (calls.CancelTimer id) =
+    first_of ((is_none (timer_in play.view id), NotYours) ∷ [])
 own_refusal play (calls.SetAttribute name value) =
-    first_of ((nat_lt MOST_ATTRIBUTE_BYTES (attribute_bytes name play.view.attributes + length name + length value), Limit MOST_ATTRIBUTE_BYTES) ∷ [])
-own_refusal play (calls.RemoveAttribute name) = first_of ((not (is_set name play.view.attributes), NotYours) ∷ [])
+    first_of
+    ((
+      nat_lt MOST_ATTRIBUTE_BYTES
+          (attribute_bytes name play.view.attributes + length name + length value),
+      Limit MOST_ATTRIBUTE_BYTES,
+    ) ∷ [])
+own_refusal play (calls.RemoveAttribute name) =
+    first_of ((not (is_set name play.view.attributes), NotYours) ∷ [])
 own_refusal play (calls.SetExpires minutes) = None
 own_refusal play (calls.SetReadyFlag target flag) = None
 own_refusal play (calls.InvalidateSession sess) = None
@@ -219,5 +259,7 @@ own_refusal play calls.InvalidateApplication = None
 -- the refusal of a call, none where it is accepted
 unfoldable pub refusal : Play → Call → Option Refusal
 refusal play call =
-    option_or (first_of ((nat_le MOST_CALLS play.listed, Limit MOST_CALLS) ∷ (play.ended, Invalidated) ∷ []))
+    option_or
+    (first_of
+    ((nat_le MOST_CALLS play.listed, Limit MOST_CALLS) ∷ (play.ended, Invalidated) ∷ []))
     (option_or (name_refusal play.view (named play call)) (own_refusal play call))

@@ -32,12 +32,15 @@ at_beginning = record { region = Neutral; directive = New; state = None }
 
 -- the own top Route
 unfoldable pub popped_route : Config → Request → Option Address
-popped_route config request = option_and_then (λ route. if is_own config route.uri then Some route else None) (slice_get request.head.route 0)
+popped_route config request =
+    option_and_then (λ route. if is_own config route.uri then Some route else None)
+    (slice_get request.head.route 0)
 
 -- the request without its top Route, where that is taken off
 unfoldable pub without_top : Option Address → Request → Request
 without_top None request = request
-without_top (Some route) request = record request { head = record request.head { route = drop 1 request.head.route } }
+without_top (Some route) request =
+    record request { head = record request.head { route = drop 1 request.head.route } }
 
 -- the request without its own top Route
 unfoldable pub unrouted_initial : Config → Request → Request
@@ -50,7 +53,9 @@ ar_of (Other text) = None
 
 -- the number that the text names with this region: it is written so
 unfoldable pub named_number : Bytes → Region → Option ℕ
-named_number text region = option_and_then (λ n. if same_bytes (ar_value n region) text then Some n else None) (number_below (2 ^ 32) (before 45 text))
+named_number text region =
+    option_and_then (λ n. if same_bytes (ar_value n region) text then Some n else None)
+    (number_below (2 ^ 32) (before 45 text))
 
 -- from this place in the list on
 unfoldable pub at_number : Region → ℕ → Position
@@ -58,7 +63,8 @@ at_number region n = record { region = region; directive = Continue; state = Som
 
 -- the position that an `ar` names, in one of the regions
 unfoldable pub named_position : Bytes → Option Position
-named_position text = first_some (map_position Originating ∷ map_position Terminating ∷ map_position Neutral ∷ [])
+named_position text =
+    first_some (map_position Originating ∷ map_position Terminating ∷ map_position Neutral ∷ [])
   where
     map_position : Region → Option Position
     map_position region = option_map (at_number region) (named_number text region)
@@ -71,7 +77,9 @@ named_position text = first_some (map_position Originating ∷ map_position Term
 -- by the Route that was taken off; where its `ar` names no place, the list's beginning
 unfoldable pub position_by : Option Address → Position
 position_by None = at_beginning
-position_by (Some route) = option_map_or (λ position. position) (option_and_then named_position (ar_of route.uri)) at_beginning
+position_by (Some route) =
+    option_map_or (λ position. position) (option_and_then named_position (ar_of route.uri))
+    at_beginning
 
 -- how the router goes on for a request from outside
 unfoldable pub position_of : Config → Request → Position

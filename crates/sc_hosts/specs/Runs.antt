@@ -1,5 +1,5 @@
--- The run of a journal: what its steps make of hosts without sessions, from a first moment on; where its
--- steps are allowed; and what it sends.
+-- The run of a journal: what its steps make of hosts without sessions, from a first moment on;
+-- where its steps are allowed; and what it sends.
 use Rattle.std.specs.Prelude.{◌≡◌, ◌≤◌, ◌<◌, ℕ, ◌+◌, ◌==◌, ◌^◌, List, [], ◌∷◌, ◌++◌, Bool, true, ◌&&◌, Option, None, Some, is_some, length, map, filter, slice_get, sum_by}
 use Rattle.std.specs.List.{list_all, flat_map, fold}
 use Rattle.sc_value.specs.declared.ids.AppId.{AppId}
@@ -36,7 +36,14 @@ quiet_host = record { clients = []; servers = []; sessions = []; last = 0 }
 -- hosts without sessions, one for each application, of this epoch at this moment
 unfoldable pub start : {S : Type 0} → Setup → ℕ → ℕ → Net S
 start setup epoch began =
-    record { hosts = map (λ app. quiet_host) setup.config.app; wire = []; epoch = epoch; moment = began; count = 0; sent = [] }
+    record {
+      hosts = map (λ app. quiet_host) setup.config.app;
+      wire = [];
+      epoch = epoch;
+      moment = began;
+      count = 0;
+      sent = [];
+    }
 
 -- the wire is emptied
 unfoldable pub delivered : {S : Type 0} → Form S → Setup → Net S → Net S
@@ -44,7 +51,8 @@ delivered form setup net = settle is_busy (deliver_first form setup) weight net
 
 -- a step begins with nothing sent, and ends once the wire is empty
 unfoldable pub after_step : {S : Type 0} → Form S → Setup → Net S → Step → Net S
-after_step form setup net step = delivered form setup (stepped form setup step (record net { sent = [] }))
+after_step form setup net step =
+    delivered form setup (stepped form setup step (record net { sent = [] }))
 
 -- the net after these steps, from this one on
 unfoldable pub chained_from : {S : Type 0} → Form S → Setup → Net S → List Step → Net S
@@ -59,7 +67,9 @@ chained form setup epoch began journal = chained_from form setup (start setup ep
 -- what these steps send outside, from this net on
 unfoldable pub all_sent_from : {S : Type 0} → Form S → Setup → Net S → List Step → List Sent
 all_sent_from form setup net [] = []
-all_sent_from form setup net (step ∷ steps) = (after_step form setup net step).sent ++ all_sent_from form setup (after_step form setup net step) steps
+all_sent_from form setup net (step ∷ steps) =
+    (after_step form setup net step).sent
+    ++ all_sent_from form setup (after_step form setup net step) steps
 
 -- all that is sent outside, in order
 unfoldable pub all_sent : {S : Type 0} → Form S → Setup → ℕ → ℕ → List Step → List Sent
@@ -71,19 +81,24 @@ sent_to place sent = map (λ s. s.message) (filter (λ s. same_place place s.pla
 
 -- ## Where a step is allowed
 
--- the turn that a live session may take: of its first event, at a moment since when that is first, with
--- what the charters of its application allow on what is shown
-unfoldable pub shown : {S : Type 0} → Form S → Setup → Net S → AppId → Live S → Waiting → ℕ → Prepared
-shown form setup net app live waiting now = prepared setup.config (ringing_at app (host_at app.host net)) (form.read live.session) waiting now
+-- the turn that a live session may take: of its first event, at a moment since when that is first,
+-- with what the charters of its application allow on what is shown
+unfoldable pub shown : {S : Type 0} → Form S → Setup → Net S → AppId → Live S → Waiting → ℕ
+    → Prepared
+shown form setup net app live waiting now =
+    prepared setup.config (ringing_at app (host_at app.host net)) (form.read live.session) waiting
+    now
 
 -- what the charters of an application allow; where there is no application, nothing
 unfoldable pub AllowedBy : Option Charters → Prepared → List CallRecord → End → Type 0
 AllowedBy None shown made end = ⊥
-AllowedBy (Some charters) shown made end = Allowed charters.0 charters.1 shown.view shown.event made end
+AllowedBy (Some charters) shown made end =
+    Allowed charters.0 charters.1 shown.view shown.event made end
 
 -- a turn that may be taken: the session lives, the event is its first, the moment is between that
 -- at which the event became first and the net's, and the charters allow what was made
-pub record MayTurn {S : Type 0} (form : Form S) (setup : Setup) (net : Net S) (app : AppId) (event now : ℕ) (made : List CallRecord) (end : End) : Type 0 where
+pub record MayTurn {S : Type 0} (form : Form S) (setup : Setup) (net : Net S) (app : AppId)
+    (event now : ℕ) (made : List CallRecord) (end : End) : Type 0 where
   pub live : Live S
   pub live_is : live_at app net ≡ Some live
   pub waiting : Waiting
@@ -91,7 +106,8 @@ pub record MayTurn {S : Type 0} (form : Form S) (setup : Setup) (net : Net S) (a
   pub event_is : waiting.number ≡ event
   pub since : live.since ≤ now
   pub until : now ≤ net.moment
-  pub allowed : ∥ AllowedBy (charters_of setup app.host) (shown form setup net app live waiting now) made end ∥₁
+  pub allowed : ∥ AllowedBy (charters_of setup app.host) (shown form setup net app live waiting now)
+      made end ∥₁
 
 -- a message that comes has a Via
 unfoldable pub HasVia : Message → Type 0
@@ -105,13 +121,15 @@ IsAllowed form setup net (steps.In from message) = HasVia message
 IsAllowed form setup net (steps.Bad from bad) = Unit {0}
 IsAllowed form setup net (steps.Lost place) = Unit {0}
 IsAllowed form setup net (steps.Tick now) = (net.moment ≤ now) × (now ≤ 2 ^ 63)
-IsAllowed form setup net (steps.Turn app event now made end) = MayTurn form setup net app event now made end
+IsAllowed form setup net (steps.Turn app event now made end) =
+    MayTurn form setup net app event now made end
 IsAllowed form setup net (steps.Withdraw app) = is_some (live_at app net) ≡ true
 
 -- each step is allowed where it is taken, from this net on
 unfoldable pub IsLawfulFrom : {S : Type 0} → Form S → Setup → Net S → List Step → Type 0
 IsLawfulFrom form setup net [] = Unit {0}
-IsLawfulFrom form setup net (step ∷ steps) = IsAllowed form setup net step × IsLawfulFrom form setup (after_step form setup net step) steps
+IsLawfulFrom form setup net (step ∷ steps) =
+    IsAllowed form setup net step × IsLawfulFrom form setup (after_step form setup net step) steps
 
 -- each step is allowed where it is taken
 unfoldable pub IsLawful : {S : Type 0} → Form S → Setup → ℕ → ℕ → List Step → Type 0
@@ -130,7 +148,8 @@ waiting_count net = sum_by (λ host. sum_by (λ live. length live.inbox) host.se
 -- no session lives at this host, and no transaction
 unfoldable pub is_idle_host : {S : Type 0} → Host S → Bool
 is_idle_host host =
-    length host.sessions == 0 && list_all (λ client. is_over (state_of_client client)) host.clients && list_all (λ server. is_over (state_of_server server)) host.servers
+    length host.sessions == 0 && list_all (λ client. is_over (state_of_client client)) host.clients
+    && list_all (λ server. is_over (state_of_server server)) host.servers
 
 -- no session lives, and no transaction
 unfoldable pub is_idle : {S : Type 0} → Net S → Bool
@@ -146,14 +165,16 @@ pub record Epoch : Type 0 where
 unfoldable pub net_of : {S : Type 0} → Form S → Setup → Epoch → Net S
 net_of form setup epoch = chained form setup epoch.number epoch.began epoch.journal
 
--- epochs follow each other: each begins at the last moment of the one before, which leaves an idle net
+-- epochs follow each other: each begins at the last moment of the one before, which leaves an idle
+-- net
 unfoldable pub IsLawfulAfter : {S : Type 0} → Form S → Setup → ℕ → ℕ → List Epoch → Type 0
 IsLawfulAfter form setup number began [] = Unit {0}
 IsLawfulAfter form setup number began (epoch ∷ []) =
     (epoch.number ≡ number) × (epoch.began ≡ began) × IsLawful form setup number began epoch.journal
 IsLawfulAfter form setup number began (epoch ∷ next ∷ later) =
     (epoch.number ≡ number) × (epoch.began ≡ began) × IsLawful form setup number began epoch.journal
-    × (is_idle (net_of form setup epoch) ≡ true) × IsLawfulAfter form setup (number + 1) (net_of form setup epoch).moment (next ∷ later)
+    × (is_idle (net_of form setup epoch) ≡ true)
+    × IsLawfulAfter form setup (number + 1) (net_of form setup epoch).moment (next ∷ later)
 
 -- the epochs of a run: the first has number 0 and begins at moment 0
 unfoldable pub AreLawful : {S : Type 0} → Form S → Setup → List Epoch → Type 0
@@ -161,4 +182,5 @@ AreLawful form setup epochs = IsLawfulAfter form setup 0 0 epochs
 
 -- all that the epochs send, one after the other
 unfoldable pub all_sent_by : {S : Type 0} → Form S → Setup → List Epoch → List Sent
-all_sent_by form setup epochs = flat_map (λ epoch. all_sent form setup epoch.number epoch.began epoch.journal) epochs
+all_sent_by form setup epochs =
+    flat_map (λ epoch. all_sent form setup epoch.number epoch.began epoch.journal) epochs

@@ -27,7 +27,8 @@ use Rattle.sc_hosts.specs.Effects.{begun, answer_of, after_listed}
 unfoldable pub IsAnsweredFrom : Play → List CallRecord → Type 0
 IsAnsweredFrom play [] = Unit {0}
 IsAnsweredFrom play (made ∷ later) =
-    (play.listed < MOST_CALLS) × (made.answer ≡ answer_of play made.call) × IsAnsweredFrom (after_listed play made.call) later
+    (play.listed < MOST_CALLS) × (made.answer ≡ answer_of play made.call)
+    × IsAnsweredFrom (after_listed play made.call) later
 
 -- a list of calls that a turn on this view takes
 abbrev pub IsAnswered : View → List CallRecord → Type 0
@@ -44,7 +45,8 @@ pub data Script : Type 0 where
 unfoldable pub played_from : Play → Script → List CallRecord
 played_from play Done = []
 played_from play (Make call next) =
-    record { call = call; answer = answer_of play call } ∷ played_from (after_listed play call) (next (answer_of play call))
+    record { call = call; answer = answer_of play call }
+    ∷ played_from (after_listed play call) (next (answer_of play call))
 
 -- the calls that the script makes of a turn on this view
 abbrev pub played : View → Script → List CallRecord
@@ -73,11 +75,20 @@ where_some (Some a) next = next a
 
 -- `respond` with this code and reason, and nothing else
 unfoldable pub reply : ReqId → ℕ → Bytes → Call
-reply req code reason = calls.Respond req (record { code = code; reason = reason; fields = []; contact = []; body = [] })
+reply req code reason =
+    calls.Respond req
+    (record { code = code; reason = reason; fields = []; contact = []; body = [] })
 
 -- an answer like a response that came
 unfoldable pub same_answer : Response → Answer
-same_answer response = record { code = response.code; reason = response.reason; fields = response.head.others; contact = []; body = response.head.body }
+same_answer response =
+    record {
+      code = response.code;
+      reason = response.reason;
+      fields = response.head.others;
+      contact = [];
+      body = response.head.body;
+    }
 
 -- a decimal that fits 32 bits
 unfoldable pub small_number : Bytes → Option ℕ
@@ -101,7 +112,8 @@ uri_param view i = option_and_then readable (param_at view i)
 
 -- the value of an attribute, if it is set
 unfoldable pub attribute : Bytes → View → Option Bytes
-attribute name view = option_map (λ field. field.value) (find (λ field. same_bytes field.name name) view.attributes)
+attribute name view =
+    option_map (λ field. field.value) (find (λ field. same_bytes field.name name) view.attributes)
 
 -- the call was refused as the request may go no further
 unfoldable pub is_no_hops : CallAnswer → Bool

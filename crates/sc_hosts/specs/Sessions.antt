@@ -9,10 +9,11 @@ use Rattle.sc_state.specs.declared.net.Note.{Note}
 use Rattle.sc_state.specs.declared.queue.Waiting.{Waiting}
 use Rattle.sc_state.specs.declared.session.Session.{Session}
 pub use Rattle.sc_state.specs.Entries.{SessionEntry}
-unfoldable pub use Rattle.sc_state.specs.Entries.{expiry_entry, timer_entry, branch_entry, entries_of}
+unfoldable pub use
+    Rattle.sc_state.specs.Entries.{expiry_entry, timer_entry, branch_entry, entries_of}
 
--- a turn that was taken: its event, its moment, the branches of INVITEs that were ringing, and what the
--- application did
+-- a turn that was taken: its event, its moment, the branches of INVITEs that were ringing, and what
+-- the application did
 pub record Turn : Type 0 where
   pub waiting : Waiting
   pub now : ℕ

@@ -1,6 +1,6 @@
--- The states of a SipSession (JSR 289 section 6.2.1, RFC 3261 section 12, RFC 6665). INVITE and SUBSCRIBE
--- begin dialogs. What a UAC does after a failure, and when a session of another initial request ends, is
--- this project's profile.
+-- The states of a SipSession (JSR 289 section 6.2.1, RFC 3261 section 12, RFC 6665). INVITE and
+-- SUBSCRIBE begin dialogs. What a UAC does after a failure, and when a session of another initial
+-- request ends, is this project's profile.
 use Rattle.std.specs.Prelude.{ℕ, List, Bool, false, not, ◌&&◌, nat_lt, if◌then◌else◌, codes}
 use Rattle.std.specs.List.{find, take_while}
 use Rattle.std.specs.Option.{option_map_or}
@@ -30,14 +30,18 @@ is_ringing code = nat_lt 100 code && not (is_final code)
 -- a response to the initial INVITE; a provisional one makes a dialog where it has a To tag
 unfoldable pub invited_state : State → Bool → State → ℕ → State
 invited_state failed tagged Initial code =
-    if is_failure code then failed else (if is_success code then Confirmed else (if tagged && is_ringing code then Early else Initial))
-invited_state failed tagged Early code = if is_failure code then failed else (if is_success code then Confirmed else Early)
+    if is_failure code then failed
+    else (if is_success code then Confirmed
+    else (if tagged && is_ringing code then Early else Initial))
+invited_state failed tagged Early code =
+    if is_failure code then failed else (if is_success code then Confirmed else Early)
 invited_state failed tagged Confirmed code = Confirmed
 invited_state failed tagged Terminated code = Terminated
 
 -- a response to the initial SUBSCRIBE: its 2xx makes the dialog
 unfoldable pub subscribed_state : State → ℕ → State
-subscribed_state Initial code = if is_failure code then Terminated else (if is_success code then Confirmed else Initial)
+subscribed_state Initial code =
+    if is_failure code then Terminated else (if is_success code then Confirmed else Initial)
 subscribed_state Early code = Early
 subscribed_state Confirmed code = Confirmed
 subscribed_state Terminated code = Terminated
@@ -67,7 +71,8 @@ after_later method ends state code =
 -- the state after a response of this code to the request, which has a To tag or hasn't
 unfoldable pub after_response : Role → RequestView → Bool → State → ℕ → State
 after_response role request tagged state code =
-    if request.initial then after_initial role request.method tagged state code else after_later request.method request.ends state code
+    if request.initial then after_initial role request.method tagged state code
+    else after_later request.method request.ends state code
 
 -- ## The NOTIFY that ends a subscription (RFC 6665 section 4.1.3)
 
@@ -87,4 +92,5 @@ begins_token word value = same_name (take_while is_token_byte value) word
 unfoldable pub ends_subscription : Bytes → List Field → Bool
 ends_subscription method fields =
     same_bytes method notify
-    && option_map_or (λ field. begins_token terminated_word field.value) (find (λ field. same_name field.name subscription_state) fields) false
+    && option_map_or (λ field. begins_token terminated_word field.value)
+    (find (λ field. same_name field.name subscription_state) fields) false

@@ -43,11 +43,15 @@ ringing_at app (Some host) = ringing_branches app host
 
 -- the outcome of a turn of a session in this form
 unfoldable pub outcome_by : {S : Type 0} → Form S → Config → S → Turn → Outcome
-outcome_by form config session turn = outcome config turn.ringing (form.read session) turn.waiting turn.now turn.calls turn.end
+outcome_by form config session turn =
+    outcome config turn.ringing (form.read session) turn.waiting turn.now turn.calls turn.end
 
 -- the entries of the session that its turn leaves
 unfoldable pub still_fired : Session → List Fired → List Fired
-still_fired session fired = filter (λ f. list_any (λ entry. entry.due == f.due && entry.number == f.number) (entries_of session)) fired
+still_fired session fired =
+    filter
+    (λ f. list_any (λ entry. entry.due == f.due && entry.number == f.number) (entries_of session))
+    fired
 
 -- a live session after a turn: its first event is done, and the next one is first from now on
 unfoldable pub turned_live : {S : Type 0} → Form S → Config → ℕ → Turn → Outcome → Live S → Live S
@@ -60,13 +64,18 @@ turned_live form config now turn done live = record live {
 
 -- the net without a session, and without the transactions that aren't kept then
 unfoldable pub without_live : {S : Type 0} → AppId → Net S → Net S
-without_live app net = change_host app.host (λ host. tidied (record host { sessions = remove_first (is_live app.serial) host.sessions })) net
+without_live app net =
+    change_host app.host
+    (λ host. tidied (record host { sessions = remove_first (is_live app.serial) host.sessions }))
+    net
 
 -- `Ready` is queued where the session is ready, its flag is set and no event waits
 unfoldable pub with_ready : {S : Type 0} → AppId → Outcome → Option (Live S) → Net S → Net S
 with_ready app done None net = net
 with_ready app done (Some live) net =
-    if length live.inbox == 0 && is_ready done.session && done.session.view.ready_flag then queue_for app queued.Ready net else net
+    if length live.inbox == 0 && is_ready done.session && done.session.view.ready_flag
+    then queue_for app queued.Ready net
+    else net
 
 -- the events that wait in a session; none where it is gone
 unfoldable pub inbox_of : {S : Type 0} → Option (Live S) → List Waiting
@@ -75,41 +84,61 @@ inbox_of (Some live) = live.inbox
 
 -- invalidation: what it sends, and the session goes
 unfoldable pub invalidated : {S : Type 0} → Setup → AppId → Session → List Waiting → Net S → Net S
-invalidated setup app session inbox net = without_live app (obeyed setup app (goodbye setup.config session inbox) net)
+invalidated setup app session inbox net =
+    without_live app (obeyed setup app (goodbye setup.config session inbox) net)
 
 -- a turn ends: its session is invalidated, or waits for what is next
 unfoldable pub closed_turn : {S : Type 0} → Setup → AppId → Outcome → Bool → Net S → Net S
-closed_turn setup app done true net = invalidated setup app done.session (inbox_of (live_at app net)) net
+closed_turn setup app done true net =
+    invalidated setup app done.session (inbox_of (live_at app net)) net
 closed_turn setup app done false net = with_ready app done (live_at app net) net
 
--- the turn leaves the inbox, what it sends is sent, and then the session ends or waits for what is next
+-- the turn leaves the inbox, what it sends is sent, and then the session ends or waits for what is
+-- next
 unfoldable pub turned : {S : Type 0} → Form S → Setup → AppId → Turn → Outcome → Net S → Net S
 turned form setup app turn done net =
     closed_turn setup app done done.ends
     (obeyed setup app done.orders
-    (change_host app.host (λ host. record host { sessions = change_first (is_live app.serial) (turned_live form setup.config net.moment turn done) host.sessions }) net))
+    (change_host app.host
+    (λ host.
+    record host {
+      sessions = change_first (is_live app.serial)
+          (turned_live form setup.config net.moment turn done) host.sessions;
+    }) net))
 
 -- the turn of an event that is taken of this net
 unfoldable pub turn_of : {S : Type 0} → Net S → AppId → Waiting → ℕ → List CallRecord → End → Turn
-turn_of net app waiting now made end = record { waiting = waiting; now = now; ringing = ringing_at app (host_at app.host net); calls = made; end = end }
+turn_of net app waiting now made end =
+    record {
+      waiting = waiting;
+      now = now;
+      ringing = ringing_at app (host_at app.host net);
+      calls = made;
+      end = end;
+    }
 
 -- a turn of the session's first event, if one waits
-unfoldable pub turns_first : {S : Type 0} → Form S → Setup → AppId → Live S → Option Waiting → ℕ → List CallRecord → End → Net S → Net S
+unfoldable pub turns_first : {S : Type 0} → Form S → Setup → AppId → Live S → Option Waiting → ℕ
+    → List CallRecord → End → Net S → Net S
 turns_first form setup app live None now made end net = net
 turns_first form setup app live (Some waiting) now made end net =
-    turned form setup app (turn_of net app waiting now made end) (outcome_by form setup.config live.session (turn_of net app waiting now made end)) net
+    turned form setup app (turn_of net app waiting now made end)
+    (outcome_by form setup.config live.session (turn_of net app waiting now made end)) net
 
 -- a turn of a session, where it lives
-unfoldable pub turns : {S : Type 0} → Form S → Setup → AppId → Option (Live S) → ℕ → List CallRecord → End → Net S → Net S
+unfoldable pub turns : {S : Type 0} → Form S → Setup → AppId → Option (Live S) → ℕ → List CallRecord
+    → End → Net S → Net S
 turns form setup app None now made end net = net
-turns form setup app (Some live) now made end net = turns_first form setup app live (slice_get live.inbox 0) now made end net
+turns form setup app (Some live) now made end net =
+    turns_first form setup app live (slice_get live.inbox 0) now made end net
 
 -- ## A session is withdrawn
 
 -- an application session is withdrawn from outside: it ends as one that is invalidated
 unfoldable pub withdrawn : {S : Type 0} → Form S → Setup → AppId → Option (Live S) → Net S → Net S
 withdrawn form setup app None net = net
-withdrawn form setup app (Some live) net = invalidated setup app (form.read live.session) live.inbox net
+withdrawn form setup app (Some live) net =
+    invalidated setup app (form.read live.session) live.inbox net
 
 -- ## Each step
 
@@ -119,5 +148,6 @@ stepped form setup (steps.In from message) net = arrived form setup from message
 stepped form setup (steps.Bad from bad) net = bad_by setup.config from bad.heads net
 stepped form setup (steps.Lost place) net = lost setup.config place net
 stepped form setup (steps.Tick now) net = ticked form setup.config now net
-stepped form setup (steps.Turn app event now made end) net = turns form setup app (live_at app net) now made end net
+stepped form setup (steps.Turn app event now made end) net =
+    turns form setup app (live_at app net) now made end net
 stepped form setup (steps.Withdraw app) net = withdrawn form setup app (live_at app net) net

@@ -1,5 +1,5 @@
--- What a host takes from outside or from another host, and what it answers at once (RFC 3261 sections
--- 8.2, 9.2, 12.2.2 and 17). The limits are this project's own.
+-- What a host takes from outside or from another host, and what it answers at once (RFC 3261
+-- sections 8.2, 9.2, 12.2.2 and 17). The limits are this project's own.
 use Rattle.std.specs.Prelude.{ℕ, ◌+◌, [], ◌∷◌, ◌++◌, Bool, true, false, ◌||◌, Option, None, Some, is_some, option_map, option_and_then, nat_le, if◌then◌else◌, length, slice_get, drop}
 use Rattle.std.specs.List.{find}
 use Rattle.std.specs.Option.{option_map_or}
@@ -43,7 +43,8 @@ use Rattle.sc_model.specs.DialogRequests.{cancel}
 unfoldable pub cancelled : {S : Type 0} → Peer → ℕ → Server → Request → ℕ → Host S → Taken S
 cancelled from now server request count host =
     replying from (messages.Response (own_response server.tag 200 ok request))
-    (if has_final server then quiet host count else queue server.app.serial now (queued.Cancelled server.event) count host)
+    (if has_final server then quiet host count
+    else queue server.app.serial now (queued.Cancelled server.event) count host)
 
 -- the last response of a server transaction, once more
 unfoldable pub last_again : {S : Type 0} → Server → Option Response → Taken S → Taken S
@@ -59,7 +60,8 @@ again_if false server taken = taken
 -- section 17.2)
 unfoldable pub repeated : {S : Type 0} → Server → ℕ → Host S → Taken S
 repeated server count host =
-    again_if (is_sent_again (same_bytes (method_of server.request) invite) server.passed) server (quiet (pass_server server.event server_items.RequestAgain host) count)
+    again_if (is_sent_again (same_bytes (method_of server.request) invite) server.passed) server
+    (quiet (pass_server server.event server_items.RequestAgain host) count)
 
 -- which live transaction a request belongs to
 pub data Claim : Type 0 where
@@ -77,7 +79,8 @@ claim_by make (Some server) other = make server
 unfoldable pub claim_of : {S : Type 0} → Peer → Request → Host S → Claim
 claim_of from request host =
     if same_bytes (method_of request) cancel then claim_by Cancels (find (is_cancelled_by from request) host.servers) Unclaimed
-    else (if same_bytes (method_of request) ack then claim_by Acks (find (is_acked_by from request) host.servers) Unclaimed
+    else
+    (if same_bytes (method_of request) ack then claim_by Acks (find (is_acked_by from request) host.servers) Unclaimed
     else claim_by Repeats (find (is_repeated_by from request) host.servers) Unclaimed)
 
 -- the request belongs to a live transaction
@@ -93,7 +96,8 @@ is_claimed Unclaimed = false
 unfoldable pub refuse : {S : Type 0} → Config → Peer → ℕ → Bytes → Request → ℕ → Host S → Taken S
 refuse config from code reason request count host =
     if same_bytes (method_of request) ack then quiet host count
-    else replying from (messages.Response (own_response (edge_tag config.salt) code reason request)) (quiet host count)
+    else replying from (messages.Response (own_response (edge_tag config.salt) code reason request))
+    (quiet host count)
 
 -- ## Requests with a To tag
 
@@ -112,7 +116,8 @@ own_uri config request =
 unfoldable pub unrouted : Config → Request → Request
 unrouted config request =
     if option_map_or (λ route. is_own config route.uri) (slice_get request.head.route 0) false
-    then record request { head = record request.head { route = drop 1 request.head.route } } else request
+    then record request { head = record request.head { route = drop 1 request.head.route } } else
+    request
 
 -- the URI names this session
 unfoldable pub names : ℕ → AppId → Uri → Bool
@@ -130,18 +135,35 @@ named_live epoch number uri host = find (is_named_live epoch number uri) host.se
 unfoldable pub with_server : {S : Type 0} → AppId → ℕ → Peer → Bytes → Request → Host S → Host S
 with_server app event peer tag request host =
     if same_bytes (method_of request) ack then host
-    else record host { servers = host.servers ++ record { app = app; event = event; peer = peer; tag = tag; request = request; passed = []; last = None } ∷ [] }
+    else
+    record host {
+      servers = host.servers
+          ++ record {
+            app = app;
+            event = event;
+            peer = peer;
+            tag = tag;
+            request = request;
+            passed = [];
+            last = None;
+          } ∷ [];
+    }
 
 -- a server transaction that was answered 100
 unfoldable pub tried : Request → ℕ → Server → Server
-tried request now server = record server { passed = server_items.AnswerGiven 100 now ∷ server.passed; last = Some (trying_response trying request) }
+tried request now server =
+    record server {
+      passed = server_items.AnswerGiven 100 now ∷ server.passed;
+      last = Some (trying_response trying request);
+    }
 
 -- an INVITE is answered 100 at once
 unfoldable pub with_trying : {S : Type 0} → Peer → ℕ → Request → Taken S → Taken S
 with_trying from now request taken =
     if same_bytes (method_of request) invite
     then replying from (messages.Response (trying_response trying request)) (record taken {
-      host = record taken.host { servers = change_first (is_server taken.count) (tried request now) taken.host.servers };
+      host =
+          record taken.host { servers = change_first (is_server taken.count) (tried request now) taken.host.servers };
     }) else taken
 
 -- the tag that an application session drew as it began
@@ -155,26 +177,36 @@ queue_later config coming request live host =
     if is_full live then refuse config coming.from 503 unavailable request coming.count host
     else with_trying coming.from coming.now request
     (queue live.serial coming.now (queued.Request (unrouted config request)) coming.count
-    (with_server app (coming.count + 1) coming.from (own_tag config coming.epoch app) (unrouted config request) host))
+    (with_server app (coming.count + 1) coming.from (own_tag config coming.epoch app)
+    (unrouted config request) host))
 
 -- the same, where no session is named: 481
-unfoldable pub later_by : {S : Type 0} → Config → Coming → Request → Option (Live S) → Host S → Taken S
-later_by config coming request None host = refuse config coming.from 481 does_not_exist request coming.count host
+unfoldable pub later_by : {S : Type 0} → Config → Coming → Request → Option (Live S) → Host S
+    → Taken S
+later_by config coming request None host =
+    refuse config coming.from 481 does_not_exist request coming.count host
 later_by config coming request (Some live) host = queue_later config coming request live host
 
 -- a request with a To tag, for the live session of the own URI by which it came
 unfoldable pub take_later : {S : Type 0} → Config → Coming → Request → Host S → Taken S
 take_later config coming request host =
-    later_by config coming request (option_and_then (λ uri. named_live coming.epoch coming.host uri host) (own_uri config request)) host
+    later_by config coming request
+    (option_and_then (λ uri. named_live coming.epoch coming.host uri host)
+    (own_uri config request)) host
 
 -- ## Requests that begin a session
 
 -- a session as it begins to live, its first request waiting
-unfoldable pub begun_live : {S : Type 0} → Form S → Config → ℕ → AppId → ℕ → Note → Request → ℕ → Live S
+unfoldable pub begun_live : {S : Type 0} → Form S → Config → ℕ → AppId → ℕ → Note → Request → ℕ
+    → Live S
 begun_live form config epoch app now noted request number = record {
   serial = app.serial;
   session = form.begin config app epoch now noted request;
-  inbox = record { number = number; event = queued.Initial noted.region noted.subscriber noted.popped request } ∷ [];
+  inbox =
+      record {
+        number = number;
+        event = queued.Initial noted.region noted.subscriber noted.popped request;
+      } ∷ [];
   since = now;
   fired = [];
 }
@@ -183,24 +215,33 @@ begun_live form config epoch app now noted request number = record {
 unfoldable pub begun : {S : Type 0} → Form S → Config → Coming → Note → Request → Host S → Taken S
 begun form config coming noted request host =
     let app : AppId = record { host = coming.host; serial = host.last + 1 } in
-    with_trying coming.from coming.now request (quiet (with_server app (coming.count + 1) coming.from (own_tag config coming.epoch app) request (record host {
-      sessions = host.sessions ++ begun_live form config coming.epoch app coming.now noted request (coming.count + 1) ∷ [];
+    with_trying coming.from coming.now request
+    (quiet (with_server app (coming.count + 1) coming.from (own_tag config coming.epoch app) request (record host {
+      sessions =
+          host.sessions
+          ++ begun_live form config coming.epoch app coming.now noted request (coming.count + 1)
+          ∷ [];
       last = host.last + 1;
     })) (coming.count + 1))
 
 -- a request that may begin a session; 503 where as many live as may
-unfoldable pub take_initial : {S : Type 0} → Form S → Config → Coming → Note → Request → Host S → Taken S
+unfoldable pub take_initial : {S : Type 0} → Form S → Config → Coming → Note → Request → Host S
+    → Taken S
 take_initial form config coming noted request host =
     if nat_le MOST_LIVE (length host.sessions) then refuse config coming.from 503 unavailable request coming.count host
     else begun form config coming noted request host
 
 -- a request of these methods begins nothing
 unfoldable pub is_never_initial : Request → Bool
-is_never_initial request = same_bytes (method_of request) bye || same_bytes (method_of request) prack || same_bytes (method_of request) update
+is_never_initial request =
+    same_bytes (method_of request) bye || same_bytes (method_of request) prack
+    || same_bytes (method_of request) update
 
 -- a request without To tag that begins a session where it has its note
-unfoldable pub take_begun : {S : Type 0} → Form S → Config → Coming → Option Note → Request → Host S → Taken S
-take_begun form config coming None request host = refuse config coming.from 481 does_not_exist request coming.count host
+unfoldable pub take_begun : {S : Type 0} → Form S → Config → Coming → Option Note → Request → Host S
+    → Taken S
+take_begun form config coming None request host =
+    refuse config coming.from 481 does_not_exist request coming.count host
 take_begun form config coming (Some noted) request host =
     if is_never_initial request then refuse config coming.from 481 does_not_exist request coming.count host
     else take_initial form config coming noted request host
@@ -208,30 +249,41 @@ take_begun form config coming (Some noted) request host =
 -- ## Every request that comes to a host
 
 -- a request that belongs to no transaction, and is no CANCEL
-unfoldable pub take_new : {S : Type 0} → Form S → Config → Coming → Option Note → Request → Host S → Taken S
+unfoldable pub take_new : {S : Type 0} → Form S → Config → Coming → Option Note → Request → Host S
+    → Taken S
 take_new form config coming noted request host =
     if is_some (tag_of request.head.to) then take_later config coming request host
     else take_begun form config coming noted request host
 
 -- a request that belongs to no transaction; a CANCEL gets 481 (RFC 3261 section 9.2)
-unfoldable pub take_unclaimed : {S : Type 0} → Form S → Config → Coming → Option Note → Request → Host S → Taken S
+unfoldable pub take_unclaimed : {S : Type 0} → Form S → Config → Coming → Option Note → Request
+    → Host S → Taken S
 take_unclaimed form config coming noted request host =
     if same_bytes (method_of request) cancel then refuse config coming.from 481 does_not_exist request coming.count host
     else take_new form config coming noted request host
 
 -- a request, by its claim
-unfoldable pub take_claimed : {S : Type 0} → Form S → Config → Coming → Option Note → Request → Claim → Host S → Taken S
-take_claimed form config coming noted request (Cancels server) host = cancelled coming.from coming.now server request coming.count host
-take_claimed form config coming noted request (Acks server) host = quiet (pass_server server.event server_items.AckCame host) coming.count
-take_claimed form config coming noted request (Repeats server) host = repeated server coming.count host
-take_claimed form config coming noted request Unclaimed host = take_unclaimed form config coming noted request host
+unfoldable pub take_claimed : {S : Type 0} → Form S → Config → Coming → Option Note → Request
+    → Claim → Host S → Taken S
+take_claimed form config coming noted request (Cancels server) host =
+    cancelled coming.from coming.now server request coming.count host
+take_claimed form config coming noted request (Acks server) host =
+    quiet (pass_server server.event server_items.AckCame host) coming.count
+take_claimed form config coming noted request (Repeats server) host =
+    repeated server coming.count host
+take_claimed form config coming noted request Unclaimed host =
+    take_unclaimed form config coming noted request host
 
 -- a request that comes to a host
-unfoldable pub take_request : {S : Type 0} → Form S → Config → Coming → Option Note → Request → Host S → Taken S
+unfoldable pub take_request : {S : Type 0} → Form S → Config → Coming → Option Note → Request
+    → Host S → Taken S
 take_request form config coming noted request host =
     take_claimed form config coming noted request (claim_of coming.from request host) host
 
 -- what a host takes
-unfoldable pub takes : {S : Type 0} → Form S → Config → Coming → Option Note → Message → Host S → Taken S
-takes form config coming noted (messages.Request request) host = take_request form config coming noted request host
-takes form config coming noted (messages.Response response) host = take_response config coming.epoch coming.from coming.now response coming.count host
+unfoldable pub takes : {S : Type 0} → Form S → Config → Coming → Option Note → Message → Host S
+    → Taken S
+takes form config coming noted (messages.Request request) host =
+    take_request form config coming noted request host
+takes form config coming noted (messages.Response response) host =
+    take_response config coming.epoch coming.from coming.now response coming.count host

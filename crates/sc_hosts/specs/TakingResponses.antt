@@ -21,7 +21,8 @@ use Rattle.sc_hosts.specs.Inboxes.{quiet, queue, is_full_at, replying}
 unfoldable pub told : {S : Type 0} → ℕ → Client → Response → ℕ → Host S → Taken S
 told now client response count host =
     if is_cancel_client client || (not (is_final response.code) && is_full_at client.app.serial host) then quiet host count
-    else queue client.app.serial now (queued.Response client.branch (without_via response)) count host
+    else queue client.app.serial now (queued.Response client.branch (without_via response)) count
+    host
 
 -- the same, where the transaction tells its session anything
 unfoldable pub told_by : {S : Type 0} → Option ℕ → ℕ → Client → Response → ℕ → Host S → Taken S
@@ -30,13 +31,15 @@ told_by (Some code) now client response count host = told now client response co
 
 -- the client transaction of a CANCEL
 unfoldable pub cancelling : ℕ → Client → Client
-cancelling now client = record client { request = cancel_of client.request; sent = now; passed = [] }
+cancelling now client =
+    record client { request = cancel_of client.request; sent = now; passed = [] }
 
 -- an ACK to a final response other than 2xx, or a CANCEL that waited
 unfoldable pub with_reply : {S : Type 0} → ClientOut → ℕ → Client → Response → Taken S → Taken S
 with_reply out now client response taken =
     if out.ack then replying client.peer (messages.Request (ack_of client.request response)) taken
-    else (if out.cancel then replying client.peer (messages.Request (cancel_of client.request)) (record taken { host = with_client (cancelling now client) taken.host })
+    else
+    (if out.cancel then replying client.peer (messages.Request (cancel_of client.request)) (record taken { host = with_client (cancelling now client) taken.host })
     else taken)
 
 -- a response passes its client transaction, which tells, acknowledges or cancels
@@ -44,7 +47,8 @@ unfoldable pub response_for : {S : Type 0} → ℕ → Client → Response → �
 response_for now client response count host =
     let item = client_items.ResponseCame response.code now in
     with_reply (out_of_client client item) now client response
-    (told_by (out_of_client client item).tell now client response count (pass_client client.app client.branch (is_cancel_client client) item host))
+    (told_by (out_of_client client item).tell now client response count
+    (pass_client client.app client.branch (is_cancel_client client) item host))
 
 -- the same, where there is such a transaction
 unfoldable pub response_to : {S : Type 0} → ℕ → Option Client → Response → ℕ → Host S → Taken S
@@ -52,5 +56,7 @@ response_to now None response count host = quiet host count
 response_to now (Some client) response count host = response_for now client response count host
 
 -- a response that belongs to no client transaction is dropped
-unfoldable pub take_response : {S : Type 0} → Config → ℕ → Peer → ℕ → Response → ℕ → Host S → Taken S
-take_response config epoch from now response count host = response_to now (client_for config.salt epoch from response host) response count host
+unfoldable pub take_response : {S : Type 0} → Config → ℕ → Peer → ℕ → Response → ℕ → Host S
+    → Taken S
+take_response config epoch from now response count host =
+    response_to now (client_for config.salt epoch from response host) response count host

@@ -30,23 +30,32 @@ use Rattle.sc_hosts.specs.Words.{request_timeout, unavailable}
 
 -- what a transaction tells by itself reaches its session without Vias
 unfoldable pub own_telling : Config → ℕ → Bytes → Client → Response
-own_telling config code reason client = without_via (own_response (edge_tag config.salt) code reason client.request)
+own_telling config code reason client =
+    without_via (own_response (edge_tag config.salt) code reason client.request)
 
 -- the session is told of its transaction; that of a CANCEL tells nothing
 unfoldable pub told_at : {S : Type 0} → Config → Client → Bytes → Option ℕ → Net S → Net S
 told_at config client reason None net = net
 told_at config client reason (Some code) net =
-    if is_cancel_client client then net else queue_for client.app (queued.Response client.branch (own_telling config code reason client)) net
+    if is_cancel_client client then net
+    else queue_for client.app
+    (queued.Response client.branch (own_telling config code reason client)) net
 
 -- an item that isn't a message passes a client transaction
 unfoldable pub passes : {S : Type 0} → Config → ClientItem → Bytes → Net S → Client → Net S
 passes config item reason net client =
     told_at config client reason (out_of_client client item).tell
-    (change_host client.app.host (pass_client client.app client.branch (is_cancel_client client) item) net)
+    (change_host client.app.host
+    (pass_client client.app client.branch (is_cancel_client client) item) net)
 
 -- by what a client transaction is ordered: session, branch, and a request before its CANCEL
 unfoldable pub client_key : Client → DueEntry
-client_key client = record { due = 0; app = client.app; number = 2 * client.branch + (if is_cancel_client client then 1 else 0) }
+client_key client =
+    record {
+      due = 0;
+      app = client.app;
+      number = 2 * client.branch + (if is_cancel_client client then 1 else 0);
+    }
 
 -- the client transaction of this key
 unfoldable pub has_key : DueEntry → Client → Bool
@@ -59,11 +68,13 @@ clients_of net = flat_map (λ host. host.clients) net.hosts
 -- the client transactions whose request went to a place, by host, serial and branch
 unfoldable pub clients_to : {S : Type 0} → Place → Net S → List Client
 clients_to place net =
-    filter_map (λ key. find (has_key key) (clients_of net)) (in_order (map client_key (filter (λ client. goes_to place client.peer) (clients_of net))))
+    filter_map (λ key. find (has_key key) (clients_of net))
+    (in_order (map client_key (filter (λ client. goes_to place client.peer) (clients_of net))))
 
 -- a place is lost: each of these transactions tells 503 (RFC 3261 sections 8.1.3.1 and 16.9)
 unfoldable pub lost : {S : Type 0} → Config → Place → Net S → Net S
-lost config place net = fold (passes config client_items.PlaceLost unavailable) net (clients_to place net)
+lost config place net =
+    fold (passes config client_items.PlaceLost unavailable) net (clients_to place net)
 
 -- what is due in a net
 pub data DueItem : Type 0 where
@@ -79,33 +90,40 @@ pub record Dated : Type 0 where
 -- an entry of this moment, none where nothing runs
 unfoldable pub dated : AppId → ℕ → DueItem → Option ℕ → List Dated
 dated app number item None = []
-dated app number item (Some due) = record { entry = record { due = due; app = app; number = number }; item = item } ∷ []
+dated app number item (Some due) =
+    record { entry = record { due = due; app = app; number = number }; item = item } ∷ []
 
 -- the timer of a client transaction; its number is 8*x + 3 for branch x, and 8*x + 4 for the
 -- branch's CANCEL
 unfoldable pub client_dated : Client → List Dated
-client_dated client = dated client.app (8 * client.branch + (if is_cancel_client client then 4 else 3)) (Of_client client) (due_of_client client)
+client_dated client =
+    dated client.app (8 * client.branch + (if is_cancel_client client then 4 else 3))
+    (Of_client client) (due_of_client client)
 
 -- the timer of a server transaction; its number is 8*x + 5 for event x
 unfoldable pub server_dated : Server → List Dated
-server_dated server = dated server.app (8 * server.event + 5) (Of_server server) (due_of_server server)
+server_dated server =
+    dated server.app (8 * server.event + 5) (Of_server server) (due_of_server server)
 
 -- what is due in a live session and hasn't had its event
 unfoldable pub live_dated : {S : Type 0} → Form S → ℕ → Live S → List Dated
 live_dated form host live =
     flat_map (λ entry. if is_fired live.fired entry.due entry.number then []
-    else dated (record { host = host; serial = live.serial }) entry.number (Of_session (record { host = host; serial = live.serial }) entry.event) (Some entry.due))
+    else dated (record { host = host; serial = live.serial }) entry.number
+    (Of_session (record { host = host; serial = live.serial }) entry.event) (Some entry.due))
     (entries_of (form.read live.session))
 
 -- all that runs at a host
 unfoldable pub host_dated : {S : Type 0} → Form S → ℕ → Host S → List Dated
 host_dated form number host =
-    flat_map client_dated host.clients ++ flat_map server_dated host.servers ++ flat_map (live_dated form number) host.sessions
+    flat_map client_dated host.clients ++ flat_map server_dated host.servers
+    ++ flat_map (live_dated form number) host.sessions
 
 -- all that runs at these hosts, counted from this number
 unfoldable pub hosts_dated : {S : Type 0} → Form S → ℕ → List (Host S) → List Dated
 hosts_dated form number [] = []
-hosts_dated form number (host ∷ hosts) = host_dated form number host ++ hosts_dated form (number + 1) hosts
+hosts_dated form number (host ∷ hosts) =
+    host_dated form number host ++ hosts_dated form (number + 1) hosts
 
 -- all that runs in a net
 unfoldable pub all_dated : {S : Type 0} → Form S → Net S → List Dated
@@ -118,21 +136,31 @@ same_entry a b = a.due == b.due && is_same_app a.app b.app && a.number == b.numb
 -- what is due at a moment, by due moment, host, serial and number
 unfoldable pub due_items : {S : Type 0} → Form S → ℕ → Net S → List Dated
 due_items form now net =
-    filter_map (λ entry. find (λ d. same_entry d.entry entry) (all_dated form net)) (in_order (filter (is_due now) (map (λ d. d.entry) (all_dated form net))))
+    filter_map (λ entry. find (λ d. same_entry d.entry entry) (all_dated form net))
+    (in_order (filter (is_due now) (map (λ d. d.entry) (all_dated form net))))
 
 -- the entry has had its event
 unfoldable pub mark_fired : {S : Type 0} → DueEntry → Host S → Host S
 mark_fired entry host = record host {
-  sessions = change_first (is_live entry.app.serial) (λ live. record live { fired = live.fired ++ record { due = entry.due; number = entry.number } ∷ [] }) host.sessions;
+  sessions =
+      change_first (is_live entry.app.serial)
+      (λ live.
+      record live {
+        fired = live.fired ++ record { due = entry.due; number = entry.number } ∷ [];
+      }) host.sessions;
 }
 
 -- what is due happens: a session gets its event, and a transaction the moment
 unfoldable pub fires : {S : Type 0} → Config → ℕ → Net S → DueEntry → DueItem → Net S
-fires config now net entry (Of_session app event) = queue_for app event (change_host app.host (mark_fired entry) net)
-fires config now net entry (Of_client client) = passes config (client_items.MomentCame now) request_timeout net client
-fires config now net entry (Of_server server) = change_host server.app.host (pass_server server.event (server_items.MomentCame now)) net
+fires config now net entry (Of_session app event) =
+    queue_for app event (change_host app.host (mark_fired entry) net)
+fires config now net entry (Of_client client) =
+    passes config (client_items.MomentCame now) request_timeout net client
+fires config now net entry (Of_server server) =
+    change_host server.app.host (pass_server server.event (server_items.MomentCame now)) net
 
 -- time goes on to this moment, and what is due happens, in its order; nothing is sent by it
 unfoldable pub ticked : {S : Type 0} → Form S → Config → ℕ → Net S → Net S
 ticked form config now net =
-    fold (λ net d. fires config now net d.entry d.item) (record net { moment = now }) (due_items form now net)
+    fold (λ net d. fires config now net d.entry d.item) (record net { moment = now })
+    (due_items form now net)

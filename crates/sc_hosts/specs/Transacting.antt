@@ -1,5 +1,5 @@
--- The transactions of a host: which one a message belongs to, found by the texts of the message alone,
--- and what an item that passes it makes of it (RFC 3261 sections 17.1.3 and 17.2.3).
+-- The transactions of a host: which one a message belongs to, found by the texts of the message
+-- alone, and what an item that passes it makes of it (RFC 3261 sections 17.1.3 and 17.2.3).
 use Rattle.std.specs.Prelude.{ℕ, ◌==◌, List, [], ◌∷◌, ◌++◌, Bool, true, false, not, ◌&&◌, Option, is_some, unwrap_or, map, filter}
 use Rattle.std.specs.List.{find}
 use Rattle.std.specs.Option.{option_map_or}
@@ -25,14 +25,17 @@ use Rattle.sc_model.specs.ServerTransactions.{final_answer}
 use Rattle.sc_model.specs.Transactions.{client_out, has_provisional}
 pub use Rattle.sc_stages.specs.Requests.{top_via, branch_of, method_of}
 unfoldable pub use Rattle.sc_stages.specs.States.{is_over, is_proceeding, is_completed}
-pub use Rattle.sc_state.specs.Standing.{is_invite_client, is_invite_server, is_cancel_client, is_same_app, is_server}
-unfoldable pub use Rattle.sc_state.specs.Standing.{state_of_client, state_of_server, due_of_client, due_of_server, is_client}
-unfoldable pub use Rattle.sc_state.specs.Keeping.{lives_here, is_kept_client, is_kept_server, tidied}
+pub use
+    Rattle.sc_state.specs.Standing.{is_invite_client, is_invite_server, is_cancel_client, is_same_app, is_server}
+unfoldable pub use
+    Rattle.sc_state.specs.Standing.{state_of_client, state_of_server, due_of_client, due_of_server, is_client}
+unfoldable pub use
+    Rattle.sc_state.specs.Keeping.{lives_here, is_kept_client, is_kept_server, tidied}
 
 -- ## Ends of a transaction
 
--- a transaction with an end outside takes messages from any outside place; one over an inner hop takes
--- them from that hop alone
+-- a transaction with an end outside takes messages from any outside place; one over an inner hop
+-- takes them from that hop alone
 unfoldable pub takes_from : Peer → Peer → Bool
 takes_from (peers.Outside place) (peers.Outside from) = true
 takes_from (peers.Outside place) (peers.Inside from) = false
@@ -59,11 +62,14 @@ unfoldable pub is_answered_by : Bytes → ℕ → Peer → Response → Client �
 is_answered_by salt epoch from response client =
     takes_from client.peer from && not (is_over (state_of_client client))
     && same_bytes (method_of client.request) response.head.cseq.method
-    && option_map_or (λ via. same_bytes (branch_of via) (branch_text salt epoch client.app client.branch)) (top_via response.head.via) false
+    && option_map_or
+    (λ via. same_bytes (branch_of via) (branch_text salt epoch client.app client.branch))
+    (top_via response.head.via) false
 
 -- the client transaction that a response belongs to
 unfoldable pub client_for : {S : Type 0} → Bytes → ℕ → Peer → Response → Host S → Option Client
-client_for salt epoch from response host = find (is_answered_by salt epoch from response) host.clients
+client_for salt epoch from response host =
+    find (is_answered_by salt epoch from response) host.clients
 
 -- a client transaction that an item has passed
 unfoldable pub client_passed : ClientItem → Client → Client
@@ -72,7 +78,10 @@ client_passed item client = record client { passed = item ∷ client.passed }
 -- an item passes a client transaction
 unfoldable pub pass_client : {S : Type 0} → AppId → ℕ → Bool → ClientItem → Host S → Host S
 pass_client app branch cancelling item host =
-    tidied (record host { clients = change_first (is_client app branch cancelling) (client_passed item) host.clients })
+    tidied
+    (record host {
+      clients = change_first (is_client app branch cancelling) (client_passed item) host.clients;
+    })
 
 -- a client transaction more, behind the others
 abbrev pub with_client : {S : Type 0} → Client → Host S → Host S
@@ -81,7 +90,11 @@ with_client client host = record host { clients = host.clients ++ client ∷ [] 
 -- the branches of a session whose INVITE has had a provisional response
 unfoldable pub ringing_branches : {S : Type 0} → AppId → Host S → List ℕ
 ringing_branches app host =
-    map (λ client. client.branch) (filter (λ client. is_same_app client.app app && is_invite_client client && has_provisional client.passed) host.clients)
+    map (λ client. client.branch)
+    (filter
+    (λ client.
+    is_same_app client.app app && is_invite_client client && has_provisional client.passed)
+    host.clients)
 
 -- ## Server transactions
 
@@ -91,7 +104,8 @@ port_of via = unwrap_or via.port 5060
 
 -- the same branch and sent-by: hosts without case, and no port is 5060
 unfoldable pub same_via : Via → Via → Bool
-same_via a b = same_bytes (branch_of a) (branch_of b) && same_name a.host b.host && port_of a == port_of b
+same_via a b =
+    same_bytes (branch_of a) (branch_of b) && same_name a.host b.host && port_of a == port_of b
 
 -- both have a top Via, and the two are the same in this way
 unfoldable pub same_top : List Via → List Via → Bool
@@ -99,7 +113,9 @@ same_top a b = option_map_or (λ x. option_map_or (same_via x) (top_via b) false
 
 -- a live transaction whose request has the top Via of this one
 unfoldable pub is_kin : Peer → Request → Server → Bool
-is_kin from request server = takes_from server.peer from && not (is_over (state_of_server server)) && same_top server.request.head.via request.head.via
+is_kin from request server =
+    takes_from server.peer from && not (is_over (state_of_server server))
+    && same_top server.request.head.via request.head.via
 
 -- a CANCEL is for the INVITE of its top Via (RFC 3261 section 9.2)
 abbrev pub is_cancelled_by : Peer → Request → Server → Bool
@@ -107,11 +123,13 @@ is_cancelled_by from request server = is_kin from request server && is_invite_se
 
 -- an ACK is for an INVITE that was answered otherwise than 2xx (RFC 3261 section 17.2.3)
 abbrev pub is_acked_by : Peer → Request → Server → Bool
-is_acked_by from request server = is_kin from request server && is_invite_server server && is_completed (state_of_server server)
+is_acked_by from request server =
+    is_kin from request server && is_invite_server server && is_completed (state_of_server server)
 
 -- the request came before
 abbrev pub is_repeated_by : Peer → Request → Server → Bool
-is_repeated_by from request server = is_kin from request server && same_bytes (method_of server.request) (method_of request)
+is_repeated_by from request server =
+    is_kin from request server && same_bytes (method_of server.request) (method_of request)
 
 -- a final response was given (RFC 3261 section 9.2)
 abbrev pub has_final : Server → Bool
@@ -123,4 +141,6 @@ server_passed item server = record server { passed = item ∷ server.passed }
 
 -- an item passes the server transaction of this event
 unfoldable pub pass_server : {S : Type 0} → ℕ → ServerItem → Host S → Host S
-pass_server event item host = tidied (record host { servers = change_first (is_server event) (server_passed item) host.servers })
+pass_server event item host =
+    tidied
+    (record host { servers = change_first (is_server event) (server_passed item) host.servers })

@@ -24,8 +24,8 @@ there view sessions = filter (λ sess. not (is_gone_in view sess)) sessions
 unfoldable pub with_there : View → RequestView → RequestView
 with_there view request = record request { unacked = there view request.unacked }
 
--- an initial request stands as long as its SipSession, or one that waits for an ACK, is there; every
--- other until its final response, and a sent INVITE until each 2xx has its ACK
+-- an initial request stands as long as its SipSession, or one that waits for an ACK, is there;
+-- every other until its final response, and a sent INVITE until each 2xx has its ACK
 unfoldable pub stands : View → RequestView → Bool
 stands view request =
     if request.initial then not (is_gone_in view request.sess) || not (length request.unacked == 0)
@@ -39,16 +39,21 @@ tidy view = record view { requests = filter (stands view) (map (with_there view)
 
 -- the first final code stays
 unfoldable pub with_answer : ℕ → RequestView → RequestView
-with_answer code request = if is_final code && is_none request.answered then record request { answered = Some code } else request
+with_answer code request =
+    if is_final code && is_none request.answered then record request { answered = Some code }
+    else request
 
 -- the SipSession after a response of this code to a request
 unfoldable pub with_response : RequestView → Bool → ℕ → SessionView → SessionView
-with_response request tagged code session = record session { state = after_response session.role request tagged session.state code }
+with_response request tagged code session =
+    record session { state = after_response session.role request tagged session.state code }
 
--- the view after a response of this code to a request, sent, handled or forwarded in this SipSession
+-- the view after a response of this code to a request, sent, handled or forwarded in this
+-- SipSession
 unfoldable pub answered_in : SessId → RequestView → Bool → ℕ → View → View
 answered_in sess request tagged code view =
-    change_session sess (with_response request tagged code) (change_request request.id (with_answer code) view)
+    change_session sess (with_response request tagged code)
+    (change_request request.id (with_answer code) view)
 
 -- after an answer that the application or the container gave
 unfoldable pub answered : Option RequestView → ℕ → View → View
@@ -59,16 +64,20 @@ answered (Some request) code view = tidy (answered_in request.sess request true 
 
 -- the request was received and waits for its final response; an ACK has none
 unfoldable pub is_owed : RequestView → Bool
-is_owed request = request.received && is_none request.answered && not (same_bytes request.method ack)
+is_owed request =
+    request.received && is_none request.answered && not (same_bytes request.method ack)
 
 -- the requests of this SipSession that wait are answered
 unfoldable pub settled_request : SessId → ℕ → RequestView → RequestView
 settled_request sess code request =
-    if same_session request.sess sess && is_owed request then record request { answered = Some code } else request
+    if same_session request.sess sess && is_owed request
+    then record request { answered = Some code }
+    else request
 
 -- the view with them answered
 unfoldable pub settled_requests : SessId → ℕ → View → View
-settled_requests sess code view = record view { requests = map (settled_request sess code) view.requests }
+settled_requests sess code view =
+    record view { requests = map (settled_request sess code) view.requests }
 
 -- a SipSession that is invalidated: what waits in it is answered 500, and it is gone
 unfoldable pub invalidated : SessId → View → View
@@ -104,7 +113,8 @@ own_session view = record {
 
 -- the view with that SipSession; two names are drawn
 unfoldable pub with_own_session : View → View
-with_own_session view = record view { sessions = view.sessions ++ own_session view ∷ []; counter = view.counter + 2 }
+with_own_session view =
+    record view { sessions = view.sessions ++ own_session view ∷ []; counter = view.counter + 2 }
 
 -- two SipSessions linked
 unfoldable pub linked : SessId → SessId → View → View

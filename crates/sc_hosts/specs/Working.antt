@@ -51,7 +51,8 @@ use Rattle.sc_model.specs.BestResponses.{server_error}
 
 -- as the calls begin
 unfoldable pub starts : Prepared → Working
-starts shown = record { play = begun shown.view; known = shown.known; written = []; orders = shown.orders }
+starts shown =
+    record { play = begun shown.view; known = shown.known; written = []; orders = shown.orders }
 
 -- ## Sending
 
@@ -69,23 +70,41 @@ next_branch working = working.play.view.counter + 1
 unfoldable pub keeps_sent : SessId → Request → Working → Working
 keeps_sent sess request working = record working {
   known = record working.known {
-    kept = working.known.kept ++ record { id = record { 0 = working.play.view.next_request }; sess = sess; way = Sent (next_branch working); request = request } ∷ [];
+    kept =
+        working.known.kept
+        ++ record {
+          id = record { 0 = working.play.view.next_request };
+          sess = sess;
+          way = Sent (next_branch working);
+          request = request;
+        } ∷ [];
   };
 }
 
 -- an initial request leaves on a branch, and begins its SipSession; the router says where it goes
 unfoldable pub sends_initial : Config → Written → SessId → Request → Working → Working
 sends_initial config draft sess request working =
-    giving (orders.Begin (next_branch working) draft.directive working.known.region (router_state draft.directive working.known) (on_branch config working.play.view (next_branch working) request) ∷ [])
+    giving
+    (orders.Begin (next_branch working) draft.directive working.known.region
+    (router_state draft.directive working.known)
+    (on_branch config working.play.view (next_branch working) request) ∷ [])
     (keeps_sent sess request (record working {
-      known = change_leg sess (λ leg. record leg { first = Some (record { 0 = working.play.view.next_request }) }) working.known;
+      known =
+          change_leg sess
+          (λ leg. record leg { first = Some (record { 0 = working.play.view.next_request }) })
+          working.known;
     }))
 
 -- a request in a dialog leaves on a branch, and counts in its dialog
 unfoldable pub sends_later : Config → SessId → Request → Working → Working
 sends_later config sess request working =
-    giving (orders.Send (next_branch working) (on_branch config working.play.view (next_branch working) request) ∷ [])
-    (keeps_sent sess request (record working { known = change_leg sess (in_dialog (By_self (messages.Request request))) working.known }))
+    giving
+    (orders.Send (next_branch working)
+    (on_branch config working.play.view (next_branch working) request) ∷ [])
+    (keeps_sent sess request
+    (record working {
+      known = change_leg sess (in_dialog (By_self (messages.Request request))) working.known;
+    }))
 
 -- the dialog of a SipSession, if there is one
 unfoldable pub dialog_in : Known → SessId → Option DialogState
@@ -94,16 +113,20 @@ dialog_in known sess = option_and_then (λ leg. leg.dialog) (leg_of known sess)
 -- the next request in a dialog, with the own Contact where it sets the target
 unfoldable pub sends_in : Config → SessId → Inside → Option DialogState → Working → Working
 sends_in config sess ask None working = working
-sends_in config sess ask (Some dialog) working = sends_later config sess (from_here config working.play.view (next_request dialog ask)) working
+sends_in config sess ask (Some dialog) working =
+    sends_later config sess (from_here config working.play.view (next_request dialog ask)) working
 
 -- a draft leaves as what it is
 unfoldable pub sends_written : Config → Written → SessId → Asked → Working → Working
-sends_written config draft sess (asked.Initial request) working = sends_initial config draft sess (from_here config working.play.view request) working
-sends_written config draft sess (asked.Later ask) working = sends_in config sess ask (dialog_in working.known sess) working
+sends_written config draft sess (asked.Initial request) working =
+    sends_initial config draft sess (from_here config working.play.view request) working
+sends_written config draft sess (asked.Later ask) working =
+    sends_in config sess ask (dialog_in working.known sess) working
 
 -- the draft of this number is sent
 unfoldable pub sends : Config → ℕ → Option Written → Option Draft → Working → Working
-sends config number (Some written) (Some draft) working = forgets number (sends_written config written draft.sess written.asked working)
+sends config number (Some written) (Some draft) working =
+    forgets number (sends_written config written draft.sess written.asked working)
 sends config number (Some written) None working = working
 sends config number None draft working = working
 
@@ -113,14 +136,18 @@ sends config number None draft working = working
 -- 13.2.2.4)
 unfoldable pub ack_with : Config → Bytes → Option DialogState → Option Kept → Working → Working
 ack_with config body (Some dialog) (Some kept) working =
-    giving (orders.Acknowledge (on_branch config working.play.view (next_branch working) (ack_request dialog kept.request.head.cseq.number body)) ∷ []) working
+    giving
+    (orders.Acknowledge
+    (on_branch config working.play.view (next_branch working)
+    (ack_request dialog kept.request.head.cseq.number body)) ∷ []) working
 ack_with config body (Some dialog) None working = working
 ack_with config body None kept working = working
 
 -- the INVITE of lowest number whose 2xx in this SipSession waits for its ACK
 unfoldable pub acknowledges : Config → SessId → Bytes → Option RequestView → Working → Working
 acknowledges config sess body None working = working
-acknowledges config sess body (Some request) working = ack_with config body (dialog_in working.known sess) (kept_of working.known request.id) working
+acknowledges config sess body (Some request) working =
+    ack_with config body (dialog_in working.known sess) (kept_of working.known request.id) working
 
 -- the branch on which a request was sent
 unfoldable pub branch_of : Way → List ℕ
@@ -147,20 +174,26 @@ event_of (Sent branch) = 0
 unfoldable pub proxies_first : ReqId → List Uri → ProxyOptions → Option Kept → Known → Known
 proxies_first req uris how None known = known
 proxies_first req uris how (Some kept) known = record known {
-  proxies = known.proxies ++ with_targets uris (new_proxy req kept.sess (event_of kept.way) kept.request (Some how)) ∷ [];
+  proxies =
+      known.proxies
+      ++ with_targets uris (new_proxy req kept.sess (event_of kept.way) kept.request (Some how))
+      ∷ [];
 }
 
 -- the options count where the request wasn't proxied before
 unfoldable pub proxies : ReqId → List Uri → ProxyOptions → Known → Known
 proxies req uris how known =
-    if is_some (proxy_of known req) then change_proxy req (with_targets uris) known else proxies_first req uris how (kept_of known req) known
+    if is_some (proxy_of known req) then change_proxy req (with_targets uris) known
+    else proxies_first req uris how (kept_of known req) known
 
 -- ## Invalidation of a SipSession
 
 -- 500 to a received request that waits
 unfoldable pub owed_answer : Config → View → Known → RequestView → List Order
 owed_answer config view known request =
-    answers config (record { code = 500; reason = server_error; fields = []; contact = []; body = [] }) view (kept_of known request.id) request.initial
+    answers config
+    (record { code = 500; reason = server_error; fields = []; contact = []; body = [] }) view
+    (kept_of known request.id) request.initial
 
 -- numbers in their order
 unfoldable pub insert_number : ℕ → List ℕ → List ℕ
@@ -175,14 +208,21 @@ in_order (n ∷ ns) = insert_number n (in_order ns)
 -- the branches of the INVITEs that were sent in such SipSessions
 unfoldable pub invite_branches : (SessId → Bool) → Known → List ℕ
 invite_branches test known =
-    flat_map (λ kept. if test kept.sess && same_bytes kept.request.method invite then branch_of kept.way else []) known.kept
-    ++ flat_map (λ proxy. if test proxy.sess && is_invite proxy then map (λ branch. branch.number) proxy.branches else []) known.proxies
+    flat_map
+    (λ kept.
+    if test kept.sess && same_bytes kept.request.method invite then branch_of kept.way else [])
+    known.kept
+    ++ flat_map
+    (λ proxy.
+    if test proxy.sess && is_invite proxy then map (λ branch. branch.number) proxy.branches
+    else []) known.proxies
 
--- 500 to what was received, in order of number, and a CANCEL to each INVITE that was sent, in order of
--- their branches
+-- 500 to what was received, in order of number, and a CANCEL to each INVITE that was sent, in order
+-- of their branches
 unfoldable pub goodbyes : Config → View → Known → (SessId → Bool) → List Order
 goodbyes config view known test =
-    flat_map (owed_answer config view known) (filter (λ request. test request.sess && is_owed request) view.requests)
+    flat_map (owed_answer config view known)
+    (filter (λ request. test request.sess && is_owed request) view.requests)
     ++ map (λ branch. orders.CancelNow branch) (in_order (invite_branches test known))
 
 -- a SipSession is invalidated: what waits in it is answered, its INVITEs are cancelled, and that is
@@ -197,18 +237,27 @@ invalidates config sess working =
 
 -- what an accepted call does beside what it leaves of the view; most do nothing more
 unfoldable pub does : Config → Working → Call → Working
-does config working (calls.Respond req answer) = answering config (request_in working.play.view req) answer working
+does config working (calls.Respond req answer) =
+    answering config (request_in working.play.view req) answer working
 does config working (calls.CreateRequest ask) = drafts_own ask working
 does config working (calls.CreateInDialog sess ask) = drafts_later ask working
-does config working (calls.B2bCreate req uri) = drafts_leg req uri (kept_of working.known req) working
-does config working (calls.SetDirective draft directive origin) = directs draft directive origin working
-does config working (calls.Send draft) = sends config draft (find (is_written draft) working.written) (draft_in working.play draft) working
+does config working (calls.B2bCreate req uri) =
+    drafts_leg req uri (kept_of working.known req) working
+does config working (calls.SetDirective draft directive origin) =
+    directs draft directive origin working
+does config working (calls.Send draft) =
+    sends config draft (find (is_written draft) working.written) (draft_in working.play draft)
+    working
 does config working (calls.Discard draft) = forgets draft working
-does config working (calls.Ack sess body) = acknowledges config sess body (find (awaits_ack sess) working.play.view.requests) working
+does config working (calls.Ack sess body) =
+    acknowledges config sess body (find (awaits_ack sess) working.play.view.requests) working
 does config working (calls.Cancel req) = cancels (kept_of working.known req) working
-does config working (calls.ProxyTo req uris how) = record working { known = proxies req uris how working.known }
-does config working (calls.ProxyCancel req) = record working { known = change_proxy req stopped working.known }
-does config working (calls.B2bRespond sess answer) = answering config (begun_by working.play.view sess) answer working
+does config working (calls.ProxyTo req uris how) =
+    record working { known = proxies req uris how working.known }
+does config working (calls.ProxyCancel req) =
+    record working { known = change_proxy req stopped working.known }
+does config working (calls.B2bRespond sess answer) =
+    answering config (begun_by working.play.view sess) answer working
 does config working (calls.Link a b) = working
 does config working (calls.Unlink a) = working
 does config working (calls.StartTimer delay period info) = working
@@ -227,8 +276,12 @@ does_by config working call (Some refused) = working
 
 -- after one call more
 unfoldable pub worked : Config → Working → Call → Working
-worked config working call = record (does_by config working call (refusal working.play call)) { play = after_listed working.play call }
+worked config working call =
+    record (does_by config working call (refusal working.play call)) {
+      play = after_listed working.play call;
+    }
 
 -- after all calls of a turn, in their order
 unfoldable pub worked_all : Config → Prepared → List CallRecord → Working
-worked_all config shown made = fold (λ working made. worked config working made.call) (starts shown) made
+worked_all config shown made =
+    fold (λ working made. worked config working made.call) (starts shown) made

@@ -53,7 +53,12 @@ fn queue_in(
     event: Queued,
     host: &mut Host<Session>,
 ) -> Result<(), NoMemory>
-    ensures { OnOk result (host.new ≡ record host.old { sessions = change_first (is_live serial) (with_event number now event) host.old.sessions }) }
+    ensures { OnOk result
+        (host.new
+        ≡ record host.old {
+          sessions = change_first (is_live serial) (with_event number now event)
+              host.old.sessions;
+        }) }
 {
     let own = match host.live(serial) {
         Some(live) => with_event(alloc, number, now, event, live.get())?,

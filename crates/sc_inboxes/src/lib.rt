@@ -1,6 +1,6 @@
 //! What a host keeps of what comes to it: the inboxes of its sessions, its server transactions, and
-//! the answers that it gives at once (RFC 3261 sections 8.2 and 17.2). What changes a host says what it
-//! answers by a [`Told`].
+//! the answers that it gives at once (RFC 3261 sections 8.2 and 17.2). What changes a host says
+//! what it answers by a [`Told`].
 #![tactic(auto)]
 
 mod inboxes;

@@ -26,7 +26,8 @@ pub fn edge_response(
     reason: &[u8],
     request: &Request,
 ) -> Result<Response, NoMemory>
-    ensures { IfOk result (λ r. r ≡ own_response (edge_tag config.now.salt) code reason.now request.now) }
+    ensures { IfOk result
+        (λ r. r ≡ own_response (edge_tag config.now.salt) code reason.now request.now) }
 {
     let mut tag = Text::new(alloc);
     edge_tag(alloc, config.salt.as_text(), &mut tag)?;
@@ -44,7 +45,10 @@ fn refuse(
     request: &Request,
     count: u64,
 ) -> Result<Told, NoMemory>
-    ensures { IfOk result (λ t. (host : Host Session) → refuse config.now from code reason.now request.now count host ≡ taken_by host t) }
+    ensures { IfOk result
+        (λ t.
+        (host : Host Session)
+        → refuse config.now from code reason.now request.now count host ≡ taken_by host t) }
 {
     if is_ack(request) {
         return Ok(quiet(count));
@@ -62,7 +66,10 @@ pub fn refuse_unknown(
     request: &Request,
     count: u64,
 ) -> Result<Told, NoMemory>
-    ensures { IfOk result (λ t. (host : Host Session) → refuse config.now from 481 does_not_exist request.now count host ≡ taken_by host t) }
+    ensures { IfOk result
+        (λ t.
+        (host : Host Session)
+        → refuse config.now from 481 does_not_exist request.now count host ≡ taken_by host t) }
 {
     refuse(
         alloc,
@@ -84,7 +91,10 @@ pub fn refuse_full(
     request: &Request,
     count: u64,
 ) -> Result<Told, NoMemory>
-    ensures { IfOk result (λ t. (host : Host Session) → refuse config.now from 503 unavailable request.now count host ≡ taken_by host t) }
+    ensures { IfOk result
+        (λ t.
+        (host : Host Session)
+        → refuse config.now from 503 unavailable request.now count host ≡ taken_by host t) }
 {
     refuse(
         alloc,

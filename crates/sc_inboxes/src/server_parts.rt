@@ -25,7 +25,18 @@ fn new_server(
     tag: Text,
     request: &Shared<Request>,
 ) -> Result<Shared<Server>, NoMemory>
-    ensures { IfOk result (λ s. s ≡ record { app = app; event = event; peer = peer; tag = tag; request = request.now; passed = []; last = None }) }
+    ensures { IfOk result
+        (λ s.
+        s
+        ≡ record {
+          app = app;
+          event = event;
+          peer = peer;
+          tag = tag;
+          request = request.now;
+          passed = [];
+          last = None;
+        }) }
 {
     let request = request.clone_in(alloc)?;
     let server = Server {
@@ -97,7 +108,11 @@ fn try_in(
     now: u64,
     host: &mut Host<Session>,
 ) -> Result<(), NoMemory>
-    ensures { OnOk result (host.new ≡ record host.old { servers = change_first (is_server event) (tried request.now now) host.old.servers }) }
+    ensures { OnOk result
+        (host.new
+        ≡ record host.old {
+          servers = change_first (is_server event) (tried request.now now) host.old.servers;
+        }) }
 {
     let own = match host.server(event) {
         Some(server) => tried(alloc, request, now, server.get())?,
@@ -116,7 +131,8 @@ pub fn with_trying(
     told: Told,
     host: &mut Host<Session>,
 ) -> Result<Told, NoMemory>
-    ensures { IfOk result (λ t. with_trying from now request.now (taken_by host.old told) ≡ taken_by host.new t) }
+    ensures { IfOk result
+        (λ t. with_trying from now request.now (taken_by host.old told) ≡ taken_by host.new t) }
 {
     if !is_invite(request) {
         return Ok(told);

@@ -37,7 +37,12 @@ pub fn answering(
     response: Response,
     told: Told,
 ) -> Result<Told, NoMemory>
-    ensures { IfOk result (λ t. t ≡ record told { reply = Some (record { peer = peer; message = Message.Response response }) }) }
+    ensures { IfOk result
+        (λ t.
+        t
+        ≡ record told {
+          reply = Some (record { peer = peer; message = Message.Response response });
+        }) }
 {
     let response = Shared::new(alloc, response)?;
     Ok(replying(peer, Message::Response(response), told))
@@ -45,7 +50,12 @@ pub fn answering(
 
 /// The same with this request.
 pub fn asking(alloc: Global, peer: Peer, request: Request, told: Told) -> Result<Told, NoMemory>
-    ensures { IfOk result (λ t. t ≡ record told { reply = Some (record { peer = peer; message = Message.Request request }) }) }
+    ensures { IfOk result
+        (λ t.
+        t
+        ≡ record told {
+          reply = Some (record { peer = peer; message = Message.Request request });
+        }) }
 {
     let request = Shared::new(alloc, request)?;
     Ok(replying(peer, Message::Request(request), told))

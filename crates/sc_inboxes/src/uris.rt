@@ -114,7 +114,8 @@ fn end_len(epoch: u32) -> usize
 // What stands in a value of `ap` of this epoch and host for the session.
 #[tactic(auto, using(crate::proofs::NamedLives::serial_within))]
 fn serial_part<'a>(value: &'a [u8], epoch: u32, number: u32) -> &'a [u8]
-    ensures { (serial : ℕ) → value.now ≡ ap_value epoch (record { host = number; serial = serial }) → result.now ≡ decimal serial }
+    ensures { (serial : ℕ) → value.now ≡ ap_value epoch (record { host = number; serial = serial })
+        → result.now ≡ decimal serial }
 {
     let start = start_len(number);
     let end = value.len().saturating_sub(end_len(epoch));
@@ -129,7 +130,8 @@ fn serial_part<'a>(value: &'a [u8], epoch: u32, number: u32) -> &'a [u8]
 // The number under which the session is found that the URI names.
 #[tactic(auto, using(crate::proofs::NamedLives::serial_named))]
 fn named_number(epoch: u32, number: u32, uri: &Uri) -> u64
-    ensures { (serial : ℕ) → names epoch (record { host = number; serial = serial }) uri.now ≡ true → result ≡ serial_number serial }
+    ensures { (serial : ℕ) → names epoch (record { host = number; serial = serial }) uri.now ≡ true
+        → result ≡ serial_number serial }
 {
     match ap_of(uri) {
         Some(value) => text_number(serial_part(value.as_bytes(), epoch, number)),
@@ -146,7 +148,8 @@ pub fn named_live<'a>(
     uri: &Uri,
     host: &'a Host<Session>,
 ) -> Result<Option<&'a Shared<Live<Session>>>, NoMemory>
-    ensures { IfOk result (λ found. option_copied found ≡ named_live epoch number uri.now host.entry.now) }
+    ensures { IfOk result
+        (λ found. option_copied found ≡ named_live epoch number uri.now host.entry.now) }
 {
     let group = named_number(epoch, number, uri);
     host.find_live(alloc, group, &Named { epoch, number, uri })
@@ -160,7 +163,11 @@ fn top_route(request: &Request) -> Option<&Address>
 
 /// Whether the top Route is the container's own.
 pub fn is_own_routed(alloc: Global, config: &Config, request: &Request) -> Result<bool, NoMemory>
-    ensures { IfOk result (λ own. own ≡ option_map_or (λ route. is_own config.now route.uri) (slice_get request.now.head.route 0) false) }
+    ensures { IfOk result
+        (λ own.
+        own
+        ≡ option_map_or (λ route. is_own config.now route.uri)
+        (slice_get request.now.head.route 0) false) }
 {
     match top_route(request) {
         Some(route) => is_own(alloc, config, &route.uri),
@@ -169,7 +176,8 @@ pub fn is_own_routed(alloc: Global, config: &Config, request: &Request) -> Resul
 }
 
 fn route_uri(request: &Request) -> Option<&Uri>
-    ensures { option_copied result ≡ option_map (λ route. route.uri) (slice_get request.entry.now.head.route 0) }
+    ensures { option_copied result
+        ≡ option_map (λ route. route.uri) (slice_get request.entry.now.head.route 0) }
 {
     match top_route(request) {
         Some(route) => Some(&route.uri),
@@ -205,7 +213,12 @@ fn drop_top(routes: &mut List<Address>)
 
 /// The request without its top Route.
 pub fn without_top(alloc: Global, request: &Request) -> Result<Request, NoMemory>
-    ensures { IfOk result (λ r. r ≡ record request.now { head = record request.now.head { route = drop 1 request.now.head.route } }) }
+    ensures { IfOk result
+        (λ r.
+        r
+        ≡ record request.now {
+          head = record request.now.head { route = drop 1 request.now.head.route };
+        }) }
 {
     let mut copy = request.clone_in(alloc)?;
     drop_top(&mut copy.head.route);

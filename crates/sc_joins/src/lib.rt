@@ -1,4 +1,5 @@
-//! A dialog that is moved message by message is the one that the list of its messages gives, as laws.
+//! A dialog that is moved message by message is the one that the list of its messages gives, as
+//! laws.
 #![tactic(auto)]
 
 mod laws;

@@ -21,7 +21,14 @@ impl<T> Model for Journal<T> {
 
     ghost Value = { Kept T };
 
-    ghost view = { λ j. record { items = j.items.items; used = j.used; room = vec_capacity j.items - length j.items.items; most_items = j.most_items; most_bytes = j.most_bytes } };
+    ghost view = { λ j.
+        record {
+          items = j.items.items;
+          used = j.used;
+          room = vec_capacity j.items - length j.items.items;
+          most_items = j.most_items;
+          most_bytes = j.most_bytes;
+        } };
 
     ghost invariant = { λ j. (length j.items.items ≤ j.most_items) × (j.used ≤ j.most_bytes) };
 }
@@ -46,7 +53,14 @@ impl<T> Journal<T> {
     /// An empty journal that takes at most so many items, of at most so many bytes together. It
     /// takes no memory.
     pub fn new(alloc: Global, items: u64, bytes: u64) -> Journal<T>
-        ensures { result ≡ record { items = []; used = 0; room = result.room; most_items = items; most_bytes = bytes } }
+        ensures { result
+            ≡ record {
+              items = [];
+              used = 0;
+              room = result.room;
+              most_items = items;
+              most_bytes = bytes;
+            } }
     {
         Journal {
             items: Vec::new(alloc),
@@ -104,12 +118,18 @@ impl<T> Journal<T> {
     /// # Errors
     ///
     /// `Full` exactly where the journal has its most items, or with the item would have more than its
-    /// most bytes, else `NoMemory` for want of memory. The item is handed back, and the journal is as
-    /// it was.
+    /// most bytes, else `NoMemory` for want of memory. The item is handed back, and the journal is
+    /// as it was.
     pub fn push(&mut self, item: T, bytes: u64) -> Result<(), PushRefused<T>>
     where
         T: Drop,
-        ensures ok { OnOk result (self.new ≡ record self.old { items = self.old.items ++ item ∷ []; used = self.old.used + bytes; room = self.new.room }) }
+        ensures ok { OnOk result
+            (self.new
+            ≡ record self.old {
+              items = self.old.items ++ item ∷ [];
+              used = self.old.used + bytes;
+              room = self.new.room;
+            }) }
         ensures room { OnOk result (¬ (IsFull self.old bytes)) }
         ensures err { OnErr result (self.new ≡ record self.old { room = self.new.room }) }
         ensures refused { IfErr result (λ cause. RefusesPush self.old item bytes cause) }
@@ -132,7 +152,8 @@ impl<T> Journal<T> {
 
     /// Makes room for one more item. For want of memory all is as before.
     pub fn reserve(&mut self) -> Result<(), AllocError>
-        ensures ok { OnOk result ((0 < self.new.room) × (self.new ≡ record self.old { room = self.new.room })) }
+        ensures ok { OnOk result
+            ((0 < self.new.room) × (self.new ≡ record self.old { room = self.new.room })) }
         ensures err { OnErr result (self.new ≡ record self.old { room = self.new.room }) }
     {
         self.items.reserve(1)
@@ -145,7 +166,12 @@ impl<T> Journal<T> {
         requires room { 0 < self.old.room }
         requires items { length self.old.items < self.old.most_items }
         requires bytes { self.old.used + bytes ≤ self.old.most_bytes }
-        ensures { self.new ≡ record self.old { items = self.old.items ++ item ∷ []; used = self.old.used + bytes; room = self.new.room } }
+        ensures { self.new
+            ≡ record self.old {
+              items = self.old.items ++ item ∷ [];
+              used = self.old.used + bytes;
+              room = self.new.room;
+            } }
     {
         self.used += bytes;
         put_item(&mut self.items, item);

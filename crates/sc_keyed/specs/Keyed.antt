@@ -31,8 +31,8 @@ AreApart same (x ∷ xs) = (list_any (same x) xs ≡ false) × AreApart same xs
 abbrev pub is_same_server : Server → Server → Bool
 is_same_server server other = is_server server.event other
 
--- each transaction of the host of this number is of a session of that host; no two clients are of one session, branch and
--- kind, the request's own or its CANCEL's, and no two servers of one event
+-- each transaction of the host of this number is of a session of that host; no two clients are of
+-- one session, branch and kind, the request's own or its CANCEL's, and no two servers of one event
 pub record HasOwnKeys {S : Type 0} (number : ℕ) (host : Host S) : Type 0 where
   pub clients_here : (client : Client) → IsIn client host.clients → client.app.host ≡ number
   pub servers_here : (server : Server) → IsIn server host.servers → server.app.host ≡ number
@@ -41,7 +41,8 @@ pub record HasOwnKeys {S : Type 0} (number : ℕ) (host : Host S) : Type 0 where
 
 -- so it is of each host of a net
 unfoldable pub HaveOwnKeys : {S : Type 0} → Net S → Type 0
-HaveOwnKeys {S = S} net = (number : ℕ) (host : Host S) → host_at number net ≡ Some host → HasOwnKeys number host
+HaveOwnKeys {S = S} net =
+    (number : ℕ) (host : Host S) → host_at number net ≡ Some host → HasOwnKeys number host
 
 -- the branch on which an order sends a request with a client transaction of its own
 unfoldable pub new_branch : Order → List ℕ
@@ -58,18 +59,23 @@ new_branches given = flat_map new_branch given
 
 -- the request stands under the Via of this branch of a session (RFC 3261 sections 8.1.1.7 and 16.6)
 unfoldable pub IsOn : Config → ℕ → AppId → ℕ → Request → Type 0
-IsOn config epoch app branch request = top_via request.head.via ≡ Some (own_via config epoch app branch)
+IsOn config epoch app branch request =
+    top_via request.head.via ≡ Some (own_via config epoch app branch)
 
--- the requests that these orders of a session send, an ACK too, stand each under the Via of a branch of it, and these branches
--- rise from above one number up to another
+-- the requests that these orders of a session send, an ACK too, stand each under the Via of a
+-- branch of it, and these branches rise from above one number up to another
 unfoldable pub AreOn : Config → ℕ → AppId → ℕ → List Order → ℕ → Type 0
 AreOn config epoch app low [] high = low ≤ high
-AreOn config epoch app low (orders.Respond event response ∷ given) high = AreOn config epoch app low given high
+AreOn config epoch app low (orders.Respond event response ∷ given) high =
+    AreOn config epoch app low given high
 AreOn config epoch app low (orders.Begin branch directive region state request ∷ given) high =
     (low < branch) × IsOn config epoch app branch request × AreOn config epoch app branch given high
 AreOn config epoch app low (orders.Send branch request ∷ given) high =
     (low < branch) × IsOn config epoch app branch request × AreOn config epoch app branch given high
 AreOn config epoch app low (orders.Acknowledge request ∷ given) high =
-    (branch : ℕ) × (low < branch) × IsOn config epoch app branch request × AreOn config epoch app branch given high
-AreOn config epoch app low (orders.Cancel branch ∷ given) high = AreOn config epoch app low given high
-AreOn config epoch app low (orders.CancelNow branch ∷ given) high = AreOn config epoch app low given high
+    (branch : ℕ) × (low < branch) × IsOn config epoch app branch request
+    × AreOn config epoch app branch given high
+AreOn config epoch app low (orders.Cancel branch ∷ given) high =
+    AreOn config epoch app low given high
+AreOn config epoch app low (orders.CancelNow branch ∷ given) high =
+    AreOn config epoch app low given high

@@ -1,5 +1,5 @@
-/// A kind of application that every container comes with. Each is a servlet of its own; where one of
-/// several is wanted, this stands for it.
+/// A kind of application that every container comes with. Each is a servlet of its own; where one
+/// of several is wanted, this stands for it.
 #[derive(Clone, Copy, Debug, PartialEq, Eq)]
 pub enum BuiltIn {
     /// [`Answers`](sc_apps::Answers).

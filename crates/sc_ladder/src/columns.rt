@@ -1,5 +1,5 @@
-//! The columns of a picture: the connections of peers at the left, the applications in their order, and at
-//! the right the addresses.
+//! The columns of a picture: the connections of peers at the left, the applications in their order,
+//! and at the right the addresses.
 
 use crate::places::write_place;
 use crate::story::{Mark, Row, Stop};
@@ -164,7 +164,8 @@ pub fn width(columns: &[Column]) -> usize {
     }
 }
 
-/// Where the column of an end of an arrow stands, the other end being there too; None where it has none.
+/// Where the column of an end of an arrow stands, the other end being there too; None where it has
+/// none.
 pub fn place_of(stop: Stop, other: Stop, columns: &[Column]) -> Option<Spot> {
     match column_of(stop, columns) {
         Some(spot) => Some(spot),

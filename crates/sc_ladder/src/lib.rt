@@ -1,6 +1,6 @@
-//! What happened in a run of a script as a ladder diagram: in text, and as an SVG. The rows of a run are
-//! plain values. What is drawn is outside of the promises: every function is proved to be safe and to
-//! end, and no clause says what the picture shows.
+//! What happened in a run of a script as a ladder diagram: in text, and as an SVG. The rows of a
+//! run are plain values. What is drawn is outside of the promises: every function is proved to be
+//! safe and to end, and no clause says what the picture shows.
 #![tactic(auto)]
 
 mod answers;

@@ -85,7 +85,8 @@ pub fn add_coming(
     Ok(())
 }
 
-/// A turn of this session shows a message: the arrow of the first row by which it came goes to the application.
+/// A turn of this session shows a message: the arrow of the first row by which it came goes to the
+/// application.
 pub fn show_to(app: AppId, told: &Told, rows: &mut [Row]) {
     for row in rows {
         if is_row_of(told, row) {

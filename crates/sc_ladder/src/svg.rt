@@ -1,4 +1,5 @@
-//! A picture as an SVG (version 1.1), without scripts. It is drawn for a light and for a dark sheet.
+//! A picture as an SVG (version 1.1), without scripts. It is drawn for a light and for a dark
+//! sheet.
 
 use crate::boxes::{write_mark, write_moment, write_said};
 use crate::columns::{Column, Spot};
@@ -84,7 +85,8 @@ fn write_named(spot: Spot, name: &[u8], floor: usize, out: &mut Text) -> Result<
     write_line(Point { x, y: 34 }, Point { x, y: floor }, b"lane", out)
 }
 
-/// The elements of the first row, whose upper edge is at `y`. `last` is the moment of the row before it.
+/// The elements of the first row, whose upper edge is at `y`. `last` is the moment of the row
+/// before it.
 pub fn svg_row(
     alloc: Global,
     columns: &[Column],

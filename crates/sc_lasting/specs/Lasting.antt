@@ -30,9 +30,12 @@ All P (x ∷ xs) = P x × All P xs
 -- the numbers of requests, shown or kept, are below the next one
 abbrev pub Numbered : Session → Type 0
 Numbered session =
-    All (λ (kept : Kept). kept.id.0 < session.view.next_request) session.known.kept × All (λ (request : RequestView). request.id.0 < session.view.next_request) session.view.requests
+    All (λ (kept : Kept). kept.id.0 < session.view.next_request) session.known.kept
+    × All (λ (request : RequestView). request.id.0 < session.view.next_request)
+    session.view.requests
 
--- the SipSession is what it was: its Call-ID and own tag, and its role, but that a request becomes proxied
+-- the SipSession is what it was: its Call-ID and own tag, and its role, but that a request becomes
+-- proxied
 pub record IsHeld (before after : SessionView) : Type 0 where
   pub id : after.id ≡ before.id
   pub call_id : after.call_id ≡ before.call_id
@@ -52,16 +55,18 @@ stage Early = 1
 stage Confirmed = 2
 stage Terminated = 3
 
--- the state went onward: one that is TERMINATED is so for ever, a CONFIRMED one is that until it is TERMINATED, and one that
--- isn't a UAC's never goes back
+-- the state went onward: one that is TERMINATED is so for ever, a CONFIRMED one is that until it is
+-- TERMINATED, and one that isn't a UAC's never goes back
 pub record IsOnward (before after : SessionView) : Type 0 where
   pub ended : is_terminated before.state ≡ true → is_terminated after.state ≡ true
-  pub confirmed : is_confirmed before.state ≡ true → (is_confirmed after.state || is_terminated after.state) ≡ true
+  pub confirmed : is_confirmed before.state ≡ true
+      → (is_confirmed after.state || is_terminated after.state) ≡ true
   pub onward : is_uac before.role ≡ false → stage before.state ≤ stage after.state
   pub role : is_uac before.role ≡ false → is_uac after.role ≡ false
 
 -- each SipSession of the first list stands at its place in the second, the same in this sense
-unfoldable pub Continues : (SessionView → SessionView → Type 0) → List SessionView → List SessionView → Type 0
+unfoldable pub Continues : (SessionView → SessionView → Type 0) → List SessionView
+    → List SessionView → Type 0
 Continues Same [] after = Unit {0}
 Continues Same (session ∷ before) [] = ⊥
 Continues Same (session ∷ before) (next ∷ after) = Same session next × Continues Same before after
@@ -88,14 +93,23 @@ Directly call = Unit {0}
 unfoldable pub IsLife : (Queued → Type 0) → (Call → Type 0) → Config → History → List Turn → Type 0
 IsLife Good Does config history [] = Unit {0}
 IsLife Good Does config history (turn ∷ earlier) =
-    Good turn.waiting.event × AreDone Does (begun (prepared config turn.ringing (session_after config history earlier) turn.waiting turn.now).view) turn.calls
+    Good turn.waiting.event
+    × AreDone Does
+    (begun
+    (prepared config turn.ringing (session_after config history earlier) turn.waiting turn.now).view)
+    turn.calls
     × IsLife Good Does config history earlier
 
 -- the same of some turns after others, the newest first
-unfoldable pub IsSince : (Queued → Type 0) → (Call → Type 0) → Config → History → List Turn → List Turn → Type 0
+unfoldable pub IsSince : (Queued → Type 0) → (Call → Type 0) → Config → History → List Turn
+    → List Turn → Type 0
 IsSince Good Does config history earlier [] = Unit {0}
 IsSince Good Does config history earlier (turn ∷ later) =
-    Good turn.waiting.event × AreDone Does (begun (prepared config turn.ringing (session_after config history (later ++ earlier)) turn.waiting turn.now).view) turn.calls
+    Good turn.waiting.event
+    × AreDone Does
+    (begun
+    (prepared config turn.ringing (session_after config history (later ++ earlier)) turn.waiting turn.now).view)
+    turn.calls
     × IsSince Good Does config history earlier later
 
 -- an event that brings the request that began the session, or none
@@ -117,7 +131,8 @@ AreDirect session = All IsDirect session.view.sessions
 
 -- ## Links
 
--- a SipSession that is linked is there, and is linked to another that is linked to it: each is in one pair at most
+-- a SipSession that is linked is there, and is linked to another that is linked to it: each is in
+-- one pair at most
 pub record ArePaired (view : View) : Type 0 where
   pub paired : (a b : SessId) → partner view a ≡ Some b → partner view b ≡ Some a
   pub apart : (a b : SessId) → partner view a ≡ Some b → (a.0 == b.0) ≡ false

@@ -18,7 +18,8 @@ use Rattle.sc_hosts.specs.Transacting.{is_same_app}
 use Rattle.sc_runs.specs.Next.{Next, next_events, lowest}
 
 -- the lease is of this event, at a moment since when it is first
-pub record IsTimely {S : Type 0} (setup : Setup) (net : Net S) (lease : Lease) (live : Live S) (waiting : Waiting) : Type 0 where
+pub record IsTimely {S : Type 0} (setup : Setup) (net : Net S) (lease : Lease) (live : Live S)
+    (waiting : Waiting) : Type 0 where
   pub number_is : waiting.number ≡ lease.event_number
   pub kind_is : option_map (λ app. app.kind) (app_of setup.config lease.app.host) ≡ Some lease.kind
   pub since : live.since ≤ lease.shown.now
@@ -29,14 +30,18 @@ unfoldable pub IsShown : Prepared → Lease → Type 0
 IsShown shown lease = (shown.view ≡ lease.shown) × (shown.event ≡ lease.event)
 
 -- the same of the event that is first, where one waits
-unfoldable pub ShowsFirst : {S : Type 0} → Form S → Setup → Net S → Lease → Live S → Option Waiting → Type 0
+unfoldable pub ShowsFirst : {S : Type 0} → Form S → Setup → Net S → Lease → Live S → Option Waiting
+    → Type 0
 ShowsFirst form setup net lease live None = ⊥
-ShowsFirst form setup net lease live (Some waiting) = IsTimely setup net lease live waiting × IsShown (shown form setup net lease.app live waiting lease.shown.now) lease
+ShowsFirst form setup net lease live (Some waiting) =
+    IsTimely setup net lease live waiting
+    × IsShown (shown form setup net lease.app live waiting lease.shown.now) lease
 
 -- the same of the session, where it lives
 unfoldable pub ShowsOf : {S : Type 0} → Form S → Setup → Net S → Lease → Option (Live S) → Type 0
 ShowsOf form setup net lease None = ⊥
-ShowsOf form setup net lease (Some live) = ShowsFirst form setup net lease live (slice_get live.inbox 0)
+ShowsOf form setup net lease (Some live) =
+    ShowsFirst form setup net lease live (slice_get live.inbox 0)
 
 -- the lease shows the first event of its session, which lives
 unfoldable pub IsLeaseOf : {S : Type 0} → Form S → Setup → Net S → Lease → Type 0
@@ -86,12 +91,13 @@ kept_after (steps.Turn app event now made end) kept = without_app app kept
 kept_after (steps.Withdraw app) kept = without_app app kept
 kept_after step kept = kept
 
--- each shows what there is, no two are of one session, and their numbers rise, above the low one and up to the
--- last
+-- each shows what there is, no two are of one session, and their numbers rise, above the low one
+-- and up to the last
 unfoldable pub AreLeases : {S : Type 0} → Form S → Setup → Net S → List Lease → ℕ → ℕ → Type 0
 AreLeases form setup net [] low last = low ≤ last
 AreLeases form setup net (lease ∷ kept) low last =
-    IsLeaseOf form setup net lease × (low < lease.number) × (is_leased kept lease.app ≡ false) × AreLeases form setup net kept lease.number last
+    IsLeaseOf form setup net lease × (low < lease.number) × (is_leased kept lease.app ≡ false)
+    × AreLeases form setup net kept lease.number last
 
 -- the event with the lowest number among the first ones of the sessions without a lease
 unfoldable pub next_free : {S : Type 0} → Net S → List Lease → Option Next

@@ -1,4 +1,5 @@
-//! A turn that was lent out goes on to show what there is until its session's own turn or end, as laws.
+//! A turn that was lent out goes on to show what there is until its session's own turn or end, as
+//! laws.
 #![tactic(auto)]
 
 mod laws;

@@ -179,7 +179,8 @@ fn first_leg(alloc: Global, own_tag: &Text, request: &Request) -> Result<Leg, No
 }
 
 fn called(alloc: Global, own_tag: &Text, request: &Request) -> Result<Option<Dialog>, NoMemory>
-    ensures { IfOk result (λ d. d ≡ Some (dialog_of (Beginning.Called own_tag.now request.now) [])) }
+    ensures { IfOk result
+        (λ d. d ≡ Some (dialog_of (Beginning.Called own_tag.now request.now) [])) }
 {
     let dialog = Dialog::from_uas(alloc, request, own_tag)?;
     Ok(Some(dialog))

@@ -17,14 +17,16 @@ use std::alloc::Global;
 
 #[tactic(auto, unfolding(sc_hosts::specs::Legs::retargeted))]
 fn hear_request(alloc: Global, dialog: &mut Dialog, request: &Request) -> Result<(), NoMemory>
-    ensures { OnOk result (dialog.new ≡ retargeted dialog.old (Passed.By_peer (Message.Request request.now))) }
+    ensures { OnOk result
+        (dialog.new ≡ retargeted dialog.old (Passed.By_peer (Message.Request request.now))) }
 {
     dialog.hear_request(alloc, request)
 }
 
 #[tactic(auto, unfolding(sc_hosts::specs::Legs::retargeted))]
 fn hear_response(alloc: Global, dialog: &mut Dialog, response: &Response) -> Result<(), NoMemory>
-    ensures { OnOk result (dialog.new ≡ retargeted dialog.old (Passed.By_peer (Message.Response response.now))) }
+    ensures { OnOk result
+        (dialog.new ≡ retargeted dialog.old (Passed.By_peer (Message.Response response.now))) }
 {
     dialog.hear_response(alloc, response)
 }
@@ -38,7 +40,8 @@ fn count_sent(dialog: &mut Dialog, request: &Request)
 
 #[tactic(auto, unfolding(sc_hosts::specs::Legs::in_dialog))]
 fn in_dialog_request(alloc: Global, leg: &mut Leg, request: &Request) -> Result<(), NoMemory>
-    ensures { OnOk result (leg.new ≡ in_dialog (Passed.By_peer (Message.Request request.now)) leg.old) }
+    ensures { OnOk result
+        (leg.new ≡ in_dialog (Passed.By_peer (Message.Request request.now)) leg.old) }
 {
     match &mut leg.dialog {
         Some(dialog) => hear_request(alloc, dialog, request),
@@ -48,7 +51,8 @@ fn in_dialog_request(alloc: Global, leg: &mut Leg, request: &Request) -> Result<
 
 #[tactic(auto, unfolding(sc_hosts::specs::Legs::in_dialog))]
 fn in_dialog_response(alloc: Global, leg: &mut Leg, response: &Response) -> Result<(), NoMemory>
-    ensures { OnOk result (leg.new ≡ in_dialog (Passed.By_peer (Message.Response response.now)) leg.old) }
+    ensures { OnOk result
+        (leg.new ≡ in_dialog (Passed.By_peer (Message.Response response.now)) leg.old) }
 {
     match &mut leg.dialog {
         Some(dialog) => hear_response(alloc, dialog, response),
@@ -165,7 +169,8 @@ fn answer_at(
     request: &Request,
     response: &Response,
 ) -> Result<(), NoMemory>
-    ensures { OnOk result (legs.new ≡ change_nth at (with_answer request.now response.now) legs.old) }
+    ensures { OnOk result
+        (legs.new ≡ change_nth at (with_answer request.now response.now) legs.old) }
 {
     if at < legs.len() {
         return with_answer(alloc, &mut legs[at], request, response);
@@ -175,7 +180,8 @@ fn answer_at(
 
 #[tactic(auto, using(sc_value::proofs::ListFacts::change_nth_at, sc_value::proofs::ListFacts::change_nth_none))]
 fn sent_at(legs: &mut [Leg], at: usize, request: &Request)
-    ensures { legs.new ≡ change_nth at (in_dialog (Passed.By_self (Message.Request request.now))) legs.old }
+    ensures { legs.new
+        ≡ change_nth at (in_dialog (Passed.By_self (Message.Request request.now))) legs.old }
 {
     if at < legs.len() {
         in_dialog_sent(&mut legs[at], request);
@@ -204,7 +210,8 @@ pub fn take_answer(
     request: &Request,
     response: &Response,
 ) -> Result<(), NoMemory>
-    ensures { OnOk result (known.new ≡ change_leg sess (with_answer request.now response.now) known.old) }
+    ensures { OnOk result
+        (known.new ≡ change_leg sess (with_answer request.now response.now) known.old) }
 {
     answer_at(
         alloc,
@@ -218,7 +225,8 @@ pub fn take_answer(
 /// Notes an own request in the dialog of a SipSession.
 #[tactic(auto, unfolding(sc_hosts::specs::Legs::change_leg))]
 pub fn take_sent(known: &mut Known, sess: SessId, request: &Request)
-    ensures { known.new ≡ change_leg sess (in_dialog (Passed.By_self (Message.Request request.now))) known.old }
+    ensures { known.new
+        ≡ change_leg sess (in_dialog (Passed.By_self (Message.Request request.now))) known.old }
 {
     sent_at(&mut known.legs.items, leg_place(sess), request);
 }

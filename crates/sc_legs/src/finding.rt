@@ -15,7 +15,8 @@ use sc_value::{Request, SessId, Text};
 // A proxied dialog has two peers, whose requests come in both directions.
 #[tactic(auto, unfolding(sc_hosts::specs::Legs::between_peers))]
 fn between_peers(caller: Option<&Text>, callee: Option<&Text>, request: &Request) -> bool
-    ensures { result ≡ between_peers (option_copied caller.entry) (option_copied callee.entry) request.now }
+    ensures { result
+        ≡ between_peers (option_copied caller.entry) (option_copied callee.entry) request.now }
 {
     let from = from_tag(request);
     let to = to_tag(request);
@@ -55,7 +56,8 @@ fn taking_place(known: &Known, request: &Request, sessions: &[SessionView]) -> O
 
 #[tactic(auto, using(sc_value::proofs::ListFacts::find_position, sc_value::proofs::ListFacts::find_none))]
 fn taking_among(known: &Known, request: &Request, sessions: &[SessionView]) -> Option<SessId>
-    ensures { result ≡ option_map (λ s. s.id) (find (takes_request known.now request.now) sessions.now) }
+    ensures { result
+        ≡ option_map (λ s. s.id) (find (takes_request known.now request.now) sessions.now) }
 {
     match taking_place(known, request, sessions) {
         Some(at) => Some(sessions[at].id),

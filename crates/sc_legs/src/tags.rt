@@ -81,7 +81,8 @@ fn add_got(
     tag: Option<&Text>,
     number: u32,
 ) -> Result<(), NoMemory>
-    ensures { OnOk result (got.new ≡ got.old ++ record { tag = option_copied tag.entry; number = number } ∷ []) }
+    ensures { OnOk result
+        (got.new ≡ got.old ++ record { tag = option_copied tag.entry; number = number } ∷ []) }
 {
     let tag = match tag {
         Some(tag) => Some(tag.clone_in(alloc)?),

@@ -1,4 +1,5 @@
-//! The turns of a round: those that are due are lent to the workers, and what they brought is taken.
+//! The turns of a round: those that are due are lent to the workers, and what they brought is
+//! taken.
 
 ghost use Rattle.std.specs.Prelude.{◌≡◌, IfErr, OnOk, OnErr};
 ghost use Rattle.sc_rounds.specs.Dues.{HasDue};
@@ -17,7 +18,8 @@ use std::sync::Wait;
 /// How many turns a round lends at most, and how many results it takes.
 const MOST_TURNS: u64 = 64;
 
-/// Lends out the turns that are due, and takes those that were made, 64 of each at most: whether there was one.
+/// Lends out the turns that are due, and takes those that were made, 64 of each at most: whether
+/// there was one.
 ///
 /// # Errors
 ///
@@ -30,7 +32,8 @@ pub fn work_once<R: Wait, N: Notice<Journal<Step>>>(
     apps: &Catalogue,
 ) -> Result<bool, StepRefused>
     ensures ok { OnOk result (Moves core.old core.new (N.noted notice.old) (N.noted notice.new)) }
-    ensures err { OnErr result (Breaks core.old core.new (N.noted notice.old) (N.noted notice.new)) }
+    ensures err { OnErr result
+        (Breaks core.old core.new (N.noted notice.old) (N.noted notice.new)) }
     ensures due { IfErr result (λ cause. HasDue core.new.switch cause) }
 {
     match lend_turns(rt, core, seat, notice, apps) {
@@ -42,7 +45,8 @@ pub fn work_once<R: Wait, N: Notice<Journal<Step>>>(
     }
 }
 
-/// Lends out the turns that are due, 64 at most: whether one was. Those that no worker takes are made here.
+/// Lends out the turns that are due, 64 at most: whether one was. Those that no worker takes are
+/// made here.
 fn lend_turns<R: Wait, N: Notice<Journal<Step>>>(
     rt: &R,
     core: &mut Core,
@@ -51,7 +55,8 @@ fn lend_turns<R: Wait, N: Notice<Journal<Step>>>(
     apps: &Catalogue,
 ) -> Result<bool, StepRefused>
     ensures ok { OnOk result (Moves core.old core.new (N.noted notice.old) (N.noted notice.new)) }
-    ensures err { OnErr result (Breaks core.old core.new (N.noted notice.old) (N.noted notice.new)) }
+    ensures err { OnErr result
+        (Breaks core.old core.new (N.noted notice.old) (N.noted notice.new)) }
     ensures due { IfErr result (λ cause. HasDue core.new.switch cause) }
 {
     let mut some = false;
@@ -73,7 +78,8 @@ fn lend_turn<R: Wait, N: Notice<Journal<Step>>>(
     apps: &Catalogue,
 ) -> Result<bool, StepRefused>
     ensures ok { OnOk result (Moves core.old core.new (N.noted notice.old) (N.noted notice.new)) }
-    ensures err { OnErr result (Breaks core.old core.new (N.noted notice.old) (N.noted notice.new)) }
+    ensures err { OnErr result
+        (Breaks core.old core.new (N.noted notice.old) (N.noted notice.new)) }
     ensures due { IfErr result (λ cause. HasDue core.new.switch cause) }
 {
     if !core.is_turn_due() {
@@ -97,7 +103,8 @@ fn make_turn<N: Notice<Journal<Step>>>(
     lease: Lease,
 ) -> Result<bool, StepRefused>
     ensures ok { OnOk result (Moves core.old core.new (N.noted notice.old) (N.noted notice.new)) }
-    ensures err { OnErr result (Breaks core.old core.new (N.noted notice.old) (N.noted notice.new)) }
+    ensures err { OnErr result
+        (Breaks core.old core.new (N.noted notice.old) (N.noted notice.new)) }
     ensures due { IfErr result (λ cause. HasDue core.new.switch cause) }
 {
     if lease.kind >= apps.kinds.len() {
@@ -119,7 +126,8 @@ fn collect_turns<R: Wait, N: Notice<Journal<Step>>>(
     notice: &mut N,
 ) -> Result<bool, StepRefused>
     ensures ok { OnOk result (Moves core.old core.new (N.noted notice.old) (N.noted notice.new)) }
-    ensures err { OnErr result (Breaks core.old core.new (N.noted notice.old) (N.noted notice.new)) }
+    ensures err { OnErr result
+        (Breaks core.old core.new (N.noted notice.old) (N.noted notice.new)) }
     ensures due { IfErr result (λ cause. HasDue core.new.switch cause) }
 {
     let mut some = false;
@@ -140,7 +148,8 @@ fn collect_turn<R: Wait, N: Notice<Journal<Step>>>(
     notice: &mut N,
 ) -> Result<bool, StepRefused>
     ensures ok { OnOk result (Moves core.old core.new (N.noted notice.old) (N.noted notice.new)) }
-    ensures err { OnErr result (Breaks core.old core.new (N.noted notice.old) (N.noted notice.new)) }
+    ensures err { OnErr result
+        (Breaks core.old core.new (N.noted notice.old) (N.noted notice.new)) }
     ensures due { IfErr result (λ cause. HasDue core.new.switch cause) }
 {
     match collect_at(rt, seat) {

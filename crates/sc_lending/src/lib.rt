@@ -1,5 +1,5 @@
-//! The turns of a server's round: they are lent to the workers over a board, and what they brought is taken. Where no
-//! worker takes a turn it is made here.
+//! The turns of a server's round: they are lent to the workers over a board, and what they brought
+//! is taken. Where no worker takes a turn it is made here.
 #![tactic(auto)]
 
 mod lending;

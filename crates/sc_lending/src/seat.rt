@@ -43,8 +43,8 @@ impl<'a> Seat<'a> {
         self.board.await_workers(rt);
     }
 
-    /// Posts the turn of a lease. It comes back where no worker has begun, where the board has no room, and where
-    /// the board doesn't take such a lease.
+    /// Posts the turn of a lease. It comes back where no worker has begun, where the board has no
+    /// room, and where the board doesn't take such a lease.
     pub fn post<R: Wait>(&mut self, rt: &R, lease: Lease) -> Result<(), Lease> {
         if !self.takes(&lease) {
             return Err(lease);
@@ -73,8 +73,8 @@ impl<'a> Seat<'a> {
         self.board.collect_as(rt, &mut self.pass)
     }
 
-    /// Ends the work: drops the jobs and the results that are left, and posts a stop for each worker. The board has
-    /// room for a job and a result of each.
+    /// Ends the work: drops the jobs and the results that are left, and posts a stop for each
+    /// worker. The board has room for a job and a result of each.
     pub fn dismiss<R: Wait>(&mut self, rt: &R, workers: usize) {
         self.drop_jobs(rt);
         self.drop_results(rt);

@@ -29,9 +29,9 @@ pub fn room_of<R: Files>(rt: &R, stream: Stream) -> Option<u64> {
     Some(limit.saturating_sub(next))
 }
 
-/// How many bytes may be added to the file at this path before it reaches the limit on its size. `None`
-/// where there is no limit, where the path leads to no file, as to a pipe or a device, and where the
-/// system doesn't tell. What others write to the file afterwards isn't counted.
+/// How many bytes may be added to the file at this path before it reaches the limit on its size.
+/// `None` where there is no limit, where the path leads to no file, as to a pipe or a device, and
+/// where the system doesn't tell. What others write to the file afterwards isn't counted.
 pub fn room_behind<R: Files>(rt: &R, path: &str) -> Option<u64> {
     let limit = size_limit()?;
     let file = fs::metadata(rt, path).ok()?;

@@ -1,4 +1,5 @@
--- The life of a live application session: its turns are those that the journal tells of it, and only its first event began it.
+-- The life of a live application session: its turns are those that the journal tells of it, and
+-- only its first event began it.
 use Rattle.std.specs.Prelude.{◌≡◌, ℕ, List, [], ◌∷◌, ◌++◌, Bool, true, false, if◌then◌else◌}
 use Rattle.sc_value.specs.declared.ids.AppId.{AppId}
 use Rattle.sc_value.specs.declared.message.Request.{Request}
@@ -32,12 +33,14 @@ pub record Told : Type 0 where
 
 -- the turn as a journal tells it
 abbrev pub told_of : Turn → Told
-told_of turn = record { event = turn.waiting.number; now = turn.now; calls = turn.calls; end = turn.end }
+told_of turn =
+    record { event = turn.waiting.number; now = turn.now; calls = turn.calls; end = turn.end }
 
 -- the turn that a step tells of a session, if it is one
 unfoldable pub told_by : AppId → Step → List Told
 told_by app (steps.Turn other event now calls end) =
-    if is_same_app app other then record { event = event; now = now; calls = calls; end = end } ∷ [] else []
+    if is_same_app app other then record { event = event; now = now; calls = calls; end = end } ∷ []
+    else []
 told_by app step = []
 
 -- the turns that a journal tells of a session
@@ -74,7 +77,9 @@ AreOfOne began (first ∷ later) = Begins began first.event × AreLate later
 -- the application may take this turn at what the session was
 abbrev pub MayTake : Setup → AppId → History → Turn → Type 0
 MayTake setup app history turn =
-    ∥ AllowedBy (charters_of setup app.host) (prepared setup.config turn.ringing (session_of setup.config history) turn.waiting turn.now) turn.calls turn.end ∥₁
+    ∥ AllowedBy (charters_of setup app.host)
+    (prepared setup.config turn.ringing (session_of setup.config history) turn.waiting turn.now)
+    turn.calls turn.end ∥₁
 
 -- it might take each of these, the newest first
 unfoldable pub AreTaken : Setup → AppId → History → List Turn → Type 0
@@ -82,16 +87,18 @@ AreTaken setup app history [] = Unit {0}
 AreTaken setup app history (turn ∷ earlier) =
     MayTake setup app (record history { turns = earlier }) turn × AreTaken setup app history earlier
 
--- the history of this session: its turns are these, each one that its application might take, and the events that they took
--- are, with those that wait, of one beginning
-pub record IsLived (setup : Setup) (app : AppId) (given : List Told) (history : History) (inbox : List Waiting) : Type 0 where
+-- the history of this session: its turns are these, each one that its application might take, and
+-- the events that they took are, with those that wait, of one beginning
+pub record IsLived (setup : Setup) (app : AppId) (given : List Told) (history : History)
+    (inbox : List Waiting) : Type 0 where
   pub app_is : history.app ≡ app
   pub turns_are : told_turns history.turns ≡ given
   pub taken : AreTaken setup app history history.turns
   pub events_are : AreOfOne history.request (turned_events history.turns ++ inbox)
 
 -- what the session is comes of such a history
-pub record HasLived (setup : Setup) (app : AppId) (given : List Told) (session : Session) (inbox : List Waiting) : Type 0 where
+pub record HasLived (setup : Setup) (app : AppId) (given : List Told) (session : Session)
+    (inbox : List Waiting) : Type 0 where
   pub history : History
   pub is : session ≡ session_of setup.config history
   pub lived : IsLived setup app given history inbox
@@ -103,7 +110,8 @@ pub record IsMoreOf (first : History) (given : List Told) (history : History) : 
   pub turns_are : told_turns turns ≡ given
 
 -- what two sessions are comes of two such histories
-pub record HasMore (setup : Setup) (first : Session) (given : List Told) (session : Session) : Type 0 where
+pub record HasMore (setup : Setup) (first : Session) (given : List Told)
+    (session : Session) : Type 0 where
   pub before : History
   pub history : History
   pub was : first ≡ session_of setup.config before
@@ -118,4 +126,7 @@ is_refused answer = false
 -- each call of these turns that wasn't refused is of this kind
 abbrev pub AreAccepted : (Call → Type 0) → List Told → Type 0
 AreAccepted Does given =
-    All (λ (turn : Told). All (λ (made : CallRecord). is_refused made.answer ≡ false → Does made.call) turn.calls) given
+    All
+    (λ (turn : Told).
+    All (λ (made : CallRecord). is_refused made.answer ≡ false → Does made.call) turn.calls)
+    given

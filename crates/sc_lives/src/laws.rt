@@ -15,14 +15,28 @@ ghost use Rattle.sc_hosts.specs.Steps.{live_at};
 /// host have one serial. The contract is the law, for each form in which sessions are kept, and the
 /// call does nothing.
 pub fn sessions_are_found()
-    ensures session { (form : Form Session) (setup : Setup) (epoch began : ℕ) (journal : List Step) (number : ℕ) (host : Host Session) → host_at number (chained form setup epoch began journal) ≡ Some host → All (λ live. live_at (record { host = number; serial = live.serial }) (chained form setup epoch began journal) ≡ Some live) host.sessions }
-    ensures history { (form : Form History) (setup : Setup) (epoch began : ℕ) (journal : List Step) (number : ℕ) (host : Host History) → host_at number (chained form setup epoch began journal) ≡ Some host → All (λ live. live_at (record { host = number; serial = live.serial }) (chained form setup epoch began journal) ≡ Some live) host.sessions }
+    ensures session { (form : Form Session) (setup : Setup) (epoch began : ℕ) (journal : List Step)
+        (number : ℕ) (host : Host Session)
+        → host_at number (chained form setup epoch began journal) ≡ Some host
+        → All
+        (λ live.
+        live_at (record { host = number; serial = live.serial })
+        (chained form setup epoch began journal) ≡ Some live) host.sessions }
+    ensures history { (form : Form History) (setup : Setup) (epoch began : ℕ) (journal : List Step)
+        (number : ℕ) (host : Host History)
+        → host_at number (chained form setup epoch began journal) ≡ Some host
+        → All
+        (λ live.
+        live_at (record { host = number; serial = live.serial })
+        (chained form setup epoch began journal) ≡ Some live) host.sessions }
 {}
 
-/// A net has one host for each application: after any journal, lawful or not, it has as many hosts as
-/// the configuration has applications. The contract is the law, for each form in which sessions are
-/// kept, and the call does nothing.
+/// A net has one host for each application: after any journal, lawful or not, it has as many hosts
+/// as the configuration has applications. The contract is the law, for each form in which sessions
+/// are kept, and the call does nothing.
 pub fn hosts_are_applications()
-    ensures session { (form : Form Session) (setup : Setup) (epoch began : ℕ) (journal : List Step) → length (chained form setup epoch began journal).hosts ≡ length setup.config.app }
-    ensures history { (form : Form History) (setup : Setup) (epoch began : ℕ) (journal : List Step) → length (chained form setup epoch began journal).hosts ≡ length setup.config.app }
+    ensures session { (form : Form Session) (setup : Setup) (epoch began : ℕ) (journal : List Step)
+        → length (chained form setup epoch began journal).hosts ≡ length setup.config.app }
+    ensures history { (form : Form History) (setup : Setup) (epoch began : ℕ) (journal : List Step)
+        → length (chained form setup epoch began journal).hosts ≡ length setup.config.app }
 {}

@@ -1,5 +1,5 @@
-//! Laws on the hosts of a net: live sessions are found by their names, since no two sessions of a host
-//! have one number, and there is one host for each application.
+//! Laws on the hosts of a net: live sessions are found by their names, since no two sessions of a
+//! host have one number, and there is one host for each application.
 #![tactic(auto)]
 
 mod laws;

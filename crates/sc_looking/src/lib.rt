@@ -1,5 +1,5 @@
-//! Looking up in what a turn shows: requests, SipSessions, timers and drafts by their numbers, links,
-//! states and roles. Each call is the definition of the same name in `sc_hosts`.
+//! Looking up in what a turn shows: requests, SipSessions, timers and drafts by their numbers,
+//! links, states and roles. Each call is the definition of the same name in `sc_hosts`.
 #![tactic(auto)]
 
 mod drafts;

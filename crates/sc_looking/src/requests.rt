@@ -18,20 +18,26 @@ pub fn awaits_ack(request: &RequestView, sess: SessId) -> bool
 }
 
 fn begins(request: &RequestView, sess: SessId) -> bool
-    ensures { result ≡ (request.now.received && request.now.initial && same_session request.now.sess sess) }
+    ensures { result
+        ≡ (request.now.received && request.now.initial && same_session request.now.sess sess) }
 {
     request.received && request.initial && request.sess.0 == sess.0
 }
 
 fn begun_place(requests: &[RequestView], sess: SessId) -> Option<usize>
-    ensures { result ≡ position (λ request. request.received && request.initial && same_session request.sess sess) requests.now }
+    ensures { result
+        ≡ position
+        (λ request. request.received && request.initial && same_session request.sess sess)
+        requests.now }
 {
     requests.iter().position(|request| begins(request, sess))
 }
 
 #[tactic(auto, using(sc_value::proofs::ListFacts::find_position, sc_value::proofs::ListFacts::find_none))]
 fn begun_among(requests: &[RequestView], sess: SessId) -> Option<&RequestView>
-    ensures { option_copied result ≡ find (λ request. request.received && request.initial && same_session request.sess sess) requests.now }
+    ensures { option_copied result
+        ≡ find (λ request. request.received && request.initial && same_session request.sess sess)
+        requests.now }
 {
     match begun_place(requests, sess) {
         Some(at) => Some(&requests[at]),

@@ -7,9 +7,9 @@ use crate::messages::{ack_of, bye_of, invite_of};
 use sc_value::{NoMemory, Text};
 use std::alloc::Global;
 
-/// Puts the script of n calls at the end of a text: for each call an INVITE, its answer by a timer, the
-/// ACK and the BYE, and two seconds on the clock; after the last one `end`. The script's messages
-/// suit a container that listens at 127.0.0.1:5060 with the salt `s1`.
+/// Puts the script of n calls at the end of a text: for each call an INVITE, its answer by a timer,
+/// the ACK and the BYE, and two seconds on the clock; after the last one `end`. The script's
+/// messages suit a container that listens at 127.0.0.1:5060 with the salt `s1`.
 ///
 /// n is 1 to 1,000. For want of memory the text is as before.
 pub fn script(alloc: Global, n: u32, out: &mut Text) -> Result<(), NoMemory>

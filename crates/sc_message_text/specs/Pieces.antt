@@ -17,4 +17,6 @@ pieces_behind ending (Some text) = pieces_at ending text
 
 -- this start line and what the header lines leave, of which the first begins at this place
 abbrev pub parts_behind : Start → Option Bytes → ℕ → Result HeadParts Fault
-parts_behind start rest at = then_read (all_judged at nothing_left (pieces_behind Unfolded rest)) (λ left. Ok (record { start = start; left = left }))
+parts_behind start rest at =
+    then_read (all_judged at nothing_left (pieces_behind Unfolded rest))
+    (λ left. Ok (record { start = start; left = left }))

@@ -64,9 +64,11 @@ pub fn end_of(ending: Ending, text: &[u8]) -> Option<usize>
 /// The first piece between such ends, and what stands behind its end, where there is one.
 #[tactic(auto, unfolding(crate::specs::Pieces::pieces_behind), using(crate::proofs::EndSteps::pieces_last, crate::proofs::EndSteps::pieces_more))]
 pub fn split_piece(ending: Ending, text: &[u8]) -> (&[u8], Option<&[u8]>)
-    ensures exact { pieces_at ending text.now ≡ result.0.now ∷ pieces_behind ending (option_copied result.1) }
+    ensures exact { pieces_at ending text.now
+        ≡ result.0.now ∷ pieces_behind ending (option_copied result.1) }
     ensures within { length result.0.now ≤ length text.now }
-    ensures less { IfSome result.1 (λ rest. length result.0.now + 2 + length rest.now ≡ length text.now) }
+    ensures less { IfSome result.1
+        (λ rest. length result.0.now + 2 + length rest.now ≡ length text.now) }
 {
     match end_of(ending, text) {
         Some(end) => (&text[..end], Some(&text[end + 2..])),
@@ -81,7 +83,8 @@ pub fn split_start(head: &[u8]) -> (&[u8], Option<&[u8]>)
     ensures line { result.0.now ≡ start_line head.now }
     ensures rest { option_copied result.1 ≡ behind_start head.now }
     ensures within { length result.0.now ≤ length head.now }
-    ensures less { IfSome result.1 (λ rest. length result.0.now + 2 + length rest.now ≡ length head.now) }
+    ensures less { IfSome result.1
+        (λ rest. length result.0.now + 2 + length rest.now ≡ length head.now) }
 {
     match end_of(Ending::Any, head) {
         Some(end) => (&head[..end], Some(&head[end + 2..])),

@@ -13,8 +13,8 @@ use std::alloc::Global;
 // From and To, Call-ID and CSeq.
 type Peers = ((Address, Address), (HeaderValue, CSeq));
 
-/// The kind of the fault that a head has whatever its body is: 7, where From, To, Call-ID, CSeq or Via
-/// is missing, or 10, where CSeq has another method than the request (RFC 3261 section 8.1.1).
+/// The kind of the fault that a head has whatever its body is: 7, where From, To, Call-ID, CSeq or
+/// Via is missing, or 10, where CSeq has another method than the request (RFC 3261 section 8.1.1).
 #[tactic(auto, unfolding(sc_syntax::specs::Messages::lacking))]
 pub fn lacking(parts: &HeadParts) -> Option<u8>
     ensures { result ≡ lacking parts.now }
@@ -49,9 +49,9 @@ fn method_fault(start: &Start, named: &[u8]) -> Option<u8>
     }
 }
 
-/// The message of a head that is read and of its body, or the kind of the fault that shows at the empty
-/// line: 7 or 10, as [`lacking`] tells, or 12, a body of another length than Content-Length (RFC 3261
-/// section 7). `NoMemory` says nothing of it.
+/// The message of a head that is read and of its body, or the kind of the fault that shows at the
+/// empty line: 7 or 10, as [`lacking`] tells, or 12, a body of another length than Content-Length
+/// (RFC 3261 section 7). `NoMemory` says nothing of it.
 pub fn put_together(
     alloc: Global,
     parts: HeadParts,
@@ -144,7 +144,9 @@ fn fits(length: Option<u64>, body: &[u8]) -> bool
 
 // The kind of the fault of a CSeq or of a Content-Length, where there is one.
 fn end_fault(start: &Start, cseq: &CSeq, length: Option<u64>, body: &[u8]) -> Option<u8>
-    ensures { result ≡ (if not (is_method_of start.now cseq.now.method) then Some 10 else if not (fits length body.now) then Some 12 else None) }
+    ensures { result
+        ≡ (if not (is_method_of start.now cseq.now.method) then Some 10
+        else if not (fits length body.now) then Some 12 else None) }
 {
     if !is_method_of(start, cseq.method.as_bytes()) {
         return Some(10);

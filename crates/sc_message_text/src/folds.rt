@@ -27,7 +27,9 @@ pub fn join(alloc: Global, line: &[u8]) -> Result<Vec<u8>, NoMemory>
 }
 
 fn continue_all(text: &mut Vec<u8>, rest: Option<&[u8]>) -> Result<(), NoMemory>
-    ensures { OnOk result (text.new.items ≡ fold continued text.old.items (pieces_behind Any (option_copied rest.entry))) }
+    ensures { OnOk result
+        (text.new.items
+        ≡ fold continued text.old.items (pieces_behind Any (option_copied rest.entry))) }
 {
     let mut rest = rest;
     loop {

@@ -17,7 +17,8 @@ pub fn put_via(via: &Via, out: &mut Text) -> Result<(), NoMemory>
 
 // The protocol and the space after it.
 fn put_transport(via: &Via, out: &mut Text) -> Result<(), NoMemory>
-    ensures { OnOk result (out.new ≡ out.old ++ (version ++ 47 ∷ [] ++ via.now.transport ++ 32 ∷ [])) }
+    ensures { OnOk result
+        (out.new ≡ out.old ++ (version ++ 47 ∷ [] ++ via.now.transport ++ 32 ∷ [])) }
 {
     put_version(out)?;
     put_byte(b'/', out)?;
@@ -27,7 +28,9 @@ fn put_transport(via: &Via, out: &mut Text) -> Result<(), NoMemory>
 
 // The host with its port, and the parameters.
 fn put_sent_by(via: &Via, out: &mut Text) -> Result<(), NoMemory>
-    ensures { OnOk result (out.new ≡ out.old ++ (via.now.host ++ port_text via.now.port ++ params_text via.now.params)) }
+    ensures { OnOk result
+        (out.new
+        ≡ out.old ++ (via.now.host ++ port_text via.now.port ++ params_text via.now.params)) }
 {
     out.append(via.host.as_bytes())?;
     put_port(via.port, out)?;

@@ -51,7 +51,8 @@ pub fn take_lines(
     at: usize,
 ) -> Result<(), MessageRefused>
     requires { option_map_or (λ text. at + length text) (option_copied rest) 0 ≤ 2 ^ 63 }
-    ensures { TakesAll result left.new (all_judged at left.old (pieces_behind Unfolded (option_copied rest.entry))) }
+    ensures { TakesAll result left.new
+        (all_judged at left.old (pieces_behind Unfolded (option_copied rest.entry))) }
 {
     let mut rest = rest;
     let mut place = at;

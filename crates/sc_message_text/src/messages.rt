@@ -29,11 +29,14 @@ use std::alloc::Global;
 /// headers is Via, Route, Record-Route, Max-Forwards (in requests alone), From, To, Call-ID, CSeq,
 /// Contact, all others, Content-Length, one line an item. It is never read as another message, and
 /// it is read as this one where a request has its CSeq's method, a response a code of 100 to 699,
-/// the first Via its branch, and where there are at most 128 values. The one error is want of memory.
+/// the first Via its branch, and where there are at most 128 values. The one error is want of
+/// memory.
 pub fn text_of(alloc: Global, message: &Message) -> Result<Text, NoMemory>
     ensures written { IfOk result (λ text. text ≡ written message.now) }
-    ensures again { HasMethod message.now → HasCode message.now → HasBranch message.now → HasRoom message.now → IfOk result (λ text. message_of text ≡ Ok message.now) }
-    ensures never_another { (other : Message) → IfOk result (λ text. message_of text ≡ Ok other → other ≡ message.now) }
+    ensures again { HasMethod message.now → HasCode message.now → HasBranch message.now
+        → HasRoom message.now → IfOk result (λ text. message_of text ≡ Ok message.now) }
+    ensures never_another { (other : Message)
+        → IfOk result (λ text. message_of text ≡ Ok other → other ≡ message.now) }
 {
     written_again(message);
     written_text(alloc, message)

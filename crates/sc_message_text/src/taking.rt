@@ -122,7 +122,8 @@ fn take_vias(left: &mut Left, alloc: Global, value: &[u8]) -> Result<(), LineRef
 
 #[tactic(auto, unfolding(sc_syntax::specs::Judging::taken_as, sc_syntax::specs::Judging::in_line))]
 fn take_routes(left: &mut Left, alloc: Global, value: &[u8]) -> Result<(), LineRefused>
-    ensures { Takes result left.new (taken_as (with_routes left.old) (in_line addresses_of value.now)) }
+    ensures { Takes result left.new
+        (taken_as (with_routes left.old) (in_line addresses_of value.now)) }
 {
     if !is_one_line(value) {
         return Err(LineRefused::Fault(9));
@@ -135,7 +136,8 @@ fn take_routes(left: &mut Left, alloc: Global, value: &[u8]) -> Result<(), LineR
 
 #[tactic(auto, unfolding(sc_syntax::specs::Judging::taken_as, sc_syntax::specs::Judging::in_line))]
 fn take_record_routes(left: &mut Left, alloc: Global, value: &[u8]) -> Result<(), LineRefused>
-    ensures { Takes result left.new (taken_as (with_record_routes left.old) (in_line addresses_of value.now)) }
+    ensures { Takes result left.new
+        (taken_as (with_record_routes left.old) (in_line addresses_of value.now)) }
 {
     if !is_one_line(value) {
         return Err(LineRefused::Fault(9));
@@ -148,7 +150,8 @@ fn take_record_routes(left: &mut Left, alloc: Global, value: &[u8]) -> Result<()
 
 #[tactic(auto, unfolding(sc_syntax::specs::Judging::taken_as, sc_syntax::specs::Judging::in_line))]
 fn take_contacts(left: &mut Left, alloc: Global, value: &[u8]) -> Result<(), LineRefused>
-    ensures { Takes result left.new (taken_as (with_contacts left.old) (in_line contacts_of value.now)) }
+    ensures { Takes result left.new
+        (taken_as (with_contacts left.old) (in_line contacts_of value.now)) }
 {
     if !is_one_line(value) {
         return Err(LineRefused::Fault(9));
@@ -161,7 +164,9 @@ fn take_contacts(left: &mut Left, alloc: Global, value: &[u8]) -> Result<(), Lin
 
 #[tactic(auto, unfolding(sc_syntax::specs::Judging::taken_once, sc_syntax::specs::Judging::taken_as, sc_syntax::specs::Judging::in_line))]
 fn take_from(left: &mut Left, alloc: Global, value: &[u8]) -> Result<(), LineRefused>
-    ensures { Takes result left.new (taken_once (is_some left.old.singles.from) (with_from left.old) (in_line address_of value.now)) }
+    ensures { Takes result left.new
+        (taken_once (is_some left.old.singles.from) (with_from left.old)
+        (in_line address_of value.now)) }
 {
     if left.singles.from.is_some() {
         return Err(LineRefused::Fault(8));
@@ -177,7 +182,9 @@ fn take_from(left: &mut Left, alloc: Global, value: &[u8]) -> Result<(), LineRef
 
 #[tactic(auto, unfolding(sc_syntax::specs::Judging::taken_once, sc_syntax::specs::Judging::taken_as, sc_syntax::specs::Judging::in_line))]
 fn take_to(left: &mut Left, alloc: Global, value: &[u8]) -> Result<(), LineRefused>
-    ensures { Takes result left.new (taken_once (is_some left.old.singles.to) (with_to left.old) (in_line address_of value.now)) }
+    ensures { Takes result left.new
+        (taken_once (is_some left.old.singles.to) (with_to left.old)
+        (in_line address_of value.now)) }
 {
     if left.singles.to.is_some() {
         return Err(LineRefused::Fault(8));
@@ -193,7 +200,9 @@ fn take_to(left: &mut Left, alloc: Global, value: &[u8]) -> Result<(), LineRefus
 
 #[tactic(auto, unfolding(sc_syntax::specs::Judging::taken_once, sc_syntax::specs::Judging::taken_as, sc_syntax::specs::Judging::in_line))]
 fn take_cseq(left: &mut Left, alloc: Global, value: &[u8]) -> Result<(), LineRefused>
-    ensures { Takes result left.new (taken_once (is_some left.old.singles.cseq) (with_cseq left.old) (in_line cseq_of value.now)) }
+    ensures { Takes result left.new
+        (taken_once (is_some left.old.singles.cseq) (with_cseq left.old)
+        (in_line cseq_of value.now)) }
 {
     if left.singles.cseq.is_some() {
         return Err(LineRefused::Fault(8));
@@ -210,7 +219,9 @@ fn take_cseq(left: &mut Left, alloc: Global, value: &[u8]) -> Result<(), LineRef
 #[tactic(auto, unfolding(sc_syntax::specs::Judging::taken_once, sc_syntax::specs::Judging::taken_as, sc_syntax::specs::Judging::in_line), using(sc_syntax::proofs::ValueLaws::trimmed_is_value))]
 fn take_call_id(left: &mut Left, alloc: Global, value: &[u8]) -> Result<(), LineRefused>
     requires { trimmed value.now ≡ value.now }
-    ensures { Takes result left.new (taken_once (is_some left.old.singles.call_id) (with_call_id left.old) (in_line Some value.now)) }
+    ensures { Takes result left.new
+        (taken_once (is_some left.old.singles.call_id) (with_call_id left.old)
+        (in_line Some value.now)) }
 {
     if left.singles.call_id.is_some() {
         return Err(LineRefused::Fault(8));
@@ -224,7 +235,9 @@ fn take_call_id(left: &mut Left, alloc: Global, value: &[u8]) -> Result<(), Line
 
 #[tactic(auto, unfolding(sc_syntax::specs::Judging::taken_once, sc_syntax::specs::Judging::taken_as, sc_syntax::specs::Judging::in_line))]
 fn take_hops(left: &mut Left, value: &[u8]) -> Result<(), LineRefused>
-    ensures { Takes result left.new (taken_once (is_some left.old.singles.hops) (with_hops left.old) (in_line hops_of value.now)) }
+    ensures { Takes result left.new
+        (taken_once (is_some left.old.singles.hops) (with_hops left.old)
+        (in_line hops_of value.now)) }
 {
     if left.singles.hops.is_some() {
         return Err(LineRefused::Fault(8));
@@ -240,7 +253,9 @@ fn take_hops(left: &mut Left, value: &[u8]) -> Result<(), LineRefused>
 
 #[tactic(auto, unfolding(sc_syntax::specs::Judging::taken_once, sc_syntax::specs::Judging::taken_as, sc_syntax::specs::Judging::in_line))]
 fn take_length(left: &mut Left, value: &[u8]) -> Result<(), LineRefused>
-    ensures { Takes result left.new (taken_once (is_some left.old.singles.length) (with_length left.old) (in_line number_of value.now)) }
+    ensures { Takes result left.new
+        (taken_once (is_some left.old.singles.length) (with_length left.old)
+        (in_line number_of value.now)) }
 {
     if left.singles.length.is_some() {
         return Err(LineRefused::Fault(8));
@@ -260,7 +275,8 @@ fn take_field(left: &mut Left, alloc: Global, name: &[u8], value: &[u8]) -> Resu
     requires long { long_name name.now ≡ name.now }
     requires other { header_named name.now ≡ headers.Other }
     requires value { trimmed value.now ≡ value.now }
-    ensures { Takes result left.new (taken_as (with_field left.old name.now) (in_line Some value.now)) }
+    ensures { Takes result left.new
+        (taken_as (with_field left.old name.now) (in_line Some value.now)) }
 {
     if !is_one_line(value) {
         return Err(LineRefused::Fault(9));

@@ -21,13 +21,13 @@ use std::alloc::Global;
 /// joined, and lists may stand in several headers.
 ///
 /// `Refused` comes exactly where the text spells none, with the place, in bytes from 0, and the kind
-/// of the first fault. Lines are judged in order, each at its first byte: the start line with 1 (the
-/// line), 2 (the version), 3 (the method), 4 (the Request-URI) or 5 (the status code), a header line
-/// with 6 (its name), 8 (a header that stands twice), 9 (its value) or 11 (the 129th value). Then come, at
-/// the empty line, 7 (no From, To, Call-ID, CSeq or Via), 10 (a CSeq of another method) and 12 (a body
-/// of another length than Content-Length, which is 0 where it is missing). A text without an
-/// empty line has 1 at its end. Of several faults of one line the lowest kind counts. `NoMemory` says
-/// nothing of the text.
+/// of the first fault. Lines are judged in order, each at its first byte: the start line with 1
+/// (the line), 2 (the version), 3 (the method), 4 (the Request-URI) or 5 (the status code), a
+/// header line with 6 (its name), 8 (a header that stands twice), 9 (its value) or 11 (the 129th
+/// value). Then come, at the empty line, 7 (no From, To, Call-ID, CSeq or Via), 10 (a CSeq of
+/// another method) and 12 (a body of another length than Content-Length, which is 0 where it is
+/// missing). A text without an empty line has 1 at its end. Of several faults of one line the
+/// lowest kind counts. `NoMemory` says nothing of the text.
 #[tactic(auto, unfolding(sc_syntax::specs::Messages::message_of))]
 pub fn read_message(alloc: Global, b: &[u8]) -> Result<Message, MessageRefused>
     ensures { Reads result (message_of b.now) }
@@ -44,9 +44,9 @@ pub fn read_message(alloc: Global, b: &[u8]) -> Result<Message, MessageRefused>
     }
 }
 
-/// The message of a head, which is all before its empty line without the CR LF of the last line, and
-/// of a body, or the place and the kind of its first fault (RFC 3261 section 7). `NoMemory` says nothing
-/// of them.
+/// The message of a head, which is all before its empty line without the CR LF of the last line,
+/// and of a body, or the place and the kind of its first fault (RFC 3261 section 7). `NoMemory`
+/// says nothing of them.
 #[tactic(auto, using(crate::proofs::WholeSteps::parts_finished, crate::proofs::WholeSteps::parts_refused))]
 pub fn read_parts(alloc: Global, head: &[u8], body: &[u8]) -> Result<Message, MessageRefused>
     requires { length head.now + 4 ≤ 2 ^ 63 }
@@ -59,9 +59,9 @@ pub fn read_parts(alloc: Global, head: &[u8], body: &[u8]) -> Result<Message, Me
 }
 
 /// The start line of a head and what its header lines leave, or the place and the kind of the first
-/// fault of the lines (RFC 3261 section 7). [`lacking`](crate::lacking) tells what the head lacks then,
-/// and [`put_together`](crate::put_together) makes the message, once the body is there. `NoMemory` says
-/// nothing of the head.
+/// fault of the lines (RFC 3261 section 7). [`lacking`](crate::lacking) tells what the head lacks
+/// then, and [`put_together`](crate::put_together) makes the message, once the body is there.
+/// `NoMemory` says nothing of the head.
 pub fn read_head(alloc: Global, head: &[u8]) -> Result<HeadParts, MessageRefused>
     requires { length head.now + 4 ≤ 2 ^ 63 }
     ensures { Reads result (parts_in head.now) }

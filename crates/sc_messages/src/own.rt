@@ -63,7 +63,11 @@ fn branch_params(
     branch: u64,
 ) -> Result<List<Param>, NoMemory>
     ensures kept { IfOk result (λ l. AreHeaderParams l) }
-    ensures exact { IfOk result (λ l. l ≡ record { name = branch_name; value = Some (branch_text salt.now epoch app branch) } ∷ []) }
+    ensures exact { IfOk result
+        (λ l.
+        l
+        ≡ record { name = branch_name; value = Some (branch_text salt.now epoch app branch) }
+        ∷ []) }
 {
     salt.known();
     let mut params = List::new(alloc);
@@ -79,7 +83,9 @@ fn branch_param(
     app: AppId,
     branch: u64,
 ) -> Result<Param, NoMemory>
-    ensures { IfOk result (λ p. p ≡ record { name = branch_name; value = Some (branch_text salt.now epoch app branch) }) }
+    ensures { IfOk result
+        (λ p.
+        p ≡ record { name = branch_name; value = Some (branch_text salt.now epoch app branch) }) }
 {
     let mut value = Text::new(alloc);
     sc_names::branch(alloc, salt.as_text(), epoch, app, branch, &mut value)?;
@@ -133,7 +139,11 @@ fn session_uri(
 #[tactic(auto, using(sc_model::proofs::NameFacts::session_params_kept))]
 fn session_params(alloc: Global, epoch: u32, app: AppId) -> Result<List<Param>, NoMemory>
     ensures kept { IfOk result (λ l. AreUriParams l) }
-    ensures exact { IfOk result (λ l. l ≡ tcp_param ∷ loose_param ∷ record { name = ap_name; value = Some (ap_value epoch app) } ∷ []) }
+    ensures exact { IfOk result
+        (λ l.
+        l
+        ≡ tcp_param ∷ loose_param ∷ record { name = ap_name; value = Some (ap_value epoch app) }
+        ∷ []) }
 {
     let mut params = List::new(alloc);
     params.push(tcp_param(alloc)?)?;

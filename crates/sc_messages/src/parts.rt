@@ -33,7 +33,19 @@ pub fn head_of(
     names: Names,
     content: Content,
 ) -> Head
-    ensures { result ≡ record { via = via; route = route; record_route = []; from = names.from; to = names.to; call_id = names.call_id; cseq = names.cseq; contact = content.contact; others = content.others; body = content.body } }
+    ensures { result
+        ≡ record {
+          via = via;
+          route = route;
+          record_route = [];
+          from = names.from;
+          to = names.to;
+          call_id = names.call_id;
+          cseq = names.cseq;
+          contact = content.contact;
+          others = content.others;
+          body = content.body;
+        } }
 {
     Head {
         via,
@@ -68,14 +80,16 @@ pub fn set_via(request: &mut Request, via: List<Via>)
 
 /// Puts this Contact in place of a request's own.
 pub fn set_contact(request: &mut Request, contact: List<Contact>)
-    ensures { request.new ≡ record request.old { head = record request.old.head { contact = contact } } }
+    ensures { request.new
+        ≡ record request.old { head = record request.old.head { contact = contact } } }
 {
     request.head.contact = contact;
 }
 
 /// Puts these Record-Routes in place of a request's own.
 pub fn set_record_route(request: &mut Request, routes: List<Address>)
-    ensures { request.new ≡ record request.old { head = record request.old.head { record_route = routes } } }
+    ensures { request.new
+        ≡ record request.old { head = record request.old.head { record_route = routes } } }
 {
     request.head.record_route = routes;
 }
@@ -90,14 +104,16 @@ pub fn set_uri(request: &mut Request, uri: Uri, hops: u8)
 
 /// Puts this Contact in place of a response's own.
 pub fn set_response_contact(response: &mut Response, contact: List<Contact>)
-    ensures { response.new ≡ record response.old { head = record response.old.head { contact = contact } } }
+    ensures { response.new
+        ≡ record response.old { head = record response.old.head { contact = contact } } }
 {
     response.head.contact = contact;
 }
 
 /// Puts these Record-Routes in place of a response's own.
 pub fn set_response_routes(response: &mut Response, routes: List<Address>)
-    ensures { response.new ≡ record response.old { head = record response.old.head { record_route = routes } } }
+    ensures { response.new
+        ≡ record response.old { head = record response.old.head { record_route = routes } } }
 {
     response.head.record_route = routes;
 }

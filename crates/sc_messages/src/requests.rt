@@ -124,7 +124,14 @@ pub fn asked_request(
 }
 
 fn asked_content(alloc: Global, ask: &Ask) -> Result<Content, NoMemory>
-    ensures { IfOk result (λ c. c ≡ record { contact = ask.now.contact; others = map kept_field ask.now.fields; body = ask.now.body }) }
+    ensures { IfOk result
+        (λ c.
+        c
+        ≡ record {
+          contact = ask.now.contact;
+          others = map kept_field ask.now.fields;
+          body = ask.now.body;
+        }) }
 {
     let body = ask.body.clone_in(alloc)?;
     let contact = ask.contact.clone_in(alloc)?;
@@ -145,7 +152,15 @@ fn begun_names(
     to: &Address,
     method: &Token,
 ) -> Result<Names, NoMemory>
-    ensures { IfOk result (λ n. n ≡ record { from = tagged tag.now from.now; to = untagged to.now; call_id = call_id.now; cseq = record { number = 1; method = method.now } }) }
+    ensures { IfOk result
+        (λ n.
+        n
+        ≡ record {
+          from = tagged tag.now from.now;
+          to = untagged to.now;
+          call_id = call_id.now;
+          cseq = record { number = 1; method = method.now };
+        }) }
 {
     let call_id = call_id.clone_in(alloc)?;
     let cseq = cseq(alloc, 1, method)?;
@@ -199,14 +214,23 @@ fn leg_names(
     tag: &Text,
     request: &Request,
 ) -> Result<Names, NoMemory>
-    ensures { IfOk result (λ n. n ≡ record { from = tagged tag.now request.now.head.from; to = untagged request.now.head.to; call_id = call_id.now; cseq = record { number = 1; method = request.now.method } }) }
+    ensures { IfOk result
+        (λ n.
+        n
+        ≡ record {
+          from = tagged tag.now request.now.head.from;
+          to = untagged request.now.head.to;
+          call_id = call_id.now;
+          cseq = record { number = 1; method = request.now.method };
+        }) }
 {
     let head = &request.head;
     begun_names(alloc, call_id, tag, &head.from, &head.to, &request.method)
 }
 
 fn leg_content(alloc: Global, head: &Head) -> Result<Content, NoMemory>
-    ensures { IfOk result (λ c. c ≡ record { contact = []; others = head.now.others; body = head.now.body }) }
+    ensures { IfOk result
+        (λ c. c ≡ record { contact = []; others = head.now.others; body = head.now.body }) }
 {
     let body = head.body.clone_in(alloc)?;
     let others = head.others.clone_in(alloc)?;
@@ -228,7 +252,8 @@ pub fn proxied_request(
     target: &Uri,
     request: &Request,
 ) -> Result<Request, NoMemory>
-    ensures { IfOk result (λ r. r ≡ proxied_request config.now view.entry.now record_route target.now request.now) }
+    ensures { IfOk result
+        (λ r. r ≡ proxied_request config.now view.entry.now record_route target.now request.now) }
 {
     let routes = proxied_routes(
         alloc,
@@ -251,7 +276,12 @@ fn proxied_routes(
     record_route: bool,
     routes: &List<Address>,
 ) -> Result<List<Address>, NoMemory>
-    ensures { IfOk result (λ l. l ≡ (if record_route then own_address config.now view.entry.now.epoch view.entry.now.app ∷ routes.now else routes.now)) }
+    ensures { IfOk result
+        (λ l.
+        l
+        ≡ (if record_route
+        then own_address config.now view.entry.now.epoch view.entry.now.app ∷ routes.now
+        else routes.now)) }
 {
     if !record_route {
         return routes.clone_in(alloc);
@@ -311,7 +341,15 @@ fn kin(alloc: Global, method: Token, to: &Address, request: &Request) -> Result<
 }
 
 fn kin_names(alloc: Global, method: &Token, to: &Address, head: &Head) -> Result<Names, NoMemory>
-    ensures { IfOk result (λ n. n ≡ record { from = head.now.from; to = to.now; call_id = head.now.call_id; cseq = record { number = head.now.cseq.number; method = method.now } }) }
+    ensures { IfOk result
+        (λ n.
+        n
+        ≡ record {
+          from = head.now.from;
+          to = to.now;
+          call_id = head.now.call_id;
+          cseq = record { number = head.now.cseq.number; method = method.now };
+        }) }
 {
     let call_id = head.call_id.clone_in(alloc)?;
     let own = &head.cseq;
@@ -338,7 +376,8 @@ fn no_content(alloc: Global) -> Content
 }
 
 fn top_via(alloc: Global, vias: &[Via]) -> Result<List<Via>, NoMemory>
-    ensures { IfOk result (λ l. l ≡ unwrap_or (option_map (λ via. via ∷ []) (slice_get vias.now 0)) []) }
+    ensures { IfOk result
+        (λ l. l ≡ unwrap_or (option_map (λ via. via ∷ []) (slice_get vias.now 0)) []) }
 {
     let mut top = List::new(alloc);
     match vias.first() {

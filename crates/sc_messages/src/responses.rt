@@ -44,8 +44,8 @@ pub fn response_to(
     })
 }
 
-// The reason of an answer.
-// An application's was found one line where the call was judged; it is tested again, since no type says so.
+// The reason of an answer. An application's was found one line where the call was judged; it is
+// tested again, since no type says so.
 fn asked_reason(alloc: Global, reason: &[u8]) -> Result<Reason, NoMemory>
     ensures { IfOk result (λ r. r ≡ reason.now) }
 {
@@ -71,7 +71,15 @@ fn response_head(
 }
 
 fn answer_names(alloc: Global, tag: &[u8], head: &Head) -> Result<Names, NoMemory>
-    ensures { IfOk result (λ n. n ≡ record { from = head.now.from; to = with_tag tag.now head.now.to; call_id = head.now.call_id; cseq = head.now.cseq }) }
+    ensures { IfOk result
+        (λ n.
+        n
+        ≡ record {
+          from = head.now.from;
+          to = with_tag tag.now head.now.to;
+          call_id = head.now.call_id;
+          cseq = head.now.cseq;
+        }) }
 {
     let call_id = head.call_id.clone_in(alloc)?;
     let cseq = head.cseq.clone_in(alloc)?;
@@ -86,7 +94,14 @@ fn answer_names(alloc: Global, tag: &[u8], head: &Head) -> Result<Names, NoMemor
 }
 
 fn answer_content(alloc: Global, answer: &Answer) -> Result<Content, NoMemory>
-    ensures { IfOk result (λ c. c ≡ record { contact = answer.now.contact; others = map kept_field answer.now.fields; body = answer.now.body }) }
+    ensures { IfOk result
+        (λ c.
+        c
+        ≡ record {
+          contact = answer.now.contact;
+          others = map kept_field answer.now.fields;
+          body = answer.now.body;
+        }) }
 {
     let body = answer.body.clone_in(alloc)?;
     let contact = answer.contact.clone_in(alloc)?;
@@ -109,7 +124,8 @@ pub fn given_response(
     request: &Request,
     answer: &Answer,
 ) -> Result<Response, NoMemory>
-    ensures { IfOk result (λ r. r ≡ given_response config.now view.entry.now tag.now initial request.now answer.now) }
+    ensures { IfOk result
+        (λ r. r ≡ given_response config.now view.entry.now tag.now initial request.now answer.now) }
 {
     let mut response = response_to(alloc, tag, request, answer)?;
     match completed(alloc, config, view, initial, request, &mut response) {
@@ -129,7 +145,10 @@ fn completed(
     request: &Request,
     response: &mut Response,
 ) -> Result<(), NoMemory>
-    ensures { OnOk result (response.new ≡ with_routes initial request.now (answered_here config.now view.entry.now request.now response.old)) }
+    ensures { OnOk result
+        (response.new
+        ≡ with_routes initial request.now
+        (answered_here config.now view.entry.now request.now response.old)) }
 {
     answered_here(alloc, config, view, request, response)?;
     with_routes(alloc, initial, request, response)
@@ -144,7 +163,8 @@ fn answered_here(
     request: &Request,
     response: &mut Response,
 ) -> Result<(), NoMemory>
-    ensures { OnOk result (response.new ≡ answered_here config.now view.entry.now request.now response.old) }
+    ensures { OnOk result
+        (response.new ≡ answered_here config.now view.entry.now request.now response.old) }
 {
     if sets_target(request.method.as_bytes()) && makes_dialog(response.code) {
         let contact = own_contact(alloc, config, view.epoch, view.app)?;
@@ -235,7 +255,15 @@ pub fn bad_response(alloc: Global, salt: &Text, heads: &Answerable) -> Result<Re
 }
 
 fn bad_names(alloc: Global, salt: &Text, heads: &Answerable) -> Result<Names, NoMemory>
-    ensures { IfOk result (λ n. n ≡ record { from = heads.now.from; to = with_tag (edge_tag salt.now) heads.now.to; call_id = heads.now.call_id; cseq = heads.now.cseq }) }
+    ensures { IfOk result
+        (λ n.
+        n
+        ≡ record {
+          from = heads.now.from;
+          to = with_tag (edge_tag salt.now) heads.now.to;
+          call_id = heads.now.call_id;
+          cseq = heads.now.cseq;
+        }) }
 {
     let mut tag = Text::new(alloc);
     sc_names::edge_tag(alloc, salt, &mut tag)?;

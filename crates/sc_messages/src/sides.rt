@@ -7,8 +7,8 @@ ghost use Rattle.sc_model.specs.Responses.{is_tag, tag_param, tagged, untagged, 
 use sc_value::{Address, CloneIn, List, NoMemory, Param, Text, is_token, same_name, tag};
 use std::alloc::Global;
 
-/// The address with this tag, where it has none; a parameter `tag` without a value is none (RFC 3261
-/// section 25.1).
+/// The address with this tag, where it has none; a parameter `tag` without a value is none (RFC
+/// 3261 section 25.1).
 #[tactic(auto, unfolding(sc_model::specs::Responses::with_tag))]
 pub fn with_tag(alloc: Global, own_tag: &[u8], address: &Address) -> Result<Address, NoMemory>
     ensures { IfOk result (λ a. a ≡ with_tag own_tag.now address.now) }
@@ -39,8 +39,8 @@ pub fn untagged(alloc: Global, address: &Address) -> Result<Address, NoMemory>
     with_params(alloc, address, params)
 }
 
-// The address with these parameters, and behind them this tag. An own tag is a token, and nothing where
-// there is none; it is tested, since no type says so.
+// The address with these parameters, and behind them this tag. An own tag is a token, and nothing
+// where there is none; it is tested, since no type says so.
 #[tactic(auto, using(sc_model::proofs::ParamFacts::token_is_value, sc_model::proofs::ParamFacts::nothing_is_value, sc_model::proofs::ParamFacts::token_is_line, sc_model::proofs::ParamFacts::nothing_is_line, sc_model::proofs::ParamFacts::tag_joined))]
 fn tagged_by(
     alloc: Global,
@@ -49,7 +49,8 @@ fn tagged_by(
     params: List<Param>,
 ) -> Result<Address, NoMemory>
     requires { AreHeaderParams params }
-    ensures { IfOk result (λ a. a ≡ record address.now { params = params ++ tag_param own_tag.now ∷ [] }) }
+    ensures { IfOk result
+        (λ a. a ≡ record address.now { params = params ++ tag_param own_tag.now ∷ [] }) }
 {
     if !own_tag.is_empty() && !is_token(own_tag) {
         return Err(NoMemory);

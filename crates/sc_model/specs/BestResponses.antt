@@ -1,5 +1,5 @@
--- The best of the final responses to a proxied request, and what is forwarded of it (RFC 3261 section
--- 16.7, steps 6 and 7).
+-- The best of the final responses to a proxied request, and what is forwarded of it (RFC 3261
+-- section 16.7, steps 6 and 7).
 use Rattle.std.specs.Prelude.{ℕ, ◌/◌, ◌==◌, List, [], ◌++◌, Bool, false, ◌||◌, Option, option_map, option_and_then, nat_le, if◌then◌else◌, codes, filter, position, slice_get}
 use Rattle.std.specs.List.{list_all, flat_map, remove}
 use Rattle.std.specs.Option.{option_or, option_map_or}
@@ -38,7 +38,8 @@ proxy_authenticate = codes "Proxy-Authenticate"
 
 -- the field is a challenge; names compare without case
 unfoldable pub is_challenge : Field → Bool
-is_challenge field = same_name field.name www_authenticate || same_name field.name proxy_authenticate
+is_challenge field =
+    same_name field.name www_authenticate || same_name field.name proxy_authenticate
 
 -- the response asks for credentials
 abbrev pub asks_credentials : Response → Bool
@@ -46,15 +47,18 @@ asks_credentials response = response.code == 401 || response.code == 407
 
 -- the challenges of a response that asks for credentials
 unfoldable pub challenges_of : Response → List Field
-challenges_of response = if asks_credentials response then filter is_challenge response.head.others else []
+challenges_of response =
+    if asks_credentials response then filter is_challenge response.head.others else []
 
 -- the chosen one asks for credentials
 abbrev pub chosen_asks : List Response → ℕ → Bool
 chosen_asks list chosen = option_map_or asks_credentials (slice_get list chosen) false
 
--- what a chosen response that asks for credentials is given: the challenges of all the others, in order
+-- what a chosen response that asks for credentials is given: the challenges of all the others, in
+-- order
 unfoldable pub gathered : List Response → ℕ → List Field
-gathered list chosen = if chosen_asks list chosen then flat_map challenges_of (remove list chosen) else []
+gathered list chosen =
+    if chosen_asks list chosen then flat_map challenges_of (remove list chosen) else []
 
 -- ## What is forwarded
 

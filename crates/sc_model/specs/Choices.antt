@@ -47,20 +47,28 @@ next_order tuples region Reverse state = position (λ tuple. is_opposite region 
 
 -- the application of a tuple, with the route that led to it
 unfoldable pub app_of : Request → ℕ → Tuple → Option Address → Choice
-app_of request order tuple popped = App tuple.app order tuple.region (subscriber_of tuple.subscriber request) popped
+app_of request order tuple popped =
+    App tuple.app order tuple.region (subscriber_of tuple.subscriber request) popped
 
 -- the own route by which a request comes back to the router at this order
 unfoldable pub way_back : Config → ℕ → Region → Address
-way_back config order region = record { display = None; uri = Sip (return_uri (listen_host config) config.listen.1 order region); params = [] }
+way_back config order region =
+    record {
+      display = None;
+      uri = Sip (return_uri (listen_host config) config.listen.1 order region);
+      params = [];
+    }
 
 -- a route that isn't own takes the request out; an own one leads to the application
 unfoldable pub by_route : Config → Request → ℕ → Tuple → Address → Choice
-by_route config request order tuple route = if is_own config route.uri then app_of request order tuple (Some route) else Send (route ∷ [])
+by_route config request order tuple route =
+    if is_own config route.uri then app_of request order tuple (Some route) else Send (route ∷ [])
 
 -- by the modifier and the route
 unfoldable pub routed : Config → Request → ℕ → Tuple → Modifier → Option Address → Choice
 routed config request order tuple Route (Some route) = by_route config request order tuple route
-routed config request order tuple RouteBack (Some route) = Send (route ∷ way_back config (order + 1) tuple.region ∷ [])
+routed config request order tuple RouteBack (Some route) =
+    Send (route ∷ way_back config (order + 1) tuple.region ∷ [])
 routed config request order tuple modifier route = app_of request order tuple None
 
 -- ## The choice
@@ -68,20 +76,25 @@ routed config request order tuple modifier route = app_of request order tuple No
 -- no tuple is left: the request goes on where it has a Route or its Request-URI isn't the
 -- container's
 unfoldable pub exhausted : Config → Request → Choice
-exhausted config request = if length request.head.route == 0 then (if is_home config request.uri then NotFound else Onward) else Onward
+exhausted config request =
+    if length request.head.route == 0 then (if is_home config request.uri then NotFound else Onward)
+    else Onward
 
 -- what the tuple at this order does, where there is one
 unfoldable pub choice_at : Config → Request → ℕ → Option Tuple → Choice
 choice_at config request order None = exhausted config request
-choice_at config request order (Some tuple) = routed config request order tuple tuple.modifier tuple.route
+choice_at config request order (Some tuple) =
+    routed config request order tuple tuple.modifier tuple.route
 
 -- the choice by the tuples of the method and the order of the next one; without an order the list
 -- is exhausted
 unfoldable pub choice_in : Config → Request → List Tuple → Option ℕ → Choice
 choice_in config request tuples None = exhausted config request
-choice_in config request tuples (Some order) = choice_at config request order (slice_get tuples order)
+choice_in config request tuples (Some order) =
+    choice_at config request order (slice_get tuples order)
 
 -- the choice for a request: its origin was of this region, and CONTINUE goes on at this state
 unfoldable pub choice_of : Config → Dar → Request → Region → Directive → Option ℕ → Choice
 choice_of config dar request region directive state =
-    choice_in config request (tuples_of request.method dar) (next_order (tuples_of request.method dar) region directive state)
+    choice_in config request (tuples_of request.method dar)
+    (next_order (tuples_of request.method dar) region directive state)

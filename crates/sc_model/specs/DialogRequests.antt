@@ -19,7 +19,8 @@ cancel = codes "CANCEL"
 
 -- a method that an application may ask for: ACK and CANCEL have calls of their own
 unfoldable pub is_asked_method : Bytes → Bool
-is_asked_method method = is_token method && not (same_bytes method ack) && not (same_bytes method cancel)
+is_asked_method method =
+    is_token method && not (same_bytes method ack) && not (same_bytes method cancel)
 
 -- the field's name is no token, or its value no header value
 unfoldable pub is_bad_field : Field → Bool
@@ -59,7 +60,8 @@ later_request dialog number method fields body = record {
 
 -- the next request, numbered one above the greatest sent
 unfoldable pub next_request : DialogState → Inside → Request
-next_request dialog ask = later_request dialog (dialog.sent + 1) ask.method (map kept_field ask.fields) ask.body
+next_request dialog ask =
+    later_request dialog (dialog.sent + 1) ask.method (map kept_field ask.fields) ask.body
 
 -- the ACK to a 2xx, numbered as the INVITE
 unfoldable pub ack_request : DialogState → ℕ → Bytes → Request

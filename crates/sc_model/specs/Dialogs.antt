@@ -1,5 +1,5 @@
--- The state of a dialog, read from the list of its messages (RFC 3261 section 12). A Route is always taken
--- as loose (RFC 3261 section 16.12).
+-- The state of a dialog, read from the list of its messages (RFC 3261 section 12). A Route is
+-- always taken as loose (RFC 3261 section 16.12).
 use Rattle.std.specs.Prelude.{◌≡◌, ℕ, ◌==◌, List, [], ◌∷◌, ◌++◌, Bool, false, ◌||◌, ◌&&◌, Option, None, Some, unwrap_or, nat_lt, if◌then◌else◌, codes, max, reverse}
 use Rattle.std.specs.List.{filter_map, slice_get}
 use Rattle.sc_value.specs.declared.parts.Uri.{Uri}
@@ -20,9 +20,9 @@ use Rattle.sc_model.specs.SessionStates.{invite}
 
 -- ## The messages of a dialog
 
--- how a dialog begins: on the called side with the peer's request, on which the own side puts a tag,
--- and on the calling side with the own request and the response that gives the peer's tag
--- (RFC 3261 sections 12.1.1 and 12.1.2)
+-- how a dialog begins: on the called side with the peer's request, on which the own side puts a
+-- tag, and on the calling side with the own request and the response that gives the peer's tag (RFC
+-- 3261 sections 12.1.1 and 12.1.2)
 pub data Beginning : Type 0 where
   Called : (tag : Bytes) → (first : Request) → Beginning
   Calling : (first : Request) → (made : Response) → Beginning
@@ -35,7 +35,8 @@ pub data Passed : Type 0 where
 -- the messages with which the dialog begins, the newest first
 abbrev pub first_messages : Beginning → List Passed
 first_messages (Called tag first) = By_peer (messages.Request first) ∷ []
-first_messages (Calling first made) = By_peer (messages.Response made) ∷ By_self (messages.Request first) ∷ []
+first_messages (Calling first made) =
+    By_peer (messages.Response made) ∷ By_self (messages.Request first) ∷ []
 
 -- all messages of the dialog, the newest first
 abbrev pub messages_of : Beginning → List Passed → List Passed
@@ -46,8 +47,8 @@ abbrev pub first_request : Beginning → Request
 first_request (Called tag first) = first
 first_request (Calling first made) = first
 
--- the sequence number and method of the own request with which the dialog begins, none on the called
--- side
+-- the sequence number and method of the own request with which the dialog begins, none on the
+-- called side
 abbrev pub begun_by : Beginning → Option CSeq
 begun_by (Called tag first) = None
 begun_by (Calling first made) = Some first.head.cseq
@@ -74,7 +75,8 @@ refer = codes "REFER"
 -- RFC 6665 and RFC 3515)
 unfoldable pub sets_target : Bytes → Bool
 sets_target method =
-    same_bytes method invite || same_bytes method update || same_bytes method subscribe || same_bytes method notify || same_bytes method refer
+    same_bytes method invite || same_bytes method update || same_bytes method subscribe
+    || same_bytes method notify || same_bytes method refer
 
 -- the URI of a Contact; `*` has none
 abbrev pub contact_uri : Contact → Option Uri
@@ -94,15 +96,18 @@ unfoldable pub answers_first : Option CSeq → CSeq → Bool
 answers_first None cseq = false
 answers_first (Some first) cseq = cseq.number == first.number && same_bytes cseq.method first.method
 
--- a 2xx to a request that sets the target, or a 101 to 199 to the request with which the dialog began
+-- a 2xx to a request that sets the target, or a 101 to 199 to the request with which the dialog
+-- began
 unfoldable pub may_set_target : Option CSeq → Response → Bool
 may_set_target begun response =
     (nat_lt 199 response.code && nat_lt response.code 300 && sets_target response.head.cseq.method)
-    || (nat_lt 100 response.code && nat_lt response.code 200 && answers_first begun response.head.cseq)
+    || (nat_lt 100 response.code && nat_lt response.code 200
+    && answers_first begun response.head.cseq)
 
 -- the target that a response of the peer gives
 unfoldable pub response_target : Option CSeq → Response → Option Uri
-response_target begun response = if may_set_target begun response then last_uri response.head.contact else None
+response_target begun response =
+    if may_set_target begun response then last_uri response.head.contact else None
 
 -- the target that a message gives: the own ones give none
 unfoldable pub given_target : Option CSeq → Passed → Option Uri
@@ -117,7 +122,9 @@ first_target (Calling first made) = first.uri
 
 -- the target that the peer gave last
 unfoldable pub target_of : Beginning → List Passed → Uri
-target_of beginning passed = unwrap_or (slice_get (filter_map (given_target (begun_by beginning)) passed) 0) (first_target beginning)
+target_of beginning passed =
+    unwrap_or (slice_get (filter_map (given_target (begun_by beginning)) passed) 0)
+    (first_target beginning)
 
 -- ## Sequence numbers (RFC 3261 sections 12.1 and 12.2.1.1)
 
@@ -203,4 +210,5 @@ dialog_of beginning later = record {
 -- message as its newest
 unfoldable pub Follows : DialogState → Passed → DialogState → Type 0
 Follows old message new =
-    (beginning : Beginning) (later : List Passed) → old ≡ dialog_of beginning later → new ≡ dialog_of beginning (message ∷ later)
+    (beginning : Beginning) (later : List Passed) → old ≡ dialog_of beginning later
+    → new ≡ dialog_of beginning (message ∷ later)

@@ -1,6 +1,6 @@
 -- The script of n calls that is made to load a container: each call is set up, answered by a timer,
--- acknowledged and ended, and the clock goes two seconds on. The messages of a call are those of a caller
--- `m` at 127.0.0.1:5090 and a container that listens at 127.0.0.1:5060 with the salt `s1`.
+-- acknowledged and ended, and the clock goes two seconds on. The messages of a call are those of a
+-- caller `m` at 127.0.0.1:5090 and a container that listens at 127.0.0.1:5060 with the salt `s1`.
 use Rattle.std.specs.Prelude.{ℕ, ◌-◌, ◌*◌, List, [], ◌∷◌, ◌++◌, Option, None, Some, codes, decimal, length}
 use Rattle.std.specs.List.{flat_map, range_with_len}
 use Rattle.sc_value.specs.declared.parts.Address.{Address}
@@ -46,7 +46,8 @@ session_text host i = decimal host ++ 45 ∷ [] ++ decimal i
 
 -- `sip:user@host:port`
 unfoldable pub user_uri : Bytes → Bytes → Option ℕ → Uri
-user_uri user host port = Sip (record { user = Some user; host = host; port = port; params = []; headers = None })
+user_uri user host port =
+    Sip (record { user = Some user; host = host; port = port; params = []; headers = None })
 
 -- the parameter `ap=h-i`, which names a session in an own URI
 unfoldable pub session_param : ℕ → ℕ → Param
@@ -86,11 +87,18 @@ call_of i = caller ++ decimal i
 
 -- the caller's Via in call i: over TCP from port 5090, with the branch of i and the letter
 unfoldable pub via_of : ℕ → Bytes → Via
-via_of i letter = record { transport = codes "TCP"; host = local; port = Some 5090; params = valued branch_name (branch_of i letter) ∷ [] }
+via_of i letter =
+    record {
+      transport = codes "TCP";
+      host = local;
+      port = Some 5090;
+      params = valued branch_name (branch_of i letter) ∷ [];
+    }
 
 -- `<sip:m@home.test>;tag=m`
 unfoldable pub from_side : Address
-from_side = record { display = None; uri = user_uri caller home None; params = valued tag_name caller ∷ [] }
+from_side =
+    record { display = None; uri = user_uri caller home None; params = valued tag_name caller ∷ [] }
 
 -- `<sip:u@home.test>`
 unfoldable pub to_side : Address
@@ -98,11 +106,17 @@ to_side = record { display = None; uri = user_uri called home None; params = [] 
 
 -- the same with the tag of the answer
 unfoldable pub answered_side : ℕ → Address
-answered_side i = record { display = None; uri = user_uri called home None; params = valued tag_name (answer_tag i) ∷ [] }
+answered_side i =
+    record {
+      display = None;
+      uri = user_uri called home None;
+      params = valued tag_name (answer_tag i) ∷ [];
+    }
 
 -- `<sip:m@127.0.0.1:5090>`
 unfoldable pub caller_contact : Contact
-caller_contact = At (record { display = None; uri = user_uri caller local (Some 5090); params = [] })
+caller_contact =
+    At (record { display = None; uri = user_uri caller local (Some 5090); params = [] })
 
 -- the route of host 0, which stays on the way
 unfoldable pub route_of : ℕ → Address
@@ -125,7 +139,13 @@ head_of i letter method number to route contact = record {
 
 -- the INVITE, to the called user at its domain
 unfoldable pub invite_of : ℕ → Request
-invite_of i = record { method = invite; uri = user_uri called home None; hops = 70; head = head_of i [] invite 1 to_side [] (caller_contact ∷ []) }
+invite_of i =
+    record {
+      method = invite;
+      uri = user_uri called home None;
+      hops = 70;
+      head = head_of i [] invite 1 to_side [] (caller_contact ∷ []);
+    }
 
 -- a request after the answer: to the session of host 1, by that of host 0
 unfoldable pub later_of : ℕ → Bytes → Bytes → ℕ → Request
@@ -175,10 +195,12 @@ arriving_text text = in_word ++ decimal (length text) ++ 10 ∷ [] ++ text ++ 10
 unfoldable pub arrives : Request → Bytes
 arrives request = arriving_text (written (messages.Request request)) ++ run_line
 
--- call i: it arrives, is answered when its timer is due, is acknowledged and ended, and the clock goes on
+-- call i: it arrives, is answered when its timer is due, is acknowledged and ended, and the clock
+-- goes on
 unfoldable pub call_text : ℕ → Bytes
 call_text i =
-    arrives (invite_of i) ++ (tick_line (2000 * i - 1000) ++ run_line) ++ arrives (ack_of i) ++ arrives (bye_of i) ++ tick_line (2000 * i)
+    arrives (invite_of i) ++ (tick_line (2000 * i - 1000) ++ run_line) ++ arrives (ack_of i)
+    ++ arrives (bye_of i) ++ tick_line (2000 * i)
 
 -- the calls 1 to n, and `end`
 unfoldable pub generated : ℕ → Bytes

@@ -29,7 +29,8 @@ param_size param = length param.name + option_size param.value
 
 -- the lengths of the texts of a SIP URI; scheme, port and separators count nothing
 unfoldable pub sip_uri_size : SipUri → ℕ
-sip_uri_size uri = option_size uri.user + length uri.host + sum_by param_size uri.params + option_size uri.headers
+sip_uri_size uri =
+    option_size uri.user + length uri.host + sum_by param_size uri.params + option_size uri.headers
 
 -- the lengths of the texts of a URI; one of another scheme counts as its whole text
 unfoldable pub uri_size : Uri → ℕ
@@ -38,7 +39,8 @@ uri_size (Other text) = length text
 
 -- the lengths of display name, URI and parameters
 unfoldable pub address_size : Address → ℕ
-address_size address = option_size address.display + uri_size address.uri + sum_by param_size address.params
+address_size address =
+    option_size address.display + uri_size address.uri + sum_by param_size address.params
 
 -- the size of a Contact; `*` counts nothing
 unfoldable pub contact_size : Contact → ℕ
@@ -51,12 +53,15 @@ field_size field = length field.name + length field.value
 
 -- the lengths of all texts of an answer
 unfoldable pub answer_size : Answer → ℕ
-answer_size answer = length answer.reason + sum_by field_size answer.fields + sum_by contact_size answer.contact + length answer.body
+answer_size answer =
+    length answer.reason + sum_by field_size answer.fields + sum_by contact_size answer.contact
+    + length answer.body
 
 -- the lengths of all texts of an initial request of one's own
 unfoldable pub ask_size : Ask → ℕ
 ask_size ask =
-    length ask.method + uri_size ask.uri + address_size ask.from + address_size ask.to + sum_by field_size ask.fields + sum_by contact_size ask.contact + length ask.body
+    length ask.method + uri_size ask.uri + address_size ask.from + address_size ask.to
+    + sum_by field_size ask.fields + sum_by contact_size ask.contact + length ask.body
 
 -- the lengths of all texts of a request in a dialog
 unfoldable pub inside_size : Inside → ℕ
@@ -85,7 +90,8 @@ call_size call = 0
 unfoldable pub record_size : CallRecord → ℕ
 record_size made = call_size made.call
 
--- the bytes of a step: of a message its written text, of a turn all texts in its calls, of others none
+-- the bytes of a step: of a message its written text, of a turn all texts in its calls, of others
+-- none
 unfoldable pub step_size : Step → ℕ
 step_size (steps.In place message) = length (written message)
 step_size (steps.Turn app event now calls end) = sum_by record_size calls
@@ -98,4 +104,5 @@ journal_size journal = sum_by step_size journal
 -- the journal has no room for the step: it stands at its limit of steps, or the step would pass its
 -- limit of bytes
 unfoldable pub HasNoRoom : ℕ → ℕ → List Step → ℕ → Type 0
-HasNoRoom most_steps most_bytes journal size = (length journal ≡ most_steps) ⊎ (most_bytes < journal_size journal + size)
+HasNoRoom most_steps most_bytes journal size =
+    (length journal ≡ most_steps) ⊎ (most_bytes < journal_size journal + size)

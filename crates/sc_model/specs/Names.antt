@@ -34,7 +34,8 @@ branch_cookie = codes "z9hG4bK"
 unfoldable pub branch_text : Bytes → ℕ → AppId → ℕ → Bytes
 branch_text salt epoch app k = branch_cookie ++ tag_text salt epoch app k
 
--- a Call-ID: the mark and `-h-s-k`, and after `@` the host that the container listens on (RFC 3261 section 8.1.1.4)
+-- a Call-ID: the mark and `-h-s-k`, and after `@` the host that the container listens on (RFC 3261
+-- section 8.1.1.4)
 unfoldable pub call_id_text : Bytes → ℕ → Bytes → AppId → ℕ → Bytes
 call_id_text salt epoch host app k = tag_text salt epoch app k ++ 64 ∷ [] ++ host
 
@@ -77,7 +78,13 @@ loose_param = record { name = codes "lr"; value = None }
 -- `sip:host:port;transport=tcp;lr;name=value`
 unfoldable pub own_uri : Bytes → ℕ → Bytes → Bytes → SipUri
 own_uri host port name value =
-    record { user = None; host = host; port = Some port; params = tcp_param ∷ loose_param ∷ record { name = name; value = Some value } ∷ []; headers = None }
+    record {
+      user = None;
+      host = host;
+      port = Some port;
+      params = tcp_param ∷ loose_param ∷ record { name = name; value = Some value } ∷ [];
+      headers = None;
+    }
 
 -- the parameter of an own URI that leads to an application session
 unfoldable pub ap_name : Bytes

@@ -8,7 +8,9 @@ use Rattle.sc_grammar.specs.Written.{Bytes, written}
 
 -- `a.b.c.d`
 unfoldable pub ip_text : List ℕ → Bytes
-ip_text ip = decimal (slice_index ip 0) ++ 46 ∷ [] ++ decimal (slice_index ip 1) ++ 46 ∷ [] ++ (decimal (slice_index ip 2) ++ 46 ∷ [] ++ decimal (slice_index ip 3))
+ip_text ip =
+    decimal (slice_index ip 0) ++ 46 ∷ [] ++ decimal (slice_index ip 1) ++ 46 ∷ []
+    ++ (decimal (slice_index ip 2) ++ 46 ∷ [] ++ decimal (slice_index ip 3))
 
 -- `cN` or `a.b.c.d:port`
 unfoldable pub place_text : Place → Bytes
@@ -25,7 +27,8 @@ record_line place size = out_word ++ place_text place ++ 32 ∷ [] ++ decimal si
 
 -- the line, the message's bytes and a line feed
 unfoldable pub record_text : Sent → Bytes
-record_text sent = record_line sent.place (length (written sent.message)) ++ written sent.message ++ 10 ∷ []
+record_text sent =
+    record_line sent.place (length (written sent.message)) ++ written sent.message ++ 10 ∷ []
 
 -- what a run writes of all that it sent, in the order of sending
 unfoldable pub records : List Sent → Bytes
@@ -37,4 +40,5 @@ end_word = codes "end "
 
 -- `end STEPS SENT LIVE`, and a line feed
 unfoldable pub end_text : ℕ → ℕ → ℕ → Bytes
-end_text steps sent live = end_word ++ decimal steps ++ 32 ∷ [] ++ decimal sent ++ 32 ∷ [] ++ (decimal live ++ 10 ∷ [])
+end_text steps sent live =
+    end_word ++ decimal steps ++ 32 ∷ [] ++ decimal sent ++ 32 ∷ [] ++ (decimal live ++ 10 ∷ [])

@@ -30,7 +30,8 @@ tagged tag address = record address { params = (untagged address).params ++ tag_
 -- the address with this tag, where it has none; a parameter `tag` without a value is none (RFC 3261
 -- section 25.1)
 unfoldable pub with_tag : Bytes → Address → Address
-with_tag tag address = if is_some (param_value tag_name address.params) then address else tagged tag address
+with_tag tag address =
+    if is_some (param_value tag_name address.params) then address else tagged tag address
 
 -- a header that a servlet sets; its compact name is kept as its long one
 unfoldable pub kept_field : Field → Field
@@ -53,4 +54,5 @@ response_head tag request answer = record {
 
 -- the response with the answer's code and reason, to this request and with this own tag
 unfoldable pub response_to : Bytes → Request → Answer → Response
-response_to tag request answer = record { code = answer.code; reason = answer.reason; head = response_head tag request answer }
+response_to tag request answer =
+    record { code = answer.code; reason = answer.reason; head = response_head tag request answer }

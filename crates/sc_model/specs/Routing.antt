@@ -28,9 +28,12 @@ first_contact_text (At address ∷ contacts) = uri_text address.uri
 
 -- the value of the first header of this name, an empty text where there is none
 unfoldable pub field_value : Bytes → List Field → Bytes
-field_value name fields = unwrap_or (option_map (λ field. field.value) (find (λ field. same_name field.name name) fields)) []
+field_value name fields =
+    unwrap_or (option_map (λ field. field.value) (find (λ field. same_name field.name name) fields))
+    []
 
--- what a header says of a subscriber: the URI of From, To or Contact, the Request-URI, else the value
+-- what a header says of a subscriber: the URI of From, To or Contact, the Request-URI, else the
+-- value
 unfoldable pub header_text : Bytes → Request → Bytes
 header_text name request =
     if same_name name from_name then uri_text request.head.from.uri
@@ -41,7 +44,9 @@ header_text name request =
 
 -- `DAR:Name` stands for what that header says, every other text for itself
 unfoldable pub subscriber_of : Bytes → Request → Bytes
-subscriber_of text request = if starts_with nat_eq text dar_prefix then header_text (long_name (drop 4 text)) request else text
+subscriber_of text request =
+    if starts_with nat_eq text dar_prefix then header_text (long_name (drop 4 text)) request
+    else text
 
 -- the list of a method
 unfoldable pub list_of : Bytes → Dar → Option MethodList

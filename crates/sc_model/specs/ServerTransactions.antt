@@ -1,7 +1,7 @@
--- Server transactions (RFC 3261 section 17.2, with RFC 6026 for INVITE). What has passed a transaction
--- is a list with the newest item first, and its state is found by a search for the first final answer.
--- Moments are in milliseconds. The transport is reliable: no answer is sent again by a timer, and timers
--- I and J are 0.
+-- Server transactions (RFC 3261 section 17.2, with RFC 6026 for INVITE). What has passed a
+-- transaction is a list with the newest item first, and its state is found by a search for the
+-- first final answer. Moments are in milliseconds. The transport is reliable: no answer is sent
+-- again by a timer, and timers I and J are 0.
 use Rattle.std.specs.Prelude.{ℕ, ◌+◌, List, Bool, true, false, not, ◌||◌, ◌&&◌, Option, None, Some, is_some, nat_le, if◌then◌else◌}
 use Rattle.std.specs.List.{list_any}
 use Rattle.sc_parts.specs.declared.transactions.TxnState.{TxnState}
@@ -63,7 +63,9 @@ ends_decided decided (MomentCame moment) = nat_le (final_due decided) moment
 -- when timer L or H is due, as long as it runs; after the final answer to another request none does
 unfoldable pub final_timer : Bool → Found ServerItem → Option ℕ
 final_timer invite decided =
-    if invite && not (list_any (ends_decided decided.item) decided.after) then Some (final_due decided.item) else None
+    if invite && not (list_any (ends_decided decided.item) decided.after)
+    then Some (final_due decided.item)
+    else None
 
 -- ## The state, and when the timer that runs is due
 
@@ -71,7 +73,9 @@ final_timer invite decided =
 unfoldable pub state_at : Bool → Bool → Option (Found ServerItem) → TxnState
 state_at invite answered None = if invite || answered then Proceeding else Trying
 state_at invite answered (Some decided) =
-    if is_some (final_timer invite decided) then (if answers_success decided.item then Accepted else Completed) else Terminated
+    if is_some (final_timer invite decided)
+    then (if answers_success decided.item then Accepted else Completed)
+    else Terminated
 
 -- the state of a transaction of an INVITE or of another request that these items have passed
 unfoldable pub server_state : Bool → List ServerItem → TxnState

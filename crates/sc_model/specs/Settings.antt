@@ -20,7 +20,8 @@ app_of config host = slice_get config.app host
 
 -- the charters of an application
 unfoldable pub charters_of : Setup → ℕ → Option Charters
-charters_of setup host = option_and_then (λ app. slice_get setup.kinds app.kind) (app_of setup.config host)
+charters_of setup host =
+    option_and_then (λ app. slice_get setup.kinds app.kind) (app_of setup.config host)
 
 -- the parameters of an application
 unfoldable pub params_in : Option AppEntry → List Bytes
@@ -43,4 +44,6 @@ pub record IsSetup (setup : Setup) : Type 0 where
   pub bytes : setup.config.journal_bytes ≤ 67108864
   pub apps : length setup.config.app ≤ 64
   pub kinds : All (λ (app : AppEntry). app.kind < length setup.kinds) setup.config.app
-  pub tuples : All (λ (list : MethodList). All (λ (tuple : Tuple). tuple.app < length setup.config.app) list.tuples) setup.dar.lists
+  pub tuples : All
+      (λ (list : MethodList).
+      All (λ (tuple : Tuple). tuple.app < length setup.config.app) list.tuples) setup.dar.lists

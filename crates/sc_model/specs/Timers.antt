@@ -16,7 +16,10 @@ pub record DueEntry : Type 0 where
 
 -- by the due moment, then by the session's host and serial, then by the number
 abbrev pub due_order : DueEntry → DueEntry → Ordering
-due_order = then_cmp (on (λ e. e.due) nat_cmp) (then_cmp (on (λ e. e.app.host) nat_cmp) (then_cmp (on (λ e. e.app.serial) nat_cmp) (on (λ e. e.number) nat_cmp)))
+due_order =
+    then_cmp (on (λ e. e.due) nat_cmp)
+    (then_cmp (on (λ e. e.app.host) nat_cmp)
+    (then_cmp (on (λ e. e.app.serial) nat_cmp) (on (λ e. e.number) nat_cmp)))
 
 -- what happens to entries
 pub data DueEvent : Type 0 where

@@ -1,6 +1,7 @@
--- The tables of the standards' figures (RFC 3261 figures 5 to 8, RFC 6026 figures 1 and 2), from the
--- state before an item and the timer that ran. They define nothing: that the search of the whole list
--- comes to them with each item more is proved in proofs/ClientTransactions and proofs/ServerTransactions.
+-- The tables of the standards' figures (RFC 3261 figures 5 to 8, RFC 6026 figures 1 and 2), from
+-- the state before an item and the timer that ran. They define nothing: that the search of the
+-- whole list comes to them with each item more is proved in proofs/ClientTransactions and
+-- proofs/ServerTransactions.
 use Rattle.std.specs.Prelude.{ℕ, ◌+◌, Bool, true, false, not, ◌&&◌, Option, None, Some, if◌then◌else◌}
 use Rattle.sc_parts.specs.declared.transactions.TxnState.{TxnState}
 use Rattle.sc_parts.specs.declared.transactions.TxnState.TheVariants.{Calling, Trying, Proceeding, Completed, Accepted, Terminated}
@@ -26,9 +27,11 @@ decided_due invite code moment = if invite && is_success code then Some (moment 
 
 -- the state after an item that comes where nothing has decided the transaction
 abbrev pub next_waiting : Bool → TxnState → Option ℕ → ClientItem → TxnState
-next_waiting invite state due (ResponseCame code moment) = if is_final code then decided_state invite code else Proceeding
+next_waiting invite state due (ResponseCame code moment) =
+    if is_final code then decided_state invite code else Proceeding
 next_waiting invite state due (CancelAsked moment) = state
-next_waiting invite state due (client.MomentCame moment) = if is_reached due moment then Terminated else state
+next_waiting invite state due (client.MomentCame moment) =
+    if is_reached due moment then Terminated else state
 next_waiting invite state due PlaceLost = Terminated
 
 -- the state after an item, from the state before it and the timer that ran
@@ -61,25 +64,29 @@ is_proceeding Terminated = false
 -- the item makes the CANCEL go, in this state and where it was asked for or wasn't: the first
 -- provisional after an asking, or the first asking in Proceeding
 abbrev pub sends_cancel : Bool → TxnState → Bool → ClientItem → Bool
-sends_cancel invite state asked (ResponseCame code moment) = is_calling state && asked && is_provisional code
+sends_cancel invite state asked (ResponseCame code moment) =
+    is_calling state && asked && is_provisional code
 sends_cancel invite state asked (CancelAsked moment) = invite && is_proceeding state && not asked
 sends_cancel invite state asked (client.MomentCame moment) = false
 sends_cancel invite state asked PlaceLost = false
 
 -- the timer after a provisional response: timer B runs no more, and the one after the CANCEL begins
 abbrev pub provisional_due : TxnState → Option ℕ → Bool → ℕ → Option ℕ
-provisional_due state due asked moment = if is_calling state then (if asked then Some (moment + TIMEOUT) else None) else due
+provisional_due state due asked moment =
+    if is_calling state then (if asked then Some (moment + TIMEOUT) else None) else due
 
 -- the timer after an item that comes where nothing has decided the transaction
 abbrev pub next_waiting_due : Bool → TxnState → Option ℕ → Bool → ClientItem → Option ℕ
 next_waiting_due invite state due asked (ResponseCame code moment) =
     if is_final code then decided_due invite code moment else provisional_due state due asked moment
-next_waiting_due invite state due asked (CancelAsked moment) = if sends_cancel invite state asked (CancelAsked moment) then Some (moment + TIMEOUT) else due
-next_waiting_due invite state due asked (client.MomentCame moment) = if is_reached due moment then None else due
+next_waiting_due invite state due asked (CancelAsked moment) =
+    if sends_cancel invite state asked (CancelAsked moment) then Some (moment + TIMEOUT) else due
+next_waiting_due invite state due asked (client.MomentCame moment) =
+    if is_reached due moment then None else due
 next_waiting_due invite state due asked PlaceLost = None
 
--- the timer after an item, from the state before it, the timer that ran and whether a CANCEL was asked
--- for
+-- the timer after an item, from the state before it, the timer that ran and whether a CANCEL was
+-- asked for
 abbrev pub next_due : Bool → TxnState → Option ℕ → Bool → ClientItem → Option ℕ
 next_due invite Calling due asked item = next_waiting_due invite Calling due asked item
 next_due invite Trying due asked item = next_waiting_due invite Trying due asked item
@@ -109,7 +116,10 @@ output invite Terminated due asked item = NOTHING
 
 -- the state after an answer of this code, where no final one was given
 abbrev pub answered_state : Bool → ℕ → TxnState
-answered_state invite code = if is_final code then (if invite then (if is_success code then Accepted else Completed) else Terminated) else Proceeding
+answered_state invite code =
+    if is_final code
+    then (if invite then (if is_success code then Accepted else Completed) else Terminated)
+    else Proceeding
 
 -- when timer L or H is due after a final answer to an INVITE; after others no timer runs
 abbrev pub answered_due : Bool → ℕ → ℕ → Option ℕ
@@ -149,7 +159,8 @@ abbrev pub next_server_state : Bool → TxnState → Option ℕ → ServerItem �
 next_server_state invite Calling due item = next_undecided invite Calling item
 next_server_state invite Trying due item = next_undecided invite Trying item
 next_server_state invite Proceeding due item = next_undecided invite Proceeding item
-next_server_state invite Completed due item = if ends Completed due item then Terminated else Completed
+next_server_state invite Completed due item =
+    if ends Completed due item then Terminated else Completed
 next_server_state invite Accepted due item = if ends Accepted due item then Terminated else Accepted
 next_server_state invite Terminated due item = Terminated
 

@@ -1,7 +1,7 @@
--- Client transactions (RFC 3261 section 17.1, with RFC 6026 for INVITE). What has passed a transaction
--- is a list with the newest item first. Its state, its timer and what it does are found by a search of
--- that list for the item that decided it. Moments are in milliseconds. The transport is reliable: no
--- request is sent again by a timer, and timers D and K are 0.
+-- Client transactions (RFC 3261 section 17.1, with RFC 6026 for INVITE). What has passed a
+-- transaction is a list with the newest item first. Its state, its timer and what it does are found
+-- by a search of that list for the item that decided it. Moments are in milliseconds. The transport
+-- is reliable: no request is sent again by a timer, and timers D and K are 0.
 use Rattle.std.specs.Prelude.{ℕ, ◌+◌, ◌==◌, List, [], ◌∷◌, Bool, true, false, not, ◌&&◌, Option, None, Some, is_some, is_none, option_map, nat_lt, nat_le, if◌then◌else◌}
 use Rattle.std.specs.List.{list_any}
 use Rattle.sc_parts.specs.declared.transactions.TxnState.{TxnState}
@@ -11,8 +11,8 @@ use Rattle.sc_parts.specs.declared.transactions.ClientItem.{ClientItem}
 use Rattle.sc_parts.specs.declared.transactions.ClientItem.TheVariants.{ResponseCame, CancelAsked, MomentCame, PlaceLost}
 use Rattle.sc_model.specs.SessionStates.{is_final}
 
--- 64*T1, the time of timers B, F, H, L and M, and of an INVITE after its CANCEL (RFC 3261 sections 9.1
--- and 17, RFC 6026 sections 7.1 and 7.2)
+-- 64*T1, the time of timers B, F, H, L and M, and of an INVITE after its CANCEL (RFC 3261 sections
+-- 9.1 and 17, RFC 6026 sections 7.1 and 7.2)
 abbrev pub TIMEOUT : ℕ
 TIMEOUT = 32000
 
@@ -40,12 +40,14 @@ pub record Found (A : Type 0) : Type 0 where
 -- the search after one item more, which passes the test or doesn't
 unfoldable pub found_with : {A : Type 0} → A → Bool → Option (Found A) → Option (Found A)
 found_with item passes None = if passes then Some (record { item = item; after = [] }) else None
-found_with item passes (Some found) = Some (record { item = found.item; after = item ∷ found.after })
+found_with item passes (Some found) =
+    Some (record { item = found.item; after = item ∷ found.after })
 
 -- the first item in time that passes a test, which also sees what came before the item
 unfoldable pub first_in_time : {A : Type 0} → (List A → A → Bool) → List A → Option (Found A)
 first_in_time test [] = None
-first_in_time test (item ∷ earlier) = found_with item (test earlier item) (first_in_time test earlier)
+first_in_time test (item ∷ earlier) =
+    found_with item (test earlier item) (first_in_time test earlier)
 
 -- ## CANCEL (RFC 3261 section 9.1)
 
@@ -86,9 +88,11 @@ moment_of (CancelAsked moment) = moment
 moment_of (MomentCame moment) = moment
 moment_of PlaceLost = 0
 
--- the moment at which the CANCEL of an INVITE was sent: that of the first item with which it could go
+-- the moment at which the CANCEL of an INVITE was sent: that of the first item with which it could
+-- go
 unfoldable pub cancel_moment : List ClientItem → Option ℕ
-cancel_moment passed = option_map (λ found. moment_of found.item) (first_in_time lets_cancel_go passed)
+cancel_moment passed =
+    option_map (λ found. moment_of found.item) (first_in_time lets_cancel_go passed)
 
 -- ## The timer of a transaction that nothing has decided
 
@@ -97,11 +101,12 @@ unfoldable pub due_after : ℕ → Bool → Option ℕ → Option ℕ
 due_after sent provisional None = if provisional then None else Some (sent + TIMEOUT)
 due_after sent provisional (Some cancelled) = Some (cancelled + TIMEOUT)
 
--- when it is due: timer F after sending; for INVITE the time after a CANCEL, and where none was sent
--- timer B after sending, which counts only where no provisional has passed
+-- when it is due: timer F after sending; for INVITE the time after a CANCEL, and where none was
+-- sent timer B after sending, which counts only where no provisional has passed
 unfoldable pub waiting_due : Bool → ℕ → List ClientItem → Option ℕ
 waiting_due invite sent passed =
-    if invite then due_after sent (has_provisional passed) (cancel_moment passed) else Some (sent + TIMEOUT)
+    if invite then due_after sent (has_provisional passed) (cancel_moment passed)
+    else Some (sent + TIMEOUT)
 
 -- a timer is due by this moment
 unfoldable pub is_reached : Option ℕ → ℕ → Bool
@@ -114,7 +119,8 @@ is_reached (Some due) moment = nat_le due moment
 unfoldable pub decides : Bool → ℕ → List ClientItem → ClientItem → Bool
 decides invite sent earlier (ResponseCame code moment) = is_final code
 decides invite sent earlier (CancelAsked moment) = false
-decides invite sent earlier (MomentCame moment) = is_reached (waiting_due invite sent earlier) moment
+decides invite sent earlier (MomentCame moment) =
+    is_reached (waiting_due invite sent earlier) moment
 decides invite sent earlier PlaceLost = true
 
 -- the item that decided the transaction, with what came after it
@@ -125,7 +131,8 @@ decision invite sent passed = first_in_time (decides invite sent) passed
 
 -- when it is due: where a 2xx decided an INVITE
 unfoldable pub accepted_due : Bool → ClientItem → Option ℕ
-accepted_due invite (ResponseCame code moment) = if invite && is_success code then Some (moment + TIMEOUT) else None
+accepted_due invite (ResponseCame code moment) =
+    if invite && is_success code then Some (moment + TIMEOUT) else None
 accepted_due invite (CancelAsked moment) = None
 accepted_due invite (MomentCame moment) = None
 accepted_due invite PlaceLost = None
@@ -140,19 +147,23 @@ reaches due PlaceLost = false
 -- when timer M is due, as long as it runs: no moment since the deciding item has reached it
 unfoldable pub timer_m : Bool → Found ClientItem → Option ℕ
 timer_m invite decided =
-    if list_any (reaches (accepted_due invite decided.item)) decided.after then None else accepted_due invite decided.item
+    if list_any (reaches (accepted_due invite decided.item)) decided.after then None
+    else accepted_due invite decided.item
 
 -- ## The state, and when the timer that runs is due
 
 -- the state by whether a provisional has passed and by what decided the transaction
 unfoldable pub state_from : Bool → Bool → Option (Found ClientItem) → TxnState
-state_from invite provisional None = if provisional then Proceeding else (if invite then Calling else Trying)
-state_from invite provisional (Some decided) = if is_some (timer_m invite decided) then Accepted else Terminated
+state_from invite provisional None =
+    if provisional then Proceeding else (if invite then Calling else Trying)
+state_from invite provisional (Some decided) =
+    if is_some (timer_m invite decided) then Accepted else Terminated
 
 -- the state of a transaction of an INVITE or of another request, sent at a moment, that these items
 -- have passed
 unfoldable pub client_state : Bool → ℕ → List ClientItem → TxnState
-client_state invite sent passed = state_from invite (has_provisional passed) (decision invite sent passed)
+client_state invite sent passed =
+    state_from invite (has_provisional passed) (decision invite sent passed)
 
 -- the states in which nothing has decided the transaction
 abbrev pub is_undecided : TxnState → Bool
@@ -170,7 +181,8 @@ due_from invite waiting (Some decided) = timer_m invite decided
 
 -- the moment at which the timer that runs is due, none where none runs
 unfoldable pub client_due : Bool → ℕ → List ClientItem → Option ℕ
-client_due invite sent passed = due_from invite (waiting_due invite sent passed) (decision invite sent passed)
+client_due invite sent passed =
+    due_from invite (waiting_due invite sent passed) (decision invite sent passed)
 
 -- ## What a transaction does with an item
 
@@ -200,14 +212,16 @@ told_accepted (MomentCame moment) = None
 told_accepted PlaceLost = None
 
 -- what is done with an item, by what decided the transaction before it
-unfoldable pub out_from : Bool → ℕ → List ClientItem → ClientItem → Option (Found ClientItem) → ClientOut
+unfoldable pub out_from : Bool → ℕ → List ClientItem → ClientItem → Option (Found ClientItem)
+    → ClientOut
 out_from invite sent passed item None = record {
   tell = told_waiting (waiting_due invite sent passed) item;
   ack = invite && wants_ack item;
   cancel = invite && is_none (cancel_moment passed) && lets_cancel_go passed item;
 }
 out_from invite sent passed item (Some decided) =
-    if is_some (timer_m invite decided) then record NOTHING { tell = told_accepted item } else NOTHING
+    if is_some (timer_m invite decided) then record NOTHING { tell = told_accepted item }
+    else NOTHING
 
 -- what it does with an item that comes where these have passed
 unfoldable pub client_out : Bool → ℕ → List ClientItem → ClientItem → ClientOut

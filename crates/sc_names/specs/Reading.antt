@@ -4,8 +4,10 @@ use Rattle.std.specs.List.{list_any}
 use Rattle.sc_value.specs.declared.ids.AppId.{AppId}
 use Rattle.sc_grammar.specs.Written.{Bytes}
 
--- the answer is the one value in range whose text the bytes are, and none where they are the text of none
-pub record IsRead {V : Type 0} (text : V → Bytes) (InRange : V → Type 0) (bytes : Bytes) (answer : Option V) : Type 0 where
+-- the answer is the one value in range whose text the bytes are, and none where they are the text
+-- of none
+pub record IsRead {V : Type 0} (text : V → Bytes) (InRange : V → Type 0) (bytes : Bytes)
+    (answer : Option V) : Type 0 where
   pub some : IfSome answer (λ v. InRange v × (bytes ≡ text v))
   pub one : (v : V) → InRange v → bytes ≡ text v → answer ≡ Some v
 

@@ -132,7 +132,8 @@ fn after_cookie(bytes: &[u8]) -> Option<&[u8]>
 
 // What follows the mark of an epoch.
 fn after_mark<'a>(bytes: &'a [u8], salt: &[u8], epoch: u32) -> Option<&'a [u8]>
-    ensures { IsRead (λ rest. mark_text salt.now epoch ++ rest) (λ _. ⊤) bytes.now (option_copied result) }
+    ensures { IsRead (λ rest. mark_text salt.now epoch ++ rest) (λ _. ⊤) bytes.now
+        (option_copied result) }
 {
     let rest = after(bytes, salt)?;
     if epoch == 0 {
@@ -144,7 +145,8 @@ fn after_mark<'a>(bytes: &'a [u8], salt: &[u8], epoch: u32) -> Option<&'a [u8]>
 
 // What stands before `.` and the epoch.
 fn before_epoch(bytes: &[u8], epoch: u32) -> Option<&[u8]>
-    ensures { IsRead (λ rest. rest ++ 46 ∷ decimal epoch) (λ _. ⊤) bytes.now (option_copied result) }
+    ensures { IsRead (λ rest. rest ++ 46 ∷ decimal epoch) (λ _. ⊤) bytes.now
+        (option_copied result) }
 {
     let rest = before_decimal(bytes, epoch)?;
     before(rest, b".")
@@ -178,7 +180,8 @@ fn before<'a>(bytes: &'a [u8], suffix: &[u8]) -> Option<&'a [u8]>
 
 // What stands before the first such sign and what stands after it.
 fn cut(bytes: &[u8], sign: u8) -> Option<(&[u8], &[u8])>
-    ensures { IsRead (parted sign) (λ p. Lacks sign p.0) bytes.now (option_map (λ p. (p.0.now, p.1.now)) result) }
+    ensures { IsRead (parted sign) (λ p. Lacks sign p.0) bytes.now
+        (option_map (λ p. (p.0.now, p.1.now)) result) }
 {
     let place = place_of(bytes, sign)?;
     Some((&bytes[..place], &bytes[place + 1..]))

@@ -91,7 +91,8 @@ pub fn ap_uri(
     app: AppId,
     out: &mut Text,
 ) -> Result<(), NoMemory>
-    ensures ok { OnOk result (out.new ≡ out.old ++ sip_uri_text (session_uri (ip_text ip) port epoch app)) }
+    ensures ok { OnOk result
+        (out.new ≡ out.old ++ sip_uri_text (session_uri (ip_text ip) port epoch app)) }
     ensures err { OnErr result (out.new ≡ out.old) }
 {
     let mut text = Text::new(alloc);
@@ -110,7 +111,8 @@ pub fn ar_uri(
     region: Region,
     out: &mut Text,
 ) -> Result<(), NoMemory>
-    ensures ok { OnOk result (out.new ≡ out.old ++ sip_uri_text (return_uri (ip_text ip) port n region)) }
+    ensures ok { OnOk result
+        (out.new ≡ out.old ++ sip_uri_text (return_uri (ip_text ip) port n region)) }
     ensures err { OnErr result (out.new ≡ out.old) }
 {
     let mut text = Text::new(alloc);
@@ -193,7 +195,8 @@ fn put_session_uri(
     app: AppId,
     out: &mut Text,
 ) -> Result<(), NoMemory>
-    ensures { OnOk result (out.new ≡ out.old ++ sip_uri_text (session_uri (ip_text ip) port epoch app)) }
+    ensures { OnOk result
+        (out.new ≡ out.old ++ sip_uri_text (session_uri (ip_text ip) port epoch app)) }
 {
     let mut value = Text::new(alloc);
     put_ap_value(epoch, app, &mut value)?;
@@ -209,14 +212,16 @@ fn put_return_uri(
     region: Region,
     out: &mut Text,
 ) -> Result<(), NoMemory>
-    ensures { OnOk result (out.new ≡ out.old ++ sip_uri_text (return_uri (ip_text ip) port n region)) }
+    ensures { OnOk result
+        (out.new ≡ out.old ++ sip_uri_text (return_uri (ip_text ip) port n region)) }
 {
     let mut value = Text::new(alloc);
     put_ar_value(n, region, &mut value)?;
     put_own_uri(ip, port, b"ar", value.as_bytes(), out)
 }
 
-/// Appends the value of an `ap` parameter: `h-s`, and behind a dot the epoch where it isn't 0. For want of memory
+/// Appends the value of an `ap` parameter: `h-s`, and behind a dot the epoch where it isn't 0. For
+/// want of memory
 /// `out` may hold a part of it.
 #[tactic(auto, unfolding(sc_model::specs::Names::ap_value))]
 pub fn put_ap_value(epoch: u32, app: AppId, out: &mut Text) -> Result<(), NoMemory>
@@ -267,7 +272,8 @@ fn put_own_uri(
     value: &[u8],
     out: &mut Text,
 ) -> Result<(), NoMemory>
-    ensures { OnOk result (out.new ≡ out.old ++ sip_uri_text (own_uri (ip_text ip) port name.now value.now)) }
+    ensures { OnOk result
+        (out.new ≡ out.old ++ sip_uri_text (own_uri (ip_text ip) port name.now value.now)) }
 {
     put_pieces(ip, port, name, value, out)
 }
@@ -279,7 +285,10 @@ fn put_pieces(
     value: &[u8],
     out: &mut Text,
 ) -> Result<(), NoMemory>
-    ensures { OnOk result (out.new ≡ out.old ++ (listen_text (ip_text ip) port ++ fixed_params ++ named_value name.now value.now)) }
+    ensures { OnOk result
+        (out.new
+        ≡ out.old
+        ++ (listen_text (ip_text ip) port ++ fixed_params ++ named_value name.now value.now)) }
 {
     put_listen(ip, port, out)?;
     put_fixed_params(out)?;

@@ -52,7 +52,8 @@ fn pass_client_in(
     item: ClientItem,
     hosts: &mut [Host<Session>],
 ) -> Result<(), NoMemory>
-    ensures { OnOk result (hosts.new ≡ change_nth number (pass_client app branch cancelling item) hosts.old) }
+    ensures { OnOk result
+        (hosts.new ≡ change_nth number (pass_client app branch cancelling item) hosts.old) }
 {
     let at = number as usize;
     if at < hosts.len() {
@@ -71,7 +72,8 @@ pub fn pass_client_at(
     item: ClientItem,
     net: &mut Net<Session>,
 ) -> Result<(), NoMemory>
-    ensures { OnOk result (net.new ≡ change_host number (pass_client app branch cancelling item) net.old) }
+    ensures { OnOk result
+        (net.new ≡ change_host number (pass_client app branch cancelling item) net.old) }
 {
     pass_client_in(
         alloc,
@@ -163,7 +165,10 @@ pub fn cancel(
     at_once: bool,
     net: &mut Net<Session>,
 ) -> Result<(), NoMemory>
-    ensures { OnOk result (net.new ≡ cancel_for app branch at_once (client_at app branch (host_at app.host net.old)) net.old) }
+    ensures { OnOk result
+        (net.new
+        ≡ cancel_for app branch at_once (client_at app branch (host_at app.host net.old))
+        net.old) }
 {
     let client = client_at(alloc, app, branch, host_at(app.host, net))?;
     cancel_for(alloc, app, branch, at_once, client, net)

@@ -18,7 +18,10 @@ fn deliver_at(
     entry: &Entry,
     net: &mut Net<Session>,
 ) -> Result<(), NoMemory>
-    ensures { OnOk result (net.new ≡ deliver_at as_session setup.now entry.now (host_at entry.now.receiver net.old) net.old) }
+    ensures { OnOk result
+        (net.new
+        ≡ deliver_at as_session setup.now entry.now (host_at entry.now.receiver net.old)
+        net.old) }
 {
     net_takes(
         alloc,

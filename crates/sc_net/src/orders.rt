@@ -23,7 +23,10 @@ fn begin(
     request: &Shared<Request>,
     net: &mut Net<Session>,
 ) -> Result<(), NoMemory>
-    ensures { OnOk result (net.new ≡ begin_by setup.now.config app branch request.now (choice_of setup.now.config setup.now.dar request.now region directive state) net.old) }
+    ensures { OnOk result
+        (net.new
+        ≡ begin_by setup.now.config app branch request.now
+        (choice_of setup.now.config setup.now.dar request.now region directive state) net.old) }
 {
     let choice = next(
         alloc,

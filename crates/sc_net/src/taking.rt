@@ -25,8 +25,14 @@ fn host_takes(
     message: &Message,
     host: &mut Host<Session>,
 ) -> Result<Told, NoMemory>
-    ensures host { OnOk result (host.new ≡ host_after (takes as_session config.now coming noted.now message.now) host.old) }
-    ensures told { IfOk result (λ t. t ≡ told_after (takes as_session config.now coming noted.now message.now) coming.count (Some host.old)) }
+    ensures host { OnOk result
+        (host.new
+        ≡ host_after (takes as_session config.now coming noted.now message.now) host.old) }
+    ensures told { IfOk result
+        (λ t.
+        t
+        ≡ told_after (takes as_session config.now coming noted.now message.now) coming.count
+        (Some host.old)) }
 {
     takes(alloc, config, coming, noted, message, host)
 }
@@ -40,8 +46,15 @@ fn takes_in(
     message: &Message,
     hosts: &mut [Host<Session>],
 ) -> Result<Told, NoMemory>
-    ensures hosts { OnOk result (hosts.new ≡ change_nth coming.host (host_after (takes as_session config.now coming noted.now message.now)) hosts.old) }
-    ensures told { IfOk result (λ t. t ≡ told_after (takes as_session config.now coming noted.now message.now) coming.count (slice_get hosts.old coming.host)) }
+    ensures hosts { OnOk result
+        (hosts.new
+        ≡ change_nth coming.host
+        (host_after (takes as_session config.now coming noted.now message.now)) hosts.old) }
+    ensures told { IfOk result
+        (λ t.
+        t
+        ≡ told_after (takes as_session config.now coming noted.now message.now) coming.count
+        (slice_get hosts.old coming.host)) }
 {
     let at = coming.host as usize;
     if at < hosts.len() {
@@ -64,7 +77,17 @@ pub fn net_takes(
     message: &Message,
     net: &mut Net<Session>,
 ) -> Result<(), NoMemory>
-    ensures { OnOk result (net.new ≡ net_after (takes as_session config.now (record { host = number; epoch = net.old.epoch; from = from; now = net.old.moment; count = net.old.count }) noted.now message.now) number net.old) }
+    ensures { OnOk result
+        (net.new
+        ≡ net_after
+        (takes as_session config.now
+        (record {
+          host = number;
+          epoch = net.old.epoch;
+          from = from;
+          now = net.old.moment;
+          count = net.old.count;
+        }) noted.now message.now) number net.old) }
 {
     let coming = Coming {
         host: number,
@@ -89,7 +112,8 @@ pub fn taken_at(
     number: u32,
     net: &mut Net<Session>,
 ) -> Result<(), NoMemory>
-    ensures { OnOk result (net.new ≡ taken_at as_session setup.now from noted.now message.now number net.old) }
+    ensures { OnOk result
+        (net.new ≡ taken_at as_session setup.now from noted.now message.now number net.old) }
 {
     net_takes(
         alloc,

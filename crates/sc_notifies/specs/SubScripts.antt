@@ -30,7 +30,9 @@ standing_of view sess old = record {
 
 -- both its attributes are taken away
 unfoldable pub unnamed : Standing → SessId → Script → Script
-unnamed standing sess = λ script. remove_if standing.told (sub_name sess) (remove_if standing.named (ev_name sess) script)
+unnamed standing sess =
+    λ script.
+    remove_if standing.told (sub_name sess) (remove_if standing.named (ev_name sess) script)
 
 -- its timer and both attributes
 unfoldable pub cleared : Standing → SessId → Script → Script
@@ -39,29 +41,43 @@ cleared standing sess = λ script. cancel_some standing.running (unnamed standin
 -- the state is told of a subscription that begins or goes on
 unfoldable pub begun_told : Standing → Rule → SessId → Bytes → ℕ → Script
 begun_told standing rule sess event seconds =
-    notifies sess event (state_word (not standing.pending) ++ codes ";expires=" ++ decimal seconds) (if standing.pending then [] else rule.body)
+    notifies sess event (state_word (not standing.pending) ++ codes ";expires=" ++ decimal seconds)
+    (if standing.pending then [] else rule.body)
 
 -- the subscription is remembered with its timer, and its state is told
 unfoldable pub begun_noted : Standing → Rule → SessId → Bytes → ℕ → ℕ → Script
 begun_noted standing rule sess event seconds t =
-    accepted_then (calls.SetAttribute (sub_name sess) (sub_text (standing.moment + seconds * 1000) t))
-    (accepted_then (calls.SetAttribute (ev_name sess) event) (begun_told standing rule sess event seconds))
+    accepted_then
+    (calls.SetAttribute (sub_name sess) (sub_text (standing.moment + seconds * 1000) t))
+    (accepted_then (calls.SetAttribute (ev_name sess) event)
+    (begun_told standing rule sess event seconds))
 
 -- its timer begins, then the same
 unfoldable pub begun_timed : Standing → Rule → SessId → Bytes → ℕ → Script
 begun_timed standing rule sess event seconds =
-    Make (calls.StartTimer (seconds * 1000) Once (sub_name sess)) (with_number (begun_noted standing rule sess event seconds))
+    Make (calls.StartTimer (seconds * 1000) Once (sub_name sess))
+    (with_number (begun_noted standing rule sess event seconds))
 
 -- what follows a 200 to SUBSCRIBE for so many seconds, where the old subscription stands so
 unfoldable pub subscribed_by : Standing → Rule → SessId → Bytes → ℕ → Script
 subscribed_by standing rule sess event seconds =
-    if seconds == 0 then cleared standing sess (notifies sess event timeout_state []) else cancel_some standing.running (begun_timed standing rule sess event seconds)
+    if seconds == 0 then cleared standing sess (notifies sess event timeout_state [])
+    else cancel_some standing.running (begun_timed standing rule sess event seconds)
 
 -- what there is to tell of a change
 unfoldable pub change_of : View → SessId → Option Change
-change_of view sess = option_map (λ sub. record { event = event_of view sess; active = sub.active; left = seconds_left sub.due view.now }) (subscription_of view sess)
+change_of view sess =
+    option_map
+    (λ sub.
+    record {
+      event = event_of view sess;
+      active = sub.active;
+      left = seconds_left sub.due view.now;
+    }) (subscription_of view sess)
 
 -- the change is told to the subscriber
 unfoldable pub change_told : SessId → Bytes → Change → Script
 change_told sess body change =
-    notifies sess change.event (state_word change.active ++ codes ";expires=" ++ decimal change.left) (if change.active then body else [])
+    notifies sess change.event
+    (state_word change.active ++ codes ";expires=" ++ decimal change.left)
+    (if change.active then body else [])

@@ -22,8 +22,8 @@ use sc_turn::Turn;
 use sc_value::{Field, List, NoMemory, ReqId, Request, SessId, Text};
 use std::alloc::Global;
 
-/// Answers a SUBSCRIBE: 489 `Bad Event` where its Event is of another package, 423 `Interval Too Brief`
-/// where it asks for less than the least time, and else 200 `OK`.
+/// Answers a SUBSCRIBE: 489 `Bad Event` where its Event is of another package, 423 `Interval Too
+/// Brief` where it asks for less than the least time, and else 200 `OK`.
 #[tactic(auto, unfolding(sc_hosts::specs::Subscriptions::accepts), using(sc_apps::proofs::Playing::begun_room))]
 pub fn accept(
     t: &mut Turn,
@@ -36,7 +36,8 @@ pub fn accept(
     requires memory { t.old.starved ≡ false }
     requires rule { rule.now.longest ≤ 4000000 }
     ensures same { t.new.shown ≡ t.old.shown }
-    ensures played { OnOk result (IsPlayed (accepts t.old.shown rule.now req sess request.now) t.old t.new) }
+    ensures played { OnOk result
+        (IsPlayed (accepts t.old.shown rule.now req sess request.now) t.old t.new) }
 {
     if !names_package(rule, request) {
         return refuse_event(t, req, rule.event_package.as_bytes());
@@ -62,7 +63,11 @@ fn seconds_of(asked: u64, longest: u32) -> u32
 fn refuse_event(t: &mut Turn, req: ReqId, event_package: &[u8]) -> Result<(), NoMemory>
     requires { (play_of t.old).listed < MOST_CALLS }
     ensures same { t.new.shown ≡ t.old.shown }
-    ensures played { OnOk result (IsPlayed (only (answer_with req 489 (codes "Bad Event") (field (codes "Allow-Events") event_package.now ∷ []))) t.old t.new) }
+    ensures played { OnOk result
+        (IsPlayed
+        (only
+        (answer_with req 489 (codes "Bad Event")
+        (field (codes "Allow-Events") event_package.now ∷ []))) t.old t.new) }
 {
     let field = field(memory_of(t), b"Allow-Events", event_package)?;
     let fields = one(memory_of(t), field)?;
@@ -79,7 +84,11 @@ fn least_field(alloc: Global, least: u32) -> Result<List<Field>, NoMemory>
 fn refuse_brief(t: &mut Turn, req: ReqId, least: u32) -> Result<(), NoMemory>
     requires { (play_of t.old).listed < MOST_CALLS }
     ensures same { t.new.shown ≡ t.old.shown }
-    ensures played { OnOk result (IsPlayed (only (answer_with req 423 (codes "Interval Too Brief") (field (codes "Min-Expires") (decimal least) ∷ []))) t.old t.new) }
+    ensures played { OnOk result
+        (IsPlayed
+        (only
+        (answer_with req 423 (codes "Interval Too Brief")
+        (field (codes "Min-Expires") (decimal least) ∷ []))) t.old t.new) }
 {
     let fields = least_field(memory_of(t), least)?;
     answer_only(t, req, 423, b"Interval Too Brief", fields)
@@ -95,7 +104,8 @@ fn notified_event(
     seconds: u32,
     old: &Option<Subscribed>,
 ) -> Result<Text, NoMemory>
-    ensures { IfOk result (λ text. text ≡ notified_event view.entry.now sess request.now seconds old.now) }
+    ensures { IfOk result
+        (λ text. text ≡ notified_event view.entry.now sess request.now seconds old.now) }
 {
     if seconds == 0 && old.is_some() {
         return standing::event_of(alloc, view, sess);
@@ -116,7 +126,13 @@ fn subscribe(
     requires memory { t.old.starved ≡ false }
     requires within { seconds ≤ 4000000 }
     ensures same { t.new.shown ≡ t.old.shown }
-    ensures played { OnOk result (IsPlayed (accepted_then (answer_with req 200 ok (field (codes "Expires") (decimal seconds) ∷ [])) (subscribed_for t.old.shown rule.now sess (notified_event t.old.shown sess request.now seconds (subscription_of t.old.shown sess)) seconds (subscription_of t.old.shown sess))) t.old t.new) }
+    ensures played { OnOk result
+        (IsPlayed
+        (accepted_then (answer_with req 200 ok (field (codes "Expires") (decimal seconds) ∷ []))
+        (subscribed_for t.old.shown rule.now sess
+        (notified_event t.old.shown sess request.now seconds
+        (subscription_of t.old.shown sess)) seconds (subscription_of t.old.shown sess)))
+        t.old t.new) }
 {
     let old = subscription_of(memory_of(t), shown(t), sess)?;
     let standing = standing_of(memory_of(t), shown(t), sess, &old)?;
@@ -128,7 +144,12 @@ fn subscribe(
 fn answer_200(t: &mut Turn, req: ReqId, seconds: u32) -> Result<bool, NoMemory>
     requires { (play_of t.old).listed < MOST_CALLS }
     ensures same { t.new.shown ≡ t.old.shown }
-    ensures led { IfOk result (λ on. IsLed (accepted_then (answer_with req 200 ok (field (codes "Expires") (decimal seconds) ∷ []))) on t.old t.new) }
+    ensures led { IfOk result
+        (λ on.
+        IsLed
+        (accepted_then
+        (answer_with req 200 ok (field (codes "Expires") (decimal seconds) ∷ []))) on t.old
+        t.new) }
     ensures listed { OnOk result ((play_of t.new).listed ≡ (play_of t.old).listed + 1) }
 {
     let field = number_field(memory_of(t), b"Expires", u64::from(seconds))?;
@@ -149,7 +170,10 @@ fn answer_and_begin(
     requires room { (play_of t.old).listed + 7 < MOST_CALLS }
     requires within { seconds ≤ 4000000 }
     ensures same { t.new.shown ≡ t.old.shown }
-    ensures played { OnOk result (IsPlayed (accepted_then (answer_with req 200 ok (field (codes "Expires") (decimal seconds) ∷ [])) (subscribed_by standing.now rule.now sess event.now seconds)) t.old t.new) }
+    ensures played { OnOk result
+        (IsPlayed
+        (accepted_then (answer_with req 200 ok (field (codes "Expires") (decimal seconds) ∷ []))
+        (subscribed_by standing.now rule.now sess event.now seconds)) t.old t.new) }
 {
     if !answer_200(t, req, seconds)? {
         return Ok(());

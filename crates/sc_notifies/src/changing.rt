@@ -15,13 +15,18 @@ use sc_apps::{memory_of, reply_first_200, shown};
 use sc_turn::Turn;
 use sc_value::{NoMemory, ReqId, Request, SessId};
 
-/// Answers a request that brings a new state 200 `OK`, and tells of it where there is a subscription.
+/// Answers a request that brings a new state 200 `OK`, and tells of it where there is a
+/// subscription.
 #[tactic(auto, using(sc_apps::proofs::Playing::begun_room, crate::proofs::SubLaws::played_change))]
 pub fn change(t: &mut Turn, req: ReqId, sess: SessId, request: &Request) -> Result<(), NoMemory>
     requires calls { t.old.calls ≡ [] }
     requires memory { t.old.starved ≡ false }
     ensures same { t.new.shown ≡ t.old.shown }
-    ensures played { OnOk result (IsPlayed (then_make (reply req 200 ok) (where_some (subscription_of t.old.shown sess) (changes t.old.shown sess request.now.head.body))) t.old t.new) }
+    ensures played { OnOk result
+        (IsPlayed
+        (then_make (reply req 200 ok)
+        (where_some (subscription_of t.old.shown sess)
+        (changes t.old.shown sess request.now.head.body))) t.old t.new) }
 {
     let change = change_of(memory_of(t), shown(t), sess)?;
     answer_and_tell(t, req, sess, request.head.body.as_bytes(), change)
@@ -37,7 +42,9 @@ fn answer_and_tell(
 ) -> Result<(), NoMemory>
     requires { (play_of t.old).listed + 2 < MOST_CALLS }
     ensures same { t.new.shown ≡ t.old.shown }
-    ensures played { OnOk result (IsPlayed (then_make (reply req 200 ok) (where_some change (change_told sess body.now))) t.old t.new) }
+    ensures played { OnOk result
+        (IsPlayed (then_make (reply req 200 ok) (where_some change (change_told sess body.now)))
+        t.old t.new) }
 {
     reply_first_200(t, req)?;
     tell_some(t, sess, body, &change)
@@ -52,7 +59,8 @@ fn tell_some(
 ) -> Result<(), NoMemory>
     requires { (play_of t.old).listed + 1 < MOST_CALLS }
     ensures same { t.new.shown ≡ t.old.shown }
-    ensures played { OnOk result (IsPlayed (where_some change.now (change_told sess body.now)) t.old t.new) }
+    ensures played { OnOk result
+        (IsPlayed (where_some change.now (change_told sess body.now)) t.old t.new) }
 {
     match change {
         Some(change) => tell_change(t, sess, body, change),

@@ -1,4 +1,5 @@
-//! How subscriptions end: with their time, or where a NOTIFY failed (RFC 6665 sections 4.2.1 and 4.2.2).
+//! How subscriptions end: with their time, or where a NOTIFY failed (RFC 6665 sections 4.2.1 and
+//! 4.2.2).
 
 ghost use Rattle.std.specs.Prelude.{◌≡◌, ◌+◌, ◌<◌, [], Some, false, IfOk, OnOk};
 ghost use Rattle.sc_hosts.specs.RefusalParts.{MOST_CALLS};
@@ -61,7 +62,8 @@ pub fn fail(t: &mut Turn, sess: SessId, sub: Subscribed) -> Result<(), NoMemory>
 fn clear_and_end(t: &mut Turn, sess: SessId, standing: &Standing) -> Result<(), NoMemory>
     requires { (play_of t.old).listed + 3 < MOST_CALLS }
     ensures same { t.new.shown ≡ t.old.shown }
-    ensures played { OnOk result (IsPlayed (cleared standing.now sess (only (Call.InvalidateSession sess))) t.old t.new) }
+    ensures played { OnOk result
+        (IsPlayed (cleared standing.now sess (only (Call.InvalidateSession sess))) t.old t.new) }
 {
     if !clear(t, sess, standing)? {
         return Ok(());

@@ -1,4 +1,5 @@
-//! The servlet of event notification (RFC 6665), which keeps its charter (JSR 289 sections 3 and 9).
+//! The servlet of event notification (RFC 6665), which keeps its charter (JSR 289 sections 3 and
+//! 9).
 #![tactic(auto)]
 
 mod accepting;

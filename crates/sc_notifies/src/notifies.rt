@@ -25,15 +25,15 @@ use sc_terms::{Call, Charter, End, Event};
 use sc_turn::Turn;
 use sc_value::{NoMemory, ReqId, Request, Response, SessId, TimerId};
 
-/// Accepts SUBSCRIBEs to the event package that its first parameter names (RFC 6665 section 4.2), for
-/// as many seconds as they ask, at least as many as the second parameter and at most as many as the
-/// third, and tells the state by a NOTIFY, whose body is the fourth parameter. One for another package
-/// it answers 489 `Bad Event`, one for a shorter time 423 `Interval Too Brief`. An INFO in the dialog
-/// brings a new state, which it tells. A subscription ends by a SUBSCRIBE for 0 seconds or with its
-/// time, which a last NOTIFY tells, or where a NOTIFY fails, which ends the SipSession. Where the
-/// parameters make no such rule, it answers the request that began the application session 500 `Server
-/// Internal Error`. Each other request but an ACK it answers 200 `OK`. At all other events it makes no
-/// call.
+/// Accepts SUBSCRIBEs to the event package that its first parameter names (RFC 6665 section 4.2),
+/// for as many seconds as they ask, at least as many as the second parameter and at most as many as
+/// the third, and tells the state by a NOTIFY, whose body is the fourth parameter. One for another
+/// package it answers 489 `Bad Event`, one for a shorter time 423 `Interval Too Brief`. An INFO in
+/// the dialog brings a new state, which it tells. A subscription ends by a SUBSCRIBE for 0 seconds
+/// or with its time, which a last NOTIFY tells, or where a NOTIFY fails, which ends the SipSession.
+/// Where the parameters make no such rule, it answers the request that began the application
+/// session 500 `Server Internal Error`. Each other request but an ACK it answers 200 `OK`. At all
+/// other events it makes no call.
 #[derive(Clone, Copy, Debug)]
 pub struct Notifies;
 
@@ -78,7 +78,10 @@ fn begin(t: &mut Turn, req: ReqId, sess: SessId, request: &Request) -> Result<()
     requires calls { t.old.calls ≡ [] }
     requires memory { t.old.starved ≡ false }
     ensures same { t.new.shown ≡ t.old.shown }
-    ensures played { OnOk result (IsPlayed (accepts_by t.old.shown (rule_in t.old.shown.params) (reply req 500 server_error) req sess request.now) t.old t.new) }
+    ensures played { OnOk result
+        (IsPlayed
+        (accepts_by t.old.shown (rule_in t.old.shown.params) (reply req 500 server_error) req sess
+        request.now) t.old t.new) }
 {
     let rule = rule_in(memory_of(t), shown(t).params.as_slice())?;
     begin_by(t, rule, req, sess, request)
@@ -96,7 +99,9 @@ fn begin_by(
     requires memory { t.old.starved ≡ false }
     requires rule { IfSome rule (λ rule. rule.longest ≤ 4000000) }
     ensures same { t.new.shown ≡ t.old.shown }
-    ensures played { OnOk result (IsPlayed (accepts_by t.old.shown rule (reply req 500 server_error) req sess request.now) t.old t.new) }
+    ensures played { OnOk result
+        (IsPlayed (accepts_by t.old.shown rule (reply req 500 server_error) req sess request.now)
+        t.old t.new) }
 {
     match rule {
         Some(rule) => accept_or_answer(t, &rule, req, sess, request),
@@ -116,7 +121,11 @@ fn accept_or_answer(
     requires memory { t.old.starved ≡ false }
     requires rule { rule.now.longest ≤ 4000000 }
     ensures same { t.new.shown ≡ t.old.shown }
-    ensures played { OnOk result (IsPlayed (if same_bytes request.now.method subscribe then accepts t.old.shown rule.now req sess request.now else only (reply req 200 ok)) t.old t.new) }
+    ensures played { OnOk result
+        (IsPlayed
+        (if same_bytes request.now.method subscribe
+        then accepts t.old.shown rule.now req sess request.now
+        else only (reply req 200 ok)) t.old t.new) }
 {
     if is_subscribe(request.method.as_bytes()) {
         return accept(t, rule, req, sess, request);
@@ -128,7 +137,10 @@ fn renew(t: &mut Turn, req: ReqId, sess: SessId, request: &Request) -> Result<()
     requires calls { t.old.calls ≡ [] }
     requires memory { t.old.starved ≡ false }
     ensures same { t.new.shown ≡ t.old.shown }
-    ensures played { OnOk result (IsPlayed (accepts_by t.old.shown (rule_in t.old.shown.params) (reply req 200 ok) req sess request.now) t.old t.new) }
+    ensures played { OnOk result
+        (IsPlayed
+        (accepts_by t.old.shown (rule_in t.old.shown.params) (reply req 200 ok) req sess
+        request.now) t.old t.new) }
 {
     let rule = rule_in(memory_of(t), shown(t).params.as_slice())?;
     renew_by(t, rule, req, sess, request)
@@ -146,7 +158,9 @@ fn renew_by(
     requires memory { t.old.starved ≡ false }
     requires rule { IfSome rule (λ rule. rule.longest ≤ 4000000) }
     ensures same { t.new.shown ≡ t.old.shown }
-    ensures played { OnOk result (IsPlayed (accepts_by t.old.shown rule (reply req 200 ok) req sess request.now) t.old t.new) }
+    ensures played { OnOk result
+        (IsPlayed (accepts_by t.old.shown rule (reply req 200 ok) req sess request.now) t.old
+        t.new) }
 {
     match rule {
         Some(rule) => accept_or_answer(t, &rule, req, sess, request),
@@ -166,7 +180,9 @@ fn take_later(t: &mut Turn, req: ReqId, sess: SessId, request: &Request) -> Resu
     requires calls { t.old.calls ≡ [] }
     requires memory { t.old.starved ≡ false }
     ensures same { t.new.shown ≡ t.old.shown }
-    ensures played { OnOk result (IsPlayed (notify_request t.old.shown (rule_in t.old.shown.params) req sess request.now) t.old t.new) }
+    ensures played { OnOk result
+        (IsPlayed (notify_request t.old.shown (rule_in t.old.shown.params) req sess request.now)
+        t.old t.new) }
 {
     if is_subscribe(request.method.as_bytes()) {
         return renew(t, req, sess, request);
@@ -178,7 +194,8 @@ fn take_later(t: &mut Turn, req: ReqId, sess: SessId, request: &Request) -> Resu
 }
 
 fn is_failed_notify(response: &Response) -> bool
-    ensures { result ≡ (same_bytes response.now.head.cseq.method notify && is_failure response.now.code) }
+    ensures { result
+        ≡ (same_bytes response.now.head.cseq.method notify && is_failure response.now.code) }
 {
     is_notify(response.head.cseq.method.as_bytes()) && is_failure(response.code)
 }
@@ -188,7 +205,11 @@ fn take_response(t: &mut Turn, sess: SessId, response: &Response) -> Result<(), 
     requires calls { t.old.calls ≡ [] }
     requires memory { t.old.starved ≡ false }
     ensures same { t.new.shown ≡ t.old.shown }
-    ensures played { OnOk result (IsPlayed (if same_bytes response.now.head.cseq.method notify && is_failure response.now.code then where_some (subscription_of t.old.shown sess) (failed_sub t.old.shown sess) else Done) t.old t.new) }
+    ensures played { OnOk result
+        (IsPlayed
+        (if same_bytes response.now.head.cseq.method notify && is_failure response.now.code
+        then where_some (subscription_of t.old.shown sess) (failed_sub t.old.shown sess)
+        else Done) t.old t.new) }
 {
     if !is_failed_notify(response) {
         return Ok(());
@@ -202,7 +223,8 @@ fn fail_some(t: &mut Turn, sess: SessId, sub: Option<Subscribed>) -> Result<(), 
     requires calls { t.old.calls ≡ [] }
     requires memory { t.old.starved ≡ false }
     ensures same { t.new.shown ≡ t.old.shown }
-    ensures played { OnOk result (IsPlayed (where_some sub (failed_sub t.old.shown sess)) t.old t.new) }
+    ensures played { OnOk result
+        (IsPlayed (where_some sub (failed_sub t.old.shown sess)) t.old t.new) }
 {
     match sub {
         Some(sub) => fail(t, sess, sub),
@@ -214,7 +236,10 @@ fn time_out(t: &mut Turn, id: TimerId) -> Result<(), NoMemory>
     requires calls { t.old.calls ≡ [] }
     requires memory { t.old.starved ≡ false }
     ensures same { t.new.shown ≡ t.old.shown }
-    ensures played { OnOk result (IsPlayed (where_some (slice_get (filter_map (named_sub id) t.old.shown.attributes) 0) (ended_sub t.old.shown)) t.old t.new) }
+    ensures played { OnOk result
+        (IsPlayed
+        (where_some (slice_get (filter_map (named_sub id) t.old.shown.attributes) 0)
+        (ended_sub t.old.shown)) t.old t.new) }
 {
     let named = first_sub(shown(t).attributes.as_slice(), id);
     ended_some(t, named)

@@ -19,14 +19,18 @@ use sc_value::{Field, List, NoMemory, SessId, Text};
 use std::alloc::Global;
 
 fn before_state(alloc: Global, event: Field, state: &[u8]) -> Result<List<Field>, NoMemory>
-    ensures { IfOk result (λ fields. fields ≡ event ∷ field (codes "Subscription-State") state.now ∷ []) }
+    ensures { IfOk result
+        (λ fields. fields ≡ event ∷ field (codes "Subscription-State") state.now ∷ []) }
 {
     let state = field(alloc, b"Subscription-State", state)?;
     two(alloc, event, state)
 }
 
 fn state_fields(alloc: Global, event: &[u8], state: &[u8]) -> Result<List<Field>, NoMemory>
-    ensures { IfOk result (λ fields. fields ≡ field (codes "Event") event.now ∷ field (codes "Subscription-State") state.now ∷ []) }
+    ensures { IfOk result
+        (λ fields.
+        fields
+        ≡ field (codes "Event") event.now ∷ field (codes "Subscription-State") state.now ∷ []) }
 {
     let event = field(alloc, b"Event", event)?;
     before_state(alloc, event, state)
@@ -43,7 +47,8 @@ pub fn notify(
 ) -> Result<(), NoMemory>
     requires { (play_of t.old).listed + 1 < MOST_CALLS }
     ensures same { t.new.shown ≡ t.old.shown }
-    ensures played { OnOk result (IsPlayed (notifies sess event.now state.now body.now) t.old t.new) }
+    ensures played { OnOk result
+        (IsPlayed (notifies sess event.now state.now body.now) t.old t.new) }
 {
     let fields = state_fields(memory_of(t), event, state)?;
     send_in(t, sess, b"NOTIFY", fields, body)?;
@@ -86,7 +91,8 @@ pub fn tell_begun(
 ) -> Result<(), NoMemory>
     requires { (play_of t.old).listed + 1 < MOST_CALLS }
     ensures same { t.new.shown ≡ t.old.shown }
-    ensures played { OnOk result (IsPlayed (begun_told standing.now rule.now sess event.now seconds) t.old t.new) }
+    ensures played { OnOk result
+        (IsPlayed (begun_told standing.now rule.now sess event.now seconds) t.old t.new) }
 {
     let state = state_text(memory_of(t), !standing.pending, u64::from(seconds))?;
     let told = body_unless(standing.pending, rule.body.as_bytes());
@@ -136,7 +142,9 @@ fn tell_timeout(t: &mut Turn, sess: SessId, event: &[u8]) -> Result<(), NoMemory
 pub fn end(t: &mut Turn, sess: SessId, event: &[u8], standing: &Standing) -> Result<(), NoMemory>
     requires { (play_of t.old).listed + 4 < MOST_CALLS }
     ensures same { t.new.shown ≡ t.old.shown }
-    ensures played { OnOk result (IsPlayed (cleared standing.now sess (notifies sess event.now timeout_state [])) t.old t.new) }
+    ensures played { OnOk result
+        (IsPlayed (cleared standing.now sess (notifies sess event.now timeout_state [])) t.old
+        t.new) }
 {
     if !clear(t, sess, standing)? {
         return Ok(());

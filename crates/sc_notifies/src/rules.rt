@@ -37,11 +37,18 @@ impl Model for Rule {
 
     ghost Value = { Told };
 
-    ghost view = { λ r. record { event_package = r.event_package; least = r.least; longest = r.longest; body = r.body } };
+    ghost view = { λ r.
+        record {
+          event_package = r.event_package;
+          least = r.least;
+          longest = r.longest;
+          body = r.body;
+        } };
 }
 
 fn is_range(least: u32, longest: u32) -> bool
-    ensures { result ≡ (nat_le 1 least && nat_le least 3600 && nat_le least longest && nat_le longest 4000000) }
+    ensures { result
+        ≡ (nat_le 1 least && nat_le least 3600 && nat_le least longest && nat_le longest 4000000) }
 {
     1 <= least && least <= 3600 && least <= longest && longest <= 4_000_000
 }
@@ -54,7 +61,8 @@ fn rule_with(
     longest: Option<u32>,
     body: &[u8],
 ) -> Result<Option<Rule>, NoMemory>
-    ensures exact { IfOk result (λ rule. rule ≡ rule_with event_package.now least longest body.now) }
+    ensures exact { IfOk result
+        (λ rule. rule ≡ rule_with event_package.now least longest body.now) }
     ensures within { IfOk result (λ rule. IfSome rule (λ rule. rule.longest ≤ 4000000)) }
 {
     let Some(least) = least else {

@@ -40,7 +40,9 @@ pub struct Change {
 }
 
 fn subscription_at(view: &View, name: &[u8]) -> Option<Subscribed>
-    ensures { result ≡ option_and_then (λ text. subscription_in (pieces 32 text)) (attribute name.now view.entry.now) }
+    ensures { result
+        ≡ option_and_then (λ text. subscription_in (pieces 32 text))
+        (attribute name.now view.entry.now) }
 {
     match attribute(view, name) {
         Some(text) => subscription_in(text.as_bytes()),
@@ -121,7 +123,14 @@ pub fn standing_of(
 }
 
 fn change_by(alloc: Global, view: &View, sess: SessId, sub: &Subscribed) -> Result<Change, NoMemory>
-    ensures { IfOk result (λ change. change ≡ record { event = event_of view.entry.now sess; active = sub.now.active; left = seconds_left sub.now.due view.entry.now.now }) }
+    ensures { IfOk result
+        (λ change.
+        change
+        ≡ record {
+          event = event_of view.entry.now sess;
+          active = sub.now.active;
+          left = seconds_left sub.now.due view.entry.now.now;
+        }) }
 {
     let event = event_of(alloc, view, sess)?;
     let left = seconds_left(sub.due, view.now)?;

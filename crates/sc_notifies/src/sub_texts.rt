@@ -139,7 +139,8 @@ fn state_word(active: bool) -> &'static [u8]
 
 /// The state of a subscription that goes on for so many seconds.
 pub fn state_text(alloc: Global, active: bool, seconds: u64) -> Result<Text, NoMemory>
-    ensures { IfOk result (λ text. text ≡ state_word active ++ codes ";expires=" ++ decimal seconds) }
+    ensures { IfOk result
+        (λ text. text ≡ state_word active ++ codes ";expires=" ++ decimal seconds) }
 {
     let mut text = Text::from_slice(alloc, state_word(active))?;
     text.append(b";expires=")?;

@@ -1,4 +1,5 @@
-//! Subscriptions that begin or are renewed, and how that is told (RFC 6665 sections 4.2.1 and 4.2.2).
+//! Subscriptions that begin or are renewed, and how that is told (RFC 6665 sections 4.2.1 and
+//! 4.2.2).
 
 ghost use Rattle.std.specs.Prelude.{◌≡◌, ◌≤◌, ◌+◌, ◌*◌, ◌<◌, IfOk, OnOk};
 ghost use Rattle.sc_terms.specs.declared.views.Period.TheVariants.{Once};
@@ -34,7 +35,8 @@ pub fn subscribed_by(
     requires room { (play_of t.old).listed + 6 < MOST_CALLS }
     requires within { seconds ≤ 4000000 }
     ensures same { t.new.shown ≡ t.old.shown }
-    ensures played { OnOk result (IsPlayed (subscribed_by standing.now rule.now sess event.now seconds) t.old t.new) }
+    ensures played { OnOk result
+        (IsPlayed (subscribed_by standing.now rule.now sess event.now seconds) t.old t.new) }
 {
     if seconds == 0 {
         return end(t, sess, event, standing);
@@ -54,7 +56,10 @@ fn renew(
     requires room { (play_of t.old).listed + 5 < MOST_CALLS }
     requires within { seconds ≤ 4000000 }
     ensures same { t.new.shown ≡ t.old.shown }
-    ensures played { OnOk result (IsPlayed (cancel_some standing.now.running (begun_timed standing.now rule.now sess event.now seconds)) t.old t.new) }
+    ensures played { OnOk result
+        (IsPlayed
+        (cancel_some standing.now.running
+        (begun_timed standing.now rule.now sess event.now seconds)) t.old t.new) }
 {
     if !cancel_some(t, standing.running)? {
         return Ok(());
@@ -74,7 +79,8 @@ fn begin(
     requires room { (play_of t.old).listed + 4 < MOST_CALLS }
     requires within { seconds ≤ 4000000 }
     ensures same { t.new.shown ≡ t.old.shown }
-    ensures played { OnOk result (IsPlayed (begun_timed standing.now rule.now sess event.now seconds) t.old t.new) }
+    ensures played { OnOk result
+        (IsPlayed (begun_timed standing.now rule.now sess event.now seconds) t.old t.new) }
 {
     let name = sub_name(memory_of(t), sess)?;
     let answer = start_timer(t, seconds * 1000, Period::Once, name)?;
@@ -94,7 +100,9 @@ fn note_begun(
     requires room { (play_of t.old).listed + 3 < MOST_CALLS }
     requires within { seconds ≤ 4000000 }
     ensures same { t.new.shown ≡ t.old.shown }
-    ensures played { OnOk result (IsPlayed (with_number (begun_noted standing.now rule.now sess event.now seconds) answer) t.old t.new) }
+    ensures played { OnOk result
+        (IsPlayed (with_number (begun_noted standing.now rule.now sess event.now seconds) answer)
+        t.old t.new) }
 {
     match answer {
         CallAnswer::Number(timer) => note(t, rule, sess, event, seconds, standing, timer),
@@ -112,7 +120,12 @@ fn note_sub(
     requires room { (play_of t.old).listed < MOST_CALLS }
     requires within { seconds ≤ 4000000 }
     ensures same { t.new.shown ≡ t.old.shown }
-    ensures led { IfOk result (λ on. IsLed (accepted_then (Call.SetAttribute (sub_name sess) (sub_text (moment + seconds * 1000) timer))) on t.old t.new) }
+    ensures led { IfOk result
+        (λ on.
+        IsLed
+        (accepted_then
+        (Call.SetAttribute (sub_name sess) (sub_text (moment + seconds * 1000) timer))) on
+        t.old t.new) }
     ensures listed { OnOk result ((play_of t.new).listed ≡ (play_of t.old).listed + 1) }
 {
     let due = sum(moment, u64::from(seconds) * 1000)?;
@@ -134,7 +147,8 @@ fn note(
     requires room { (play_of t.old).listed + 3 < MOST_CALLS }
     requires within { seconds ≤ 4000000 }
     ensures same { t.new.shown ≡ t.old.shown }
-    ensures played { OnOk result (IsPlayed (begun_noted standing.now rule.now sess event.now seconds timer) t.old t.new) }
+    ensures played { OnOk result
+        (IsPlayed (begun_noted standing.now rule.now sess event.now seconds timer) t.old t.new) }
 {
     if !note_sub(t, sess, standing.moment, seconds, timer)? {
         return Ok(());
@@ -145,7 +159,8 @@ fn note(
 fn note_event(t: &mut Turn, sess: SessId, event: &[u8]) -> Result<bool, NoMemory>
     requires { (play_of t.old).listed < MOST_CALLS }
     ensures same { t.new.shown ≡ t.old.shown }
-    ensures led { IfOk result (λ on. IsLed (accepted_then (Call.SetAttribute (ev_name sess) event.now)) on t.old t.new) }
+    ensures led { IfOk result
+        (λ on. IsLed (accepted_then (Call.SetAttribute (ev_name sess) event.now)) on t.old t.new) }
     ensures listed { OnOk result ((play_of t.new).listed ≡ (play_of t.old).listed + 1) }
 {
     let name = ev_name(memory_of(t), sess)?;
@@ -164,7 +179,10 @@ fn name_and_tell(
 ) -> Result<(), NoMemory>
     requires { (play_of t.old).listed + 2 < MOST_CALLS }
     ensures same { t.new.shown ≡ t.old.shown }
-    ensures played { OnOk result (IsPlayed (accepted_then (Call.SetAttribute (ev_name sess) event.now) (begun_told standing.now rule.now sess event.now seconds)) t.old t.new) }
+    ensures played { OnOk result
+        (IsPlayed
+        (accepted_then (Call.SetAttribute (ev_name sess) event.now)
+        (begun_told standing.now rule.now sess event.now seconds)) t.old t.new) }
 {
     if !note_event(t, sess, event)? {
         return Ok(());

@@ -12,7 +12,8 @@ use Rattle.sc_hosts.specs.Words.{does_not_exist}
 -- the answer to a PRACK, where the INVITE that it may be for is found or not
 unfoldable pub prack_of : View → ReqId → Request → Option ReqId → Script
 prack_of view req request None = only (reply req 481 does_not_exist)
-prack_of view req request (Some invited) = prack_by view invited req request (pending_offer view invited.0)
+prack_of view req request (Some invited) =
+    prack_by view invited req request (pending_offer view invited.0)
 
 -- the request of this number, unless it has its final answer
 unfoldable pub open_in : Option RequestView → Option ReqId

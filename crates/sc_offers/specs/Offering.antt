@@ -34,7 +34,8 @@ IsTurned script old refused.Exhausted new = ⊥
 IsTurned script old (refused.Turn refusal made) new = StopsAfter made script old refusal new
 
 -- the calls of the script went through and this was answered, or they stopped
-unfoldable pub IsCarriedOut : {X : Type 0} → Script → X → Working → Result X OfferRefused → Working → Type 0
+unfoldable pub IsCarriedOut : {X : Type 0} → Script → X → Working → Result X OfferRefused → Working
+    → Type 0
 IsCarriedOut script answer old (Ok given) new = (given ≡ answer) × GoesThrough script old new
 IsCarriedOut script answer old (Err refusal) new = IsTurned script old refusal new
 
@@ -44,7 +45,8 @@ IsCarriedOut script answer old (Err refusal) new = IsTurned script old refusal n
 unfoldable pub rseq_behind : ℕ → Result ℕ OfferRefused
 rseq_behind r = if nat_le MOST_RSEQ r then Err refused.Exhausted else Ok (r + 1)
 
--- the RSeq of the next offer, by what is remembered of the last: 1 at first, and none while one waits
+-- the RSeq of the next offer, by what is remembered of the last: 1 at first, and none while one
+-- waits
 unfoldable pub next_rseq : Remembered → Result ℕ OfferRefused
 next_rseq Fresh = Ok 1
 next_rseq (Pending r c t) = Err (refused.Pending r)
@@ -53,19 +55,28 @@ next_rseq (Failed r c) = rseq_behind r
 
 -- the RSeq that an offer to this INVITE has, or why there is none
 unfoldable pub offer_rseq : View → ReqId → Request → Result ℕ OfferRefused
-offer_rseq view req request = if lists_option rel_option request then next_rseq (remembered_at view req.0) else Err refused.Unsupported
+offer_rseq view req request =
+    if lists_option rel_option request then next_rseq (remembered_at view req.0)
+    else Err refused.Unsupported
 
 -- an offer of such an RSeq was made; or where there is none, no call, and it is said why
-unfoldable pub IsOffered : Result ℕ OfferRefused → ReqId → ℕ → ℕ → Bytes → Bytes → Working → Result ℕ OfferRefused → Working → Type 0
-IsOffered (Ok r) req c code reason body old result new = IsCarriedOut (offers req r c code reason body) r old result new
-IsOffered (Err refusal) req c code reason body old result new = ((result ≡ Err refusal) ⊎ (result ≡ Err (refused.Turn NoMemory 0))) × (new ≡ old)
+unfoldable pub IsOffered : Result ℕ OfferRefused → ReqId → ℕ → ℕ → Bytes → Bytes → Working
+    → Result ℕ OfferRefused → Working → Type 0
+IsOffered (Ok r) req c code reason body old result new =
+    IsCarriedOut (offers req r c code reason body) r old result new
+IsOffered (Err refusal) req c code reason body old result new =
+    ((result ≡ Err refusal) ⊎ (result ≡ Err (refused.Turn NoMemory 0))) × (new ≡ old)
 
 -- ## A PRACK (RFC 3262 sections 3 and 7.2)
 
 -- the offer that waits where the PRACK's RAck names it, with its timer where that runs
 unfoldable pub named_by : View → Request → Option Offer → Option Named
 named_by view prack offer =
-    option_and_then (λ offer. if names_offer offer (field_of (codes "RAck") prack) then Some (record { offer = offer; running = timer_named view offer.timer }) else None) offer
+    option_and_then
+    (λ offer.
+    if names_offer offer (field_of (codes "RAck") prack)
+    then Some (record { offer = offer; running = timer_named view offer.timer })
+    else None) offer
 
 -- that of the offer to this INVITE
 unfoldable pub named_offer : View → ReqId → Request → Option Named
@@ -74,7 +85,9 @@ named_offer view invite prack = named_by view prack (pending_offer view invite.0
 -- 200 to the PRACK, a note of it, and the end of the timer where that runs; then the script goes on
 unfoldable pub acknowledges : ReqId → ReqId → Named → Script → Script
 acknowledges invite req named script =
-    accepted_then (reply req 200 ok) (accepted_then (calls.SetAttribute (rel_name invite.0) (ended_offer_text 65 named.offer)) (cancel_some named.running script))
+    accepted_then (reply req 200 ok)
+    (accepted_then (calls.SetAttribute (rel_name invite.0) (ended_offer_text 65 named.offer))
+    (cancel_some named.running script))
 
 -- the calls for a PRACK: for one that names no offer that waits 481
 unfoldable pub prack_calls : ReqId → ReqId → Option Named → Script
@@ -96,13 +109,17 @@ behind_prack invite pracks.NoMatch = Done
 -- the offer that this timer ends, and its INVITE, unless that has its final response
 unfoldable pub overdue_by : Option ReqId → TimerId → Option Offer → Option Overdue
 overdue_by invite id offer =
-    option_and_then (λ offer. if offer.timer == id.0 then option_map (λ req. record { offer = offer; req = req }) invite else None) offer
+    option_and_then
+    (λ offer.
+    if offer.timer == id.0 then option_map (λ req. record { offer = offer; req = req }) invite
+    else None) offer
 
 -- 500 to the INVITE, and a note of it
 unfoldable pub gives_up : ℕ → Option Overdue → Script
 gives_up n None = Done
 gives_up n (Some overdue) =
-    accepted_then (reply overdue.req 500 server_error) (only (calls.SetAttribute (rel_name n) (ended_offer_text 70 overdue.offer)))
+    accepted_then (reply overdue.req 500 server_error)
+    (only (calls.SetAttribute (rel_name n) (ended_offer_text 70 overdue.offer)))
 
 -- ## A servlet
 

@@ -1,7 +1,7 @@
-//! Reliable provisional responses (RFC 3262): the calls with which a servlet offers them and takes their PRACKs, at any
-//! point of its turn, and the servlet of this kind that every container comes with, which keeps its charter (JSR 289
-//! sections 3 and 9). What they remember of an INVITE stands in the attribute `rel` with the INVITE's number, which
-//! nothing else is to write.
+//! Reliable provisional responses (RFC 3262): the calls with which a servlet offers them and takes
+//! their PRACKs, at any point of its turn, and the servlet of this kind that every container comes
+//! with, which keeps its charter (JSR 289 sections 3 and 9). What they remember of an INVITE stands
+//! in the attribute `rel` with the INVITE's number, which nothing else is to write.
 #![tactic(auto)]
 
 mod offer_texts;

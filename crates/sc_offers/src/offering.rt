@@ -37,7 +37,9 @@ fn before_rseq(alloc: Global, require: Field, rseq: u64) -> Result<List<Field>, 
 }
 
 fn offer_fields(alloc: Global, rseq: u64) -> Result<List<Field>, NoMemory>
-    ensures { IfOk result (λ fields. fields ≡ field require_word rel_option ∷ field (codes "RSeq") (decimal rseq) ∷ []) }
+    ensures { IfOk result
+        (λ fields.
+        fields ≡ field require_word rel_option ∷ field (codes "RSeq") (decimal rseq) ∷ []) }
 {
     let require = require_rel(alloc)?;
     before_rseq(alloc, require, rseq)
@@ -75,7 +77,8 @@ fn respond_offer(
     body: Text,
 ) -> Result<u8, Stopped>
     ensures same { turn.new.shown ≡ turn.old.shown }
-    ensures led { Leads (accepted_then (Call.Respond req (offer_answer rseq code reason body))) 0 turn.old result turn.new }
+    ensures led { Leads (accepted_then (Call.Respond req (offer_answer rseq code reason body))) 0
+        turn.old result turn.new }
     ensures count { IfOk result (λ after. after ≡ 1) }
 {
     match offer_answer(memory_of(turn), rseq, code, reason, body) {
@@ -91,7 +94,8 @@ fn noted_offer(
     cseq: u32,
     timer: u64,
 ) -> Result<(Text, Text), NoMemory>
-    ensures { IfOk result (λ texts. (texts.0 ≡ rel_name number) × (texts.1 ≡ offer_text rseq cseq timer)) }
+    ensures { IfOk result
+        (λ texts. (texts.0 ≡ rel_name number) × (texts.1 ≡ offer_text rseq cseq timer)) }
 {
     let name = rel_name(alloc, number)?;
     let value = offer_text(alloc, rseq, u64::from(cseq), timer)?;
@@ -109,7 +113,9 @@ fn note_offer(
 ) -> Result<u8, Stopped>
     requires few { made < 100 }
     ensures same { turn.new.shown ≡ turn.old.shown }
-    ensures led { Leads (accepted_then (Call.SetAttribute (rel_name req.0) (offer_text rseq cseq timer))) made turn.old result turn.new }
+    ensures led { Leads
+        (accepted_then (Call.SetAttribute (rel_name req.0) (offer_text rseq cseq timer))) made
+        turn.old result turn.new }
     ensures count { IfOk result (λ after. after ≡ made + 1) }
 {
     match noted_offer(memory_of(turn), u64::from(req.0), rseq, cseq, timer) {
@@ -118,7 +124,8 @@ fn note_offer(
     }
 }
 
-/// Makes the offer of this RSeq to an INVITE: the response, a note of it, and a timer of 32 seconds.
+/// Makes the offer of this RSeq to an INVITE: the response, a note of it, and a timer of 32
+/// seconds.
 #[tactic(auto, unfolding(sc_promised::specs::Reliable::offers), using(sc_helpers::proofs::Steps::accepted_on, sc_helpers::proofs::Steps::accepted_off))]
 pub fn give_offer(
     turn: &mut Turn,
@@ -141,7 +148,12 @@ pub fn give_offer(
 #[tactic(auto, using(sc_helpers::proofs::Steps::accepted_on, sc_helpers::proofs::Steps::accepted_off))]
 fn note_and_time(turn: &mut Turn, req: ReqId, rseq: u64, cseq: u32) -> Result<(), Stopped>
     ensures same { turn.new.shown ≡ turn.old.shown }
-    ensures goes { Goes 1 (accepted_then (Call.SetAttribute (rel_name req.0) (offer_text rseq cseq 0)) (Make (Call.StartTimer 32000 Once (rel_name req.0)) (with_number (λ t. only (Call.SetAttribute (rel_name req.0) (offer_text rseq cseq t)))))) turn.old result turn.new }
+    ensures goes { Goes 1
+        (accepted_then (Call.SetAttribute (rel_name req.0) (offer_text rseq cseq 0))
+        (Make (Call.StartTimer 32000 Once (rel_name req.0))
+        (with_number
+        (λ t. only (Call.SetAttribute (rel_name req.0) (offer_text rseq cseq t)))))) turn.old
+        result turn.new }
 {
     match note_offer(turn, 1, req, rseq, cseq, 0) {
         Ok(_) => time_offer(turn, req, rseq, cseq),
@@ -163,7 +175,10 @@ fn start_offer(turn: &mut Turn, req: ReqId) -> Result<u64, Stopped>
 #[tactic(auto, using(sc_helpers::proofs::Steps::number_on, sc_helpers::proofs::Steps::number_off))]
 fn time_offer(turn: &mut Turn, req: ReqId, rseq: u64, cseq: u32) -> Result<(), Stopped>
     ensures same { turn.new.shown ≡ turn.old.shown }
-    ensures goes { Goes 2 (Make (Call.StartTimer 32000 Once (rel_name req.0)) (with_number (λ t. only (Call.SetAttribute (rel_name req.0) (offer_text rseq cseq t))))) turn.old result turn.new }
+    ensures goes { Goes 2
+        (Make (Call.StartTimer 32000 Once (rel_name req.0))
+        (with_number (λ t. only (Call.SetAttribute (rel_name req.0) (offer_text rseq cseq t)))))
+        turn.old result turn.new }
 {
     match start_offer(turn, req) {
         Ok(timer) => note_last(turn, req, rseq, cseq, timer),
@@ -174,7 +189,8 @@ fn time_offer(turn: &mut Turn, req: ReqId, rseq: u64, cseq: u32) -> Result<(), S
 #[tactic(auto, using(sc_helpers::proofs::Steps::last_on, sc_helpers::proofs::Steps::last_off))]
 fn note_last(turn: &mut Turn, req: ReqId, rseq: u64, cseq: u32, timer: u64) -> Result<(), Stopped>
     ensures same { turn.new.shown ≡ turn.old.shown }
-    ensures goes { Goes 3 (only (Call.SetAttribute (rel_name req.0) (offer_text rseq cseq timer))) turn.old result turn.new }
+    ensures goes { Goes 3 (only (Call.SetAttribute (rel_name req.0) (offer_text rseq cseq timer)))
+        turn.old result turn.new }
 {
     match note_offer(turn, 3, req, rseq, cseq, timer) {
         Ok(_) => Ok(()),
@@ -193,7 +209,8 @@ fn offer_as(
     body: Text,
 ) -> Result<u64, OfferRefused>
     ensures same { turn.new.shown ≡ turn.old.shown }
-    ensures carried { IsCarriedOut (offers req rseq cseq code reason body) rseq turn.old result turn.new }
+    ensures carried { IsCarriedOut (offers req rseq cseq code reason body) rseq turn.old result
+        turn.new }
 {
     match give_offer(turn, req, rseq, cseq, code, reason, body) {
         Ok(()) => Ok(rseq),
@@ -220,15 +237,16 @@ fn offer_by(
     }
 }
 
-/// Offers a reliable provisional response to an INVITE (RFC 3262 section 3). Gives its RSeq: 1 for the first one to
-/// this INVITE, else one more than the last.
+/// Offers a reliable provisional response to an INVITE (RFC 3262 section 3). Gives its RSeq: 1 for
+/// the first one to this INVITE, else one more than the last.
 ///
 /// `req` is the received INVITE's number, and `request` the INVITE itself; `code` is 101 to 199. It makes these calls,
-/// each where the one before was accepted: `respond` with that code, reason and body and the headers `Require: 100rel`
-/// and `RSeq`; `set_attribute` of `rel` with the INVITE's number to `P RSEQ CSEQ 0`, where CSEQ is the number in the
-/// INVITE's CSeq; `start_timer` of 32,000 milliseconds whose information is that attribute's name; and `set_attribute`
-/// of the same with the timer's number in place of 0. It needs no turn of its own: other calls may stand before and behind it.
-/// The response isn't sent again before its PRACK comes, as all transport is reliable.
+/// each where the one before was accepted: `respond` with that code, reason and body and the
+/// headers `Require: 100rel` and `RSeq`; `set_attribute` of `rel` with the INVITE's number to `P
+/// RSEQ CSEQ 0`, where CSEQ is the number in the INVITE's CSeq; `start_timer` of 32,000
+/// milliseconds whose information is that attribute's name; and `set_attribute` of the same with
+/// the timer's number in place of 0. It needs no turn of its own: other calls may stand before and
+/// behind it. The response isn't sent again before its PRACK comes, as all transport is reliable.
 ///
 /// # Errors
 ///
@@ -239,8 +257,8 @@ fn offer_by(
 /// - `Turn`: the turn refuses one of the calls, and the ones before it were accepted. None is made behind it. What the
 ///   accepted ones did stays: after the first the response is sent.
 ///
-/// The first three make no call. For want of memory it is `Turn` with `NoMemory`; where a call of this turn wanted memory
-/// before, the turn is over, and nothing is said.
+/// The first three make no call. For want of memory it is `Turn` with `NoMemory`; where a call of
+/// this turn wanted memory before, the turn is over, and nothing is said.
 #[tactic(auto, using(crate::proofs::CallLaws::offer_judged, crate::proofs::CallLaws::offer_wanting))]
 pub fn offer(
     turn: &mut Turn,
@@ -251,7 +269,9 @@ pub fn offer(
     body: Text,
 ) -> Result<u64, OfferRefused>
     ensures same { turn.new.shown ≡ turn.old.shown }
-    ensures offered { turn.old.starved ≡ false → IsOffered (offer_rseq (play_of turn.old).view req request.now) req request.now.head.cseq.number code reason body turn.old result turn.new }
+    ensures offered { turn.old.starved ≡ false
+        → IsOffered (offer_rseq (play_of turn.old).view req request.now) req
+        request.now.head.cseq.number code reason body turn.old result turn.new }
 {
     match offer_rseq(memory_of(turn), turn.view(), req, request) {
         Ok(judged) => offer_by(

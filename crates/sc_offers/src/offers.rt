@@ -30,10 +30,11 @@ use sc_value::{NoMemory, ReqId, Request, SessId, Text, TimerId};
 use std::alloc::Global;
 
 /// Answers the INVITE that began the application session 183 `Session Progress`, reliably (RFC 3262
-/// section 3), where its Supported or Require has `100rel`. The PRACK whose RAck names that response it
-/// answers 200 `OK`, and then the INVITE so; another PRACK 481 `Call/Transaction Does Not Exist`.
-/// Where no PRACK has come after 32 seconds, it answers the INVITE 500 `Server Internal Error`. An
-/// INVITE without `100rel` it answers 180 `Ringing` and 200 `OK`, and each other request but an ACK 200
+/// section 3), where its Supported or Require has `100rel`. The PRACK whose RAck names that
+/// response it answers 200 `OK`, and then the INVITE so; another PRACK 481 `Call/Transaction Does
+/// Not Exist`. Where no PRACK has come after 32 seconds, it answers the INVITE 500 `Server Internal
+/// Error`. An INVITE without `100rel` it answers 180 `Ringing` and 200 `OK`, and each other request
+/// but an ACK 200
 /// `OK`. When the INVITE is cancelled it ends the timer. At all other events it makes no call. It has no
 /// parameters.
 #[derive(Clone, Copy, Debug)]
@@ -76,7 +77,10 @@ fn time_out(t: &mut Turn, id: TimerId, info: &Text) -> Result<(), NoMemory>
     requires calls { t.old.calls ≡ [] }
     requires memory { t.old.starved ≡ false }
     ensures same { t.new.shown ≡ t.old.shown }
-    ensures played { OnOk result (IsPlayed (where_some (option_and_then strict_number (after_word (codes "rel") info.now)) (λ n. late_offer t.old.shown n id)) t.old t.new) }
+    ensures played { OnOk result
+        (IsPlayed
+        (where_some (option_and_then strict_number (after_word (codes "rel") info.now))
+        (λ n. late_offer t.old.shown n id)) t.old t.new) }
 {
     match number_after(info.as_bytes(), b"rel") {
         Some(number) => time_out_offer(t, number, id),
@@ -132,7 +136,10 @@ fn take_later(t: &mut Turn, req: ReqId, sess: SessId, request: &Request) -> Resu
     requires calls { t.old.calls ≡ [] }
     requires memory { t.old.starved ≡ false }
     ensures same { t.new.shown ≡ t.old.shown }
-    ensures played { OnOk result (IsPlayed (if same_bytes request.now.method prack then take_prack t.old.shown req sess request.now else reply_ok req request.now) t.old t.new) }
+    ensures played { OnOk result
+        (IsPlayed
+        (if same_bytes request.now.method prack then take_prack t.old.shown req sess request.now
+        else reply_ok req request.now) t.old t.new) }
 {
     if is_prack(request.method.as_bytes()) {
         return answer_prack(t, req, sess, request);
@@ -145,7 +152,8 @@ fn answer_prack(t: &mut Turn, req: ReqId, sess: SessId, request: &Request) -> Re
     requires calls { t.old.calls ≡ [] }
     requires memory { t.old.starved ≡ false }
     ensures same { t.new.shown ≡ t.old.shown }
-    ensures played { OnOk result (IsPlayed (take_prack t.old.shown req sess request.now) t.old t.new) }
+    ensures played { OnOk result
+        (IsPlayed (take_prack t.old.shown req sess request.now) t.old t.new) }
 {
     let invite = invite_of(shown(t), sess);
     prack_of(t, req, request, invite)
@@ -161,7 +169,8 @@ fn prack_of(
     requires calls { t.old.calls ≡ [] }
     requires memory { t.old.starved ≡ false }
     ensures same { t.new.shown ≡ t.old.shown }
-    ensures played { OnOk result (IsPlayed (prack_of t.old.shown req request.now invite) t.old t.new) }
+    ensures played { OnOk result
+        (IsPlayed (prack_of t.old.shown req request.now invite) t.old t.new) }
 {
     match invite {
         Some(invite) => prack_for(t, req, request, invite),
@@ -183,7 +192,9 @@ fn prack_for(t: &mut Turn, req: ReqId, request: &Request, invite: ReqId) -> Resu
     requires calls { t.old.calls ≡ [] }
     requires memory { t.old.starved ≡ false }
     ensures same { t.new.shown ≡ t.old.shown }
-    ensures played { OnOk result (IsPlayed (prack_by t.old.shown invite req request.now (pending_offer t.old.shown invite.0)) t.old t.new) }
+    ensures played { OnOk result
+        (IsPlayed (prack_by t.old.shown invite req request.now (pending_offer t.old.shown invite.0))
+        t.old t.new) }
 {
     match take_prack(t, invite, req, request) {
         Ok(answer) => answer_invite(t, invite, answer),
@@ -208,7 +219,12 @@ fn begin(t: &mut Turn, req: ReqId, request: &Request) -> Result<(), NoMemory>
     requires calls { t.old.calls ≡ [] }
     requires memory { t.old.starved ≡ false }
     ensures same { t.new.shown ≡ t.old.shown }
-    ensures played { OnOk result (IsPlayed (if same_bytes request.now.method invite then (if lists_option rel_option request.now then first_offer req request.now else then_make (reply req 180 ringing) (only (reply req 200 ok))) else only (reply req 200 ok)) t.old t.new) }
+    ensures played { OnOk result
+        (IsPlayed
+        (if same_bytes request.now.method invite
+        then (if lists_option rel_option request.now then first_offer req request.now
+        else then_make (reply req 180 ringing) (only (reply req 200 ok)))
+        else only (reply req 200 ok)) t.old t.new) }
 {
     if is_invite(request.method.as_bytes()) {
         return begin_invite(t, req, request);
@@ -220,7 +236,10 @@ fn begin(t: &mut Turn, req: ReqId, request: &Request) -> Result<(), NoMemory>
 fn begin_invite(t: &mut Turn, req: ReqId, request: &Request) -> Result<(), NoMemory>
     requires { (play_of t.old).listed + 3 < MOST_CALLS }
     ensures same { t.new.shown ≡ t.old.shown }
-    ensures played { OnOk result (IsPlayed (if lists_option rel_option request.now then first_offer req request.now else then_make (reply req 180 ringing) (only (reply req 200 ok))) t.old t.new) }
+    ensures played { OnOk result
+        (IsPlayed
+        (if lists_option rel_option request.now then first_offer req request.now
+        else then_make (reply req 180 ringing) (only (reply req 200 ok))) t.old t.new) }
 {
     if lists_option(request, b"100rel") {
         return first_offer(t, req, request);
@@ -278,7 +297,8 @@ fn play_offer(t: &mut Turn, req: ReqId, cseq: u32, reason: Text, body: Text) -> 
 fn ring_and_answer(t: &mut Turn, req: ReqId) -> Result<(), NoMemory>
     requires { (play_of t.old).listed + 1 < MOST_CALLS }
     ensures same { t.new.shown ≡ t.old.shown }
-    ensures played { OnOk result (IsPlayed (then_make (reply req 180 ringing) (only (reply req 200 ok))) t.old t.new) }
+    ensures played { OnOk result
+        (IsPlayed (then_make (reply req 180 ringing) (only (reply req 200 ok))) t.old t.new) }
 {
     reply_180(t, req)?;
     reply_200(t, req)

@@ -85,7 +85,11 @@ fn overdue_of(
     number: u64,
     id: TimerId,
 ) -> Result<Option<Overdue>, NoMemory>
-    ensures { IfOk result (λ overdue. overdue ≡ overdue_by (open_in (request_in view.entry.now (record { 0 = number }))) id (pending_offer view.entry.now number)) }
+    ensures { IfOk result
+        (λ overdue.
+        overdue
+        ≡ overdue_by (open_in (request_in view.entry.now (record { 0 = number }))) id
+        (pending_offer view.entry.now number)) }
 {
     let offer = pending_offer(alloc, view, number)?;
     Ok(overdue_by(open_request(view, number), id, offer))
@@ -94,7 +98,10 @@ fn overdue_of(
 #[tactic(auto, unfolding(sc_model::specs::BestResponses::server_error), using(sc_helpers::proofs::Steps::accepted_on, sc_helpers::proofs::Steps::accepted_off))]
 fn give_up(turn: &mut Turn, number: u64, overdue: &Overdue) -> Result<(), Stopped>
     ensures same { turn.new.shown ≡ turn.old.shown }
-    ensures goes { Goes 0 (accepted_then (reply overdue.now.req 500 server_error) (only (Call.SetAttribute (rel_name number) (ended_offer_text 70 overdue.now.offer)))) turn.old result turn.new }
+    ensures goes { Goes 0
+        (accepted_then (reply overdue.now.req 500 server_error)
+        (only (Call.SetAttribute (rel_name number) (ended_offer_text 70 overdue.now.offer))))
+        turn.old result turn.new }
 {
     match try_reply(turn, 0, overdue.req, 500, b"Server Internal Error") {
         Ok(_) => note_failed(turn, number, &overdue.offer),
@@ -105,7 +112,9 @@ fn give_up(turn: &mut Turn, number: u64, overdue: &Overdue) -> Result<(), Stoppe
 #[tactic(auto, using(sc_helpers::proofs::Steps::last_on, sc_helpers::proofs::Steps::last_off))]
 fn note_failed(turn: &mut Turn, number: u64, offer: &Waiting) -> Result<(), Stopped>
     ensures same { turn.new.shown ≡ turn.old.shown }
-    ensures goes { Goes 1 (only (Call.SetAttribute (rel_name number) (ended_offer_text 70 offer.now))) turn.old result turn.new }
+    ensures goes { Goes 1
+        (only (Call.SetAttribute (rel_name number) (ended_offer_text 70 offer.now))) turn.old result
+        turn.new }
 {
     match note_ended(turn, 1, number, b'F', offer) {
         Ok(_) => Ok(()),
@@ -116,7 +125,8 @@ fn note_failed(turn: &mut Turn, number: u64, offer: &Waiting) -> Result<(), Stop
 #[tactic(auto, unfolding(crate::specs::Offering::gives_up), using(sc_helpers::proofs::Steps::goes_carried, sc_helpers::proofs::Steps::goes_stopped, crate::proofs::CallLaws::nothing_carried))]
 fn give_up_on(turn: &mut Turn, number: u64, overdue: Option<Overdue>) -> Result<bool, Stopped>
     ensures same { turn.new.shown ≡ turn.old.shown }
-    ensures carried { IsCarried (gives_up number overdue) (is_some overdue) turn.old result turn.new }
+    ensures carried { IsCarried (gives_up number overdue) (is_some overdue) turn.old result
+        turn.new }
 {
     match overdue {
         Some(overdue) => give_up_one(turn, number, &overdue),
@@ -139,7 +149,10 @@ fn give_up_one(turn: &mut Turn, number: u64, overdue: &Overdue) -> Result<bool, 
 #[tactic(auto, using(crate::proofs::LateLaws::late_carried, crate::proofs::CallLaws::wanting_carried))]
 fn end_offer(turn: &mut Turn, number: u64, id: TimerId) -> Result<bool, Stopped>
     ensures same { turn.new.shown ≡ turn.old.shown }
-    ensures carried { turn.old.starved ≡ false → IsCarried (late_offer (play_of turn.old).view number id) (is_late (pending_offer (play_of turn.old).view number) id (request_in (play_of turn.old).view (record { 0 = number }))) turn.old result turn.new }
+    ensures carried { turn.old.starved ≡ false
+        → IsCarried (late_offer (play_of turn.old).view number id)
+        (is_late (pending_offer (play_of turn.old).view number) id
+        (request_in (play_of turn.old).view (record { 0 = number }))) turn.old result turn.new }
 {
     match overdue_of(memory_of(turn), turn.view(), number, id) {
         Ok(overdue) => give_up_on(turn, number, overdue),
@@ -147,18 +160,23 @@ fn end_offer(turn: &mut Turn, number: u64, id: TimerId) -> Result<bool, Stopped>
     }
 }
 
-/// Ends the offer to this INVITE where its timer has come (RFC 3262 section 3): where the offer waits for its PRACK, the
-/// timer is its own, and the INVITE has no final response, the INVITE is answered 500 `Server Internal Error`, and then
-/// the attribute is set to `F RSEQ CSEQ`. Tells whether that was so; where it wasn't, no call is made.
+/// Ends the offer to this INVITE where its timer has come (RFC 3262 section 3): where the offer
+/// waits for its PRACK, the timer is its own, and the INVITE has no final response, the INVITE is
+/// answered 500 `Server Internal Error`, and then the attribute is set to `F RSEQ CSEQ`. Tells
+/// whether that was so; where it wasn't, no call is made.
 ///
 /// # Errors
 ///
 /// `Turn` alone: the turn refuses one of the two calls. Where that is the second, the response is sent. For want of memory
-/// it is `Turn` with `NoMemory`; where a call of this turn wanted memory before, the turn is over, and nothing is said.
+/// it is `Turn` with `NoMemory`; where a call of this turn wanted memory before, the turn is over,
+/// and nothing is said.
 #[tactic(auto, using(crate::proofs::CallLaws::carried_out, crate::proofs::CallLaws::carried_stop))]
 pub fn late(turn: &mut Turn, invite: ReqId, id: TimerId) -> Result<bool, OfferRefused>
     ensures same { turn.new.shown ≡ turn.old.shown }
-    ensures carried { turn.old.starved ≡ false → IsCarriedOut (late_offer (play_of turn.old).view invite.0 id) (is_late (pending_offer (play_of turn.old).view invite.0) id (request_in (play_of turn.old).view invite)) turn.old result turn.new }
+    ensures carried { turn.old.starved ≡ false
+        → IsCarriedOut (late_offer (play_of turn.old).view invite.0 id)
+        (is_late (pending_offer (play_of turn.old).view invite.0) id
+        (request_in (play_of turn.old).view invite)) turn.old result turn.new }
 {
     match end_offer(turn, u64::from(invite.0), id) {
         Ok(ended) => Ok(ended),
@@ -168,7 +186,8 @@ pub fn late(turn: &mut Turn, invite: ReqId, id: TimerId) -> Result<bool, OfferRe
 
 /// The number of the request of this number, where the view shows it.
 pub fn request_of(view: &View, number: u64) -> Option<ReqId>
-    ensures { result ≡ option_map (λ request. request.id) (request_in view.entry.now (record { 0 = number })) }
+    ensures { result
+        ≡ option_map (λ request. request.id) (request_in view.entry.now (record { 0 = number })) }
 {
     match request_among(view.requests.as_slice(), number) {
         Some(request) => Some(request.id),

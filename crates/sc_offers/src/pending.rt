@@ -16,7 +16,8 @@ use sc_value::{NoMemory, Text};
 use std::alloc::Global;
 
 fn offer_at(view: &View, name: &[u8]) -> Option<Waiting>
-    ensures { result ≡ option_and_then (λ text. offer_in (pieces 32 text)) (attribute name.now view.entry.now) }
+    ensures { result
+        ≡ option_and_then (λ text. offer_in (pieces 32 text)) (attribute name.now view.entry.now) }
 {
     match attribute(view, name) {
         Some(text) => offer_in(text.as_bytes()),
@@ -39,7 +40,8 @@ fn ended_texts(
     letter: u8,
     offer: &Waiting,
 ) -> Result<(Text, Text), NoMemory>
-    ensures { IfOk result (λ texts. (texts.0 ≡ rel_name number) × (texts.1 ≡ ended_offer_text letter offer.now)) }
+    ensures { IfOk result
+        (λ texts. (texts.0 ≡ rel_name number) × (texts.1 ≡ ended_offer_text letter offer.now)) }
 {
     let name = rel_name(alloc, number)?;
     let value = ended_offer_text(alloc, letter, offer)?;
@@ -57,7 +59,9 @@ pub fn note_ended(
 ) -> Result<u8, Stopped>
     requires few { made < 100 }
     ensures same { turn.new.shown ≡ turn.old.shown }
-    ensures led { Leads (accepted_then (Call.SetAttribute (rel_name number) (ended_offer_text letter offer.now))) made turn.old result turn.new }
+    ensures led { Leads
+        (accepted_then (Call.SetAttribute (rel_name number) (ended_offer_text letter offer.now)))
+        made turn.old result turn.new }
     ensures count { IfOk result (λ after. after ≡ made + 1) }
 {
     match ended_texts(memory_of(turn), number, letter, offer) {

@@ -61,9 +61,11 @@ fn invite_among(requests: &[RequestView], sess: SessId) -> Option<&RequestView>
     }
 }
 
-/// The first received INVITE that began this SipSession; None exactly where none did. It takes no memory.
+/// The first received INVITE that began this SipSession; None exactly where none did. It takes no
+/// memory.
 pub fn invite_of(view: &View, sess: SessId) -> Option<ReqId>
-    ensures { result ≡ option_map (λ request. request.id) (find (is_invite_of sess) view.entry.now.requests) }
+    ensures { result
+        ≡ option_map (λ request. request.id) (find (is_invite_of sess) view.entry.now.requests) }
 {
     match invite_among(view.requests.as_slice(), sess) {
         Some(request) => Some(request.id),
@@ -123,7 +125,8 @@ fn named_offer(
 #[tactic(auto, unfolding(sc_hosts::specs::Words::does_not_exist), using(crate::proofs::CallLaws::only_through, crate::proofs::CallLaws::only_stopped))]
 fn refuse(turn: &mut Turn, req: ReqId) -> Result<Prack, Stopped>
     ensures same { turn.new.shown ≡ turn.old.shown }
-    ensures carried { IsCarried (only (reply req 481 does_not_exist)) Prack.NoMatch turn.old result turn.new }
+    ensures carried { IsCarried (only (reply req 481 does_not_exist)) Prack.NoMatch turn.old result
+        turn.new }
 {
     match try_reply(turn, 0, req, 481, b"Call/Transaction Does Not Exist") {
         Ok(_) => Ok(Prack::NoMatch),
@@ -145,7 +148,9 @@ fn acknowledge(turn: &mut Turn, invite: ReqId, req: ReqId, named: &Named) -> Res
 #[tactic(auto, using(sc_helpers::proofs::Steps::accepted_on, sc_helpers::proofs::Steps::accepted_off))]
 fn note_acknowledged(turn: &mut Turn, invite: ReqId, named: &Named) -> Result<(), Stopped>
     ensures same { turn.new.shown ≡ turn.old.shown }
-    ensures goes { Goes 1 (accepted_then (Call.SetAttribute (rel_name invite.0) (ended_offer_text 65 named.now.offer)) (cancel_some named.now.running Done)) turn.old result turn.new }
+    ensures goes { Goes 1
+        (accepted_then (Call.SetAttribute (rel_name invite.0) (ended_offer_text 65 named.now.offer))
+        (cancel_some named.now.running Done)) turn.old result turn.new }
 {
     match note_ended(turn, 1, u64::from(invite.0), b'A', &named.offer) {
         Ok(_) => stop_timer(turn, named.running),
@@ -172,7 +177,8 @@ fn acknowledge_one(
     named: &Named,
 ) -> Result<Prack, Stopped>
     ensures same { turn.new.shown ≡ turn.old.shown }
-    ensures carried { IsCarried (prack_calls invite req (Some named.now)) (prack_answer (Some named.now)) turn.old result turn.new }
+    ensures carried { IsCarried (prack_calls invite req (Some named.now))
+        (prack_answer (Some named.now)) turn.old result turn.new }
 {
     match acknowledge(turn, invite, req, named) {
         Ok(()) => Ok(Prack::Acknowledged(named.offer.rseq)),
@@ -188,7 +194,8 @@ fn answer_prack(
     named: Option<Named>,
 ) -> Result<Prack, Stopped>
     ensures same { turn.new.shown ≡ turn.old.shown }
-    ensures carried { IsCarried (prack_calls invite req named) (prack_answer named) turn.old result turn.new }
+    ensures carried { IsCarried (prack_calls invite req named) (prack_answer named) turn.old result
+        turn.new }
 {
     match named {
         Some(named) => acknowledge_one(turn, invite, req, &named),
@@ -199,7 +206,10 @@ fn answer_prack(
 #[tactic(auto, using(crate::proofs::CallLaws::prack_carried, crate::proofs::CallLaws::wanting_carried))]
 fn read_prack(turn: &mut Turn, invite: ReqId, req: ReqId, prack: &Request) -> Result<Prack, Stopped>
     ensures same { turn.new.shown ≡ turn.old.shown }
-    ensures carried { turn.old.starved ≡ false → IsCarried (prack_calls invite req (named_offer (play_of turn.old).view invite prack.now)) (prack_answer (named_offer (play_of turn.old).view invite prack.now)) turn.old result turn.new }
+    ensures carried { turn.old.starved ≡ false
+        → IsCarried (prack_calls invite req (named_offer (play_of turn.old).view invite prack.now))
+        (prack_answer (named_offer (play_of turn.old).view invite prack.now)) turn.old result
+        turn.new }
 {
     match named_offer(memory_of(turn), turn.view(), invite, prack) {
         Ok(named) => answer_prack(turn, invite, req, named),
@@ -207,20 +217,22 @@ fn read_prack(turn: &mut Turn, invite: ReqId, req: ReqId, prack: &Request) -> Re
     }
 }
 
-/// Answers a PRACK, for the INVITE that [`invite_of`] gives for its SipSession (RFC 3262 section 3). `req` is the PRACK's
-/// number, and `prack` the request itself.
+/// Answers a PRACK, for the INVITE that [`invite_of`] gives for its SipSession (RFC 3262 section
+/// 3). `req` is the PRACK's number, and `prack` the request itself.
 ///
-/// Where the INVITE's last offer waits and the PRACK's RAck is its RSeq, the INVITE's CSeq number and `INVITE`, it makes
-/// these calls, each where the one before was accepted, and gives `Acknowledged` with the RSeq: `respond` 200 `OK` to the
-/// PRACK; `set_attribute` of `rel` with the INVITE's number to `A RSEQ CSEQ`; and `cancel_timer` of the offer's timer,
-/// where that runs. For any other PRACK it makes `respond` 481 `Call/Transaction Does Not Exist` alone, and gives
+/// Where the INVITE's last offer waits and the PRACK's RAck is its RSeq, the INVITE's CSeq number
+/// and `INVITE`, it makes these calls, each where the one before was accepted, and gives
+/// `Acknowledged` with the RSeq: `respond` 200 `OK` to the PRACK; `set_attribute` of `rel` with the
+/// INVITE's number to `A RSEQ CSEQ`; and `cancel_timer` of the offer's timer, where that runs. For
+/// any other PRACK it makes `respond` 481 `Call/Transaction Does Not Exist` alone, and gives
 /// `NoMatch`. The INVITE's final response is left to the servlet.
 ///
 /// # Errors
 ///
 /// `Turn` alone: the turn refuses one of the calls, and the ones before it were accepted. None is made behind it, and what
-/// the accepted ones did stays: after the first the PRACK is answered. For want of memory it is `Turn` with `NoMemory`; where
-/// a call of this turn wanted memory before, the turn is over, and nothing is said.
+/// the accepted ones did stays: after the first the PRACK is answered. For want of memory it is
+/// `Turn` with `NoMemory`; where a call of this turn wanted memory before, the turn is over, and
+/// nothing is said.
 #[tactic(auto, using(crate::proofs::CallLaws::carried_out, crate::proofs::CallLaws::carried_stop))]
 pub fn take_prack(
     turn: &mut Turn,
@@ -229,7 +241,11 @@ pub fn take_prack(
     prack: &Request,
 ) -> Result<Prack, OfferRefused>
     ensures same { turn.new.shown ≡ turn.old.shown }
-    ensures carried { turn.old.starved ≡ false → IsCarriedOut (prack_calls invite req (named_offer (play_of turn.old).view invite prack.now)) (prack_answer (named_offer (play_of turn.old).view invite prack.now)) turn.old result turn.new }
+    ensures carried { turn.old.starved ≡ false
+        → IsCarriedOut
+        (prack_calls invite req (named_offer (play_of turn.old).view invite prack.now))
+        (prack_answer (named_offer (play_of turn.old).view invite prack.now)) turn.old result
+        turn.new }
 {
     match read_prack(turn, invite, req, prack) {
         Ok(answer) => Ok(answer),

@@ -16,7 +16,8 @@ pub enum OfferRefused {
     Pending(u64),
     /// The last RSeq, 2,147,483,647, was given. No call was made.
     Exhausted,
-    /// The turn refused a call, and none was made behind it; `NoMemory` also where memory was wanting.
+    /// The turn refused a call, and none was made behind it; `NoMemory` also where memory was
+    /// wanting.
     Turn {
         /// Why it did.
         refusal: Refusal,

@@ -70,7 +70,8 @@ pub fn next_word(text: &[u8]) -> Option<(&[u8], &[u8])>
 /// The words of a text where they are three.
 #[tactic(auto, unfolding(sc_helpers::specs::Parts::is_three))]
 pub fn three_words(text: &[u8]) -> Option<(&[u8], &[u8], &[u8])>
-    ensures some { IfSome result (λ three. words_of text.now ≡ three.0.now ∷ three.1.now ∷ three.2.now ∷ []) }
+    ensures some { IfSome result
+        (λ three. words_of text.now ≡ three.0.now ∷ three.1.now ∷ three.2.now ∷ []) }
     ensures none { IfNone result (is_three (words_of text.now) ≡ false) }
 {
     let (a, rest) = next_word(text)?;

@@ -1,5 +1,5 @@
--- The events of an application session over a journal are a merge of those that were handled, those that were
--- purged as it ended, and those that wait.
+-- The events of an application session over a journal are a merge of those that were handled, those
+-- that were purged as it ended, and those that wait.
 use Rattle.std.specs.Prelude.{◌≡◌, ◌⊎◌, ℕ, List, [], ◌∷◌, ◌++◌}
 use Rattle.sc_once.specs.Growing.{IsBetween}
 
@@ -11,8 +11,8 @@ IsMerge (n ∷ queued) handled purged waiting =
     ⊎ ((rest : List ℕ) × (purged ≡ n ∷ rest) × IsMerge queued handled rest waiting)
     ⊎ ((rest : List ℕ) × (waiting ≡ n ∷ rest) × IsMerge queued handled purged rest)
 
--- the events of a session: each that was queued was handled, purged or waits, none of them twice. Those that were
--- handled rise, and are below those that wait
+-- the events of a session: each that was queued was handled, purged or waits, none of them twice.
+-- Those that were handled rise, and are below those that wait
 pub record IsOneHistory (queued handled purged waiting : List ℕ) (count : ℕ) : Type 0 where
   pub merge : IsMerge queued handled purged waiting
   pub once : IsBetween queued 0 count

@@ -73,30 +73,41 @@ owing held place sent = if is_gone_at held place then [] else texts_for place se
 
 -- this is left of the place, and of the others as before
 unfoldable pub IsKept : (Place → Bytes) → Place → Bytes → (Place → Bytes) → Type 0
-IsKept before place bytes after = (other : Place) → after other ≡ (if same_place other place then bytes else before other)
+IsKept before place bytes after =
+    (other : Place) → after other ≡ (if same_place other place then bytes else before other)
 
 -- the text came behind what is left of its place, where that isn't gone
 pub record IsOwed (sent : Sent) (old new : Owing) : Type 0 where
-  pub left : (place : Place) → left_at new place ≡ left_at old place ++ (if is_gone_at old place then [] else text_for place sent)
+  pub left : (place : Place)
+      → left_at new place
+      ≡ left_at old place ++ (if is_gone_at old place then [] else text_for place sent)
   pub gone : (place : Place) → is_gone_at new place ≡ is_gone_at old place
 
 -- the connection of a peer is among them, too; an address is never
 unfoldable pub IsGoneToo : Place → List ℕ → List ℕ → Type 0
-IsGoneToo at old new = (place : Place) → is_gone_from new place ≡ (is_gone_from old place || (is_back at && same_place place at))
+IsGoneToo at old new =
+    (place : Place)
+    → is_gone_from new place ≡ (is_gone_from old place || (is_back at && same_place place at))
 
 -- a place failed: nothing is left of it, and a peer's connection is gone
 pub record IsLostAt (at : Place) (old new : Owing) : Type 0 where
   pub left : IsKept (left_at old) at [] (left_at new)
-  pub gone : (place : Place) → is_gone_at new place ≡ (is_gone_at old place || (is_back at && same_place place at))
+  pub gone : (place : Place)
+      → is_gone_at new place ≡ (is_gone_at old place || (is_back at && same_place place at))
 
 -- what a put to a place did to what is left of it
 unfoldable pub PutLeaves : EdgeState → EdgeState → Place → Owing → Owing → Put → Type 0
-PutLeaves old new place before after (put.Wrote count) = Takes (old.took place) (new.took place) (take count (left_at before place)) × IsKept (left_at before) place (drop count (left_at before place)) (left_at after)
-PutLeaves old new place before after put.NotYet = (new.took place ≡ old.took place) × (after ≡ before)
-PutLeaves old new place before after put.Failed = (new.took place ≡ old.took place) × (after ≡ before)
+PutLeaves old new place before after (put.Wrote count) =
+    Takes (old.took place) (new.took place) (take count (left_at before place))
+    × IsKept (left_at before) place (drop count (left_at before place)) (left_at after)
+PutLeaves old new place before after put.NotYet =
+    (new.took place ≡ old.took place) × (after ≡ before)
+PutLeaves old new place before after put.Failed =
+    (new.took place ≡ old.took place) × (after ≡ before)
 
 -- a put to a place was tried; where nothing is left of it, the edge wasn't asked
-pub record Tried (old new : EdgeState) (place : Place) (before after : Owing) (answer : Put) : Type 0 where
+pub record Tried (old new : EdgeState) (place : Place) (before after : Owing)
+    (answer : Put) : Type 0 where
   pub leaves : PutLeaves old new place before after answer
   pub gone : (other : Place) → is_gone_at after other ≡ is_gone_at before other
   pub others : (other : Place) → same_place place other ≡ false → Stands old new other

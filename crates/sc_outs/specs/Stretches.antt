@@ -49,7 +49,9 @@ longer more s = record { cut = s.cut; last = s.last ++ more }
 
 -- a failure ends the stretch; what a step sends comes behind that
 unfoldable pub after_deed : Place → Stretching → Deed → Stretching
-after_deed place s deed = longer (texts_for place deed.sent) (if deed.failed && is_lost place deed.step then ended s else s)
+after_deed place s deed =
+    longer (texts_for place deed.sent)
+    (if deed.failed && is_lost place deed.step then ended s else s)
 
 -- the stretches of a place after these deeds
 unfoldable pub stretching : Place → List Deed → Stretching
@@ -61,11 +63,14 @@ stretches place deeds = (stretching place deeds).cut ++ (stretching place deeds)
 
 -- ## What was taken of it
 
--- of each stretch a part was taken from its front, one after the other; `once` is that it was so of the first alone
+-- of each stretch a part was taken from its front, one after the other; `once` is that it was so of
+-- the first alone
 unfoldable pub AreTaken : Bool → List Bytes → Bytes → Type 0
 AreTaken once [] took = took ≡ []
 AreTaken true (stretch ∷ later) took = (cut : Bytes) × (stretch ≡ took ++ cut)
-AreTaken false (stretch ∷ later) took = (part : Bytes) × (cut : Bytes) × (rest : Bytes) × (stretch ≡ part ++ cut) × (took ≡ part ++ rest) × AreTaken false later rest
+AreTaken false (stretch ∷ later) took =
+    (part : Bytes) × (cut : Bytes) × (rest : Bytes) × (stretch ≡ part ++ cut)
+    × (took ≡ part ++ rest) × AreTaken false later rest
 
 -- a stretch has ended
 unfoldable pub has_some : List Bytes → Bool
@@ -76,7 +81,8 @@ has_some (stretch ∷ later) = true
 unfoldable pub is_gone : Place → List Bytes → Bool
 is_gone place cut = is_back place && has_some cut
 
--- of the last stretch this was taken, and this is left of the place; the Bool is whether the place is gone
+-- of the last stretch this was taken, and this is left of the place; the Bool is whether the place
+-- is gone
 unfoldable pub IsLeft : Bool → Bytes → Bytes → Bytes → Type 0
 IsLeft false last part left = last ≡ part ++ left
 IsLeft true last part left = (part ≡ []) × (left ≡ [])
@@ -90,7 +96,8 @@ pub record Writing (place : Place) (s : Stretching) (took left : Bytes) : Type 0
   pub last_is : IsLeft (is_gone place s.cut) s.last part left
 
 -- what an edge took of a place between two moments, where it tells it
-pub record IsWritten (place : Place) (first now : Option Bytes) (s : Stretching) (left : Bytes) : Type 0 where
+pub record IsWritten (place : Place) (first now : Option Bytes) (s : Stretching)
+    (left : Bytes) : Type 0 where
   pub took : Bytes
   pub takes : Takes first now took
   pub writing : Writing place s took left

@@ -17,7 +17,8 @@ pub fn place_of(outs: &[Held], place: Place) -> Option<usize>
 pub fn owe_text(outs: &mut List<Held>, place: Place, text: Text) -> Result<(), NoMemory>
     requires distinct { Distinct outs.old }
     ensures distinct { Distinct outs.new }
-    ensures ok { OnOk result (IsKept (bytes_of outs.old) place (bytes_of outs.old place ++ text) (bytes_of outs.new)) }
+    ensures ok { OnOk result
+        (IsKept (bytes_of outs.old) place (bytes_of outs.old place ++ text) (bytes_of outs.new)) }
     ensures err { OnErr result (outs.new ≡ outs.old) }
 {
     match place_of(outs.as_slice(), place) {
@@ -30,7 +31,9 @@ fn owe_more(outs: &mut [Held], place: Place, at: usize, text: &[u8]) -> Result<(
     requires distinct { Distinct outs.old }
     requires at { position (is_at place) outs.old ≡ Some at }
     ensures distinct { Distinct outs.new }
-    ensures ok { OnOk result (IsKept (bytes_of outs.old) place (bytes_of outs.old place ++ text.now) (bytes_of outs.new)) }
+    ensures ok { OnOk result
+        (IsKept (bytes_of outs.old) place (bytes_of outs.old place ++ text.now)
+        (bytes_of outs.new)) }
     ensures err { OnErr result (outs.new ≡ outs.old) }
 {
     outs[at].append(text)
@@ -40,7 +43,8 @@ fn owe_first(outs: &mut List<Held>, place: Place, text: Text) -> Result<(), NoMe
     requires distinct { Distinct outs.old }
     requires none { position (is_at place) outs.old ≡ None }
     ensures distinct { Distinct outs.new }
-    ensures ok { OnOk result (IsKept (bytes_of outs.old) place (bytes_of outs.old place ++ text) (bytes_of outs.new)) }
+    ensures ok { OnOk result
+        (IsKept (bytes_of outs.old) place (bytes_of outs.old place ++ text) (bytes_of outs.new)) }
     ensures err { OnErr result (outs.new ≡ outs.old) }
 {
     let held = Held::new(place, text)?;
@@ -68,7 +72,8 @@ pub fn take_at(outs: &mut List<Held>, place: Place, at: usize, count: usize)
     requires at { position (is_at place) outs.old ≡ Some at }
     requires within { count ≤ length (bytes_of outs.old place) }
     ensures distinct { Distinct outs.new }
-    ensures left { IsKept (bytes_of outs.old) place (drop count (bytes_of outs.old place)) (bytes_of outs.new) }
+    ensures left { IsKept (bytes_of outs.old) place (drop count (bytes_of outs.old place))
+        (bytes_of outs.new) }
 {
     if count == outs.as_slice()[at].left().len() {
         outs.items.remove(at);
@@ -82,7 +87,8 @@ fn take_some(outs: &mut [Held], place: Place, at: usize, count: usize)
     requires at { position (is_at place) outs.old ≡ Some at }
     requires within { count ≤ length (bytes_of outs.old place) }
     ensures distinct { Distinct outs.new }
-    ensures left { IsKept (bytes_of outs.old) place (drop count (bytes_of outs.old place)) (bytes_of outs.new) }
+    ensures left { IsKept (bytes_of outs.old) place (drop count (bytes_of outs.old place))
+        (bytes_of outs.new) }
 {
     outs[at].take(count);
 }

@@ -79,8 +79,8 @@ impl Outs {
         }
     }
 
-    /// Puts the written form of a message behind what is left of its place. A peer's connection that
-    /// failed gets none. The one error is want of memory, and then all is as before.
+    /// Puts the written form of a message behind what is left of its place. A peer's connection
+    /// that failed gets none. The one error is want of memory, and then all is as before.
     pub fn owe(&mut self, alloc: Global, sent: Sent) -> Result<(), NoMemory>
         ensures ok { OnOk result (IsOwed sent self.old self.new) }
         ensures err { OnErr result (self.new ≡ self.old) }
@@ -94,7 +94,8 @@ impl Outs {
         place: Place,
         message: &Message,
     ) -> Result<(), NoMemory>
-        ensures ok { OnOk result (IsOwed (record { place = place; message = message.now }) self.old self.new) }
+        ensures ok { OnOk result
+            (IsOwed (record { place = place; message = message.now }) self.old self.new) }
         ensures err { OnErr result (self.new ≡ self.old) }
     {
         if self.gone.has(place) {
@@ -104,8 +105,8 @@ impl Outs {
         owe_text(&mut self.outs, place, text)
     }
 
-    /// A place failed: what is left of it is dropped, and a peer's connection gets nothing more from
-    /// now on. The one error is want of memory, and then all is as before.
+    /// A place failed: what is left of it is dropped, and a peer's connection gets nothing more
+    /// from now on. The one error is want of memory, and then all is as before.
     pub fn lose(&mut self, at: Place) -> Result<(), NoMemory>
         ensures ok { OnOk result (IsLostAt at self.old self.new) }
         ensures err { OnErr result (self.new ≡ self.old) }
@@ -116,14 +117,15 @@ impl Outs {
     }
 
     /// Puts all that is left of a place once, and lets go of what the place took. Where nothing is
-    /// left of it, the edge isn't asked, and the answer is `NotYet`. Where an entry goes, those behind
-    /// it move up by one. A put that failed leaves all as it was, until [`Outs::lose`].
+    /// left of it, the edge isn't asked, and the answer is `NotYet`. Where an entry goes, those
+    /// behind it move up by one. A put that failed leaves all as it was, until [`Outs::lose`].
     pub fn put<E: Edge>(&mut self, edge: &mut E, place: Place) -> Put
         ensures tried { Tried (E.state edge.old) (E.state edge.new) place self.old self.new result }
         ensures later { CountsOn (E.state edge.old) (E.state edge.new) }
         ensures polled { IsNoPoll (E.state edge.old) (E.state edge.new) }
         ensures closes { (E.state edge.new).closes ≡ (E.state edge.old).closes }
-        ensures failed { result ≡ Put.Failed → Rose ((E.state edge.old).faults_at place) ((E.state edge.new).faults_at place) }
+        ensures failed { result ≡ Put.Failed
+            → Rose ((E.state edge.old).faults_at place) ((E.state edge.new).faults_at place) }
     {
         put_left(edge, &mut self.outs, place)
     }

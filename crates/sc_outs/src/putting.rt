@@ -15,11 +15,15 @@ use sc_value::{List, Place};
 pub fn put_left<E: Edge>(edge: &mut E, outs: &mut List<Held>, place: Place) -> Put
     requires distinct { Distinct outs.old }
     ensures distinct { Distinct outs.new }
-    ensures tried { (gone : Items ℕ) → Tried (E.state edge.old) (E.state edge.new) place (record { outs = outs.old; gone = gone }) (record { outs = outs.new; gone = gone }) result }
+    ensures tried { (gone : Items ℕ)
+        → Tried (E.state edge.old) (E.state edge.new) place
+        (record { outs = outs.old; gone = gone }) (record { outs = outs.new; gone = gone })
+        result }
     ensures later { CountsOn (E.state edge.old) (E.state edge.new) }
     ensures polled { IsNoPoll (E.state edge.old) (E.state edge.new) }
     ensures closes { (E.state edge.new).closes ≡ (E.state edge.old).closes }
-    ensures failed { result ≡ Put.Failed → Rose ((E.state edge.old).faults_at place) ((E.state edge.new).faults_at place) }
+    ensures failed { result ≡ Put.Failed
+        → Rose ((E.state edge.old).faults_at place) ((E.state edge.new).faults_at place) }
 {
     match place_of(outs.as_slice(), place) {
         Some(at) => put_at(edge, outs, place, at),
@@ -31,11 +35,15 @@ fn put_at<E: Edge>(edge: &mut E, outs: &mut List<Held>, place: Place, at: usize)
     requires distinct { Distinct outs.old }
     requires at { position (is_at place) outs.old ≡ Some at }
     ensures distinct { Distinct outs.new }
-    ensures tried { (gone : Items ℕ) → Tried (E.state edge.old) (E.state edge.new) place (record { outs = outs.old; gone = gone }) (record { outs = outs.new; gone = gone }) result }
+    ensures tried { (gone : Items ℕ)
+        → Tried (E.state edge.old) (E.state edge.new) place
+        (record { outs = outs.old; gone = gone }) (record { outs = outs.new; gone = gone })
+        result }
     ensures later { CountsOn (E.state edge.old) (E.state edge.new) }
     ensures polled { IsNoPoll (E.state edge.old) (E.state edge.new) }
     ensures closes { (E.state edge.new).closes ≡ (E.state edge.old).closes }
-    ensures failed { result ≡ Put.Failed → Rose ((E.state edge.old).faults_at place) ((E.state edge.new).faults_at place) }
+    ensures failed { result ≡ Put.Failed
+        → Rose ((E.state edge.old).faults_at place) ((E.state edge.new).faults_at place) }
 {
     let left = outs.as_slice()[at].left();
     if left.is_empty() {

@@ -1,5 +1,5 @@
--- Later requests of a dialog: which of them keep to the way of its INVITE, and which application sessions
--- one visits (RFC 3261 sections 12.2 and 16.12).
+-- Later requests of a dialog: which of them keep to the way of its INVITE, and which application
+-- sessions one visits (RFC 3261 sections 12.2 and 16.12).
 use Rattle.std.specs.Prelude.{ℕ, ◌+◌, ◌==◌, List, [], ◌∷◌, Bool, false, not, ◌&&◌, ◌||◌, Option, None, Some, is_some, is_none, option_map, option_and_then, if◌then◌else◌, length, slice_get, drop}
 use Rattle.std.specs.List.{find, list_any}
 use Rattle.std.specs.Option.{option_map_or}
@@ -31,8 +31,8 @@ use Rattle.sc_model.specs.DialogRequests.{cancel}
 
 -- ## One occurrence of a request
 
--- it came from outside by the step at this place of the run; or a session sent it by its turn there, as this
--- one of the turn's orders
+-- it came from outside by the step at this place of the run; or a session sent it by its turn
+-- there, as this one of the turn's orders
 pub record Occurrence : Type 0 where
   pub step : ℕ
   pub order : Option ℕ
@@ -51,24 +51,33 @@ pub record SetOut : Type 0 where
 
 -- the request of a step that came from outside, or of an order of the step's turn
 unfoldable pub set_out_by : Setup → Moment → Step → Option ℕ → Option SetOut
-set_out_by setup moment (steps.In place (messages.Request request)) None = Some (record { moment = moment; sender = peers.Outside place; request = request })
+set_out_by setup moment (steps.In place (messages.Request request)) None =
+    Some (record { moment = moment; sender = peers.Outside place; request = request })
 set_out_by setup moment (steps.Turn app event now made end) (Some order) =
-    option_map (λ request. record { moment = moment; sender = peers.Inside app.host; request = request }) (option_and_then later_in (slice_get (given_in setup moment) order))
+    option_map
+    (λ request. record { moment = moment; sender = peers.Inside app.host; request = request })
+    (option_and_then later_in (slice_get (given_in setup moment) order))
 set_out_by setup moment step order = None
 
 -- the request of an occurrence in a run, if there is one
 unfoldable pub set_out : Setup → List Moment → Occurrence → Option SetOut
-set_out setup run occurrence = option_and_then (λ moment. set_out_by setup moment moment.step occurrence.order) (slice_get run occurrence.step)
+set_out setup run occurrence =
+    option_and_then (λ moment. set_out_by setup moment moment.step occurrence.order)
+    (slice_get run occurrence.step)
 
 -- ## Which requests keep to the way
 
 -- no transaction takes it: it is no CANCEL and no ACK to a refusal, and did not come before
 unfoldable pub is_new : SetOut → Bool
-is_new out = not (same_bytes (method_of out.request) cancel) && not (list_any (λ host. is_claimed (claim_of out.sender out.request host)) out.moment.before.hosts)
+is_new out =
+    not (same_bytes (method_of out.request) cancel)
+    && not
+    (list_any (λ host. is_claimed (claim_of out.sender out.request host)) out.moment.before.hosts)
 
 -- a later request with these tags of From and To
 unfoldable pub is_between : Option Bytes → Option Bytes → Request → Bool
-is_between from to request = is_some (to_tag request) && same_tag (from_tag request) from && same_tag (to_tag request) to
+is_between from to request =
+    is_some (to_tag request) && same_tag (from_tag request) from && same_tag (to_tag request) to
 
 -- its tags are those of the dialog in this direction
 unfoldable pub has_tags : Dialog → Direction → Request → Bool
@@ -79,25 +88,31 @@ has_tags dialog From_callee request = is_between dialog.callee dialog.caller req
 unfoldable pub leads_to : Config → ℕ → AppId → Uri → Bool
 leads_to config epoch app uri = is_own config uri && names epoch app uri
 
--- its first Routes are those of these sessions. Behind them it goes to the session at the end; where there is
--- none nothing own is next
+-- its first Routes are those of these sessions. Behind them it goes to the session at the end;
+-- where there is none nothing own is next
 unfoldable pub leads : Config → ℕ → List AppId → Option AppId → Request → Bool
 leads config epoch [] None request = not (is_own config (next_uri request))
-leads config epoch [] (Some app) request = length request.head.route == 0 && leads_to config epoch app request.uri
+leads config epoch [] (Some app) request =
+    length request.head.route == 0 && leads_to config epoch app request.uri
 leads config epoch (app ∷ apps) end request =
-    option_map_or (λ route. leads_to config epoch app route.uri) (slice_get request.head.route 0) false && leads config epoch apps end (unrouted config request)
+    option_map_or (λ route. leads_to config epoch app route.uri) (slice_get request.head.route 0)
+    false && leads config epoch apps end (unrouted config request)
 
--- the request keeps to the way of the piece. One that is to visit nobody is not own by its Request-URI either:
--- where a request comes, a foreign top Route is passed over
+-- the request keeps to the way of the piece. One that is to visit nobody is not own by its
+-- Request-URI either: where a request comes, a foreign top Route is passed over
 unfoldable pub carries_by : Config → List Moment → Dialog → Direction → Piece → SetOut → Bool
 carries_by config run dialog direction piece out =
-    is_new out && same_bytes out.request.head.call_id dialog.call_id && has_tags dialog direction out.request
-    && leads config out.moment.before.epoch (along direction (recorders run piece)) (end_of direction piece) out.request
+    is_new out && same_bytes out.request.head.call_id dialog.call_id
+    && has_tags dialog direction out.request
+    && leads config out.moment.before.epoch (along direction (recorders run piece))
+    (end_of direction piece) out.request
     && (not (length (ahead run direction piece) == 0) || is_none (own_uri config out.request))
 
 -- the same of an occurrence in a run
 unfoldable pub carries : Setup → List Moment → Dialog → Direction → Piece → Occurrence → Bool
-carries setup run dialog direction piece occurrence = option_map_or (carries_by setup.config run dialog direction piece) (set_out setup run occurrence) false
+carries setup run dialog direction piece occurrence =
+    option_map_or (carries_by setup.config run dialog direction piece)
+    (set_out setup run occurrence) false
 
 -- ## Which sessions it visits
 
@@ -108,15 +123,18 @@ later_vias event = None
 
 -- it is a later request with these Vias below so many others
 unfoldable pub has_vias : ℕ → List Via → Got → Bool
-has_vias more vias got = option_map_or (λ v. same_vias vias (drop more v)) (later_vias got.waiting.event) false
+has_vias more vias got =
+    option_map_or (λ v. same_vias vias (drop more v)) (later_vias got.waiting.event) false
 
 -- the second is the first as it was passed on, with one Via more
 unfoldable pub is_passed_on : Got → Got → Bool
-is_passed_on got next = option_map_or (λ vias. has_vias 1 vias next) (later_vias got.waiting.event) false
+is_passed_on got next =
+    option_map_or (λ vias. has_vias 1 vias next) (later_vias got.waiting.event) false
 
 -- the step is the turn of this event
 unfoldable pub is_turn_of : Got → Step → Bool
-is_turn_of got (steps.Turn app event now made end) = is_same_app app got.app && event == got.waiting.number
+is_turn_of got (steps.Turn app event now made end) =
+    is_same_app app got.app && event == got.waiting.number
 is_turn_of got step = false
 
 -- the session where it waits, and those to which it is passed on in its turns
@@ -130,4 +148,7 @@ visits_from (Some got) (moment ∷ later) =
 -- the sessions whose inbox got it, by itself or as passed on, in order
 unfoldable pub visits : Setup → List Moment → Occurrence → List AppId
 visits setup run occurrence =
-    option_map_or (λ out. visits_from (find (has_vias 0 out.request.head.via) (got_in out.moment)) (drop (occurrence.step + 1) run)) (set_out setup run occurrence) []
+    option_map_or
+    (λ out.
+    visits_from (find (has_vias 0 out.request.head.via) (got_in out.moment))
+    (drop (occurrence.step + 1) run)) (set_out setup run occurrence) []

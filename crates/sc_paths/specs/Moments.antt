@@ -1,5 +1,5 @@
--- A run step by step: what each step queues, and what its turn gives to send; how an application session
--- began, and whether it proxied the request that began it.
+-- A run step by step: what each step queues, and what its turn gives to send; how an application
+-- session began, and whether it proxied the request that began it.
 use Rattle.std.specs.Prelude.{ℕ, List, [], ◌∷◌, Bool, ◌&&◌, Option, None, Some, is_none, option_and_then, nat_lt, if◌then◌else◌, map, filter, slice_get}
 use Rattle.std.specs.Cmp.Lexicographic.{pointwise}
 use Rattle.std.specs.List.{find, filter_map, flat_map}
@@ -39,7 +39,8 @@ pub record Moment : Type 0 where
 unfoldable pub moments_from : Setup → Net Session → List Step → List Moment
 moments_from setup net [] = []
 moments_from setup net (step ∷ steps) =
-    let after : Net Session = after_step as_session setup net step in record { before = net; step = step; after = after } ∷ moments_from setup after steps
+    let after : Net Session = after_step as_session setup net step in
+    record { before = net; step = step; after = after } ∷ moments_from setup after steps
 
 -- the run of a journal
 unfoldable pub moments : Setup → ℕ → ℕ → List Step → List Moment
@@ -54,18 +55,26 @@ pub record Got : Type 0 where
 
 -- the events that wait in a session
 unfoldable pub waiting_at : Net Session → AppId → List Got
-waiting_at net app = map (λ waiting. record { app = app; waiting = waiting }) (inbox_of (live_at app net))
+waiting_at net app =
+    map (λ waiting. record { app = app; waiting = waiting }) (inbox_of (live_at app net))
 
 -- the events that the step queued: their numbers are above all before
 unfoldable pub got_in : Moment → List Got
-got_in moment = filter (λ got. nat_lt moment.before.count got.waiting.number) (flat_map (waiting_at moment.after) (live_from 0 moment.after.hosts))
+got_in moment =
+    filter (λ got. nat_lt moment.before.count got.waiting.number)
+    (flat_map (waiting_at moment.after) (live_from 0 moment.after.hosts))
 
 -- ## What its turn gives to send
 
 -- what a step's turn gives to send
 unfoldable pub orders_by : Setup → Net Session → Step → List Order
 orders_by setup net (steps.Turn app event now made end) =
-    option_map_or (λ live. option_map_or (λ waiting. (outcome_by as_session setup.config live.session (turn_of net app waiting now made end)).orders) (slice_get live.inbox 0) [])
+    option_map_or
+    (λ live.
+    option_map_or
+    (λ waiting.
+    (outcome_by as_session setup.config live.session (turn_of net app waiting now made end)).orders)
+    (slice_get live.inbox 0) [])
     (live_at app net) []
 orders_by setup net step = []
 
@@ -81,9 +90,11 @@ is_first_of app server = is_same_app server.app app && is_none (to_tag server.re
 
 -- that of this session in a net, if it is kept
 unfoldable pub first_server : AppId → Net Session → Option Server
-first_server app net = option_and_then (λ host. find (is_first_of app) host.servers) (host_at app.host net)
+first_server app net =
+    option_and_then (λ host. find (is_first_of app) host.servers) (host_at app.host net)
 
--- as it was in the first net that has it: a session begins within a step, and lives when that has ended
+-- as it was in the first net that has it: a session begins within a step, and lives when that has
+-- ended
 unfoldable pub began_with : List Moment → AppId → Option Server
 began_with run app = slice_get (filter_map (λ moment. first_server app moment.after) run) 0
 
@@ -97,10 +108,12 @@ options_of call answer = None
 
 -- those of all such calls in a session's turn
 unfoldable pub options_in : AppId → Step → List ProxyOptions
-options_in app (steps.Turn other event now made end) = if is_same_app other app then filter_map (λ made. options_of made.call made.answer) made else []
+options_in app (steps.Turn other event now made end) =
+    if is_same_app other app then filter_map (λ made. options_of made.call made.answer) made else []
 options_in app step = []
 
--- the options with which a session proxied it, where it did: those of the first call that was accepted
+-- the options with which a session proxied it, where it did: those of the first call that was
+-- accepted
 unfoldable pub proxied_with : List Moment → AppId → Option ProxyOptions
 proxied_with run app = slice_get (flat_map (λ moment. options_in app moment.step) run) 0
 

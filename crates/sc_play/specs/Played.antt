@@ -33,12 +33,15 @@ steps_in epochs = sum_by (λ epoch. length epoch.journal) epochs
 abbrev pub counted : ℕ → ℕ
 counted n = min n 18446744073709551615
 
--- what is written of a run whose last epoch goes on: a record for each message that its epochs send, in the order of
--- sending, and the last line, which has how many steps and messages these are and how many sessions live on
+-- what is written of a run whose last epoch goes on: a record for each message that its epochs
+-- send, in the order of sending, and the last line, which has how many steps and messages these are
+-- and how many sessions live on
 unfoldable pub run_output : Setup → List Epoch → Epoch → Bytes
 run_output setup ended running =
     let sent = all_sent_by as_session setup (ended ++ running ∷ []) in
-    records sent ++ end_text (counted (steps_in (ended ++ running ∷ []))) (counted (length sent)) (live_count (net_after as_session setup running))
+    records sent
+    ++ end_text (counted (steps_in (ended ++ running ∷ []))) (counted (length sent))
+    (live_count (net_after as_session setup running))
 
 -- what was lent out is another matter
 unfoldable pub Lent : Known → Known → Type 0
@@ -79,22 +82,25 @@ running known = record { number = known.epoch; began = known.began; journal = wh
 abbrev pub uncounted : Counts
 uncounted = record { steps = 0; sent = 0 }
 
--- the switch stands behind a recording's text: it is that of the epochs that ended and of the steps of the running one,
--- all of which it has handed on; and with lawful epochs behind them, the run is lawful. All that they send was put,
--- between the two moments of a sink, and counted
-pub record IsPlayed (setup : Setup) (text : Bytes) (known : Known) (counts : Counts) (first now : Option Bytes) : Type 0 where
+-- the switch stands behind a recording's text: it is that of the epochs that ended and of the steps
+-- of the running one, all of which it has handed on; and with lawful epochs behind them, the run is
+-- lawful. All that they send was put, between the two moments of a sink, and counted
+pub record IsPlayed (setup : Setup) (text : Bytes) (known : Known) (counts : Counts)
+    (first now : Option Bytes) : Type 0 where
   pub ended : List Epoch
   pub text_is : text ≡ ended_text ended ++ steps_text (whole known)
-  pub lawful : (later : List Epoch) → IsLawfulAfter as_session setup known.epoch known.began later → AreLawful as_session setup (ended ++ later)
+  pub lawful : (later : List Epoch) → IsLawfulAfter as_session setup known.epoch known.began later
+      → AreLawful as_session setup (ended ++ later)
   pub setup_is : known.setup ≡ setup
   pub journal_is : known.journal ≡ []
   pub left_is : known.left ≡ []
   pub takes : Takes first now (records (all_sent_by as_session setup (ended ++ running known ∷ [])))
   pub steps_is : counts.steps ≡ counted (steps_in (ended ++ running known ∷ []))
-  pub sent_is : counts.sent ≡ counted (length (all_sent_by as_session setup (ended ++ running known ∷ [])))
+  pub sent_is : counts.sent
+      ≡ counted (length (all_sent_by as_session setup (ended ++ running known ∷ [])))
 
--- the text is the recording of a lawful run: of epochs that ended, and of one that goes on; and what is written of that
--- run was put between the two moments of a sink
+-- the text is the recording of a lawful run: of epochs that ended, and of one that goes on; and
+-- what is written of that run was put between the two moments of a sink
 pub record IsRecording (setup : Setup) (text : Bytes) (first now : Option Bytes) : Type 0 where
   pub ended : List Epoch
   pub running : Epoch
@@ -103,14 +109,16 @@ pub record IsRecording (setup : Setup) (text : Bytes) (first now : Option Bytes)
   pub output_is : Takes first now (run_output setup ended running)
 
 -- so is a text that is told, where one is
-pub record IsRecorded (setup : Setup) (told : Option Bytes) (first now : Option Bytes) : Type 0 where
+pub record IsRecorded (setup : Setup) (told : Option Bytes)
+    (first now : Option Bytes) : Type 0 where
   pub text : Bytes
   pub told_is : GivesAll text told
   pub recording : IsRecording setup text first now
 
--- the third text is the recording of a lawful run under the settings that the first two are, and what is written of
--- that run was put
-pub record PlaysBack (names : List Bytes) (kinds : List Charters) (told : Told) (first now : Option Bytes) : Type 0 where
+-- the third text is the recording of a lawful run under the settings that the first two are, and
+-- what is written of that run was put
+pub record PlaysBack (names : List Bytes) (kinds : List Charters) (told : Told)
+    (first now : Option Bytes) : Type 0 where
   pub setup : Setup
   pub settings : TellsSetup names kinds told setup
   pub recorded : IsRecorded setup told.script first now

@@ -21,8 +21,9 @@ pub enum Unread {
     NoMemory,
 }
 
-/// The turns of a recording that were lent out at an earlier moment than that at which they were made, by the moments of
-/// their lending. So each row of the recording is read once before anything is played.
+/// The turns of a recording that were lent out at an earlier moment than that at which they were
+/// made, by the moments of their lending. So each row of the recording is read once before anything
+/// is played.
 ///
 /// # Errors
 ///
@@ -45,7 +46,8 @@ pub fn early_turns(alloc: Global, text: &[u8]) -> Result<Vec<Early>, Unread> {
     Ok(early)
 }
 
-/// Goes on to the moment of a row, and notes a turn that was lent before it: false where the clock goes back.
+/// Goes on to the moment of a row, and notes a turn that was lent before it: false where the clock
+/// goes back.
 fn note(entry: &Entry<'_>, moment: &mut u64, early: &mut Vec<Early>) -> Result<bool, Unread> {
     match entry {
         Entry::Tick(now) => {

@@ -12,8 +12,8 @@ fn heard_in(alloc: Global, bytes: &[u8]) -> Result<Heard, NoMemory> {
     Ok(stream.next())
 }
 
-/// The headers that these lines are, where a request with them can be answered: they are put into one whose
-/// Content-Length is no number.
+/// The headers that these lines are, where a request with them can be answered: they are put into
+/// one whose Content-Length is no number.
 pub fn heads_in(alloc: Global, lines: &[u8]) -> Result<Option<Boxed<Answerable>>, NoMemory> {
     if lines.is_empty() {
         return Ok(None);

@@ -1,5 +1,5 @@
-//! The command `play`: takes the steps of a recording again, and writes what is sent. Its parts are public, for others
-//! that play a recording and show something else of it.
+//! The command `play`: takes the steps of a recording again, and writes what is sent. Its parts are
+//! public, for others that play a recording and show something else of it.
 #![tactic(auto)]
 
 mod early;

@@ -10,7 +10,8 @@ pub const MOST_COUNT: u64 = 9_223_372_036_854_775_808;
 
 /// What stands before the first such sign and behind it; none where there is no such sign.
 pub fn split(text: &[u8], sign: u8) -> Option<(&[u8], &[u8])>
-    ensures { IfSome result (λ parts. length parts.0.now + length parts.1.now + 1 ≡ length text.now) }
+    ensures { IfSome result
+        (λ parts. length parts.0.now + length parts.1.now + 1 ≡ length text.now) }
 {
     for at in 0..text.len() {
         if text[at] == sign {

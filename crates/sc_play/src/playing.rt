@@ -19,13 +19,15 @@ use std::alloc::Global;
 /// The most bytes of a recording.
 const LONGEST: usize = 1_073_741_824;
 
-/// Takes the steps of a recording again, and puts what they send: a record for each message, `out PLACE N`, the N
-/// bytes of the message, and then the line `end STEPS SENT LIVE`. The words are `play CONFIG DAR RECORDING`, the names
-/// of three texts on the shelf, which are read in this order.
+/// Takes the steps of a recording again, and puts what they send: a record for each message, `out
+/// PLACE N`, the N bytes of the message, and then the line `end STEPS SENT LIVE`. The words are
+/// `play CONFIG DAR RECORDING`, the names of three texts on the shelf, which are read in this
+/// order.
 ///
-/// Each step that is taken is told again, and has to have just the bytes that stand in the recording; the servlets are
-/// called anew. So what is put is what these settings make of the recorded messages and moments: at `Done` the records
-/// of all that the recorded run sends, epoch by epoch, and the line with its counts, each of 64 bits at most.
+/// Each step that is taken is told again, and has to have just the bytes that stand in the
+/// recording; the servlets are called anew. So what is put is what these settings make of the
+/// recorded messages and moments: at `Done` the records of all that the recorded run sends, epoch
+/// by epoch, and the line with its counts, each of 64 bits at most.
 ///
 /// The status says how it ended:
 ///
@@ -33,8 +35,8 @@ const LONGEST: usize = 1_073_741_824;
 /// - `Usage`: the words have another form.
 /// - `Config`, `Dar`: the settings are refused.
 /// - `Script`: the recording is refused at the row that begins at this byte: kinds 1 to 5 and 7 as of a script, before
-///   anything is put; 8 where another step is made than the one that stands there, or none, and then what the rows
-///   before it send is put.
+/// anything is put; 8 where another step is made than the one that stands there, or none, and then
+/// what the rows before it send is put.
 /// - `JournalFull`: a step has more bytes than the journal takes.
 /// - `Read`, `Write`: a text couldn't be read, or the output not written.
 /// - `NoMemory`: want of memory, at any place.
@@ -45,7 +47,14 @@ pub fn play<F: Shelf, K: Sink>(
     apps: &Catalogue,
     out: &mut K,
 ) -> Status
-    ensures done { result ≡ Status.Done → PlaysBack apps.now.names (map (λ k. both_charters (stated (k.servlet.vtable, k.servlet.value)) (option_map (λ l. listens (l.vtable, l.value)) k.listener)) apps.now.kinds) (told_by (λ name. F.holds shelf.old name) (map string_bytes words.now)) (K.took out.old) (K.took out.new) }
+    ensures done { result ≡ Status.Done
+        → PlaysBack apps.now.names
+        (map
+        (λ k.
+        both_charters (stated (k.servlet.vtable, k.servlet.value))
+        (option_map (λ l. listens (l.vtable, l.value)) k.listener)) apps.now.kinds)
+        (told_by (λ name. F.holds shelf.old name) (map string_bytes words.now)) (K.took out.old)
+        (K.took out.new) }
 {
     match texts_of(words) {
         Some((config, dar, recording)) => {
@@ -57,9 +66,12 @@ pub fn play<F: Shelf, K: Sink>(
 
 /// The names of the three texts, None where the words are not `play CONFIG DAR RECORDING`.
 fn texts_of(words: &[String]) -> Option<(&String, &String, &String)>
-    ensures config { IfSome result (λ names. string_bytes names.0.now ≡ get_or (map string_bytes words.now) 1 []) }
-    ensures dar { IfSome result (λ names. string_bytes names.1.now ≡ get_or (map string_bytes words.now) 2 []) }
-    ensures recording { IfSome result (λ names. string_bytes names.2.now ≡ get_or (map string_bytes words.now) 3 []) }
+    ensures config { IfSome result
+        (λ names. string_bytes names.0.now ≡ get_or (map string_bytes words.now) 1 []) }
+    ensures dar { IfSome result
+        (λ names. string_bytes names.1.now ≡ get_or (map string_bytes words.now) 2 []) }
+    ensures recording { IfSome result
+        (λ names. string_bytes names.2.now ≡ get_or (map string_bytes words.now) 3 []) }
 {
     let [word, config, dar, recording] = words else {
         return None;
@@ -85,7 +97,17 @@ fn play_texts<F: Shelf, K: Sink>(
     apps: &Catalogue,
     out: &mut K,
 ) -> Status
-    ensures done { result ≡ Status.Done → PlaysBack apps.now.names (map (λ k. both_charters (stated (k.servlet.vtable, k.servlet.value)) (option_map (λ l. listens (l.vtable, l.value)) k.listener)) apps.now.kinds) (record { config = F.holds shelf.old (string_bytes config.now); dar = F.holds shelf.old (string_bytes dar.now); script = F.holds shelf.old (string_bytes recording.now) }) (K.took out.old) (K.took out.new) }
+    ensures done { result ≡ Status.Done
+        → PlaysBack apps.now.names
+        (map
+        (λ k.
+        both_charters (stated (k.servlet.vtable, k.servlet.value))
+        (option_map (λ l. listens (l.vtable, l.value)) k.listener)) apps.now.kinds)
+        (record {
+          config = F.holds shelf.old (string_bytes config.now);
+          dar = F.holds shelf.old (string_bytes dar.now);
+          script = F.holds shelf.old (string_bytes recording.now);
+        }) (K.took out.old) (K.took out.new) }
 {
     match read_settings(alloc, config, dar, shelf, apps.names()) {
         Ok(settings) => play_over(alloc, settings, recording, shelf, apps, out),
@@ -102,8 +124,25 @@ fn play_over<F: Shelf, K: Sink>(
     apps: &Catalogue,
     out: &mut K,
 ) -> Status
-    requires { IsSetup (record { config = settings.config; dar = settings.dar; kinds = map (λ k. both_charters (stated (k.servlet.vtable, k.servlet.value)) (option_map (λ l. listens (l.vtable, l.value)) k.listener)) apps.now.kinds }) }
-    ensures done { result ≡ Status.Done → IsRecorded (record { config = settings.config; dar = settings.dar; kinds = map (λ k. both_charters (stated (k.servlet.vtable, k.servlet.value)) (option_map (λ l. listens (l.vtable, l.value)) k.listener)) apps.now.kinds }) (F.holds shelf.old (string_bytes recording.now)) (K.took out.old) (K.took out.new) }
+    requires { IsSetup
+        (record {
+          config = settings.config;
+          dar = settings.dar;
+          kinds = map
+              (λ k.
+              both_charters (stated (k.servlet.vtable, k.servlet.value))
+              (option_map (λ l. listens (l.vtable, l.value)) k.listener)) apps.now.kinds;
+        }) }
+    ensures done { result ≡ Status.Done
+        → IsRecorded
+        (record {
+          config = settings.config;
+          dar = settings.dar;
+          kinds = map
+              (λ k.
+              both_charters (stated (k.servlet.vtable, k.servlet.value))
+              (option_map (λ l. listens (l.vtable, l.value)) k.listener)) apps.now.kinds;
+        }) (F.holds shelf.old (string_bytes recording.now)) (K.took out.old) (K.took out.new) }
 {
     let Settings { config, dar } = settings;
     match Switch::new(alloc, config, dar, apps) {
@@ -127,7 +166,9 @@ fn play_on<F: Shelf, K: Sink>(
     requires journal { switch.journal ≡ [] }
     requires left { switch.left ≡ [] }
     ensures later { F.faults shelf.old ≤ F.faults shelf.new }
-    ensures done { result ≡ Status.Done → IsRecorded switch.setup (F.holds shelf.old (string_bytes recording.now)) (K.took out.old) (K.took out.new) }
+    ensures done { result ≡ Status.Done
+        → IsRecorded switch.setup (F.holds shelf.old (string_bytes recording.now)) (K.took out.old)
+        (K.took out.new) }
 {
     match read_recording(alloc, recording, shelf) {
         Ok(text) => run(alloc, text.as_bytes(), switch, apps, out),

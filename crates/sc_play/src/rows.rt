@@ -30,8 +30,8 @@ const MOST_BYTES: u64 = 1_073_741_824;
 pub enum Entry<'a> {
     /// The text of this message came from the place.
     In(Place, &'a [u8]),
-    /// A text that is no message came from the place; where and how it goes wrong, and the headers from which it
-    /// is answered.
+    /// A text that is no message came from the place; where and how it goes wrong, and the headers
+    /// from which it is answered.
     Bad(Place, usize, u8, &'a [u8]),
     /// The place was lost.
     Lost(Place),
@@ -73,7 +73,8 @@ pub fn row_at(text: &[u8]) -> Result<Row<'_>, u8>
 
 /// The first line and what stands behind its line feed.
 fn split_line(text: &[u8]) -> Option<(&[u8], &[u8])>
-    ensures { IfSome result (λ parts. length parts.0.now + length parts.1.now + 1 ≡ length text.now) }
+    ensures { IfSome result
+        (λ parts. length parts.0.now + length parts.1.now + 1 ≡ length text.now) }
 {
     split(text, b'\n')
 }
@@ -114,7 +115,8 @@ fn app_of(host: &[u8], serial: &[u8]) -> Option<AppId> {
     })
 }
 
-/// A row behind whose line, of so many bytes, as many bytes stand as its last word says, and a line feed.
+/// A row behind whose line, of so many bytes, as many bytes stand as its last word says, and a line
+/// feed.
 fn long_row<'a>(own: usize, word: &[u8], rest: &[u8], after: &'a [u8]) -> Result<Row<'a>, u8>
     requires { own + length after.now ≤ 9223372036854775807 }
     ensures some { IfOk result (λ row. own ≤ row.len) }

@@ -1,4 +1,5 @@
-//! The rows of a recording, one after the other: each step is taken, told again, compared, and what it sends is put.
+//! The rows of a recording, one after the other: each step is taken, told again, compared, and what
+//! it sends is put.
 
 ghost use Rattle.std.specs.Prelude.{◌≡◌, ◌≤◌, ◌<◌, ◌+◌, ◌++◌, ◌∷◌, [], IfOk, OnOk, Option, drop, length, take, true};
 ghost use Rattle.sc_parts.specs.declared.setup.Setup.{Setup};
@@ -43,7 +44,8 @@ pub fn run<K: Sink>(
     requires handed { switch.handed ≡ [] }
     requires journal { switch.journal ≡ [] }
     requires left { switch.left ≡ [] }
-    ensures done { result ≡ Status.Done → IsRecording switch.setup text.now (K.took out.old) (K.took out.new) }
+    ensures done { result ≡ Status.Done
+        → IsRecording switch.setup text.now (K.took out.old) (K.took out.new) }
 {
     match early_turns(alloc, text) {
         Ok(early) => run_with(alloc, text, Player::new(alloc, switch, early), apps, out),
@@ -70,7 +72,8 @@ fn run_with<K: Sink>(
     requires handed { player.switch.handed ≡ [] }
     requires journal { player.switch.journal ≡ [] }
     requires left { player.switch.left ≡ [] }
-    ensures done { result ≡ Status.Done → IsRecording player.switch.setup text.now (K.took out.old) (K.took out.new) }
+    ensures done { result ≡ Status.Done
+        → IsRecording player.switch.setup text.now (K.took out.old) (K.took out.new) }
 {
     let status = play_rows(alloc, text, &mut player, apps, out);
     player.discard();
@@ -86,7 +89,9 @@ fn play_rows<K: Sink>(
     apps: &Catalogue,
     out: &mut K,
 ) -> Status
-    ensures done { result ≡ Status.Done → (setup : Setup) → IsPlayed setup [] player.old.switch uncounted (K.took out.old) (K.took out.old) → IsRecording setup text.now (K.took out.old) (K.took out.new) }
+    ensures done { result ≡ Status.Done → (setup : Setup)
+        → IsPlayed setup [] player.old.switch uncounted (K.took out.old) (K.took out.old)
+        → IsRecording setup text.now (K.took out.old) (K.took out.new) }
 {
     let mut counts = Counts { steps: 0, sent: 0 };
     let mut at = 0;
@@ -125,7 +130,12 @@ fn play_at<K: Sink>(
     requires { at ≤ length text.now }
     ensures later { IfOk result (λ next. at < next) }
     ensures within { IfOk result (λ next. next ≤ length text.now) }
-    ensures played { IfOk result (λ next. (setup : Setup) (first : Option Bytes) → IsPlayed setup (take at text.now) player.old.switch counts.old first (K.took out.old) → IsPlayed setup (take next text.now) player.new.switch counts.new first (K.took out.new)) }
+    ensures played { IfOk result
+        (λ next.
+        (setup : Setup) (first : Option Bytes)
+        → IsPlayed setup (take at text.now) player.old.switch counts.old first (K.took out.old)
+        → IsPlayed setup (take next text.now) player.new.switch counts.new first
+        (K.took out.new)) }
 {
     let rest = rest_at(text, at);
     match row_at(rest) {
@@ -210,7 +220,11 @@ fn play_row<K: Sink>(
     counts: &mut Counts,
     out: &mut K,
 ) -> Result<(), Unplayed>
-    ensures { OnOk result ((setup : Setup) (before : Bytes) (first : Option Bytes) → IsPlayed setup before player.old.switch counts.old first (K.took out.old) → IsPlayed setup (before ++ bytes.now) player.new.switch counts.new first (K.took out.new)) }
+    ensures { OnOk result
+        ((setup : Setup) (before : Bytes) (first : Option Bytes)
+        → IsPlayed setup before player.old.switch counts.old first (K.took out.old)
+        → IsPlayed setup (before ++ bytes.now) player.new.switch counts.new first
+        (K.took out.new)) }
 {
     match row.entry {
         Entry::Epoch => match end_epoch(alloc, bytes, &mut player.switch) {
@@ -236,7 +250,8 @@ fn play_step(
     player: &mut Player,
     apps: &Catalogue,
 ) -> Result<(), Unplayed>
-    ensures { OnOk result (player.old.switch.journal ≡ [] → IsRow player.old.switch player.new.switch bytes.now) }
+    ensures { OnOk result
+        (player.old.switch.journal ≡ [] → IsRow player.old.switch player.new.switch bytes.now) }
 {
     match take_step(alloc, apps, entry, player) {
         Ok(()) => match is_last_step(alloc, bytes, &mut player.switch) {
@@ -257,9 +272,11 @@ fn put_row<K: Sink>(
 ) -> Result<(), Unplayed>
     ensures same { switch.new ≡ record switch.old { left = switch.new.left } }
     ensures left { OnOk result (switch.new.left ≡ []) }
-    ensures takes { OnOk result (Takes (K.took out.old) (K.took out.new) (records switch.old.left)) }
+    ensures takes { OnOk result
+        (Takes (K.took out.old) (K.took out.new) (records switch.old.left)) }
     ensures steps { OnOk result (counts.new.steps ≡ counted (counts.old.steps + 1)) }
-    ensures sent { OnOk result (counts.new.sent ≡ counted (counts.old.sent + length switch.old.left)) }
+    ensures sent { OnOk result
+        (counts.new.sent ≡ counted (counts.old.sent + length switch.old.left)) }
 {
     let sent = switch.untaken();
     match put_sent(alloc, switch, out) {
@@ -279,7 +296,10 @@ fn put_row<K: Sink>(
 /// `NoMemory`; the step is handed on.
 pub fn is_last_step(alloc: Global, bytes: &[u8], switch: &mut Switch) -> Result<bool, NoMemory>
     ensures handed { switch.new ≡ handing switch.old }
-    ensures same { IfOk result (λ same. same ≡ true → (step : Step) → switch.old.journal ≡ step ∷ [] → bytes.now ≡ step_text step) }
+    ensures same { IfOk result
+        (λ same.
+        same ≡ true → (step : Step) → switch.old.journal ≡ step ∷ []
+        → bytes.now ≡ step_text step) }
 {
     let journal = switch.hand_on();
     match journal.get(0) {
@@ -317,7 +337,8 @@ pub fn end_epoch(alloc: Global, bytes: &[u8], switch: &mut Switch) -> Result<(),
 
 /// Whether the text of an epoch's end has these bytes.
 fn is_end(alloc: Global, bytes: &[u8], ended: &Epoch) -> Result<bool, NoMemory>
-    ensures { IfOk result (λ same. same ≡ true → bytes.now ≡ epoch_text ended.now.number ended.now.began) }
+    ensures { IfOk result
+        (λ same. same ≡ true → bytes.now ≡ epoch_text ended.now.number ended.now.began) }
 {
     let text = epoch_text(alloc, ended.number, ended.began)?;
     Ok(text.as_bytes() == bytes)
@@ -325,7 +346,9 @@ fn is_end(alloc: Global, bytes: &[u8], ended: &Epoch) -> Result<bool, NoMemory>
 
 /// Puts the last line.
 fn put_last<K: Sink>(alloc: Global, counts: Counts, switch: &Switch, out: &mut K) -> Status
-    ensures { result ≡ Status.Done → Takes (K.took out.old) (K.took out.new) (end_text counts.steps counts.sent (live_count (net_of switch.now))) }
+    ensures { result ≡ Status.Done
+        → Takes (K.took out.old) (K.took out.new)
+        (end_text counts.steps counts.sent (live_count (net_of switch.now))) }
 {
     match put_end(alloc, counts.steps, counts.sent, switch.live(), out) {
         Ok(()) => Status::Done,

@@ -193,8 +193,8 @@ fn go_on(alloc: Global, now: u64, switch: &mut Switch) -> Result<(), Untaken>
     }
 }
 
-/// Lends out the turns of which the recording says that they were lent out at the last moment or before, and made
-/// later.
+/// Lends out the turns of which the recording says that they were lent out at the last moment or
+/// before, and made later.
 ///
 /// # Errors
 ///
@@ -211,7 +211,8 @@ pub fn lend_early(alloc: Global, player: &mut Player) -> Result<(), NoMemory>
     Ok(())
 }
 
-/// Lends out the next of these turns, where its moment isn't above the last one: whether there was one.
+/// Lends out the next of these turns, where its moment isn't above the last one: whether there was
+/// one.
 #[tactic(auto, using(crate::proofs::PlayLaws::lent_none, crate::proofs::PlayLaws::lent_of))]
 fn lend_next(alloc: Global, player: &mut Player) -> Result<bool, NoMemory>
     ensures { OnOk result (Lent player.old.switch player.new.switch) }
@@ -268,7 +269,8 @@ fn take_turn(
     }
 }
 
-/// The turn of a session that was lent out, or that is lent out now; none where no event waits for it.
+/// The turn of a session that was lent out, or that is lent out now; none where no event waits for
+/// it.
 ///
 /// # Errors
 ///

@@ -22,7 +22,13 @@ use std::alloc::Global;
 
 // The CANCEL is shown, where the SipSession of its INVITE is there.
 fn shown_cancel(view: &View, invited: Invited, req: Option<ReqId>, orders: List<Order>) -> Shown
-    ensures { result ≡ record { event = if is_gone_in view.entry.now invited.sess then None else Some (Event.Cancelled invited.req invited.sess); req = req; orders = orders } }
+    ensures { result
+        ≡ record {
+          event = if is_gone_in view.entry.now invited.sess then None else Some
+              (Event.Cancelled invited.req invited.sess);
+          req = req;
+          orders = orders;
+        } }
 {
     let event = Event::Cancelled {
         req: invited.req,
@@ -45,7 +51,12 @@ fn terminated_order(
     invited: Invited,
     request: &Request,
 ) -> Result<List<Order>, NoMemory>
-    ensures { IfOk result (λ l. l ≡ Order.Respond invited.event (own_response (own_tag_of view.entry.now invited.sess) 487 request_terminated request.now) ∷ []) }
+    ensures { IfOk result
+        (λ l.
+        l
+        ≡ Order.Respond invited.event
+        (own_response (own_tag_of view.entry.now invited.sess) 487 request_terminated
+        request.now) ∷ []) }
 {
     let tag = own_tag_of(view, invited.sess);
     let response = terminated_answer(alloc, tag, request)?;
@@ -60,7 +71,9 @@ fn terminated_kept(
     request: &RequestView,
     kept: &Kept,
 ) -> Result<Shown, NoMemory>
-    ensures { IfOk result (λ s. terminated session.old invited request.now (Some kept.now) ≡ prepared_as session.new s) }
+    ensures { IfOk result
+        (λ s.
+        terminated session.old invited request.now (Some kept.now) ≡ prepared_as session.new s) }
 {
     let orders = terminated_order(alloc, &session.view, invited, kept.request.get())?;
     answered(&mut session.view, request, 487);
@@ -75,7 +88,10 @@ fn terminated(
     invited: Invited,
     request: &RequestView,
 ) -> Result<Shown, NoMemory>
-    ensures { IfOk result (λ s. terminated session.old invited request.now (kept_of session.old.known invited.req) ≡ prepared_as session.new s) }
+    ensures { IfOk result
+        (λ s.
+        terminated session.old invited request.now (kept_of session.old.known invited.req)
+        ≡ prepared_as session.new s) }
 {
     match kept_copy(alloc, &session.known, invited.req)? {
         Some(kept) => terminated_kept(alloc, session, invited, request, &kept),
@@ -90,7 +106,8 @@ fn stopped_proxy(
     invited: Invited,
     proxy: &Proxy,
 ) -> Result<Shown, NoMemory>
-    ensures { IfOk result (λ s. cancelled_proxy session.old invited (Some proxy.now) ≡ prepared_as session.new s) }
+    ensures { IfOk result
+        (λ s. cancelled_proxy session.old invited (Some proxy.now) ≡ prepared_as session.new s) }
 {
     stop_proxy(&mut session.known, proxy.req);
     if !is_supervised(proxy) {
@@ -106,7 +123,10 @@ fn cancelled_proxy(
     session: &mut Session,
     invited: Invited,
 ) -> Result<Shown, NoMemory>
-    ensures { IfOk result (λ s. cancelled_proxy session.old invited (proxy_of session.old.known invited.req) ≡ prepared_as session.new s) }
+    ensures { IfOk result
+        (λ s.
+        cancelled_proxy session.old invited (proxy_of session.old.known invited.req)
+        ≡ prepared_as session.new s) }
 {
     match proxy_copy(alloc, &session.known, invited.req)? {
         Some(proxy) => stopped_proxy(alloc, session, invited, &proxy),
@@ -121,7 +141,9 @@ fn cancelled_shown(
     invited: Invited,
     request: &RequestView,
 ) -> Result<Shown, NoMemory>
-    ensures { IfOk result (λ s. cancelled_request session.old invited (Some request.now) ≡ prepared_as session.new s) }
+    ensures { IfOk result
+        (λ s.
+        cancelled_request session.old invited (Some request.now) ≡ prepared_as session.new s) }
 {
     if request.proxied {
         return cancelled_proxy(alloc, session, invited);
@@ -138,7 +160,10 @@ fn cancelled_request(
     session: &mut Session,
     invited: Invited,
 ) -> Result<Shown, NoMemory>
-    ensures { IfOk result (λ s. cancelled_request session.old invited (request_in session.old.view invited.req) ≡ prepared_as session.new s) }
+    ensures { IfOk result
+        (λ s.
+        cancelled_request session.old invited (request_in session.old.view invited.req)
+        ≡ prepared_as session.new s) }
 {
     match request_copy(alloc, &session.view, invited.req)? {
         Some(request) => cancelled_shown(alloc, session, invited, &request),
@@ -149,7 +174,10 @@ fn cancelled_request(
 /// The INVITE of this event was cancelled.
 #[tactic(auto, unfolding(sc_hosts::specs::Preparing::prepared_cancel, sc_hosts::specs::PreparingRequests::silent))]
 pub fn prepared_cancel(alloc: Global, session: &mut Session, event: u64) -> Result<Shown, NoMemory>
-    ensures { IfOk result (λ s. prepared_cancel session.old (find (is_invited event) session.old.known.invited) ≡ prepared_as session.new s) }
+    ensures { IfOk result
+        (λ s.
+        prepared_cancel session.old (find (is_invited event) session.old.known.invited)
+        ≡ prepared_as session.new s) }
 {
     match invited_by(&session.known, event) {
         Some(invited) => cancelled_request(alloc, session, invited),

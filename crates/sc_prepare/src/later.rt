@@ -44,7 +44,8 @@ fn too_low(
     sess: SessId,
     request: &Shared<Request>,
 ) -> Result<Shown, NoMemory>
-    ensures { IfOk result (λ s. too_low session.old number sess request.now ≡ prepared_as session.new s) }
+    ensures { IfOk result
+        (λ s. too_low session.old number sess request.now ≡ prepared_as session.new s) }
 {
     let req = next_id(session);
     received(alloc, session, number, sess, false, false, request)?;
@@ -63,7 +64,8 @@ fn taken_by(
     role: Role,
     request: &Shared<Request>,
 ) -> Result<Shown, NoMemory>
-    ensures { IfOk result (λ s. taken_by session.old number sess role request.now ≡ prepared_as session.new s) }
+    ensures { IfOk result
+        (λ s. taken_by session.old number sess role request.now ≡ prepared_as session.new s) }
 {
     let req = next_id(session);
     received(alloc, session, number, sess, false, is_proxy(role), request)?;
@@ -81,7 +83,10 @@ fn taken_in(
     sess: SessId,
     request: &Shared<Request>,
 ) -> Result<Shown, NoMemory>
-    ensures { IfOk result (λ s. taken_in session.old number sess (session_in session.old.view sess) request.now ≡ prepared_as session.new s) }
+    ensures { IfOk result
+        (λ s.
+        taken_in session.old number sess (session_in session.old.view sess) request.now
+        ≡ prepared_as session.new s) }
 {
     match session_in(&session.view, sess) {
         Some(found) => {
@@ -109,7 +114,8 @@ pub fn prepared_request(
     request: &Shared<Request>,
     sess: Option<SessId>,
 ) -> Result<Shown, NoMemory>
-    ensures { IfOk result (λ s. prepared_request session.old number request.now sess ≡ prepared_as session.new s) }
+    ensures { IfOk result
+        (λ s. prepared_request session.old number request.now sess ≡ prepared_as session.new s) }
 {
     match sess {
         Some(sess) => taken_in(alloc, session, number, sess, request),

@@ -32,7 +32,11 @@ fn initial(
     popped: &Option<Address>,
     request: &Shared<Request>,
 ) -> Result<Shown, NoMemory>
-    ensures { IfOk result (λ s. prepared_for config.now ringing.now session.old number (Queued.Initial region subscriber.now popped.now request.now) ≡ prepared_as session.new s) }
+    ensures { IfOk result
+        (λ s.
+        prepared_for config.now ringing.now session.old number
+        (Queued.Initial region subscriber.now popped.now request.now)
+        ≡ prepared_as session.new s) }
 {
     let req = next_id(session);
     let sess = SessId(1);
@@ -59,7 +63,10 @@ fn own_response(
     response: &Shared<Response>,
     kept: &Kept,
 ) -> Result<Shown, NoMemory>
-    ensures { IfOk result (λ s. prepared_response session.old branch response.now (Some kept.now) (find (has_branch branch) session.old.known.proxies) ≡ prepared_as session.new s) }
+    ensures { IfOk result
+        (λ s.
+        prepared_response session.old branch response.now (Some kept.now)
+        (find (has_branch branch) session.old.known.proxies) ≡ prepared_as session.new s) }
 {
     prepared_own(alloc, session, kept, response)
 }
@@ -72,7 +79,10 @@ fn proxied_response(
     response: &Shared<Response>,
     proxy: &Proxy,
 ) -> Result<Shown, NoMemory>
-    ensures { IfOk result (λ s. prepared_response session.old branch response.now None (Some proxy.now) ≡ prepared_as session.new s) }
+    ensures { IfOk result
+        (λ s.
+        prepared_response session.old branch response.now None (Some proxy.now)
+        ≡ prepared_as session.new s) }
 {
     prepared_branch(alloc, session, proxy, branch, response)
 }
@@ -84,7 +94,10 @@ fn branch_response(
     branch: u64,
     response: &Shared<Response>,
 ) -> Result<Shown, NoMemory>
-    ensures { IfOk result (λ s. prepared_response session.old branch response.now None (find (has_branch branch) session.old.known.proxies) ≡ prepared_as session.new s) }
+    ensures { IfOk result
+        (λ s.
+        prepared_response session.old branch response.now None
+        (find (has_branch branch) session.old.known.proxies) ≡ prepared_as session.new s) }
 {
     match branch_copy(alloc, &session.known, branch)? {
         Some(proxy) => proxied_response(alloc, session, branch, response, &proxy),
@@ -99,7 +112,11 @@ fn prepared_response(
     branch: u64,
     response: &Shared<Response>,
 ) -> Result<Shown, NoMemory>
-    ensures { IfOk result (λ s. prepared_response session.old branch response.now (find (is_sent_on branch) session.old.known.kept) (find (has_branch branch) session.old.known.proxies) ≡ prepared_as session.new s) }
+    ensures { IfOk result
+        (λ s.
+        prepared_response session.old branch response.now
+        (find (is_sent_on branch) session.old.known.kept)
+        (find (has_branch branch) session.old.known.proxies) ≡ prepared_as session.new s) }
 {
     match sent_copy(alloc, &session.known, branch)? {
         Some(kept) => own_response(alloc, session, branch, response, &kept),
@@ -116,7 +133,10 @@ fn prepared_for(
     number: u64,
     event: &Queued,
 ) -> Result<Shown, NoMemory>
-    ensures { IfOk result (λ s. prepared_for config.now ringing.now session.old number event.now ≡ prepared_as session.new s) }
+    ensures { IfOk result
+        (λ s.
+        prepared_for config.now ringing.now session.old number event.now
+        ≡ prepared_as session.new s) }
 {
     match event {
         Queued::Initial {

@@ -62,7 +62,14 @@ fn receive_view(
     passed: bool,
     request: &Request,
 ) -> Result<(), NoMemory>
-    ensures { OnOk result (view.new ≡ record view.old { next_request = view.old.next_request + 1; requests = view.old.requests ++ request_view (record { 0 = view.old.next_request }) sess initial passed request.now ∷ [] }) }
+    ensures { OnOk result
+        (view.new
+        ≡ record view.old {
+          next_request = view.old.next_request + 1;
+          requests = view.old.requests
+              ++ request_view (record { 0 = view.old.next_request }) sess initial passed
+              request.now ∷ [];
+        }) }
 {
     let number = view.next_request;
     let next = sum_u32(number, 1)?;
@@ -100,7 +107,17 @@ fn keep(
     sess: SessId,
     request: &Shared<Request>,
 ) -> Result<(), NoMemory>
-    ensures { OnOk result (known.new ≡ record known.old { kept = known.old.kept ++ record { id = req; sess = sess; way = Way.Received number; request = request.now } ∷ [] }) }
+    ensures { OnOk result
+        (known.new
+        ≡ record known.old {
+          kept = known.old.kept
+              ++ record {
+                id = req;
+                sess = sess;
+                way = Way.Received number;
+                request = request.now;
+              } ∷ [];
+        }) }
 {
     let request = request.clone_in(alloc)?;
     known.kept.push(Kept {
@@ -120,7 +137,18 @@ fn receive_known(
     sess: SessId,
     request: &Shared<Request>,
 ) -> Result<(), NoMemory>
-    ensures { OnOk result (known.new ≡ with_invited number req sess request.now (record known.old { kept = known.old.kept ++ record { id = req; sess = sess; way = Way.Received number; request = request.now } ∷ [] })) }
+    ensures { OnOk result
+        (known.new
+        ≡ with_invited number req sess request.now
+        (record known.old {
+          kept = known.old.kept
+              ++ record {
+                id = req;
+                sess = sess;
+                way = Way.Received number;
+                request = request.now;
+              } ∷ [];
+        })) }
 {
     keep(alloc, known, number, req, sess, request)?;
     with_invited(known, number, req, sess, request.get())
@@ -137,7 +165,8 @@ pub fn received(
     passed: bool,
     request: &Shared<Request>,
 ) -> Result<(), NoMemory>
-    ensures { OnOk result (session.new ≡ received session.old number sess initial passed request.now) }
+    ensures { OnOk result
+        (session.new ≡ received session.old number sess initial passed request.now) }
 {
     let req = next_id(session);
     receive_known(alloc, &mut session.known, number, req, sess, request)?;

@@ -75,7 +75,9 @@ fn fired(view: &mut View, timer: &TimerView, due: Option<u64>)
 /// A servlet timer is due. One that isn't active any more is passed over.
 #[tactic(auto, unfolding(sc_hosts::specs::Preparing::prepared_timer, sc_hosts::specs::PreparingRequests::silent, sc_hosts::specs::PreparingRequests::showing))]
 pub fn prepared_timer(alloc: Global, session: &mut Session, id: TimerId) -> Result<Shown, NoMemory>
-    ensures { IfOk result (λ s. prepared_timer session.old (timer_in session.old.view id) ≡ prepared_as session.new s) }
+    ensures { IfOk result
+        (λ s.
+        prepared_timer session.old (timer_in session.old.view id) ≡ prepared_as session.new s) }
 {
     match timer_copy(alloc, &session.view, id)? {
         Some(timer) => {
@@ -116,7 +118,8 @@ pub fn prepared_expiry(alloc: Global, session: &Session) -> Shown
 
 #[tactic(auto, using(sc_value::proofs::ListFacts::change_first_position, sc_value::proofs::ListFacts::change_first_none))]
 fn cancel_in(proxies: &mut [Proxy], req: ReqId, branch: u64)
-    ensures { proxies.new ≡ change_first (λ proxy. same_request proxy.req req) (to_cancel branch) proxies.old }
+    ensures { proxies.new
+        ≡ change_first (λ proxy. same_request proxy.req req) (to_cancel branch) proxies.old }
 {
     match proxy_place(proxies, req) {
         Some(at) => to_cancel(branch, &mut proxies[at]),
@@ -139,7 +142,10 @@ fn end_in(
     sess: SessId,
     response: &Shared<Response>,
 ) -> Result<(), NoMemory>
-    ensures { OnOk result (proxies.new ≡ change_first (λ proxy. same_request proxy.req req) (ended_by branch sess response.now) proxies.old) }
+    ensures { OnOk result
+        (proxies.new
+        ≡ change_first (λ proxy. same_request proxy.req req) (ended_by branch sess response.now)
+        proxies.old) }
 {
     match proxy_place(proxies, req) {
         Some(at) => ended_by(alloc, &mut proxies[at], branch, sess, response),
@@ -155,7 +161,8 @@ fn end_branch(
     sess: SessId,
     response: &Shared<Response>,
 ) -> Result<(), NoMemory>
-    ensures { OnOk result (known.new ≡ change_proxy req (ended_by branch sess response.now) known.old) }
+    ensures { OnOk result
+        (known.new ≡ change_proxy req (ended_by branch sess response.now) known.old) }
 {
     end_in(alloc, &mut known.proxies.items, req, branch, sess, response)
 }
@@ -173,7 +180,8 @@ fn timeout_response(
     config: &Config,
     request: &Request,
 ) -> Result<Shared<Response>, NoMemory>
-    ensures { IfOk result (λ r. r ≡ own_response (edge_tag config.now.salt) 408 request_timeout request.now) }
+    ensures { IfOk result
+        (λ r. r ≡ own_response (edge_tag config.now.salt) 408 request_timeout request.now) }
 {
     let mut tag = Text::new(alloc);
     sc_names::edge_tag(alloc, config.salt.as_text(), &mut tag)?;
@@ -181,8 +189,8 @@ fn timeout_response(
     Shared::new(alloc, response)
 }
 
-// A branch whose time is up: an INVITE with a provisional response is cancelled, every other ends as
-// 408.
+// A branch whose time is up: an INVITE with a provisional response is cancelled, every other ends
+// as 408.
 #[tactic(auto, unfolding(sc_hosts::specs::Preparing::timed_out))]
 fn timed_out(
     alloc: Global,
@@ -192,7 +200,8 @@ fn timed_out(
     branch: u64,
     provisional: bool,
 ) -> Result<(), NoMemory>
-    ensures { OnOk result (session.new ≡ timed_out config.now session.old proxy.now branch provisional) }
+    ensures { OnOk result
+        (session.new ≡ timed_out config.now session.old proxy.now branch provisional) }
 {
     if is_invite(proxy) && provisional {
         cancel_branch(&mut session.known, proxy.req, branch);
@@ -225,7 +234,10 @@ fn timed_proxy(
     due: u64,
     proxy: &Proxy,
 ) -> Result<Shown, NoMemory>
-    ensures { IfOk result (λ s. prepared_branch_timer config.now ringing.now session.old branch due (Some proxy.now) ≡ prepared_as session.new s) }
+    ensures { IfOk result
+        (λ s.
+        prepared_branch_timer config.now ringing.now session.old branch due (Some proxy.now)
+        ≡ prepared_as session.new s) }
 {
     if !is_timed_out(branch, due, proxy) || is_invalid(&session.known, proxy.sess) {
         return Ok(silent(List::new(alloc)));
@@ -245,7 +257,10 @@ pub fn prepared_branch_timer(
     branch: u64,
     due: u64,
 ) -> Result<Shown, NoMemory>
-    ensures { IfOk result (λ s. prepared_branch_timer config.now ringing.now session.old branch due (find (has_branch branch) session.old.known.proxies) ≡ prepared_as session.new s) }
+    ensures { IfOk result
+        (λ s.
+        prepared_branch_timer config.now ringing.now session.old branch due
+        (find (has_branch branch) session.old.known.proxies) ≡ prepared_as session.new s) }
 {
     match branch_copy(alloc, &session.known, branch)? {
         Some(proxy) => timed_proxy(alloc, config, ringing, session, branch, due, &proxy),

@@ -12,7 +12,9 @@ use Rattle.sc_hosts.specs.SessionTimers.{deadline, timed_name, timed_text}
 -- no call of the script is refused
 unfoldable pub IsAccepted : Play → Script → Type 0
 IsAccepted play Done = Unit {0}
-IsAccepted play (Make call next) = (is_refused (answer_of play call) ≡ false) × IsAccepted (after_listed play call) (next (answer_of play call))
+IsAccepted play (Make call next) =
+    (is_refused (answer_of play call) ≡ false)
+    × IsAccepted (after_listed play call) (next (answer_of play call))
 
 -- a timer that fires once is due at the deadline, and the attribute of the SipSession names it
 pub record IsBegun (now : ℕ) (sess : SessId) (n : ℕ) (me : Bool) (view : View) : Type 0 where

@@ -1,4 +1,5 @@
--- What an attribute remembers of the offers of an INVITE, and the calls that read and write it (RFC 3262).
+-- What an attribute remembers of the offers of an INVITE, and the calls that read and write it (RFC
+-- 3262).
 use Rattle.std.specs.Prelude.{◌≡◌, ◌<◌, ℕ, ◌+◌, ◌==◌, ◌^◌, List, [], ◌∷◌, Bool, false, not, ◌&&◌, Option, None, Some, is_some, if◌then◌else◌, codes, decimal}
 use Rattle.std.specs.Option.{option_map_or}
 use Rattle.sc_value.specs.declared.ids.ReqId.{ReqId}
@@ -34,13 +35,15 @@ pub data Remembered : Type 0 where
 -- of an offer that waits no more: the words are `A` or `F`, RSeq and CSeq number
 unfoldable pub remembered_three : Bytes → Option ℕ → Option ℕ → Remembered
 remembered_three letter (Some r) (Some c) =
-    if same_bytes letter (codes "A") then Acked r c else (if same_bytes letter (codes "F") then Failed r c else Fresh)
+    if same_bytes letter (codes "A") then Acked r c
+    else (if same_bytes letter (codes "F") then Failed r c else Fresh)
 remembered_three letter (Some r) None = Fresh
 remembered_three letter None c = Fresh
 
 -- of an offer that waits: the words are `P`, RSeq, CSeq number and timer
 unfoldable pub remembered_four : Bytes → Option ℕ → Option ℕ → Option ℕ → Remembered
-remembered_four letter (Some r) (Some c) (Some t) = if same_bytes letter (codes "P") then Pending r c t else Fresh
+remembered_four letter (Some r) (Some c) (Some t) =
+    if same_bytes letter (codes "P") then Pending r c t else Fresh
 remembered_four letter (Some r) (Some c) None = Fresh
 remembered_four letter (Some r) None t = Fresh
 remembered_four letter None c t = Fresh
@@ -48,7 +51,8 @@ remembered_four letter None c t = Fresh
 -- by the words of an attribute; others remember nothing
 unfoldable pub remembered_in : List Bytes → Remembered
 remembered_in (letter ∷ r ∷ c ∷ []) = remembered_three letter (strict_number r) (strict_number c)
-remembered_in (letter ∷ r ∷ c ∷ t ∷ []) = remembered_four letter (strict_number r) (strict_number c) (strict_number t)
+remembered_in (letter ∷ r ∷ c ∷ t ∷ []) =
+    remembered_four letter (strict_number r) (strict_number c) (strict_number t)
 remembered_in words = Fresh
 
 -- by the attribute's text
@@ -76,7 +80,9 @@ waiting_of (Failed r c) = None
 
 -- the request's RAck names the offer that waits (RFC 3262 section 7.2)
 unfoldable pub names_waiting : Remembered → Request → Bool
-names_waiting remembered request = option_map_or (λ offer. names_offer offer (field_of (codes "RAck") request)) (waiting_of remembered) false
+names_waiting remembered request =
+    option_map_or (λ offer. names_offer offer (field_of (codes "RAck") request))
+    (waiting_of remembered) false
 
 -- ## An offer
 
@@ -86,7 +92,14 @@ MOST_RSEQ = 2147483647
 
 -- a reliable provisional response: Require: 100rel, and its RSeq (RFC 3262 section 3)
 unfoldable pub offer_answer : ℕ → ℕ → Bytes → Bytes → Answer
-offer_answer r code reason body = record { code = code; reason = reason; fields = field require_word rel_option ∷ field (codes "RSeq") (decimal r) ∷ []; contact = []; body = body }
+offer_answer r code reason body =
+    record {
+      code = code;
+      reason = reason;
+      fields = field require_word rel_option ∷ field (codes "RSeq") (decimal r) ∷ [];
+      contact = [];
+      body = body;
+    }
 
 -- that response is given
 abbrev pub offer_call : ReqId → ℕ → ℕ → Bytes → Bytes → Call
@@ -97,19 +110,24 @@ unfoldable pub offers : ReqId → ℕ → ℕ → ℕ → Bytes → Bytes → Sc
 offers req r c code reason body =
     accepted_then (offer_call req r code reason body)
     (accepted_then (calls.SetAttribute (rel_name req.0) (offer_text r c 0))
-    (Make (calls.StartTimer 32000 Once (rel_name req.0)) (with_number (λ t. only (calls.SetAttribute (rel_name req.0) (offer_text r c t))))))
+    (Make (calls.StartTimer 32000 Once (rel_name req.0))
+    (with_number (λ t. only (calls.SetAttribute (rel_name req.0) (offer_text r c t))))))
 
 -- the next offer by what is remembered: none while one waits, and the next RSeq else
 unfoldable pub offer_by : Remembered → ReqId → ℕ → ℕ → Bytes → Bytes → Script
 offer_by (Pending r d t) req c code reason body = Done
 offer_by Fresh req c code reason body = offers req 1 c code reason body
-offer_by (Acked r d) req c code reason body = if r == MOST_RSEQ then Done else offers req (r + 1) c code reason body
-offer_by (Failed r d) req c code reason body = if r == MOST_RSEQ then Done else offers req (r + 1) c code reason body
+offer_by (Acked r d) req c code reason body =
+    if r == MOST_RSEQ then Done else offers req (r + 1) c code reason body
+offer_by (Failed r d) req c code reason body =
+    if r == MOST_RSEQ then Done else offers req (r + 1) c code reason body
 
 -- an offer where the INVITE's sender supports it
 unfoldable pub offer_script : View → ReqId → Request → ℕ → Bytes → Bytes → Script
 offer_script view req request code reason body =
-    if lists_option rel_option request then offer_by (remembered_at view req.0) req request.head.cseq.number code reason body else Done
+    if lists_option rel_option request
+    then offer_by (remembered_at view req.0) req request.head.cseq.number code reason body
+    else Done
 
 -- ## Any list of calls
 
@@ -132,8 +150,10 @@ pub data Act : Type 0 where
 
 -- the calls of an act
 unfoldable pub script_of : View → Act → Script
-script_of view (Offers req request code reason body) = offer_script view req request code reason body
-script_of view (Pracks invited req request) = prack_by view invited req request (pending_offer view invited.0)
+script_of view (Offers req request code reason body) =
+    offer_script view req request code reason body
+script_of view (Pracks invited req request) =
+    prack_by view invited req request (pending_offer view invited.0)
 script_of view (Late invited id) = late_offer view invited.0 id
 
 -- an act, with what the turn was where it began
@@ -157,7 +177,8 @@ next_of (Failed r c) = if r == MOST_RSEQ then None else Some (r + 1)
 -- the RSeq of an offer whose response went
 unfoldable pub offered_as : Play → ReqId → ℕ → Bytes → Bytes → Option ℕ → Option ℕ
 offered_as play req code reason body None = None
-offered_as play req code reason body (Some r) = if is_refused (answer_of play (offer_call req r code reason body)) then None else Some r
+offered_as play req code reason body (Some r) =
+    if is_refused (answer_of play (offer_call req r code reason body)) then None else Some r
 
 -- the RSeq of the offer that an act made, if its response went
 unfoldable pub offered : Happened → Option ℕ
@@ -165,7 +186,9 @@ offered happened = offered_by happened.play happened.act
   where
     offered_by : Play → Act → Option ℕ
     offered_by play (Offers req request code reason body) =
-        if lists_option rel_option request then offered_as play req code reason body (next_of (remembered_at play.view req.0)) else None
+        if lists_option rel_option request
+        then offered_as play req code reason body (next_of (remembered_at play.view req.0))
+        else None
     offered_by play (Pracks invited req request) = None
     offered_by play (Late invited id) = None
 
@@ -183,29 +206,46 @@ first_code (Make call next) = code_of call
     code_of (calls.Respond req answer) = Some answer.code
     code_of call = None
 
--- the act settled the offer that waited: a PRACK that names it was answered 200, or its timer answered the INVITE 500
+-- the act settled the offer that waited: a PRACK that names it was answered 200, or its timer
+-- answered the INVITE 500
 unfoldable pub settles : Happened → Bool
 settles happened = settles_by happened.play happened.act
   where
     settles_by : Play → Act → Bool
     settles_by play (Offers req request code reason body) = false
     settles_by play (Pracks invited req request) =
-        names_waiting (remembered_at play.view invited.0) request && not (is_refused (answer_of play (reply req 200 ok)))
+        names_waiting (remembered_at play.view invited.0) request
+        && not (is_refused (answer_of play (reply req 200 ok)))
     settles_by play (Late invited id) =
-        is_late (waiting_of (remembered_at play.view invited.0)) id (request_in play.view invited) && not (is_refused (answer_of play (reply invited 500 server_error)))
+        is_late (waiting_of (remembered_at play.view invited.0)) id (request_in play.view invited)
+        && not (is_refused (answer_of play (reply invited 500 server_error)))
 
 -- ## What is premised
 
 -- the four calls, where none is refused
 pub record Given (play : Play) (req : ReqId) (r c code : ℕ) (reason body : Bytes) : Type 0 where
   pub responded : is_refused (answer_of play (offer_call req r code reason body)) ≡ false
-  pub noted : is_refused (answer_of (after_listed play (offer_call req r code reason body)) (calls.SetAttribute (rel_name req.0) (offer_text r c 0))) ≡ false
-  pub timed : is_refused (answer_of (after_listed (after_listed play (offer_call req r code reason body)) (calls.SetAttribute (rel_name req.0) (offer_text r c 0))) (calls.StartTimer 32000 Once (rel_name req.0))) ≡ false
+  pub noted : is_refused
+      (answer_of (after_listed play (offer_call req r code reason body))
+      (calls.SetAttribute (rel_name req.0) (offer_text r c 0))) ≡ false
+  pub timed : is_refused
+      (answer_of
+      (after_listed (after_listed play (offer_call req r code reason body))
+      (calls.SetAttribute (rel_name req.0) (offer_text r c 0)))
+      (calls.StartTimer 32000 Once (rel_name req.0))) ≡ false
   pub timer : ℕ
-  pub timer_is : timer ≡ (after_listed (after_listed play (offer_call req r code reason body)) (calls.SetAttribute (rel_name req.0) (offer_text r c 0))).view.next_timer
-  pub named : is_refused (answer_of (after_listed (after_listed (after_listed play (offer_call req r code reason body)) (calls.SetAttribute (rel_name req.0) (offer_text r c 0))) (calls.StartTimer 32000 Once (rel_name req.0))) (calls.SetAttribute (rel_name req.0) (offer_text r c timer))) ≡ false
+  pub timer_is : timer
+      ≡ (after_listed (after_listed play (offer_call req r code reason body)) (calls.SetAttribute (rel_name req.0) (offer_text r c 0))).view.next_timer
+  pub named : is_refused
+      (answer_of
+      (after_listed
+      (after_listed (after_listed play (offer_call req r code reason body))
+      (calls.SetAttribute (rel_name req.0) (offer_text r c 0)))
+      (calls.StartTimer 32000 Once (rel_name req.0)))
+      (calls.SetAttribute (rel_name req.0) (offer_text r c timer))) ≡ false
 
--- what is premised of an offer whose response went: no call behind it is refused, and the numbers fit
+-- what is premised of an offer whose response went: no call behind it is refused, and the numbers
+-- fit
 pub record Sound (play : Play) (req : ReqId) (r c code : ℕ) (reason body : Bytes) : Type 0 where
   pub given : Given play req r c code reason body
   pub rseq : r < 2 ^ 64
@@ -221,11 +261,15 @@ IsOf n (Late invited id) = invited.0 ≡ n
 -- no offer is refused behind its response
 unfoldable pub IsSound : Play → Act → Type 0
 IsSound play (Offers req request code reason body) =
-    (r : ℕ) → next_of (remembered_at play.view req.0) ≡ Some r → is_refused (answer_of play (offer_call req r code reason body)) ≡ false → Sound play req r request.head.cseq.number code reason body
+    (r : ℕ) → next_of (remembered_at play.view req.0) ≡ Some r
+    → is_refused (answer_of play (offer_call req r code reason body)) ≡ false
+    → Sound play req r request.head.cseq.number code reason body
 IsSound play (Pracks invited req request) = Unit {0}
 IsSound play (Late invited id) = Unit {0}
 
 -- acts of an INVITE, of which each begins with what the one before left: nothing else writes
 unfoldable pub IsTrace : ℕ → Remembered → List Happened → Type 0
 IsTrace n rel [] = Unit {0}
-IsTrace n rel (h ∷ acts) = IsOf n h.act × IsSound h.play h.act × (remembered_at h.play.view n ≡ rel) × IsTrace n (remembered_at (after h).view n) acts
+IsTrace n rel (h ∷ acts) =
+    IsOf n h.act × IsSound h.play h.act × (remembered_at h.play.view n ≡ rel)
+    × IsTrace n (remembered_at (after h).view n) acts

@@ -1,5 +1,5 @@
-//! What the scripts of reliable provisional responses and of session timers promise over any list of
-//! their calls, as laws.
+//! What the scripts of reliable provisional responses and of session timers promise over any list
+//! of their calls, as laws.
 #![tactic(auto)]
 
 mod laws;

@@ -1,5 +1,5 @@
--- What a proxied request is, as functions of the list of all that happened to it, the newest first (RFC 3261 section 16).
--- Each searches the list; none looks at what was made of it.
+-- What a proxied request is, as functions of the list of all that happened to it, the newest first
+-- (RFC 3261 section 16). Each searches the list; none looks at what was made of it.
 use Rattle.std.specs.Prelude.{◌≡◌, ◌<◌, ℕ, ◌+◌, ◌-◌, ◌==◌, List, [], ◌∷◌, ◌++◌, Bool, true, false, not, ◌&&◌, ◌||◌, Option, None, Some, is_none, is_some, option_and_then, if◌then◌else◌, length, filter, take, drop, map}
 use Rattle.std.specs.List.{list_any}
 use Rattle.std.specs.Option.{option_map_or}
@@ -45,10 +45,19 @@ is_open_in number proxy = option_map_or is_open (branch_in proxy number) false
 unfoldable pub happens : ProxyEvent → Proxy → Proxy
 happens (Asked uris) proxy = with_targets uris proxy
 happens Stopped proxy = stopped proxy
-happens (Started number now) proxy = record proxy { branches = proxy.branches ++ new_branch proxy number now ∷ []; targets = drop 1 proxy.targets }
-happens (PassedOn number) proxy = record proxy { branches = proxy.branches ++ record { number = number; ended = None; cancelled = false; due = None } ∷ [] }
+happens (Started number now) proxy =
+    record proxy {
+      branches = proxy.branches ++ new_branch proxy number now ∷ [];
+      targets = drop 1 proxy.targets;
+    }
+happens (PassedOn number) proxy =
+    record proxy {
+      branches = proxy.branches
+          ++ record { number = number; ended = None; cancelled = false; due = None } ∷ [];
+    }
 happens (Heard number sess response now) proxy = heard number sess response now proxy
-happens (TimedOut number sess response) proxy = if is_open_in number proxy then ended_by number sess response proxy else proxy
+happens (TimedOut number sess response) proxy =
+    if is_open_in number proxy then ended_by number sess response proxy else proxy
 happens (Expired number) proxy = if is_open_in number proxy then to_cancel number proxy else proxy
 happens (Forwarded code) proxy = with_forwarded code proxy
 happens Rested proxy = rested proxy
@@ -77,14 +86,17 @@ was_started number events = list_any (λ n. n == number) (started_of events)
 
 -- the code of the final response that the event is for this branch
 unfoldable pub final_by : ℕ → ProxyEvent → Option ℕ
-final_by number (Heard n sess response now) = if n == number && is_final response.code then Some response.code else None
+final_by number (Heard n sess response now) =
+    if n == number && is_final response.code then Some response.code else None
 final_by number (TimedOut n sess response) = if n == number then Some response.code else None
 final_by number event = None
 
 -- the code of the first final response of a branch
 unfoldable pub final_of : ℕ → List ProxyEvent → Option ℕ
 final_of number events =
-    option_and_then (λ (found : Found ProxyEvent). final_by number found.item) (first_in_time (λ earlier event. was_started number earlier && is_some (final_by number event)) events)
+    option_and_then (λ (found : Found ProxyEvent). final_by number found.item)
+    (first_in_time
+    (λ earlier event. was_started number earlier && is_some (final_by number event)) events)
 
 -- the branch was started, and no final response of it came
 unfoldable pub is_open_at : ℕ → List ProxyEvent → Bool
@@ -102,7 +114,8 @@ stops earlier (Asked uris) = false
 stops earlier Stopped = true
 stops earlier (Started number now) = false
 stops earlier (PassedOn number) = false
-stops earlier (Heard number sess response now) = is_success response.code || (is_global response.code && is_open_at number earlier)
+stops earlier (Heard number sess response now) =
+    is_success response.code || (is_global response.code && is_open_at number earlier)
 stops earlier (TimedOut number sess response) = is_open_at number earlier && ends_all response.code
 stops earlier (Expired number) = false
 stops earlier (Forwarded code) = false
@@ -114,28 +127,35 @@ is_settled events = is_some (first_in_time stops events)
 
 -- ## Targets
 
--- a first final response of a branch that is a 3xx gives its Contacts that weren't tried, where the application follows them and the
--- search goes on
+-- a first final response of a branch that is a 3xx gives its Contacts that weren't tried, where the
+-- application follows them and the search goes on
 unfoldable pub followed : Proxy → List Uri → Bool → Bool → Response → List Uri
 followed first tried settled running response =
-    if running && (is_redirect response.code && recurses first && not settled) then take (MOST_BRANCHES - length tried) (untried tried (contacts_of response)) else []
+    if running && (is_redirect response.code && recurses first && not settled)
+    then take (MOST_BRANCHES - length tried) (untried tried (contacts_of response))
+    else []
 
 -- the targets that the event gives
 unfoldable pub added_by : Proxy → List Uri → List ProxyEvent → ProxyEvent → List Uri
 added_by first tried earlier (Asked uris) = uris
-added_by first tried earlier (Heard number sess response now) = followed first tried (is_settled earlier) (is_open_at number earlier) response
-added_by first tried earlier (TimedOut number sess response) = followed first tried (is_settled earlier) (is_open_at number earlier) response
+added_by first tried earlier (Heard number sess response now) =
+    followed first tried (is_settled earlier) (is_open_at number earlier) response
+added_by first tried earlier (TimedOut number sess response) =
+    followed first tried (is_settled earlier) (is_open_at number earlier) response
 added_by first tried earlier event = []
 
 -- all targets that it has had, in order
 unfoldable pub tried_of : Proxy → List ProxyEvent → List Uri
 tried_of first [] = []
-tried_of first (event ∷ earlier) = tried_of first earlier ++ added_by first (tried_of first earlier) earlier event
+tried_of first (event ∷ earlier) =
+    tried_of first earlier ++ added_by first (tried_of first earlier) earlier event
 
 -- those that came since the search was ended last
 unfoldable pub added_since : Proxy → List ProxyEvent → List Uri
 added_since first [] = []
-added_since first (event ∷ earlier) = if stops earlier event then [] else added_since first earlier ++ added_by first (tried_of first earlier) earlier event
+added_since first (event ∷ earlier) =
+    if stops earlier event then []
+    else added_since first earlier ++ added_by first (tried_of first earlier) earlier event
 
 -- how many targets the event takes, for a branch that it starts
 unfoldable pub taken_by : ProxyEvent → ℕ
@@ -145,7 +165,8 @@ taken_by event = 0
 -- how many were taken since then
 unfoldable pub taken_since : List ProxyEvent → ℕ
 taken_since [] = 0
-taken_since (event ∷ earlier) = if stops earlier event then 0 else taken_since earlier + taken_by event
+taken_since (event ∷ earlier) =
+    if stops earlier event then 0 else taken_since earlier + taken_by event
 
 -- the targets that wait
 unfoldable pub targets_of : Proxy → List ProxyEvent → List Uri
@@ -161,14 +182,16 @@ counts first earlier number response =
 
 -- a final response of a branch but a 2xx, or one that gave further targets
 unfoldable pub candidate_by : Proxy → List ProxyEvent → ProxyEvent → List Response
-candidate_by first earlier (Heard number sess response now) = if is_final response.code then counts first earlier number response else []
+candidate_by first earlier (Heard number sess response now) =
+    if is_final response.code then counts first earlier number response else []
 candidate_by first earlier (TimedOut number sess response) = counts first earlier number response
 candidate_by first earlier event = []
 
 -- the final responses of which the best is forwarded, in the order in which they came
 unfoldable pub candidates_of : Proxy → List ProxyEvent → List Response
 candidates_of first [] = []
-candidates_of first (event ∷ earlier) = candidates_of first earlier ++ candidate_by first earlier event
+candidates_of first (event ∷ earlier) =
+    candidates_of first earlier ++ candidate_by first earlier event
 
 -- the code of a final response that the event forwarded
 unfoldable pub forwarded_by : ProxyEvent → Option ℕ
@@ -178,7 +201,8 @@ forwarded_by event = None
 -- the code of the final response that was forwarded first
 unfoldable pub forwarded_of : List ProxyEvent → Option ℕ
 forwarded_of events =
-    option_and_then (λ (found : Found ProxyEvent). forwarded_by found.item) (first_in_time (λ earlier event. is_some (forwarded_by event)) events)
+    option_and_then (λ (found : Found ProxyEvent). forwarded_by found.item)
+    (first_in_time (λ earlier event. is_some (forwarded_by event)) events)
 
 -- ## CANCELs
 
@@ -196,18 +220,24 @@ is_rest event = false
 unfoldable pub is_cancelled : ℕ → List ProxyEvent → Bool
 is_cancelled number [] = false
 is_cancelled number (event ∷ earlier) =
-    if is_rest event then false else (was_started number earlier && (stops earlier event || is_expiry_of number event)) || is_cancelled number earlier
+    if is_rest event then false
+    else (was_started number earlier && (stops earlier event || is_expiry_of number event))
+    || is_cancelled number earlier
 
 -- the branches that get a CANCEL as the turn ends, in their order
 unfoldable pub cancelled_of : List ProxyEvent → List ℕ
-cancelled_of events = filter (λ number. is_open_at number events && is_cancelled number events) (started_of events)
+cancelled_of events =
+    filter (λ number. is_open_at number events && is_cancelled number events) (started_of events)
 
 -- ## Which lists there are
 
--- each branch that is started is a new one, and takes a target that waits, where it isn't that of a later request
+-- each branch that is started is a new one, and takes a target that waits, where it isn't that of a
+-- later request
 unfoldable pub IsHad : Proxy → List ProxyEvent → Type 0
 IsHad first [] = Unit {0}
-IsHad first (Started number now ∷ earlier) = (was_started number earlier ≡ false) × (taken_since earlier < length (added_since first earlier)) × IsHad first earlier
+IsHad first (Started number now ∷ earlier) =
+    (was_started number earlier ≡ false)
+    × (taken_since earlier < length (added_since first earlier)) × IsHad first earlier
 IsHad first (PassedOn number ∷ earlier) = (was_started number earlier ≡ false) × IsHad first earlier
 IsHad first (event ∷ earlier) = IsHad first earlier
 
@@ -219,5 +249,7 @@ pub record IsOfList (first proxy : Proxy) (events : List ProxyEvent) : Type 0 wh
   pub candidates : proxy.candidates ≡ candidates_of first events
   pub forwarded : proxy.forwarded ≡ forwarded_of events
   pub started : map (λ (b : Branch). b.number) proxy.branches ≡ started_of events
-  pub running : map (λ (b : Branch). b.number) (filter is_open proxy.branches) ≡ filter (λ number. is_open_at number events) (started_of events)
-  pub cancelled : map (λ (b : Branch). b.number) (filter (λ (b : Branch). is_open b && b.cancelled) proxy.branches) ≡ cancelled_of events
+  pub running : map (λ (b : Branch). b.number) (filter is_open proxy.branches)
+      ≡ filter (λ number. is_open_at number events) (started_of events)
+  pub cancelled : map (λ (b : Branch). b.number)
+      (filter (λ (b : Branch). is_open b && b.cancelled) proxy.branches) ≡ cancelled_of events

@@ -1,5 +1,5 @@
--- What the list of a proxied request holds: what the turns of its session told of it, from the one that began to proxy it on
--- (JSR 289 section 10, RFC 3261 section 16).
+-- What the list of a proxied request holds: what the turns of its session told of it, from the one
+-- that began to proxy it on (JSR 289 section 10, RFC 3261 section 16).
 use Rattle.std.specs.Prelude.{◌≡◌, ◌⊎◌, ℕ, List, [], ◌∷◌, ◌++◌, Bool, true, false, None, Some, is_none, if◌then◌else◌, map}
 use Rattle.std.specs.List.{find}
 use Rattle.std.specs.Option.{option_map_or}
@@ -39,17 +39,25 @@ as_begun proxy = new_proxy proxy.req proxy.sess proxy.event proxy.request proxy.
 
 -- the CANCEL under this event came for the proxied request (RFC 3261 section 16.10)
 unfoldable pub is_cancel_of : Known → Proxy → ℕ → Bool
-is_cancel_of known proxy event = option_map_or (λ (invited : Invited). same_request proxy.req invited.req) (find (is_invited event) known.invited) false
+is_cancel_of known proxy event =
+    option_map_or (λ (invited : Invited). same_request proxy.req invited.req)
+    (find (is_invited event) known.invited) false
 
 -- the time of the branch was up: it is to be cancelled, or it ends as 408 (RFC 3261 section 16.8)
 unfoldable pub IsTimeUp : ℕ → List ProxyEvent → Type 0
-IsTimeUp branch came = (came ≡ Expired branch ∷ []) ⊎ ((sess : SessId) × (response : Response) × (response.code ≡ 408) × (came ≡ TimedOut branch sess response ∷ []))
+IsTimeUp branch came =
+    (came ≡ Expired branch ∷ [])
+    ⊎ ((sess : SessId) × (response : Response) × (response.code ≡ 408)
+    × (came ≡ TimedOut branch sess response ∷ []))
 
--- what an event that a session handles at this moment tells of a proxied request: a response is one on a branch of it, a CANCEL is
--- for it, the time that is up is that of a branch of it; every other event tells nothing
+-- what an event that a session handles at this moment tells of a proxied request: a response is one
+-- on a branch of it, a CANCEL is for it, the time that is up is that of a branch of it; every other
+-- event tells nothing
 unfoldable pub IsOfEvent : Known → ℕ → Proxy → Queued → List ProxyEvent → Type 0
 IsOfEvent known now proxy (queued.Response branch response) came =
-    (came ≡ []) ⊎ ((sess : SessId) × (has_branch branch proxy ≡ true) × (came ≡ Heard branch sess response now ∷ []))
+    (came ≡ [])
+    ⊎ ((sess : SessId) × (has_branch branch proxy ≡ true)
+    × (came ≡ Heard branch sess response now ∷ []))
 IsOfEvent known now proxy (queued.Cancelled event) came =
     (came ≡ []) ⊎ ((is_cancel_of known proxy event ≡ true) × (came ≡ Stopped ∷ []))
 IsOfEvent known now proxy (queued.BranchTimer branch due) came =
@@ -58,7 +66,8 @@ IsOfEvent known now proxy event came = came ≡ []
 
 -- ## What the calls of a turn say
 
--- what an accepted call says of the proxied request of this number: its targets, or that it is to be stopped (JSR 289 section 10.2)
+-- what an accepted call says of the proxied request of this number: its targets, or that it is to
+-- be stopped (JSR 289 section 10.2)
 unfoldable pub given_by : ReqId → Call → List ProxyEvent
 given_by req (calls.ProxyTo of uris how) = if same_request req of then Asked uris ∷ [] else []
 given_by req (calls.ProxyCancel of) = if same_request req of then Stopped ∷ [] else []
@@ -71,7 +80,8 @@ given_at req play call = if is_none (refusal play call) then given_by req call e
 -- what these calls say, one after the other
 unfoldable pub given_of : ReqId → Play → List CallRecord → List ProxyEvent
 given_of req play [] = []
-given_of req play (made ∷ later) = given_of req (after_listed play made.call) later ++ given_at req play made.call
+given_of req play (made ∷ later) =
+    given_of req (after_listed play made.call) later ++ given_at req play made.call
 
 -- the call proxies this request, with these options
 unfoldable pub BeginsBy : Proxy → Call → Type 0
@@ -83,34 +93,42 @@ unfoldable pub BeginsIn : Proxy → Play → List CallRecord → List ProxyEvent
 BeginsIn first play [] given = ⊥
 BeginsIn first play (made ∷ later) given =
     ((refusal play made.call ≡ None) × BeginsBy first made.call
-    × (given ≡ given_of first.req (after_listed play made.call) later ++ given_by first.req made.call))
+    × (given
+    ≡ given_of first.req (after_listed play made.call) later ++ given_by first.req made.call))
     ⊎ BeginsIn first (after_listed play made.call) later given
 
 -- as the calls of a turn begin
 abbrev pub shown_play : Config → Session → Turn → Play
-shown_play config session turn = begun (prepared config turn.ringing session turn.waiting turn.now).view
+shown_play config session turn =
+    begun (prepared config turn.ringing session turn.waiting turn.now).view
 
 -- ## What follows as a turn ends
 
--- targets get their branches at this moment, then responses are forwarded, and the request rests; nothing follows where the application
--- ended its SipSession
+-- targets get their branches at this moment, then responses are forwarded, and the request rests;
+-- nothing follows where the application ended its SipSession
 unfoldable pub IsOfEnd : ℕ → List ProxyEvent → Type 0
 IsOfEnd now ended =
     (ended ≡ []) ⊎ ((codes : List ℕ) × (numbers : List ℕ)
-    × (ended ≡ Rested ∷ (map (λ code. Forwarded code) codes ++ map (λ number. Started number now) numbers)))
+    × (ended
+    ≡ Rested
+    ∷ (map (λ code. Forwarded code) codes ++ map (λ number. Started number now) numbers)))
 
 -- ## A turn, and a life
 
--- what a turn that a session took told of a request that it proxied already: of its event, then of its calls, then of its end
-pub record IsOfTurn (config : Config) (session : Session) (turn : Turn) (proxy : Proxy) (own : List ProxyEvent) : Type 0 where
+-- what a turn that a session took told of a request that it proxied already: of its event, then of
+-- its calls, then of its end
+pub record IsOfTurn (config : Config) (session : Session) (turn : Turn) (proxy : Proxy)
+    (own : List ProxyEvent) : Type 0 where
   pub came : List ProxyEvent
   pub ended : List ProxyEvent
-  pub own_is : own ≡ ended ++ (given_of proxy.req (shown_play config session turn) turn.calls ++ came)
+  pub own_is : own
+      ≡ ended ++ (given_of proxy.req (shown_play config session turn) turn.calls ++ came)
   pub of_event : IsOfEvent session.known turn.now proxy turn.waiting.event came
   pub of_end : IsOfEnd turn.now ended
 
 -- a call of the turn began to proxy it
-pub record IsBegun (config : Config) (session : Session) (turn : Turn) (first : Proxy) (own : List ProxyEvent) : Type 0 where
+pub record IsBegun (config : Config) (session : Session) (turn : Turn) (first : Proxy)
+    (own : List ProxyEvent) : Type 0 where
   pub given : List ProxyEvent
   pub ended : List ProxyEvent
   pub own_is : own ≡ ended ++ given
@@ -119,11 +137,13 @@ pub record IsBegun (config : Config) (session : Session) (turn : Turn) (first : 
 
 -- the event of the turn is this request, a later one, which was passed on
 unfoldable pub IsPassed : Queued → Proxy → List ProxyEvent → Type 0
-IsPassed (queued.Request request) first own = (first.request ≡ request) × (first.options ≡ None) × ((number : ℕ) × (own ≡ PassedOn number ∷ []))
+IsPassed (queued.Request request) first own =
+    (first.request ≡ request) × (first.options ≡ None)
+    × ((number : ℕ) × (own ≡ PassedOn number ∷ []))
 IsPassed event first own = ⊥
 
--- what these turns of a history told of a proxied request, the newest first: the first of them that tells of it began to proxy it, and each
--- later one tells what it has to
+-- what these turns of a history told of a proxied request, the newest first: the first of them that
+-- tells of it began to proxy it, and each later one tells what it has to
 unfoldable pub AreOfTurns : Config → History → Proxy → List Turn → List ProxyEvent → Type 0
 AreOfTurns config history first [] events = ⊥
 AreOfTurns config history first (turn ∷ earlier) events =
@@ -133,8 +153,10 @@ AreOfTurns config history first (turn ∷ earlier) events =
     × IsOfTurn config (session_after config history earlier) turn (proxy_after first before) own
     × AreOfTurns config history first earlier before))
 
--- all that happened to a proxied request of a session is what the turns of its history told of it, and it is what the list of that says
-pub record HasItsList (config : Config) (history : History) (turns : List Turn) (proxy : Proxy) : Type 0 where
+-- all that happened to a proxied request of a session is what the turns of its history told of it,
+-- and it is what the list of that says
+pub record HasItsList (config : Config) (history : History) (turns : List Turn)
+    (proxy : Proxy) : Type 0 where
   pub events : List ProxyEvent
   pub told : AreOfTurns config history (as_begun proxy) turns events
   pub had : IsHad (as_begun proxy) events
@@ -143,13 +165,16 @@ pub record HasItsList (config : Config) (history : History) (turns : List Turn) 
 
 -- ## Live sessions
 
--- what the journal tells of a session is its life, and each request that it proxies has the list of it
-pub record HaveLists (setup : Setup) (app : AppId) (given : List Told) (history : History) (session : Session) (inbox : List Waiting) : Type 0 where
+-- what the journal tells of a session is its life, and each request that it proxies has the list of
+-- it
+pub record HaveLists (setup : Setup) (app : AppId) (given : List Told) (history : History)
+    (session : Session) (inbox : List Waiting) : Type 0 where
   pub lived : IsLived setup app given history inbox
   pub lists : All (HasItsList setup.config history history.turns) session.known.proxies
 
 -- what the session is comes of such a history
-pub record HasLists (setup : Setup) (app : AppId) (given : List Told) (session : Session) (inbox : List Waiting) : Type 0 where
+pub record HasLists (setup : Setup) (app : AppId) (given : List Told) (session : Session)
+    (inbox : List Waiting) : Type 0 where
   pub history : History
   pub is : session ≡ session_of setup.config history
   pub have : HaveLists setup app given history session inbox

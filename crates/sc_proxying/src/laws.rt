@@ -12,17 +12,27 @@ ghost use Rattle.sc_lasting.specs.Lasting.{All};
 ghost use Rattle.sc_lived.specs.Lived.{told};
 ghost use Rattle.sc_proxying.specs.Proxying.{HasItsList, HasLists, HaveLists};
 
-/// Each request that an application session proxies, and each later one that it passes on, has the list of all that
-/// happened to it, and is what that list says. The list is what the turns of the session told of it, one after the
-/// other, from the one that began to proxy it: of the event of a turn at most one thing, a response on one of its
-/// branches, a CANCEL for it, or that the time of a branch was up; then all that the accepted calls of the turn said
-/// of it, in their order, the targets that they named and that they stopped it; then the branches that were started,
-/// the responses that were forwarded, and that it rested, or nothing, where the application had ended its SipSession.
-/// Each branch that was started is a new one and took a target that waited, or is the one on which a later request was
-/// passed on. So it is in every history; and of a live session after a lawful journal it is so of the turns that the
-/// journal tells of it, for each form in which sessions are kept. The contract is the law, and the call does nothing.
+/// Each request that an application session proxies, and each later one that it passes on, has the
+/// list of all that happened to it, and is what that list says. The list is what the turns of the
+/// session told of it, one after the other, from the one that began to proxy it: of the event of a
+/// turn at most one thing, a response on one of its branches, a CANCEL for it, or that the time of
+/// a branch was up; then all that the accepted calls of the turn said of it, in their order, the
+/// targets that they named and that they stopped it; then the branches that were started, the
+/// responses that were forwarded, and that it rested, or nothing, where the application had ended
+/// its SipSession. Each branch that was started is a new one and took a target that waited, or is
+/// the one on which a later request was passed on. So it is in every history; and of a live session
+/// after a lawful journal it is so of the turns that the journal tells of it, for each form in
+/// which sessions are kept. The contract is the law, and the call does nothing.
 pub fn proxied_requests_have_their_lists()
-    ensures life { (config : Config) (history : History) → All (HasItsList config history history.turns) (session_of config history).known.proxies }
-    ensures history { (setup : Setup) (epoch began : ℕ) (journal : List Step) (app : AppId) (live : Live History) → IsLawful (as_history setup.config) setup epoch began journal → live_at app (chained (as_history setup.config) setup epoch began journal) ≡ Some live → HaveLists setup app (told app journal) live.session (session_of setup.config live.session) live.inbox }
-    ensures session { (setup : Setup) (epoch began : ℕ) (journal : List Step) (app : AppId) (live : Live Session) → IsLawful as_session setup epoch began journal → live_at app (chained as_session setup epoch began journal) ≡ Some live → HasLists setup app (told app journal) live.session live.inbox }
+    ensures life { (config : Config) (history : History)
+        → All (HasItsList config history history.turns) (session_of config history).known.proxies }
+    ensures history { (setup : Setup) (epoch began : ℕ) (journal : List Step) (app : AppId)
+        (live : Live History) → IsLawful (as_history setup.config) setup epoch began journal
+        → live_at app (chained (as_history setup.config) setup epoch began journal) ≡ Some live
+        → HaveLists setup app (told app journal) live.session (session_of setup.config live.session)
+        live.inbox }
+    ensures session { (setup : Setup) (epoch began : ℕ) (journal : List Step) (app : AppId)
+        (live : Live Session) → IsLawful as_session setup epoch began journal
+        → live_at app (chained as_session setup epoch began journal) ≡ Some live
+        → HasLists setup app (told app journal) live.session live.inbox }
 {}

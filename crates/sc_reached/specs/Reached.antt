@@ -41,10 +41,13 @@ AllSmall (host ∷ hosts) = AreSmall host.sessions × AllSmall hosts
 pub record IsLater {S : Type 0} (from : Place) (request : Request) (net : Net S) : Type 0 where
   pub no_cancel : same_bytes (method_of request) cancel ≡ false
   pub tagged : is_some (tag_of request.head.to) ≡ true
-  pub unclaimed : first_host (λ host. is_claimed (claim_of (peers.Outside from) request host)) 0 net.hosts ≡ None
+  pub unclaimed : first_host (λ host. is_claimed (claim_of (peers.Outside from) request host)) 0
+      net.hosts ≡ None
 
--- its own URI, the top Route or the Request-URI, names this session, which lives and has room; and names have 64 bits
-pub record IsLaterFor {S : Type 0} (setup : Setup) (from : Place) (request : Request) (net : Net S) (app : AppId) (live : Live S) : Type 0 where
+-- its own URI, the top Route or the Request-URI, names this session, which lives and has room; and
+-- names have 64 bits
+pub record IsLaterFor {S : Type 0} (setup : Setup) (from : Place) (request : Request) (net : Net S)
+    (app : AppId) (live : Live S) : Type 0 where
   pub later : IsLater from request net
   pub uri : Uri
   pub by : own_uri setup.config request ≡ Some uri
@@ -55,26 +58,36 @@ pub record IsLaterFor {S : Type 0} (setup : Setup) (from : Place) (request : Req
   pub count : length net.hosts ≤ 2 ^ 64
   pub small : AllSmall net.hosts
 
--- the event is the last that waits in this session, which is what it was; no other session changes, and nothing is put
--- on the wire
-pub record IsQueuedAlone {S : Type 0} (app : AppId) (live : Live S) (event : Queued) (net changed : Net S) : Type 0 where
+-- the event is the last that waits in this session, which is what it was; no other session changes,
+-- and nothing is put on the wire
+pub record IsQueuedAlone {S : Type 0} (app : AppId) (live : Live S) (event : Queued)
+    (net changed : Net S) : Type 0 where
   pub later : Live S
   pub lives : live_at app changed ≡ Some later
   pub inbox : later.inbox ≡ live.inbox ++ record { number = net.count + 1; event = event } ∷ []
   pub same : later.session ≡ live.session
-  pub others : (other : AppId) → is_same_app other app ≡ false → live_at other changed ≡ live_at other net
+  pub others : (other : AppId) → is_same_app other app ≡ false
+      → live_at other changed ≡ live_at other net
   pub wire : changed.wire ≡ net.wire
 
 -- what the host answers at once: an INVITE's 100, to the host that sent it
 unfoldable pub answered_at_once : Entry → Request → List Entry
 answered_at_once entry request =
     if same_bytes (method_of request) invite
-    then record { sender = entry.receiver; receiver = entry.sender; message = messages.Response (trying_response trying request); note = None } ∷ []
+    then
+    record {
+      sender = entry.receiver;
+      receiver = entry.sender;
+      message = messages.Response (trying_response trying request);
+      note = None;
+    } ∷ []
     else []
 
--- the first of the wire is a request, no CANCEL, with a To tag and of no transaction of the host that it comes to; its own URI
--- names this session of that host, which lives and has room; and names have 64 bits
-pub record IsFirstFor {S : Type 0} (setup : Setup) (entry : Entry) (request : Request) (net : Net S) (app : AppId) (live : Live S) : Type 0 where
+-- the first of the wire is a request, no CANCEL, with a To tag and of no transaction of the host
+-- that it comes to; its own URI names this session of that host, which lives and has room; and
+-- names have 64 bits
+pub record IsFirstFor {S : Type 0} (setup : Setup) (entry : Entry) (request : Request) (net : Net S)
+    (app : AppId) (live : Live S) : Type 0 where
   pub first : slice_get net.wire 0 ≡ Some entry
   pub message : entry.message ≡ messages.Request request
   pub receiver : entry.receiver ≡ app.host
@@ -91,12 +104,14 @@ pub record IsFirstFor {S : Type 0} (setup : Setup) (entry : Entry) (request : Re
   pub within : IsOf64 net.epoch app 0
   pub small : AreSmall host.sessions
 
--- the event is the last that waits in this session, which is what it was; no other session changes; and the wire is what was
--- behind the first, and then these
-pub record IsDeliveredAlone {S : Type 0} (app : AppId) (live : Live S) (event : Queued) (answers : List Entry) (net changed : Net S) : Type 0 where
+-- the event is the last that waits in this session, which is what it was; no other session changes;
+-- and the wire is what was behind the first, and then these
+pub record IsDeliveredAlone {S : Type 0} (app : AppId) (live : Live S) (event : Queued)
+    (answers : List Entry) (net changed : Net S) : Type 0 where
   pub later : Live S
   pub lives : live_at app changed ≡ Some later
   pub inbox : later.inbox ≡ live.inbox ++ record { number = net.count + 1; event = event } ∷ []
   pub same : later.session ≡ live.session
-  pub others : (other : AppId) → is_same_app other app ≡ false → live_at other changed ≡ live_at other net
+  pub others : (other : AppId) → is_same_app other app ≡ false
+      → live_at other changed ≡ live_at other net
   pub wire : changed.wire ≡ drop 1 net.wire ++ answers

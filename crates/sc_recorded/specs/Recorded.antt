@@ -1,4 +1,5 @@
--- The Record-Route that an INVITE has where its way through the container ends (RFC 3261 section 16.6, step 4).
+-- The Record-Route that an INVITE has where its way through the container ends (RFC 3261 section
+-- 16.6, step 4).
 use Rattle.std.specs.Prelude.{◌≡◌, ℕ, List, ◌∷◌, Bool, true, false, None, Some, is_some, if◌then◌else◌}
 use Rattle.std.specs.List.{flat_map}
 use Rattle.std.specs.Option.{option_map_or}
@@ -21,17 +22,23 @@ use Rattle.sc_paths.specs.Pieces.{Dialog, Piece, heads_at_end, received, record_
 
 -- ## On the way
 
--- what a Record-Route list is behind a session: with its own URI in front where it stays on the path, else as it was
+-- what a Record-Route list is behind a session: with its own URI in front where it stays on the
+-- path, else as it was
 unfoldable pub routed : Config → ℕ → AppId → Bool → List Address → List Address
-routed config epoch app stays routes = if stays then own_address config epoch app ∷ routes else routes
+routed config epoch app stays routes =
+    if stays then own_address config epoch app ∷ routes else routes
 
--- the session stays on the path of what it proxied: the first of its calls that proxied and was accepted asked for that
+-- the session stays on the path of what it proxied: the first of its calls that proxied and was
+-- accepted asked for that
 abbrev pub records : List Moment → AppId → Bool
-records run app = option_map_or (λ (how : ProxyOptions). how.record_route) (proxied_with run app) false
+records run app =
+    option_map_or (λ (how : ProxyOptions). how.record_route) (proxied_with run app) false
 
 -- its later calls that proxied and were accepted ask for the same
 abbrev pub IsOfOneMind : List Moment → AppId → Type 0
-IsOfOneMind run app = All (λ (how : ProxyOptions). how.record_route ≡ records run app) (flat_map (λ moment. options_in app moment.step) run)
+IsOfOneMind run app =
+    All (λ (how : ProxyOptions). how.record_route ≡ records run app)
+    (flat_map (λ moment. options_in app moment.step) run)
 
 -- a later request that waits has a To tag
 unfoldable pub IsTaggedEvent : Queued → Type 0
@@ -46,8 +53,14 @@ IsInner peers.Nowhere = ⊥
 
 -- ## At the end
 
--- at its end the INVITE of the way has the Record-Route of its proxies that record-routed, above the one with which it came: as it
--- leaves the container to where the response comes from, or as it came to the session that answered it
-pub record IsRecorded (setup : Setup) (epoch : ℕ) (run : List Moment) (dialog : Dialog) (piece : Piece) : Type 0 where
-  pub leaves : piece.callee ≡ None → All (λ (head : Head). head.record_route ≡ record_routed setup.config epoch run piece) (heads_at_end setup run dialog piece)
-  pub comes : (app : AppId) (server : Server) → piece.callee ≡ Some app → received run piece app ≡ Some server → server.request.head.record_route ≡ record_routed setup.config epoch run piece
+-- at its end the INVITE of the way has the Record-Route of its proxies that record-routed, above
+-- the one with which it came: as it leaves the container to where the response comes from, or as it
+-- came to the session that answered it
+pub record IsRecorded (setup : Setup) (epoch : ℕ) (run : List Moment) (dialog : Dialog)
+    (piece : Piece) : Type 0 where
+  pub leaves : piece.callee ≡ None
+      → All (λ (head : Head). head.record_route ≡ record_routed setup.config epoch run piece)
+      (heads_at_end setup run dialog piece)
+  pub comes : (app : AppId) (server : Server) → piece.callee ≡ Some app
+      → received run piece app ≡ Some server
+      → server.request.head.record_route ≡ record_routed setup.config epoch run piece

@@ -11,9 +11,10 @@ use Rattle.sc_recording.specs.StepTexts.{epoch_text, steps_text}
 use Rattle.sc_terms.specs.declared.steps.Step.{Step}
 use Rattle.sc_recorder.specs.declared.writing.Unrecorded.{Unrecorded}
 
--- where nothing had failed, the sink took all of the text, or something has failed and it took a part from its front;
--- after a failure it takes nothing
-unfoldable pub Records : Option Unrecorded → Option Unrecorded → Option Bytes → Option Bytes → Bytes → Type 0
+-- where nothing had failed, the sink took all of the text, or something has failed and it took a
+-- part from its front; after a failure it takes nothing
+unfoldable pub Records : Option Unrecorded → Option Unrecorded → Option Bytes → Option Bytes → Bytes
+    → Type 0
 Records None None old new text = Takes old new text
 Records None (Some cause) old new text = TakesPart old new text
 Records (Some before) new_cause old new text = (new_cause ≡ Some before) × (new ≡ old)
@@ -23,7 +24,8 @@ unfoldable pub cause_after : Option Unrecorded → Result ⊤ Unrecorded → Opt
 cause_after before (Ok put) = before
 cause_after before (Err cause) = Some cause
 
--- the text of what a notice is told: the steps, and the end of an epoch; a count of steps and what lives have none
+-- the text of what a notice is told: the steps, and the end of an epoch; a count of steps and what
+-- lives have none
 unfoldable pub noted_text : Noted (Kept Step) → Bytes
 noted_text (noted.Step count) = []
 noted_text (noted.Part journal) = steps_text journal.items
@@ -41,7 +43,8 @@ pub record Recording (N K : Type 0) : Type 0 where
   pub told : List (Noted (Kept Step))
   pub cause : Option Unrecorded
 
--- of what the sink took, where it tells that: it is the text, or a part from its front where something failed
+-- of what the sink took, where it tells that: it is the text, or a part from its front where
+-- something failed
 unfoldable pub IsRecorded : Option Unrecorded → Option Bytes → Bytes → Type 0
 IsRecorded None took text = IsTold took text
 IsRecorded (Some cause) took text = (count : ℕ) × IsTold took (take count text)

@@ -4,9 +4,9 @@ use sc_edge::{Edge, Got, Put};
 use sc_value::Place;
 use std::cell::Cell;
 
-/// An edge over another one that answers `Closed` once a flag is set, so that a server over it goes on until no event
-/// waits and all is put, and ends. Until then it is the other one. It tells neither what its polls answered nor its
-/// closes.
+/// An edge over another one that answers `Closed` once a flag is set, so that a server over it goes
+/// on until no event waits and all is put, and ends. Until then it is the other one. It tells
+/// neither what its polls answered nor its closes.
 #[derive(Drop)]
 pub struct ClosingEdge<'a, E> {
     edge: E,
@@ -30,7 +30,13 @@ impl<'a, E: Edge> ClosingEdge<'a, E> {
 }
 
 impl<E: Edge> Edge for ClosingEdge<'_, E> {
-    ghost state = { λ s. record (E.state s.edge) { polls = s.polls; polled = None; closes = None; is_closed = s.is_over || (E.state s.edge).is_closed } };
+    ghost state = { λ s.
+        record (E.state s.edge) {
+          polls = s.polls;
+          polled = None;
+          closes = None;
+          is_closed = s.is_over || (E.state s.edge).is_closed;
+        } };
 
     fn poll(&mut self, room: &mut [u8]) -> Got {
         self.polls = self.polls.saturating_add(1);

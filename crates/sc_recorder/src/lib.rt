@@ -1,5 +1,5 @@
-//! The flight recorder of a server: a notice that writes the steps that it is told to a sink, and what ends the server
-//! where the sink takes no more.
+//! The flight recorder of a server: a notice that writes the steps that it is told to a sink, and
+//! what ends the server where the sink takes no more.
 #![tactic(auto)]
 
 mod closing_edge;

@@ -13,8 +13,8 @@ use std::alloc::Global;
 use std::cell::Cell;
 use std::marker::Model;
 
-/// A notice that writes the steps that it is told, and tells another one all of it. After the first failure it writes
-/// nothing more, and remembers why; the flag is then set.
+/// A notice that writes the steps that it is told, and tells another one all of it. After the first
+/// failure it writes nothing more, and remembers why; the flag is then set.
 pub struct Recorder<'a, N, K: Sink> {
     alloc: Global,
     /// The notice that is told all of it.
@@ -35,13 +35,15 @@ impl<'a, N, K: Sink> Model for Recorder<'a, N, K> {
 
     ghost Value = { Recording N K };
 
-    ghost view = { λ r. record { inner = r.inner; out = r.out; told = r.told.items; cause = r.cause } };
+    ghost view = { λ r.
+        record { inner = r.inner; out = r.out; told = r.told.items; cause = r.cause } };
 
     ghost invariant = { λ r. IsRecorded r.cause (K.took r.out) (told_text r.told.items) };
 }
 
 impl<'a, N: Notice<Journal<Step>>, K: Sink> Recorder<'a, N, K> {
-    /// A recorder that was told nothing, over this sink, which has taken nothing yet. It sets the flag at its first failure.
+    /// A recorder that was told nothing, over this sink, which has taken nothing yet. It sets the
+    /// flag at its first failure.
     #[tactic(auto, using(crate::proofs::RecordLaws::recorded_none))]
     pub fn new(alloc: Global, inner: N, out: K, over: &'a Cell<bool>) -> Recorder<'a, N, K>
         requires { IsTold (K.took out) [] }
@@ -63,7 +65,8 @@ impl<'a, N: Notice<Journal<Step>>, K: Sink> Recorder<'a, N, K> {
     /// Why the recording isn't whole: None where it is.
     pub fn cause(&self) -> Option<Unrecorded>
         ensures cause { result ≡ self.now.cause }
-        ensures recorded { IsRecorded self.now.cause (K.took self.now.out) (told_text self.now.told) }
+        ensures recorded { IsRecorded self.now.cause (K.took self.now.out)
+            (told_text self.now.told) }
     {
         self.cause
     }
@@ -89,7 +92,8 @@ impl<'a, N: Notice<Journal<Step>>, K: Sink> Recorder<'a, N, K> {
     pub fn record(&mut self, journal: Journal<Step>)
         ensures inner { self.new.inner ≡ self.old.inner }
         ensures told { self.new.told ≡ self.old.told ++ noted.Part journal ∷ [] }
-        ensures records { Records self.old.cause self.new.cause (K.took self.old.out) (K.took self.new.out) (steps_text journal.items) }
+        ensures records { Records self.old.cause self.new.cause (K.took self.old.out)
+            (K.took self.new.out) (steps_text journal.items) }
     {
         write_steps(
             self.alloc,
@@ -111,7 +115,8 @@ fn write_steps<K: Sink>(
     cause: &mut Option<Unrecorded>,
     over: &Cell<bool>,
 )
-    ensures { Records cause.old cause.new (K.took out.old) (K.took out.new) (steps_text journal.now.items) }
+    ensures { Records cause.old cause.new (K.took out.old) (K.took out.new)
+        (steps_text journal.now.items) }
 {
     if cause.is_none() {
         let put = put_steps(alloc, journal, out);
@@ -129,7 +134,8 @@ fn write_end<K: Sink>(
     cause: &mut Option<Unrecorded>,
     over: &Cell<bool>,
 )
-    ensures { Records cause.old cause.new (K.took out.old) (K.took out.new) (epoch_text number began) }
+    ensures { Records cause.old cause.new (K.took out.old) (K.took out.new)
+        (epoch_text number began) }
 {
     if cause.is_none() {
         let put = put_epoch(alloc, number, began, out);
@@ -167,7 +173,8 @@ impl<N: Notice<Journal<Step>>, K: Sink> Notice<Journal<Step>> for Recorder<'_, N
     fn step(&mut self, count: u64)
         ensures noted { Notes (Some self.old.told) (Some self.new.told) (noted.Step count) }
         ensures told { Notes (N.noted self.old.inner) (N.noted self.new.inner) (noted.Step count) }
-        ensures records { Records self.old.cause self.new.cause (K.took self.old.out) (K.took self.new.out) [] }
+        ensures records { Records self.old.cause self.new.cause (K.took self.old.out)
+            (K.took self.new.out) [] }
     {
         let item = Noted::Step(count);
         self.told = self.told.and(&item);
@@ -176,9 +183,12 @@ impl<N: Notice<Journal<Step>>, K: Sink> Notice<Journal<Step>> for Recorder<'_, N
 
     #[tactic(auto, using(crate::proofs::RecordLaws::notes_and, crate::proofs::RecordLaws::records_then, crate::proofs::RecordLaws::recorded_epoch))]
     fn epoch(&mut self, number: u32, began: u64, journal: Journal<Step>)
-        ensures noted { Notes (Some self.old.told) (Some self.new.told) (noted.Epoch number began journal) }
-        ensures told { Notes (N.noted self.old.inner) (N.noted self.new.inner) (noted.Epoch number began journal) }
-        ensures records { Records self.old.cause self.new.cause (K.took self.old.out) (K.took self.new.out) (steps_text journal.items ++ epoch_text number began) }
+        ensures noted { Notes (Some self.old.told) (Some self.new.told)
+            (noted.Epoch number began journal) }
+        ensures told { Notes (N.noted self.old.inner) (N.noted self.new.inner)
+            (noted.Epoch number began journal) }
+        ensures records { Records self.old.cause self.new.cause (K.took self.old.out)
+            (K.took self.new.out) (steps_text journal.items ++ epoch_text number began) }
     {
         write_steps(
             self.alloc,
@@ -203,8 +213,10 @@ impl<N: Notice<Journal<Step>>, K: Sink> Notice<Journal<Step>> for Recorder<'_, N
     #[tactic(auto, using(crate::proofs::RecordLaws::notes_and, crate::proofs::RecordLaws::records_none, crate::proofs::RecordLaws::recorded_list))]
     fn list(&mut self, listing: Listing)
         ensures noted { Notes (Some self.old.told) (Some self.new.told) (noted.List listing) }
-        ensures told { Notes (N.noted self.old.inner) (N.noted self.new.inner) (noted.List listing) }
-        ensures records { Records self.old.cause self.new.cause (K.took self.old.out) (K.took self.new.out) [] }
+        ensures told { Notes (N.noted self.old.inner) (N.noted self.new.inner)
+            (noted.List listing) }
+        ensures records { Records self.old.cause self.new.cause (K.took self.old.out)
+            (K.took self.new.out) [] }
     {
         let item = Noted::List(listing);
         self.told = self.told.and(&item);
@@ -214,8 +226,10 @@ impl<N: Notice<Journal<Step>>, K: Sink> Notice<Journal<Step>> for Recorder<'_, N
     #[tactic(auto, using(crate::proofs::RecordLaws::notes_and, crate::proofs::RecordLaws::recorded_part))]
     fn part(&mut self, journal: Journal<Step>)
         ensures noted { Notes (Some self.old.told) (Some self.new.told) (noted.Part journal) }
-        ensures told { Notes (N.noted self.old.inner) (N.noted self.new.inner) (noted.Part journal) }
-        ensures records { Records self.old.cause self.new.cause (K.took self.old.out) (K.took self.new.out) (steps_text journal.items) }
+        ensures told { Notes (N.noted self.old.inner) (N.noted self.new.inner)
+            (noted.Part journal) }
+        ensures records { Records self.old.cause self.new.cause (K.took self.old.out)
+            (K.took self.new.out) (steps_text journal.items) }
     {
         write_steps(
             self.alloc,

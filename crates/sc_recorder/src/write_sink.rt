@@ -4,8 +4,8 @@ use sc_edge::{Failed, Sink};
 use std::io::Write;
 use std::marker::Model;
 
-/// A sink over a writer, as a file. What it took is not told. A put that fails, or of which nothing is written, is a
-/// fault.
+/// A sink over a writer, as a file. What it took is not told. A put that fails, or of which nothing
+/// is written, is a fault.
 #[derive(Drop)]
 pub struct WriteSink<W> {
     writer: W,

@@ -33,9 +33,11 @@ pub fn put_steps<K: Sink>(
     out: &mut K,
 ) -> Result<(), Unrecorded>
     ensures later { K.faults out.old ≤ K.faults out.new }
-    ensures ok { OnOk result (Takes (K.took out.old) (K.took out.new) (steps_text journal.now.items)) }
+    ensures ok { OnOk result
+        (Takes (K.took out.old) (K.took out.new) (steps_text journal.now.items)) }
     ensures failed { result ≡ Err Unrecorded.Failed → Rose (K.faults out.old) (K.faults out.new) }
-    ensures part { OnErr result (TakesPart (K.took out.old) (K.took out.new) (steps_text journal.now.items)) }
+    ensures part { OnErr result
+        (TakesPart (K.took out.old) (K.took out.new) (steps_text journal.now.items)) }
 {
     for at in 0..journal.len() {
         put_step(alloc, step_at(journal, at), out)?;
@@ -82,7 +84,8 @@ pub fn put_epoch<K: Sink>(
     ensures later { K.faults out.old ≤ K.faults out.new }
     ensures ok { OnOk result (Takes (K.took out.old) (K.took out.new) (epoch_text number began)) }
     ensures failed { result ≡ Err Unrecorded.Failed → Rose (K.faults out.old) (K.faults out.new) }
-    ensures part { OnErr result (TakesPart (K.took out.old) (K.took out.new) (epoch_text number began)) }
+    ensures part { OnErr result
+        (TakesPart (K.took out.old) (K.took out.new) (epoch_text number began)) }
 {
     match epoch_text(alloc, number, began) {
         Ok(text) => put_text(&text, out),

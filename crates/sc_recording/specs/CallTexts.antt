@@ -131,11 +131,12 @@ unfoldable pub target_text : Target → Bytes
 target_text targets.Application = codes " application"
 target_text (targets.Session sess) = codes " session" ++ numbered sess.0
 
--- whether all are tried at once, contacts of a 3xx are tried too, the application is told of responses, and it
--- stays on the path of later requests
+-- whether all are tried at once, contacts of a 3xx are tried too, the application is told of
+-- responses, and it stays on the path of later requests
 unfoldable pub flags_text : ProxyOptions → Bytes
 flags_text options =
-    flag_text options.parallel ++ flag_text options.recurse ++ flag_text options.supervised ++ flag_text options.record_route
+    flag_text options.parallel ++ flag_text options.recurse ++ flag_text options.supervised
+    ++ flag_text options.record_route
 
 -- how a request is proxied: four flags, and the seconds of a branch
 unfoldable pub options_text : ProxyOptions → Bytes
@@ -144,7 +145,8 @@ options_text options = flags_text options ++ numbered options.timeout
 -- a response that is given: code, reason, fields, Contacts, body
 unfoldable pub given_text : Answer → Bytes
 given_text answer =
-    numbered answer.code ++ sized answer.reason ++ fields_text answer.fields ++ contacts_text answer.contact ++ sized answer.body
+    numbered answer.code ++ sized answer.reason ++ fields_text answer.fields
+    ++ contacts_text answer.contact ++ sized answer.body
 
 -- the number of a request that may be missing
 unfoldable pub number_or : Option ReqId → Option ℕ
@@ -158,11 +160,14 @@ origin_of ask = number_or ask.origin
 -- the addresses of a request that is made, and how the router goes on for it
 unfoldable pub routed_text : Ask → Bytes
 routed_text ask =
-    sized (uri_text ask.uri) ++ sized (address_text ask.from) ++ sized (address_text ask.to) ++ directive_text ask.directive ++ numbered_or (origin_of ask)
+    sized (uri_text ask.uri) ++ sized (address_text ask.from) ++ sized (address_text ask.to)
+    ++ directive_text ask.directive ++ numbered_or (origin_of ask)
 
 -- a request that is made: method, addresses, fields, Contacts, body
 unfoldable pub ask_text : Ask → Bytes
-ask_text ask = sized ask.method ++ routed_text ask ++ fields_text ask.fields ++ contacts_text ask.contact ++ sized ask.body
+ask_text ask =
+    sized ask.method ++ routed_text ask ++ fields_text ask.fields ++ contacts_text ask.contact
+    ++ sized ask.body
 
 -- a request in a dialog: method, fields, body
 unfoldable pub inside_text : Inside → Bytes
@@ -178,24 +183,30 @@ acting_on name n = name ++ numbered n
 unfoldable pub call_text : Call → Bytes
 call_text (calls.Respond req answer) = acting_on (codes "respond") req.0 ++ given_text answer
 call_text (calls.CreateRequest ask) = create_request_word ++ ask_text ask
-call_text (calls.CreateInDialog sess ask) = acting_on create_in_dialog_word sess.0 ++ inside_text ask
+call_text (calls.CreateInDialog sess ask) =
+    acting_on create_in_dialog_word sess.0 ++ inside_text ask
 call_text (calls.B2bCreate req uri) = acting_on (codes "b2b_create") req.0 ++ uri_or uri
-call_text (calls.SetDirective draft directive origin) = acting_on (codes "set_directive") draft ++ directive_text directive ++ numbered_or (number_or origin)
+call_text (calls.SetDirective draft directive origin) =
+    acting_on (codes "set_directive") draft ++ directive_text directive
+    ++ numbered_or (number_or origin)
 call_text (calls.Send draft) = acting_on (codes "send") draft
 call_text (calls.Discard draft) = acting_on (codes "discard") draft
 call_text (calls.Ack sess body) = acting_on (codes "ack") sess.0 ++ sized body
 call_text (calls.Cancel req) = acting_on (codes "cancel") req.0
-call_text (calls.ProxyTo req uris options) = acting_on (codes "proxy_to") req.0 ++ options_text options ++ uris_text uris
+call_text (calls.ProxyTo req uris options) =
+    acting_on (codes "proxy_to") req.0 ++ options_text options ++ uris_text uris
 call_text (calls.ProxyCancel req) = acting_on (codes "proxy_cancel") req.0
 call_text (calls.B2bRespond sess answer) = acting_on b2b_respond_word sess.0 ++ given_text answer
 call_text (calls.Link a b) = acting_on (codes "link") a.0 ++ numbered b.0
 call_text (calls.Unlink a) = acting_on (codes "unlink") a.0
-call_text (calls.StartTimer delay period info) = acting_on (codes "start_timer") delay ++ period_text period ++ sized info
+call_text (calls.StartTimer delay period info) =
+    acting_on (codes "start_timer") delay ++ period_text period ++ sized info
 call_text (calls.CancelTimer id) = acting_on (codes "cancel_timer") id.0
 call_text (calls.SetAttribute name value) = set_attribute_word ++ sized name ++ sized value
 call_text (calls.RemoveAttribute name) = codes "remove_attribute" ++ sized name
 call_text (calls.SetExpires minutes) = codes "set_expires" ++ signed minutes
-call_text (calls.SetReadyFlag target flag) = set_ready_flag_word ++ target_text target ++ flag_text flag
+call_text (calls.SetReadyFlag target flag) =
+    set_ready_flag_word ++ target_text target ++ flag_text flag
 call_text (calls.InvalidateSession sess) = acting_on invalidate_session_word sess.0
 call_text calls.InvalidateApplication = invalidate_application_word
 

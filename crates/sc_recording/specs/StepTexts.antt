@@ -21,7 +21,8 @@ followed_by text = numbered (length text) ++ 10 ∷ [] ++ text ++ 10 ∷ []
 -- From, To, Call-ID and CSeq, of which an answer is made (RFC 3261 section 8.2.6.2)
 unfoldable pub peers_text : AnswerableValue → Bytes
 peers_text heads =
-    line from_name (address_text heads.from) ++ line to_name (address_text heads.to) ++ line call_id_name heads.call_id ++ line cseq_name (cseq_text heads.cseq)
+    line from_name (address_text heads.from) ++ line to_name (address_text heads.to)
+    ++ line call_id_name heads.call_id ++ line cseq_name (cseq_text heads.cseq)
 
 -- the same behind the Vias
 unfoldable pub heads_text : AnswerableValue → Bytes
@@ -44,7 +45,8 @@ ending_text ends.Starved = codes " starved"
 
 -- what of a turn stands on its line: the session, the event, the moment, the end
 unfoldable pub turn_text : AppId → ℕ → ℕ → End → Bytes
-turn_text app event now end = codes "turn" ++ app_text app ++ numbered event ++ numbered now ++ ending_text end
+turn_text app event now end =
+    codes "turn" ++ app_text app ++ numbered event ++ numbered now ++ ending_text end
 
 -- where and how a text is no message
 unfoldable pub bad_text : Place → Bad → Bytes
@@ -52,11 +54,13 @@ bad_text place bad = codes "bad " ++ place_text place ++ numbered bad.at ++ numb
 
 -- a step
 unfoldable pub step_text : Step → Bytes
-step_text (steps.In place message) = codes "in " ++ place_text place ++ followed_by (written message)
+step_text (steps.In place message) =
+    codes "in " ++ place_text place ++ followed_by (written message)
 step_text (steps.Bad place bad) = bad_text place bad ++ followed_by (heads_or bad.heads)
 step_text (steps.Lost place) = codes "lost " ++ place_text place ++ 10 ∷ []
 step_text (steps.Tick now) = codes "tick" ++ numbered now ++ 10 ∷ []
-step_text (steps.Turn app event now calls end) = turn_text app event now end ++ followed_by (calls_text calls)
+step_text (steps.Turn app event now calls end) =
+    turn_text app event now end ++ followed_by (calls_text calls)
 step_text (steps.Withdraw app) = codes "drop" ++ app_text app ++ 10 ∷ []
 
 -- steps, one after the other

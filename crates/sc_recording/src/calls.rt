@@ -16,7 +16,8 @@ use sc_uri_text::put_byte;
 use sc_value::{Directive, List, NoMemory, ReqId, Text, Uri};
 use std::alloc::Global;
 
-/// The lines of the calls of a turn, in their order: of each its name, its arguments and what it answered.
+/// The lines of the calls of a turn, in their order: of each its name, its arguments and what it
+/// answered.
 #[tactic(auto, unfolding(crate::specs::CallTexts::calls_text))]
 pub fn calls_text(alloc: Global, calls: &List<CallRecord>) -> Result<Text, NoMemory>
     ensures { IfOk result (λ text. text ≡ calls_text calls.now) }
@@ -131,7 +132,8 @@ fn put_routed(alloc: Global, ask: &Ask, out: &mut Text) -> Result<(), NoMemory>
 
 #[tactic(auto, unfolding(crate::specs::CallTexts::inside_text))]
 fn put_inside(alloc: Global, sess: u32, ask: &Inside, out: &mut Text) -> Result<(), NoMemory>
-    ensures { OnOk result (out.new ≡ out.old ++ (acting_on create_in_dialog_word sess ++ inside_text ask.now)) }
+    ensures { OnOk result
+        (out.new ≡ out.old ++ (acting_on create_in_dialog_word sess ++ inside_text ask.now)) }
 {
     put_acting(words::create_in_dialog(), sess, out)?;
     put_sized(ask.method.as_bytes(), out)?;
@@ -140,7 +142,8 @@ fn put_inside(alloc: Global, sess: u32, ask: &Inside, out: &mut Text) -> Result<
 }
 
 fn put_leg(alloc: Global, req: u32, uri: &Option<Uri>, out: &mut Text) -> Result<(), NoMemory>
-    ensures { OnOk result (out.new ≡ out.old ++ (acting_on (codes "b2b_create") req ++ uri_or uri.now)) }
+    ensures { OnOk result
+        (out.new ≡ out.old ++ (acting_on (codes "b2b_create") req ++ uri_or uri.now)) }
 {
     put_acting(b"b2b_create", req, out)?;
     put_uri_or(alloc, uri, out)
@@ -152,7 +155,11 @@ fn put_directed(
     origin: Option<ReqId>,
     out: &mut Text,
 ) -> Result<(), NoMemory>
-    ensures { OnOk result (out.new ≡ out.old ++ (acting_on (codes "set_directive") draft ++ directive_text directive ++ numbered_or (number_or origin))) }
+    ensures { OnOk result
+        (out.new
+        ≡ out.old
+        ++ (acting_on (codes "set_directive") draft ++ directive_text directive
+        ++ numbered_or (number_or origin))) }
 {
     put_acting(b"set_directive", draft, out)?;
     put_directive(directive, out)?;
@@ -184,7 +191,11 @@ fn put_proxied(
     options: ProxyOptions,
     out: &mut Text,
 ) -> Result<(), NoMemory>
-    ensures { OnOk result (out.new ≡ out.old ++ (acting_on (codes "proxy_to") req ++ options_text options ++ uris_text targets.now)) }
+    ensures { OnOk result
+        (out.new
+        ≡ out.old
+        ++ (acting_on (codes "proxy_to") req ++ options_text options
+        ++ uris_text targets.now)) }
 {
     put_acting(b"proxy_to", req, out)?;
     put_options(options, out)?;
@@ -217,7 +228,10 @@ fn put_link(a: u32, b: u32, out: &mut Text) -> Result<(), NoMemory>
 }
 
 fn put_timer(delay: u32, period: Period, info: &Text, out: &mut Text) -> Result<(), NoMemory>
-    ensures { OnOk result (out.new ≡ out.old ++ (acting_on (codes "start_timer") delay ++ period_text period ++ sized info.now)) }
+    ensures { OnOk result
+        (out.new
+        ≡ out.old
+        ++ (acting_on (codes "start_timer") delay ++ period_text period ++ sized info.now)) }
 {
     put_acting(b"start_timer", delay, out)?;
     put_period(period, out)?;
@@ -236,7 +250,8 @@ fn put_period(period: Period, out: &mut Text) -> Result<(), NoMemory>
 }
 
 fn put_attribute(name: &Text, value: &Text, out: &mut Text) -> Result<(), NoMemory>
-    ensures { OnOk result (out.new ≡ out.old ++ (set_attribute_word ++ sized name.now ++ sized value.now)) }
+    ensures { OnOk result
+        (out.new ≡ out.old ++ (set_attribute_word ++ sized name.now ++ sized value.now)) }
 {
     out.append(words::set_attribute())?;
     put_sized(name.as_bytes(), out)?;
@@ -258,7 +273,8 @@ fn put_expires(minutes: i32, out: &mut Text) -> Result<(), NoMemory>
 }
 
 fn put_ready(target: Target, flag: bool, out: &mut Text) -> Result<(), NoMemory>
-    ensures { OnOk result (out.new ≡ out.old ++ (set_ready_flag_word ++ target_text target ++ flag_text flag)) }
+    ensures { OnOk result
+        (out.new ≡ out.old ++ (set_ready_flag_word ++ target_text target ++ flag_text flag)) }
 {
     out.append(words::set_ready_flag())?;
     put_target(target, out)?;

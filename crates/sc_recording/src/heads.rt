@@ -117,7 +117,8 @@ fn put_via(via: &Via, out: &mut Text) -> Result<(), NoMemory>
 
 #[tactic(auto, unfolding(sc_grammar::specs::Written::version))]
 fn put_transport(via: &Via, out: &mut Text) -> Result<(), NoMemory>
-    ensures { OnOk result (out.new ≡ out.old ++ (version ++ 47 ∷ [] ++ via.now.transport ++ 32 ∷ [])) }
+    ensures { OnOk result
+        (out.new ≡ out.old ++ (version ++ 47 ∷ [] ++ via.now.transport ++ 32 ∷ [])) }
 {
     out.append(b"SIP/2.0")?;
     put_byte(b'/', out)?;
@@ -126,7 +127,9 @@ fn put_transport(via: &Via, out: &mut Text) -> Result<(), NoMemory>
 }
 
 fn put_sent_by(via: &Via, out: &mut Text) -> Result<(), NoMemory>
-    ensures { OnOk result (out.new ≡ out.old ++ (via.now.host ++ port_text via.now.port ++ params_text via.now.params)) }
+    ensures { OnOk result
+        (out.new
+        ≡ out.old ++ (via.now.host ++ port_text via.now.port ++ params_text via.now.params)) }
 {
     out.append(via.host.as_bytes())?;
     put_port(via.port, out)?;

@@ -19,11 +19,13 @@ use std::alloc::Global;
 ///
 /// - `in PLACE N`, the N bytes of a message and a line feed: the message came from the place.
 /// - `bad PLACE AT KIND N`, N bytes of headers and a line feed: a text came that is no message, which goes wrong at
-///   this byte of it, from 0, in this way; the headers are those from which it is answered, none where it isn't.
+/// this byte of it, from 0, in this way; the headers are those from which it is answered, none
+/// where it isn't.
 /// - `lost PLACE`: the place was lost.
 /// - `tick MS`: the clock reached this moment, in milliseconds.
 /// - `turn H S EVENT MS END N`, N bytes of lines and a line feed: the application session S of host H handled the
-///   event of this number, lent to it at this moment, and END is `fine` or `fault`; the lines are its calls.
+/// event of this number, lent to it at this moment, and END is `fine` or `fault`; the lines are its
+/// calls.
 /// - `drop H S`: the application session was ended from outside.
 ///
 /// The one error is want of memory.
@@ -70,7 +72,9 @@ fn put_step(alloc: Global, step: &Step, out: &mut Text) -> Result<(), NoMemory>
 }
 
 fn put_in(alloc: Global, place: Place, message: &Message, out: &mut Text) -> Result<(), NoMemory>
-    ensures { OnOk result (out.new ≡ out.old ++ (codes "in " ++ place_text place ++ followed_by (written message.now))) }
+    ensures { OnOk result
+        (out.new
+        ≡ out.old ++ (codes "in " ++ place_text place ++ followed_by (written message.now))) }
 {
     let text = text_of(alloc, message)?;
     out.append(b"in ")?;
@@ -79,7 +83,8 @@ fn put_in(alloc: Global, place: Place, message: &Message, out: &mut Text) -> Res
 }
 
 fn put_bad(alloc: Global, place: Place, bad: &Bad, out: &mut Text) -> Result<(), NoMemory>
-    ensures { OnOk result (out.new ≡ out.old ++ (bad_text place bad.now ++ followed_by (heads_or bad.now.heads))) }
+    ensures { OnOk result
+        (out.new ≡ out.old ++ (bad_text place bad.now ++ followed_by (heads_or bad.now.heads))) }
 {
     let text = heads_text(alloc, &bad.heads)?;
     put_fault(place, bad, out)?;
@@ -121,7 +126,8 @@ fn put_turn(
     end: End,
     out: &mut Text,
 ) -> Result<(), NoMemory>
-    ensures { OnOk result (out.new ≡ out.old ++ (turn_text app event now end ++ followed_by (calls_text calls.now))) }
+    ensures { OnOk result
+        (out.new ≡ out.old ++ (turn_text app event now end ++ followed_by (calls_text calls.now))) }
 {
     let text = calls_text(alloc, calls)?;
     put_turn_words(app, event, now, end, out)?;

@@ -30,7 +30,8 @@ stopped stop = λ script. cancel_some stop.running (remove_if stop.set stop.name
 -- a timer of this interval begins
 unfoldable pub started : SessId → ℕ → Bool → Script
 started sess n me =
-    Make (calls.StartTimer (deadline n me) Once (timed_name sess)) (with_number (λ t. only (calls.SetAttribute (timed_name sess) (timed_text n me t))))
+    Make (calls.StartTimer (deadline n me) Once (timed_name sess))
+    (with_number (λ t. only (calls.SetAttribute (timed_name sess) (timed_text n me t))))
 
 -- the session timer begins anew, as granted, once the old one is stopped
 unfoldable pub begun_by : Stop → SessId → Granted → Script

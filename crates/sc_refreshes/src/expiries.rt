@@ -10,9 +10,9 @@ use sc_helpers::{field, numbered, one, two};
 use sc_value::{Field, List, NoMemory};
 use std::alloc::Global;
 
-/// How many milliseconds after its start a session's timer fires: after half of the interval for the
-/// side that refreshes, and for the other side a third of it, at most 32 seconds, before its end (RFC
-/// 4028 sections 7.2 and 10).
+/// How many milliseconds after its start a session's timer fires: after half of the interval for
+/// the side that refreshes, and for the other side a third of it, at most 32 seconds, before its
+/// end (RFC 4028 sections 7.2 and 10).
 #[tactic(auto, unfolding(sc_hosts::specs::SessionTimers::deadline))]
 pub fn deadline(seconds: u32, me: bool) -> u32
     requires { seconds ≤ 4000000 }
@@ -26,7 +26,8 @@ pub fn deadline(seconds: u32, me: bool) -> u32
 }
 
 fn interval_field(alloc: Global, seconds: u32, refresher: &[u8]) -> Result<Field, NoMemory>
-    ensures { IfOk result (λ made. made ≡ field session_expires (decimal seconds ++ refresher.now)) }
+    ensures { IfOk result
+        (λ made. made ≡ field session_expires (decimal seconds ++ refresher.now)) }
 {
     let mut value = numbered(alloc, b"", u64::from(seconds))?;
     value.append(refresher)?;
@@ -70,7 +71,11 @@ fn before_require(alloc: Global, expires: Field) -> Result<List<Field>, NoMemory
 
 /// The fields of a request that refreshes a session.
 pub fn refresh_fields(alloc: Global, seconds: u32) -> Result<List<Field>, NoMemory>
-    ensures { IfOk result (λ fields. fields ≡ field session_expires (decimal seconds ++ codes ";refresher=uac") ∷ field supported_word timer_option ∷ []) }
+    ensures { IfOk result
+        (λ fields.
+        fields
+        ≡ field session_expires (decimal seconds ++ codes ";refresher=uac")
+        ∷ field supported_word timer_option ∷ []) }
 {
     let expires = interval_field(alloc, seconds, b";refresher=uac")?;
     before_supported(alloc, expires)

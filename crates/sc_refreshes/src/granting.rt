@@ -28,7 +28,8 @@ fn number_param(view: &View) -> Option<u32>
 }
 
 fn in_range(number: Option<u32>) -> Option<u32>
-    ensures { result ≡ option_and_then (λ n. if nat_lt n 90 || nat_lt 86400 n then None else Some n) number }
+    ensures { result
+        ≡ option_and_then (λ n. if nat_lt n 90 || nat_lt 86400 n then None else Some n) number }
 {
     let number = number?;
     if number < 90 || 86_400 < number {
@@ -72,7 +73,8 @@ fn grant_by(
     requires interval { IsGrantable interval }
     requires least { least ≡ least_interval t.old.shown }
     ensures same { t.new.shown ≡ t.old.shown }
-    ensures played { OnOk result (IsPlayed (grant_by t.old.shown req sess (granted_of interval)) t.old t.new) }
+    ensures played { OnOk result
+        (IsPlayed (grant_by t.old.shown req sess (granted_of interval)) t.old t.new) }
 {
     match interval {
         Interval::TooSmall => refuse(t, req, least),
@@ -92,7 +94,10 @@ fn least_field(alloc: Global, least: u32) -> Result<List<Field>, NoMemory>
 fn refuse(t: &mut Turn, req: ReqId, least: u32) -> Result<(), NoMemory>
     requires { (play_of t.old).listed < MOST_CALLS }
     ensures same { t.new.shown ≡ t.old.shown }
-    ensures played { OnOk result (IsPlayed (only (answer_with req 422 too_small (field (codes "Min-SE") (decimal least) ∷ []))) t.old t.new) }
+    ensures played { OnOk result
+        (IsPlayed
+        (only (answer_with req 422 too_small (field (codes "Min-SE") (decimal least) ∷ []))) t.old
+        t.new) }
 {
     let fields = least_field(memory_of(t), least)?;
     answer_only(t, req, 422, b"Session Interval Too Small", fields)

@@ -21,7 +21,8 @@ pub enum Interval {
     Off,
     /// One that is too small was asked for.
     TooSmall,
-    /// One of so many seconds, at most 4,000,000, and whether the application refreshes the session.
+    /// One of so many seconds, at most 4,000,000, and whether the application refreshes the
+    /// session.
     On(u32, bool),
 }
 
@@ -97,7 +98,8 @@ fn refresher_of(value: &[u8]) -> Option<&[u8]>
 }
 
 fn is_uas(param: &[u8]) -> bool
-    ensures { result ≡ option_map_or (λ v. same_name (trimmed v) (codes "uas")) (after 61 param.now) false }
+    ensures { result
+        ≡ option_map_or (λ v. same_name (trimmed v) (codes "uas")) (after 61 param.now) false }
 {
     let (_, value) = cut(param, b'=');
     match value {

@@ -25,13 +25,13 @@ use sc_terms::{Charter, End, Event};
 use sc_turn::Turn;
 use sc_value::{NoMemory, ReqId, Request, Response, SessId};
 
-/// Answers INVITEs and UPDATEs 200 `OK`, with the session interval that their Session-Expires asks for
-/// (RFC 4028 section 9), up to 4,000,000 seconds. An interval below the first parameter, 90 to 86,400
-/// seconds and else 90, it answers 422 `Session Interval Too Small`, or grants none where the request
-/// doesn't support timers. Where it refreshes the session itself, it sends an UPDATE after half of the
-/// interval; where the peer does, a BYE a third of the interval, at most 32 seconds, before its end. A
-/// refresh that fails ends the session by a BYE. A BYE ends the timer. Each other request but an ACK it
-/// answers 200 `OK`. At all other events it makes no call.
+/// Answers INVITEs and UPDATEs 200 `OK`, with the session interval that their Session-Expires asks
+/// for (RFC 4028 section 9), up to 4,000,000 seconds. An interval below the first parameter, 90 to
+/// 86,400 seconds and else 90, it answers 422 `Session Interval Too Small`, or grants none where
+/// the request doesn't support timers. Where it refreshes the session itself, it sends an UPDATE
+/// after half of the interval; where the peer does, a BYE a third of the interval, at most 32
+/// seconds, before its end. A refresh that fails ends the session by a BYE. A BYE ends the timer.
+/// Each other request but an ACK it answers 200 `OK`. At all other events it makes no call.
 #[derive(Clone, Copy, Debug)]
 pub struct Refreshes;
 
@@ -77,7 +77,10 @@ fn begin(t: &mut Turn, req: ReqId, sess: SessId, request: &Request) -> Result<()
     requires calls { t.old.calls ≡ [] }
     requires memory { t.old.starved ≡ false }
     ensures same { t.new.shown ≡ t.old.shown }
-    ensures played { OnOk result (IsPlayed (if same_bytes request.now.method invite then grant t.old.shown req sess request.now else only (reply req 200 ok)) t.old t.new) }
+    ensures played { OnOk result
+        (IsPlayed
+        (if same_bytes request.now.method invite then grant t.old.shown req sess request.now
+        else only (reply req 200 ok)) t.old t.new) }
 {
     if is_invite(request.method.as_bytes()) {
         return grant(t, req, sess, request);
@@ -104,7 +107,12 @@ fn take_later(t: &mut Turn, req: ReqId, sess: SessId, request: &Request) -> Resu
     requires calls { t.old.calls ≡ [] }
     requires memory { t.old.starved ≡ false }
     ensures same { t.new.shown ≡ t.old.shown }
-    ensures played { OnOk result (IsPlayed (if is_granting request.now then grant t.old.shown req sess request.now else (if same_bytes request.now.method bye then then_make (reply req 200 ok) (stop_then sess t.old.shown Done) else reply_ok req request.now)) t.old t.new) }
+    ensures played { OnOk result
+        (IsPlayed
+        (if is_granting request.now then grant t.old.shown req sess request.now
+        else (if same_bytes request.now.method bye
+        then then_make (reply req 200 ok) (stop_then sess t.old.shown Done)
+        else reply_ok req request.now)) t.old t.new) }
 {
     if is_granting(request) {
         return grant(t, req, sess, request);
@@ -120,7 +128,8 @@ fn end(t: &mut Turn, req: ReqId, sess: SessId) -> Result<(), NoMemory>
     requires calls { t.old.calls ≡ [] }
     requires memory { t.old.starved ≡ false }
     ensures same { t.new.shown ≡ t.old.shown }
-    ensures played { OnOk result (IsPlayed (then_make (reply req 200 ok) (stop_then sess t.old.shown Done)) t.old t.new) }
+    ensures played { OnOk result
+        (IsPlayed (then_make (reply req 200 ok) (stop_then sess t.old.shown Done)) t.old t.new) }
 {
     let what = stop_of(memory_of(t), shown(t), sess)?;
     answer_and_stop(t, req, &what)
@@ -130,7 +139,8 @@ fn end(t: &mut Turn, req: ReqId, sess: SessId) -> Result<(), NoMemory>
 fn answer_and_stop(t: &mut Turn, req: ReqId, what: &Stop) -> Result<(), NoMemory>
     requires { (play_of t.old).listed + 2 < MOST_CALLS }
     ensures same { t.new.shown ≡ t.old.shown }
-    ensures played { OnOk result (IsPlayed (then_make (reply req 200 ok) (stopped what.now Done)) t.old t.new) }
+    ensures played { OnOk result
+        (IsPlayed (then_make (reply req 200 ok) (stopped what.now Done)) t.old t.new) }
 {
     reply_first_200(t, req)?;
     stop_only(t, what)
@@ -141,7 +151,12 @@ fn take_response(t: &mut Turn, sess: SessId, response: &Response) -> Result<(), 
     requires calls { t.old.calls ≡ [] }
     requires memory { t.old.starved ≡ false }
     ensures same { t.new.shown ≡ t.old.shown }
-    ensures played { OnOk result (IsPlayed (if same_bytes response.now.head.cseq.method update then where_some (option_and_then timed_of (attribute (timed_name sess) t.old.shown)) (refreshed t.old.shown sess response.now.code) else Done) t.old t.new) }
+    ensures played { OnOk result
+        (IsPlayed
+        (if same_bytes response.now.head.cseq.method update
+        then where_some (option_and_then timed_of (attribute (timed_name sess) t.old.shown))
+        (refreshed t.old.shown sess response.now.code)
+        else Done) t.old t.new) }
 {
     if !is_update(response.head.cseq.method.as_bytes()) {
         return Ok(());
@@ -161,7 +176,8 @@ fn refreshed_some(
     requires memory { t.old.starved ≡ false }
     requires interval { IfSome timed (λ timed. timed.seconds ≤ 4000000) }
     ensures same { t.new.shown ≡ t.old.shown }
-    ensures played { OnOk result (IsPlayed (where_some timed (refreshed t.old.shown sess code)) t.old t.new) }
+    ensures played { OnOk result
+        (IsPlayed (where_some timed (refreshed t.old.shown sess code)) t.old t.new) }
 {
     match timed {
         Some(timed) => refreshed(t, sess, code, &timed),

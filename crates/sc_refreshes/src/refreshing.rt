@@ -27,7 +27,10 @@ pub fn time_out(t: &mut Turn, id: TimerId) -> Result<(), NoMemory>
     requires calls { t.old.calls ≡ [] }
     requires memory { t.old.starved ≡ false }
     ensures same { t.new.shown ≡ t.old.shown }
-    ensures played { OnOk result (IsPlayed (where_some (slice_get (filter_map (named_timed id) t.old.shown.attributes) 0) refresh_by) t.old t.new) }
+    ensures played { OnOk result
+        (IsPlayed
+        (where_some (slice_get (filter_map (named_timed id) t.old.shown.attributes) 0) refresh_by)
+        t.old t.new) }
 {
     let named = first_timed(shown(t).attributes.as_slice(), id);
     refresh_some(t, named)
@@ -62,7 +65,12 @@ fn refresh_by(t: &mut Turn, named: &NamedRefresh) -> Result<(), NoMemory>
 fn refresh(t: &mut Turn, sess: SessId, seconds: u32) -> Result<(), NoMemory>
     requires { (play_of t.old).listed + 2 < MOST_CALLS }
     ensures same { t.new.shown ≡ t.old.shown }
-    ensures played { OnOk result (IsPlayed (send_in sess update (field session_expires (decimal seconds ++ codes ";refresher=uac") ∷ field supported_word timer_option ∷ []) [] (only (Call.SetAttribute (timed_name sess) (timed_text seconds true 0)))) t.old t.new) }
+    ensures played { OnOk result
+        (IsPlayed
+        (send_in sess update
+        (field session_expires (decimal seconds ++ codes ";refresher=uac")
+        ∷ field supported_word timer_option ∷ []) []
+        (only (Call.SetAttribute (timed_name sess) (timed_text seconds true 0)))) t.old t.new) }
 {
     let fields = refresh_fields(memory_of(t), seconds)?;
     if !send_in(t, sess, b"UPDATE", fields, b"")? {
@@ -75,7 +83,9 @@ fn refresh(t: &mut Turn, sess: SessId, seconds: u32) -> Result<(), NoMemory>
 fn give_up(t: &mut Turn, sess: SessId) -> Result<(), NoMemory>
     requires { (play_of t.old).listed + 2 < MOST_CALLS }
     ensures same { t.new.shown ≡ t.old.shown }
-    ensures played { OnOk result (IsPlayed (send_in sess bye [] [] (only (Call.RemoveAttribute (timed_name sess)))) t.old t.new) }
+    ensures played { OnOk result
+        (IsPlayed (send_in sess bye [] [] (only (Call.RemoveAttribute (timed_name sess)))) t.old
+        t.new) }
 {
     let none = List::new(memory_of(t));
     if !send_in(t, sess, b"BYE", none, b"")? {
@@ -88,7 +98,8 @@ fn give_up(t: &mut Turn, sess: SessId) -> Result<(), NoMemory>
 fn forget(t: &mut Turn, sess: SessId) -> Result<(), NoMemory>
     requires { (play_of t.old).listed < MOST_CALLS }
     ensures same { t.new.shown ≡ t.old.shown }
-    ensures played { OnOk result (IsPlayed (only (Call.RemoveAttribute (timed_name sess))) t.old t.new) }
+    ensures played { OnOk result
+        (IsPlayed (only (Call.RemoveAttribute (timed_name sess))) t.old t.new) }
 {
     let name = timed_name(memory_of(t), sess)?;
     remove_attribute(t, name)?;
@@ -102,7 +113,8 @@ pub fn refreshed(t: &mut Turn, sess: SessId, code: u16, timed: &Refresh) -> Resu
     requires memory { t.old.starved ≡ false }
     requires interval { timed.now.seconds ≤ 4000000 }
     ensures same { t.new.shown ≡ t.old.shown }
-    ensures played { OnOk result (IsPlayed (refreshed t.old.shown sess code timed.now) t.old t.new) }
+    ensures played { OnOk result
+        (IsPlayed (refreshed t.old.shown sess code timed.now) t.old t.new) }
 {
     if !(timed.me && timed.timer == 0) {
         return Ok(());

@@ -40,7 +40,8 @@ fn timed_at(view: &View, name: &[u8]) -> Option<Refresh>
 
 /// The session timer of a SipSession.
 pub fn timed_in(alloc: Global, view: &View, sess: SessId) -> Result<Option<Refresh>, NoMemory>
-    ensures exact { IfOk result (λ timed. timed ≡ option_and_then timed_of (attribute (timed_name sess) view.entry.now)) }
+    ensures exact { IfOk result
+        (λ timed. timed ≡ option_and_then timed_of (attribute (timed_name sess) view.entry.now)) }
     ensures within { IfOk result (λ timed. IfSome timed (λ timed. timed.seconds ≤ 4000000)) }
 {
     let name = timed_name(alloc, sess)?;

@@ -29,7 +29,10 @@ pub fn accept(t: &mut Turn, req: ReqId, sess: SessId, interval: Interval) -> Res
     requires memory { t.old.starved ≡ false }
     requires interval { IsGrantable interval }
     ensures same { t.new.shown ≡ t.old.shown }
-    ensures played { OnOk result (IsPlayed (accepted_then (answer_with req 200 ok (granted_fields (granted_of interval))) (begin_timed sess t.old.shown (granted_of interval))) t.old t.new) }
+    ensures played { OnOk result
+        (IsPlayed
+        (accepted_then (answer_with req 200 ok (granted_fields (granted_of interval)))
+        (begin_timed sess t.old.shown (granted_of interval))) t.old t.new) }
 {
     let what = stop_of(memory_of(t), shown(t), sess)?;
     accept_with(t, req, sess, interval, &what)
@@ -46,7 +49,10 @@ fn accept_with(
     requires room { (play_of t.old).listed + 4 < MOST_CALLS }
     requires interval { IsGrantable interval }
     ensures same { t.new.shown ≡ t.old.shown }
-    ensures played { OnOk result (IsPlayed (accepted_then (answer_with req 200 ok (granted_fields (granted_of interval))) (begun_by what.now sess (granted_of interval))) t.old t.new) }
+    ensures played { OnOk result
+        (IsPlayed
+        (accepted_then (answer_with req 200 ok (granted_fields (granted_of interval)))
+        (begun_by what.now sess (granted_of interval))) t.old t.new) }
 {
     let fields = granted_fields(memory_of(t), interval)?;
     if !answer_first(t, req, 200, b"OK", fields)? {
@@ -60,7 +66,8 @@ fn begin_by(t: &mut Turn, sess: SessId, interval: Interval, what: &Stop) -> Resu
     requires room { (play_of t.old).listed + 3 < MOST_CALLS }
     requires interval { IsGrantable interval }
     ensures same { t.new.shown ≡ t.old.shown }
-    ensures played { OnOk result (IsPlayed (begun_by what.now sess (granted_of interval)) t.old t.new) }
+    ensures played { OnOk result
+        (IsPlayed (begun_by what.now sess (granted_of interval)) t.old t.new) }
 {
     match interval {
         Interval::Off => stop_only(t, what),
@@ -76,7 +83,8 @@ pub fn begin_again(t: &mut Turn, sess: SessId, seconds: u32) -> Result<(), NoMem
     requires memory { t.old.starved ≡ false }
     requires interval { seconds ≤ 4000000 }
     ensures same { t.new.shown ≡ t.old.shown }
-    ensures played { OnOk result (IsPlayed (begin_timed sess t.old.shown (On seconds true)) t.old t.new) }
+    ensures played { OnOk result
+        (IsPlayed (begin_timed sess t.old.shown (On seconds true)) t.old t.new) }
 {
     let what = stop_of(memory_of(t), shown(t), sess)?;
     restart(t, sess, seconds, true, &what)
@@ -87,7 +95,8 @@ fn restart(t: &mut Turn, sess: SessId, seconds: u32, me: bool, what: &Stop) -> R
     requires room { (play_of t.old).listed + 3 < MOST_CALLS }
     requires interval { seconds ≤ 4000000 }
     ensures same { t.new.shown ≡ t.old.shown }
-    ensures played { OnOk result (IsPlayed (stopped what.now (started sess seconds me)) t.old t.new) }
+    ensures played { OnOk result
+        (IsPlayed (stopped what.now (started sess seconds me)) t.old t.new) }
 {
     if !stop_timer(t, what)? {
         return Ok(());
@@ -117,7 +126,10 @@ fn note_timer(
 ) -> Result<(), NoMemory>
     requires { (play_of t.old).listed < MOST_CALLS }
     ensures same { t.new.shown ≡ t.old.shown }
-    ensures played { OnOk result (IsPlayed (with_number (λ t. only (Call.SetAttribute (timed_name sess) (timed_text seconds me t))) answer) t.old t.new) }
+    ensures played { OnOk result
+        (IsPlayed
+        (with_number (λ t. only (Call.SetAttribute (timed_name sess) (timed_text seconds me t)))
+        answer) t.old t.new) }
 {
     match answer {
         CallAnswer::Number(timer) => note(t, sess, seconds, me, timer),
@@ -130,7 +142,9 @@ fn note_timer(
 pub fn note(t: &mut Turn, sess: SessId, seconds: u32, me: bool, timer: u64) -> Result<(), NoMemory>
     requires { (play_of t.old).listed < MOST_CALLS }
     ensures same { t.new.shown ≡ t.old.shown }
-    ensures played { OnOk result (IsPlayed (only (Call.SetAttribute (timed_name sess) (timed_text seconds me timer))) t.old t.new) }
+    ensures played { OnOk result
+        (IsPlayed (only (Call.SetAttribute (timed_name sess) (timed_text seconds me timer))) t.old
+        t.new) }
 {
     let name = timed_name(memory_of(t), sess)?;
     let value = timed_text(memory_of(t), seconds, me, timer)?;

@@ -1,6 +1,5 @@
-//! Tables of texts that spell no message, each with the place and the kind of its first fault (RFC 3261
-//! section 7).
-//! A crate with tests is proved twice, so they stand here.
+//! Tables of texts that spell no message, each with the place and the kind of its first fault (RFC
+//! 3261 section 7). A crate with tests is proved twice, so they stand here.
 #![tactic(auto)]
 
 #[cfg(test)]

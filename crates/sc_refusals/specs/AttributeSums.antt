@@ -6,4 +6,5 @@ use Rattle.sc_grammar.specs.Written.{Bytes}
 
 -- its bytes, none where it has this name
 unfoldable pub bytes_beside : Bytes → Field → ℕ
-bytes_beside name field = if same_bytes field.name name then 0 else length field.name + length field.value
+bytes_beside name field =
+    if same_bytes field.name name then 0 else length field.name + length field.value

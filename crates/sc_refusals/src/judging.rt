@@ -46,7 +46,9 @@ pub fn refusal(play: &Play, call: &Call) -> Option<Refusal>
 }
 
 fn answer_refusal(view: &View, req: ReqId, answer: &Answer) -> Option<Refusal>
-    ensures { result ≡ option_map_or (λ request. respond_refusal request answer.now) (request_in view.entry.now req) (Some Refusal.NotYours) }
+    ensures { result
+        ≡ option_map_or (λ request. respond_refusal request answer.now)
+        (request_in view.entry.now req) (Some Refusal.NotYours) }
 {
     match request_in(view, req) {
         Some(request) => respond_refusal(request, answer),
@@ -56,7 +58,13 @@ fn answer_refusal(view: &View, req: ReqId, answer: &Answer) -> Option<Refusal>
 
 #[tactic(auto, unfolding(sc_hosts::specs::RefusalParts::first_of))]
 fn attribute_refusal(view: &View, name: &[u8], value: &[u8]) -> Option<Refusal>
-    ensures { result ≡ first_of ((nat_lt 4096 (attribute_bytes name.now view.entry.now.attributes + length name.now + length value.now), Limit 4096) ∷ []) }
+    ensures { result
+        ≡ first_of
+        ((
+          nat_lt 4096
+              (attribute_bytes name.now view.entry.now.attributes + length name.now + length value.now),
+          Limit 4096,
+        ) ∷ []) }
 {
     if passes_attributes(view, name, value) {
         return Some(Refusal::Limit(4096));

@@ -1,5 +1,5 @@
-//! Which refusal each call of a turn gets, the first in the order in which they are tried. A call is
-//! judged by what the turn shows, by the drafts of the turn, and by how many calls it has made.
+//! Which refusal each call of a turn gets, the first in the order in which they are tried. A call
+//! is judged by what the turn shows, by the drafts of the turn, and by how many calls it has made.
 #![tactic(auto)]
 
 mod asking;

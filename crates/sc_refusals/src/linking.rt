@@ -70,7 +70,9 @@ pub fn b2b_respond_refusal(view: &View, sess: SessId, answer: &Answer) -> Option
 // The SipSession to which one of the two is linked, the first one's before.
 #[tactic(auto, unfolding(sc_hosts::specs::Refusals::linked_refusal))]
 fn already_linked(view: &View, a: SessId, b: SessId) -> Option<Refusal>
-    ensures { result ≡ option_or (linked_refusal (partner view.entry.now a)) (linked_refusal (partner view.entry.now b)) }
+    ensures { result
+        ≡ option_or (linked_refusal (partner view.entry.now a))
+        (linked_refusal (partner view.entry.now b)) }
 {
     if let Some(other) = partner(view, a) {
         return Some(Refusal::AlreadyLinked(other));
@@ -109,7 +111,8 @@ pub fn unlink_refusal(view: &View, a: SessId) -> Option<Refusal>
 /// The refusal of an ACK.
 #[tactic(auto, unfolding(sc_hosts::specs::RefusalParts::first_of))]
 pub fn ack_refusal(view: &View, sess: SessId) -> Option<Refusal>
-    ensures { result ≡ first_of ((not (list_any (awaits_ack sess) view.entry.now.requests), NotSent) ∷ []) }
+    ensures { result
+        ≡ first_of ((not (list_any (awaits_ack sess) view.entry.now.requests), NotSent) ∷ []) }
 {
     if !is_unacked(view, sess) {
         return Some(Refusal::NotSent);
@@ -130,7 +133,10 @@ fn is_zero_period(period: Period) -> bool
 /// The refusal of a timer.
 #[tactic(auto, unfolding(sc_hosts::specs::RefusalParts::first_of))]
 pub fn timer_refusal(view: &View, period: Period) -> Option<Refusal>
-    ensures { result ≡ first_of ((is_zero_period period, BadText 1) ∷ (nat_le 64 (length view.entry.now.timers), Limit 64) ∷ []) }
+    ensures { result
+        ≡ first_of
+        ((is_zero_period period, BadText 1) ∷ (nat_le 64 (length view.entry.now.timers), Limit 64)
+        ∷ []) }
 {
     if is_zero_period(period) {
         return Some(Refusal::BadText(1));

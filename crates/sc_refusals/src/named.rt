@@ -80,7 +80,8 @@ fn origin_refusal(play: &Play, origin: Option<ReqId>) -> Option<Refusal>
 
 #[tactic(auto, unfolding(sc_hosts::specs::RefusalParts::of_origin))]
 fn directed_refusal(play: &Play, draft: u32, origin: Option<ReqId>) -> Option<Refusal>
-    ensures { result ≡ name_refusal play.now.view (session_of_draft play.now draft ∷ of_origin play.now origin) }
+    ensures { result
+        ≡ name_refusal play.now.view (session_of_draft play.now draft ∷ of_origin play.now origin) }
 {
     match origin {
         Some(req) => names_refusal(

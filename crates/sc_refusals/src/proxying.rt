@@ -25,7 +25,10 @@ fn state_refusal(view: &View, sess: SessId) -> Option<Refusal>
 
 // A request that isn't proxied yet has a SipSession in the state INITIAL.
 fn begun_refusal(view: &View, request: &RequestView) -> Option<Refusal>
-    ensures { result ≡ if◌then◌else◌ (not request.now.proxied && is_begun (session_in view.entry.now request.now.sess)) (state_refusal (session_in view.entry.now request.now.sess)) None }
+    ensures { result
+        ≡ if◌then◌else◌
+        (not request.now.proxied && is_begun (session_in view.entry.now request.now.sess))
+        (state_refusal (session_in view.entry.now request.now.sess)) None }
 {
     if !request.proxied && is_begun(view, request.sess) {
         return state_refusal(view, request.sess);
@@ -36,7 +39,11 @@ fn begun_refusal(view: &View, request: &RequestView) -> Option<Refusal>
 // The refusals of a request that can't be proxied, before its targets are looked at.
 #[tactic(auto, unfolding(sc_hosts::specs::RefusalParts::first_of))]
 fn unproxied(request: &RequestView) -> Option<Refusal>
-    ensures { result ≡ first_of ((not request.now.received, NotYours) ∷ (not request.now.initial, NotInitial) ∷ (is_some request.now.answered && not request.now.proxied, AlreadyAnswered) ∷ (is_some request.now.answered, AlreadyProxy) ∷ []) }
+    ensures { result
+        ≡ first_of
+        ((not request.now.received, NotYours) ∷ (not request.now.initial, NotInitial)
+        ∷ (is_some request.now.answered && not request.now.proxied, AlreadyAnswered)
+        ∷ (is_some request.now.answered, AlreadyProxy) ∷ []) }
 {
     if !request.received {
         return Some(Refusal::NotYours);
@@ -61,7 +68,11 @@ fn targets_refusal(
     count: usize,
     options: ProxyOptions,
 ) -> Option<Refusal>
-    ensures { result ≡ first_of ((request.now.hops == 0, NoHops) ∷ (count == 0, BadText 0) ∷ (options.timeout == 0 || nat_lt 3600 options.timeout, BadText 1) ∷ (nat_lt 32 (branch_count view.entry.now + count), Limit 32) ∷ []) }
+    ensures { result
+        ≡ first_of
+        ((request.now.hops == 0, NoHops) ∷ (count == 0, BadText 0)
+        ∷ (options.timeout == 0 || nat_lt 3600 options.timeout, BadText 1)
+        ∷ (nat_lt 32 (branch_count view.entry.now + count), Limit 32) ∷ []) }
 {
     if request.hops == 0 {
         return Some(Refusal::NoHops);

@@ -1,4 +1,5 @@
-//! Sums that are compared with a limit: they stop at the greatest number, which is past every limit.
+//! Sums that are compared with a limit: they stop at the greatest number, which is past every
+//! limit.
 
 ghost use Rattle.std.specs.Prelude.{◌≡◌, ◌+◌, ℕ, Bool, not, nat_lt, length, filter, sum_by, min};
 ghost use Rattle.sc_tokens.specs.Names.{same_bytes};
@@ -58,7 +59,10 @@ fn all_beside(name: &[u8], fields: &[Field]) -> u64
 
 /// Whether the attributes would have more than 4,096 bytes with one of this name and value.
 pub fn passes_attributes(view: &View, name: &[u8], value: &[u8]) -> bool
-    ensures { result ≡ nat_lt 4096 (attribute_bytes name.now view.entry.now.attributes + length name.now + length value.now) }
+    ensures { result
+        ≡ nat_lt 4096
+        (attribute_bytes name.now view.entry.now.attributes + length name.now
+        + length value.now) }
 {
     let others = other_bytes(name, view.attributes.as_slice());
     4096 < others

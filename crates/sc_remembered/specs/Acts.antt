@@ -1,4 +1,5 @@
--- The acts of an INVITE that the turns of a session make, by which provisional responses are given reliably (RFC 3262).
+-- The acts of an INVITE that the turns of a session make, by which provisional responses are given
+-- reliably (RFC 3262).
 use Rattle.std.specs.Prelude.{◌≡◌, ◌⊎◌, ℕ, List, [], ◌∷◌, ◌++◌}
 use Rattle.sc_terms.specs.declared.calls.CallRecord.{CallRecord}
 use Rattle.sc_terms.specs.declared.settings.Config.{Config}
@@ -18,18 +19,27 @@ shown_in config session turn = (prepared config turn.ringing session turn.waitin
 unfoldable pub LeavesIt : ℕ → View → List CallRecord → Type 0
 LeavesIt n view made = remembered_at (after_calls view made).view n ≡ remembered_at view n
 
--- what they leave remembered of it is what this act of it does, which isn't refused behind its response
+-- what they leave remembered of it is what this act of it does, which isn't refused behind its
+-- response
 pub record IsActOf (n : ℕ) (view : View) (made : List CallRecord) (act : Act) : Type 0 where
   pub of : IsOf n act
   pub sound : IsSound (begun view) act
-  pub comes_to : remembered_at (after_calls view made).view n ≡ remembered_at (play_after (begun view) (script_of view act)).view n
+  pub comes_to : remembered_at (after_calls view made).view n
+      ≡ remembered_at (play_after (begun view) (script_of view act)).view n
 
--- the acts of the INVITE that these turns of a history made, each turn one at most, the oldest act first
+-- the acts of the INVITE that these turns of a history made, each turn one at most, the oldest act
+-- first
 unfoldable pub AreActs : Config → History → ℕ → List Turn → List Happened → Type 0
 AreActs config history n [] acts = acts ≡ []
 AreActs config history n (turn ∷ earlier) acts =
-    (LeavesIt n (shown_in config (session_after config history earlier) turn) turn.calls × AreActs config history n earlier acts)
+    (LeavesIt n (shown_in config (session_after config history earlier) turn) turn.calls
+    × AreActs config history n earlier acts)
     ⊎ ((before : List Happened) × (act : Act)
-    × (acts ≡ before ++ record { play = begun (shown_in config (session_after config history earlier) turn); act = act } ∷ [])
+    × (acts
+    ≡ before
+    ++ record {
+      play = begun (shown_in config (session_after config history earlier) turn);
+      act = act;
+    } ∷ [])
     × IsActOf n (shown_in config (session_after config history earlier) turn) turn.calls act
     × AreActs config history n earlier before)

@@ -16,39 +16,51 @@ ghost use Rattle.sc_promised.specs.Reliable.{Fresh, Happened, IsTrace, play_afte
 ghost use Rattle.sc_remembered.specs.Acts.{AreActs};
 ghost use Rattle.sc_remembered.specs.Early.{AreEarly, IsOneAct, IsUnknown, MakesActs};
 
-/// The attributes of an application session are what its calls make of them: a turn shows those that the session has,
-/// whatever its event is, and after the turn the session has those that the calls of the turn left, whatever follows
-/// from them. So each turn begins with what the calls of the one before it left. The contract is the law, and the call
-/// does nothing.
+/// The attributes of an application session are what its calls make of them: a turn shows those
+/// that the session has, whatever its event is, and after the turn the session has those that the
+/// calls of the turn left, whatever follows from them. So each turn begins with what the calls of
+/// the one before it left. The contract is the law, and the call does nothing.
 pub fn attributes_are_of_calls()
-    ensures shown { (config : Config) (ringing : List ℕ) (session : Session) (waiting : Waiting) (now : ℕ) → (prepared config ringing session waiting now).view.attributes ≡ session.view.attributes }
-    ensures left { (config : Config) (ringing : List ℕ) (session : Session) (waiting : Waiting) (now : ℕ) (made : List CallRecord) (end : End) → (outcome config ringing session waiting now made end).session.view.attributes ≡ (after_calls (prepared config ringing session waiting now).view made).view.attributes }
+    ensures shown { (config : Config) (ringing : List ℕ) (session : Session) (waiting : Waiting)
+        (now : ℕ)
+        → (prepared config ringing session waiting now).view.attributes ≡ session.view.attributes }
+    ensures left { (config : Config) (ringing : List ℕ) (session : Session) (waiting : Waiting)
+        (now : ℕ) (made : List CallRecord) (end : End)
+        → (outcome config ringing session waiting now made end).session.view.attributes
+        ≡ (after_calls (prepared config ringing session waiting now).view made).view.attributes }
 {}
 
-/// Where each turn of a session makes one act of an INVITE at most, an offer of a reliable provisional response, what
-/// follows a PRACK or a timer, and leaves else what the session remembers of it, and no offer is refused behind its
-/// response, these acts are a list of which each begins with what the one before left, the first with nothing. So what
-/// is said of every such list holds over the whole life of a session, whatever happens to it between its turns. The
+/// Where each turn of a session makes one act of an INVITE at most, an offer of a reliable
+/// provisional response, what follows a PRACK or a timer, and leaves else what the session
+/// remembers of it, and no offer is refused behind its response, these acts are a list of which
+/// each begins with what the one before left, the first with nothing. So what is said of every such
+/// list holds over the whole life of a session, whatever happens to it between its turns. The
 /// contract is the law, and the call does nothing.
 pub fn acts_are_chained()
-    ensures { (config : Config) (history : History) (n : ℕ) (acts : List Happened) → AreActs config history n history.turns acts → IsTrace n Fresh acts }
+    ensures { (config : Config) (history : History) (n : ℕ) (acts : List Happened)
+        → AreActs config history n history.turns acts → IsTrace n Fresh acts }
 {}
 
-/// What a script of calls makes of a turn is what the list of the calls that it makes there does. Whatever event an
-/// application of the kind that gives provisional responses reliably is told of, its script is that of one act of an
-/// INVITE, an offer, what follows a PRACK, or what follows a timer, or it leaves the attributes. Where the event brings
-/// the request that begins a SipSession, it is premised that nothing is remembered of it yet. The contract is the law,
-/// and the call does nothing.
+/// What a script of calls makes of a turn is what the list of the calls that it makes there does.
+/// Whatever event an application of the kind that gives provisional responses reliably is told of,
+/// its script is that of one act of an INVITE, an offer, what follows a PRACK, or what follows a
+/// timer, or it leaves the attributes. Where the event brings the request that begins a SipSession,
+/// it is premised that nothing is remembered of it yet. The contract is the law, and the call does
+/// nothing.
 pub fn early_turns_are_acts()
-    ensures played { (view : View) (script : Script) → after_calls view (played view script) ≡ play_after (begun view) script }
-    ensures early { (view : View) (event : Event) → IsUnknown view event → IsOneAct view event (early_script view event) }
+    ensures played { (view : View) (script : Script)
+        → after_calls view (played view script) ≡ play_after (begun view) script }
+    ensures early { (view : View) (event : Event) → IsUnknown view event
+        → IsOneAct view event (early_script view event) }
 {}
 
-/// The turns of a session of the kind that gives provisional responses reliably make, of each INVITE, a list of acts of
-/// which each turn makes one at most; so that list is a chain, over the whole life of the session. Premised are, of each
-/// turn, that its calls are those of the kind's script, or none where nobody is called, that nothing is remembered yet of
-/// an INVITE that comes, that numbers of INVITEs have 64 bits, and that no offer is refused behind its response. The
+/// The turns of a session of the kind that gives provisional responses reliably make, of each
+/// INVITE, a list of acts of which each turn makes one at most; so that list is a chain, over the
+/// whole life of the session. Premised are, of each turn, that its calls are those of the kind's
+/// script, or none where nobody is called, that nothing is remembered yet of an INVITE that comes,
+/// that numbers of INVITEs have 64 bits, and that no offer is refused behind its response. The
 /// contract is the law, and the call does nothing.
 pub fn early_lives_make_acts()
-    ensures { (config : Config) (history : History) (n : ℕ) → n < 2 ^ 64 → AreEarly config history history.turns → MakesActs config history n history.turns }
+    ensures { (config : Config) (history : History) (n : ℕ) → n < 2 ^ 64
+        → AreEarly config history history.turns → MakesActs config history n history.turns }
 {}

@@ -15,7 +15,8 @@ use Rattle.sc_replay.specs.Putting.{IsPut}
 
 -- CONFIG and DAR of `check CONFIG DAR`, none of other words
 unfoldable pub checked_names : List Bytes → Option (Bytes × Bytes)
-checked_names (word ∷ config ∷ dar ∷ []) = if same_bytes word (codes "check") then Some (config, dar) else None
+checked_names (word ∷ config ∷ dar ∷ []) =
+    if same_bytes word (codes "check") then Some (config, dar) else None
 checked_names words = None
 
 -- the tuples of all methods
@@ -33,7 +34,8 @@ ok_line apps tuples = ok_word ++ decimal apps ++ 32 ∷ [] ++ decimal tuples ++ 
 -- ## How it ends
 
 -- both were accepted, of what the shelf holds under their names, and the line was put
-pub record IsAccepted (kinds : List Bytes) (configs dars : Option Bytes) (write : Type 0) (old new : Option Bytes) (status : Status) : Type 0 where
+pub record IsAccepted (kinds : List Bytes) (configs dars : Option Bytes) (write : Type 0)
+    (old new : Option Bytes) (status : Status) : Type 0 where
   pub config : Config
   pub dar : Dar
   pub config_is : TellsConfig kinds configs config
@@ -41,14 +43,20 @@ pub record IsAccepted (kinds : List Bytes) (configs dars : Option Bytes) (write 
   pub put : IsPut write old new (ok_line (length config.app) (tuple_count dar.lists)) status
 
 -- the journal is there, and empty, exactly where both were accepted; else the sink took nothing
-unfoldable pub Checks : List Bytes → Option Bytes → Option Bytes → Type 0 → Type 0 → Option Bytes → Option Bytes → Status → Option (Kept Step) → Type 0
-Checks kinds configs dars read write old new status (Some journal) = (journal.items ≡ []) × IsAccepted kinds configs dars write old new status
-Checks kinds configs dars read write old new status None = (new ≡ old) × IsUnset kinds configs dars read status
+unfoldable pub Checks : List Bytes → Option Bytes → Option Bytes → Type 0 → Type 0 → Option Bytes
+    → Option Bytes → Status → Option (Kept Step) → Type 0
+Checks kinds configs dars read write old new status (Some journal) =
+    (journal.items ≡ []) × IsAccepted kinds configs dars write old new status
+Checks kinds configs dars read write old new status None =
+    (new ≡ old) × IsUnset kinds configs dars read status
 
 -- how the call ends for these words
-unfoldable pub ChecksWords : Option (Bytes × Bytes) → List Bytes → (Bytes → Option Bytes) → Type 0 → Type 0 → Option Bytes → Option Bytes → Ran → Type 0
-ChecksWords (Some names) kinds holds read write old new ran = Checks kinds (holds names.0) (holds names.1) read write old new ran.status ran.journal
-ChecksWords None kinds holds read write old new ran = (ran.status ≡ statuses.Usage) × (ran.journal ≡ None) × (new ≡ old)
+unfoldable pub ChecksWords : Option (Bytes × Bytes) → List Bytes → (Bytes → Option Bytes) → Type 0
+    → Type 0 → Option Bytes → Option Bytes → Ran → Type 0
+ChecksWords (Some names) kinds holds read write old new ran =
+    Checks kinds (holds names.0) (holds names.1) read write old new ran.status ran.journal
+ChecksWords None kinds holds read write old new ran =
+    (ran.status ≡ statuses.Usage) × (ran.journal ≡ None) × (new ≡ old)
 
 -- ## Its parts
 

@@ -26,7 +26,8 @@ counted name words = None
 
 -- the word, and the number of a command
 abbrev pub IsCounted : Bytes → List Bytes → Type 0
-IsCounted word words = (count : Bytes) × (n : ℕ) × (count_in count ≡ Some n) × (words ≡ word ∷ count ∷ [])
+IsCounted word words =
+    (count : Bytes) × (n : ℕ) × (count_in count ≡ Some n) × (words ≡ word ∷ count ∷ [])
 
 -- the word, and two names
 abbrev pub IsSettled : Bytes → List Bytes → Type 0
@@ -34,7 +35,8 @@ IsSettled word words = (config dar : Bytes) × (words ≡ word ∷ config ∷ da
 
 -- the words have the form of this command; `Usage` has none
 unfoldable pub HasForm : Command → List Bytes → Type 0
-HasForm Replay words = (config dar script : Bytes) × (words ≡ codes "replay" ∷ config ∷ dar ∷ script ∷ [])
+HasForm Replay words =
+    (config dar script : Bytes) × (words ≡ codes "replay" ∷ config ∷ dar ∷ script ∷ [])
 HasForm Check words = IsSettled (codes "check") words
 HasForm Make words = IsCounted (codes "make") words
 HasForm Trial words = IsCounted (codes "trial") words
@@ -50,11 +52,16 @@ IsNamed command words = (command ≡ Usage) ⊎ HasForm command words
 -- `make N` and `trial N`
 unfoldable pub counted_command : Bytes → Bytes → Command
 counted_command word count =
-    if is_some (count_in count) then (if same_bytes word (codes "make") then Make else (if same_bytes word (codes "trial") then Trial else Usage)) else Usage
+    if is_some (count_in count)
+    then (if same_bytes word (codes "make") then Make
+    else (if same_bytes word (codes "trial") then Trial else Usage))
+    else Usage
 
 -- `check CONFIG DAR` and `serve CONFIG DAR`
 unfoldable pub settled_command : Bytes → Command
-settled_command word = if same_bytes word (codes "check") then Check else (if same_bytes word (codes "serve") then Serve else Usage)
+settled_command word =
+    if same_bytes word (codes "check") then Check
+    else (if same_bytes word (codes "serve") then Serve else Usage)
 
 -- `replay CONFIG DAR SCRIPT`
 unfoldable pub scripted_command : Bytes → Command

@@ -43,7 +43,12 @@ pub record Told : Type 0 where
 
 -- what it tells under the names that the words give
 abbrev pub told_by : (Bytes → Option Bytes) → List Bytes → Told
-told_by holds words = record { config = holds (get_or words 1 []); dar = holds (get_or words 2 []); script = holds (get_or words 3 []) }
+told_by holds words =
+    record {
+      config = holds (get_or words 1 []);
+      dar = holds (get_or words 2 []);
+      script = holds (get_or words 3 []);
+    }
 
 -- ## What is accepted
 
@@ -66,7 +71,8 @@ abbrev pub app_names : Config → List Bytes
 app_names config = map (λ app. app.name) config.app
 
 -- the set-up of a run: the configuration, the table for its applications, and the catalogue's kinds
-pub record TellsSetup (names : List Bytes) (kinds : List Charters) (told : Told) (setup : Setup) : Type 0 where
+pub record TellsSetup (names : List Bytes) (kinds : List Charters) (told : Told)
+    (setup : Setup) : Type 0 where
   pub config : TellsConfig names told.config setup.config
   pub table : TellsTable (app_names setup.config) told.dar setup.dar
   pub kinds_is : setup.kinds ≡ kinds
@@ -79,11 +85,14 @@ IsConfigFault names (Some text) kind key = settings_of text names ≡ Err (kind,
 -- a routing table's text that is told has this first fault
 unfoldable pub IsTableFault : List Bytes → Option Bytes → ℕ → ℕ → Type 0
 IsTableFault names None line kind = Unit {0}
-IsTableFault names (Some text) line kind = table_of text names ≡ Err (record { line = line; kind = kind })
+IsTableFault names (Some text) line kind =
+    table_of text names ≡ Err (record { line = line; kind = kind })
 
 -- the settings are accepted, and the table for their applications isn't
 unfoldable pub IsTableRefused : List Bytes → Option Bytes → Option Bytes → ℕ → ℕ → Type 0
-IsTableRefused names told_config told_dar line kind = (config : Config) × TellsConfig names told_config config × IsTableFault (app_names config) told_dar line kind
+IsTableRefused names told_config told_dar line kind =
+    (config : Config) × TellsConfig names told_config config
+    × IsTableFault (app_names config) told_dar line kind
 
 -- a script that is told has this first fault
 unfoldable pub IsScriptFault : Option Bytes → ℕ → ℕ → Type 0
@@ -98,7 +107,8 @@ pub record TellsScript (told : Option Bytes) (lines : List Line) : Type 0 where
 
 -- ## When each status comes
 
--- of a run with these settings: `read` and `write` say that the shelf's and the sink's count of faults rose
+-- of a run with these settings: `read` and `write` say that the shelf's and the sink's count of
+-- faults rose
 unfoldable pub ComesIn : Setup → Option Bytes → Type 0 → Type 0 → Status → Type 0
 ComesIn setup told read write statuses.Done = Unit {0}
 ComesIn setup told read write statuses.Usage = ⊥
@@ -128,41 +138,55 @@ IsUnset names config dar read statuses.Write = ⊥
 
 -- the journal follows the lines of the script, and has all their ticks
 unfoldable pub Replays : Setup → Option Bytes → List Step → Type 0
-Replays setup told journal = (lines : List Line) × TellsScript told lines × Follows as_session setup lines journal × (ticks_of journal ≡ ticks_in lines)
+Replays setup told journal =
+    (lines : List Line) × TellsScript told lines × Follows as_session setup lines journal
+    × (ticks_of journal ≡ ticks_in lines)
 
 -- it follows them so far
 unfoldable pub ReplaysPart : Setup → Option Bytes → List Step → Type 0
-ReplaysPart setup told journal = (lines : List Line) × TellsScript told lines × Upto as_session setup lines journal
+ReplaysPart setup told journal =
+    (lines : List Line) × TellsScript told lines × Upto as_session setup lines journal
 
 -- it follows them up to a step without room
 unfoldable pub ReplaysFull : Setup → Option Bytes → List Step → Type 0
-ReplaysFull setup told journal = (lines : List Line) × TellsScript told lines × Upto as_session setup lines journal × IsDueWithoutRoom setup lines journal
+ReplaysFull setup told journal =
+    (lines : List Line) × TellsScript told lines × Upto as_session setup lines journal
+    × IsDueWithoutRoom setup lines journal
 
 -- no step was taken, and the sink took nothing
 unfoldable pub LeavesNothing : Option Bytes → Option Bytes → List Step → Type 0
 LeavesNothing old new journal = (journal ≡ []) × (new ≡ old)
 
--- what is left at each status, in the journal and of the output in the sink: `old` and `new` are what
--- it took before and after
-unfoldable pub Leaves : Setup → Option Bytes → Type 0 → Option Bytes → Option Bytes → Status → List Step → Type 0
-Leaves setup told write old new statuses.Done journal = Replays setup told journal × Takes old new (output as_session setup journal)
+-- what is left at each status, in the journal and of the output in the sink: `old` and `new` are
+-- what it took before and after
+unfoldable pub Leaves : Setup → Option Bytes → Type 0 → Option Bytes → Option Bytes → Status
+    → List Step → Type 0
+Leaves setup told write old new statuses.Done journal =
+    Replays setup told journal × Takes old new (output as_session setup journal)
 Leaves setup told write old new statuses.Usage journal = ⊥
 Leaves setup told write old new (statuses.Config kind key) journal = ⊥
 Leaves setup told write old new (statuses.Dar line kind) journal = ⊥
 Leaves setup told write old new statuses.JournalFull journal =
-    ReplaysFull setup told journal × (Takes old new (journal_records as_session setup journal) ⊎ (write × TakesPart old new (journal_records as_session setup journal)))
+    ReplaysFull setup told journal
+    × (Takes old new (journal_records as_session setup journal)
+    ⊎ (write × TakesPart old new (journal_records as_session setup journal)))
 Leaves setup told write old new statuses.Edge journal = ⊥
-Leaves setup told write old new statuses.NoMemory journal = (ReplaysPart setup told journal × TakesPart old new (output as_session setup journal)) ⊎ LeavesNothing old new journal
+Leaves setup told write old new statuses.NoMemory journal =
+    (ReplaysPart setup told journal × TakesPart old new (output as_session setup journal))
+    ⊎ LeavesNothing old new journal
 Leaves setup told write old new (statuses.Script at kind) journal = LeavesNothing old new journal
 Leaves setup told write old new statuses.Read journal = LeavesNothing old new journal
-Leaves setup told write old new statuses.Write journal = Replays setup told journal × TakesPart old new (output as_session setup journal)
+Leaves setup told write old new statuses.Write journal =
+    Replays setup told journal × TakesPart old new (output as_session setup journal)
 
 -- ## How a call ends
 
--- with right words: the journal is there exactly where the settings were accepted, and it is that of
--- a run with them; else the sink took nothing. `old` and `new` are what it took before and after
-unfoldable pub Ends : List Bytes → List Charters → Told → Type 0 → Type 0 → Option Bytes → Option Bytes → Status → Option (Kept Step) → Type 0
-Ends names kinds told read write old new status None = IsUnset names told.config told.dar read status × (new ≡ old)
+-- with right words: the journal is there exactly where the settings were accepted, and it is that
+-- of a run with them; else the sink took nothing. `old` and `new` are what it took before and after
+unfoldable pub Ends : List Bytes → List Charters → Told → Type 0 → Type 0 → Option Bytes
+    → Option Bytes → Status → Option (Kept Step) → Type 0
+Ends names kinds told read write old new status None =
+    IsUnset names told.config told.dar read status × (new ≡ old)
 Ends names kinds told read write old new status (Some journal) =
     (setup : Setup)
     × TellsSetup names kinds told setup

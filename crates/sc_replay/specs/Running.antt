@@ -21,11 +21,17 @@ use Rattle.sc_replay.specs.declared.reading.ScriptUnread.TheVariants as unread
 use Rattle.sc_replay.specs.Replaying.{IsScriptFault, IsConfigFault, IsTableFault, ComesIn, Leaves}
 
 -- why the output isn't whole; `write` says that the sink's count of faults rose
-unfoldable pub IsCutShort : Setup → List Line → Type 0 → Option Bytes → Option Bytes → List Step → RunRefused → Type 0
+unfoldable pub IsCutShort : Setup → List Line → Type 0 → Option Bytes → Option Bytes → List Step
+    → RunRefused → Type 0
 IsCutShort setup lines write old new journal runs.JournalFull =
-    Upto as_session setup lines journal × IsDueWithoutRoom setup lines journal × (Takes old new (journal_records as_session setup journal) ⊎ (write × TakesPart old new (journal_records as_session setup journal)))
-IsCutShort setup lines write old new journal runs.NoMemory = Upto as_session setup lines journal × TakesPart old new (output as_session setup journal)
-IsCutShort setup lines write old new journal runs.Write = write × Follows as_session setup lines journal × TakesPart old new (output as_session setup journal)
+    Upto as_session setup lines journal × IsDueWithoutRoom setup lines journal
+    × (Takes old new (journal_records as_session setup journal)
+    ⊎ (write × TakesPart old new (journal_records as_session setup journal)))
+IsCutShort setup lines write old new journal runs.NoMemory =
+    Upto as_session setup lines journal × TakesPart old new (output as_session setup journal)
+IsCutShort setup lines write old new journal runs.Write =
+    write × Follows as_session setup lines journal
+    × TakesPart old new (output as_session setup journal)
 
 -- why the bytes were not put to their end
 unfoldable pub IsUnput : Type 0 → Option Bytes → Option Bytes → Bytes → RunRefused → Type 0
@@ -34,9 +40,13 @@ IsUnput write old new bytes runs.NoMemory = TakesPart old new bytes
 IsUnput write old new bytes runs.Write = write × TakesPart old new bytes
 
 -- what was put of the records of a run that found no room in the journal
-unfoldable pub IsPutWithoutEnd : Setup → Type 0 → Option Bytes → Option Bytes → List Step → RunRefused → Type 0
-IsPutWithoutEnd setup write old new journal runs.JournalFull = Takes old new (journal_records as_session setup journal) ⊎ (write × TakesPart old new (journal_records as_session setup journal))
-IsPutWithoutEnd setup write old new journal runs.NoMemory = TakesPart old new (output as_session setup journal)
+unfoldable pub IsPutWithoutEnd : Setup → Type 0 → Option Bytes → Option Bytes → List Step
+    → RunRefused → Type 0
+IsPutWithoutEnd setup write old new journal runs.JournalFull =
+    Takes old new (journal_records as_session setup journal)
+    ⊎ (write × TakesPart old new (journal_records as_session setup journal))
+IsPutWithoutEnd setup write old new journal runs.NoMemory =
+    TakesPart old new (output as_session setup journal)
 IsPutWithoutEnd setup write old new journal runs.Write = ⊥
 
 -- why there are no lines; `read` says that the shelf's count of faults rose
@@ -72,7 +82,8 @@ IsTableUnread names told read statuses.Read = read
 IsTableUnread names told read statuses.Write = ⊥
 
 -- what a run on a switch with these settings answers
-pub record IsRan (setup : Setup) (told : Option Bytes) (read write : Type 0) (old new : Option Bytes) (ran : Ran) : Type 0 where
+pub record IsRan (setup : Setup) (told : Option Bytes) (read write : Type 0)
+    (old new : Option Bytes) (ran : Ran) : Type 0 where
   pub journal : Kept Step
   pub journal_is : ran.journal ≡ Some journal
   pub comes : ComesIn setup told read write ran.status

@@ -18,9 +18,9 @@ use sc_terms::MethodList;
 use sc_value::{NoMemory, Text, write_u64};
 use std::alloc::Global;
 
-/// Reads a configuration and a routing table, and puts the line `ok A T`: the number of applications,
-/// and of the tuples of all methods. The words are `check CONFIG DAR`, the names of two texts on the
-/// shelf.
+/// Reads a configuration and a routing table, and puts the line `ok A T`: the number of
+/// applications, and of the tuples of all methods. The words are `check CONFIG DAR`, the names of
+/// two texts on the shelf.
 ///
 /// The status says how it ended:
 ///
@@ -39,7 +39,9 @@ pub fn check<F: Shelf, K: Sink>(
     apps: &Catalogue,
     out: &mut K,
 ) -> Ran
-    ensures checks { ChecksWords (checked_names (map string_bytes words.now)) apps.now.names (λ name. F.holds shelf.old name) (Rose (F.faults shelf.old) (F.faults shelf.new)) (Rose (K.faults out.old) (K.faults out.new)) (K.took out.old) (K.took out.new) result }
+    ensures checks { ChecksWords (checked_names (map string_bytes words.now)) apps.now.names
+        (λ name. F.holds shelf.old name) (Rose (F.faults shelf.old) (F.faults shelf.new))
+        (Rose (K.faults out.old) (K.faults out.new)) (K.took out.old) (K.took out.new) result }
     ensures epoch { result.epoch ≡ 0 }
     ensures began { result.began ≡ 0 }
 {
@@ -52,7 +54,8 @@ pub fn check<F: Shelf, K: Sink>(
 /// The names of the configuration and of the routing table, None exactly where the words are not
 /// `check CONFIG DAR`.
 fn checked_names(words: &[String]) -> Option<(&String, &String)>
-    ensures { option_map (λ p. (string_bytes p.0.now, string_bytes p.1.now)) result ≡ checked_names (map string_bytes words.now) }
+    ensures { option_map (λ p. (string_bytes p.0.now, string_bytes p.1.now)) result
+        ≡ checked_names (map string_bytes words.now) }
 {
     let [word, config, dar] = words else {
         return None;
@@ -73,7 +76,10 @@ fn check_named<F: Shelf, K: Sink>(
     apps: &Catalogue,
     out: &mut K,
 ) -> Ran
-    ensures checks { Checks apps.now.names (F.holds shelf.old (string_bytes config.now)) (F.holds shelf.old (string_bytes dar.now)) (Rose (F.faults shelf.old) (F.faults shelf.new)) (Rose (K.faults out.old) (K.faults out.new)) (K.took out.old) (K.took out.new) result.status result.journal }
+    ensures checks { Checks apps.now.names (F.holds shelf.old (string_bytes config.now))
+        (F.holds shelf.old (string_bytes dar.now)) (Rose (F.faults shelf.old) (F.faults shelf.new))
+        (Rose (K.faults out.old) (K.faults out.new)) (K.took out.old) (K.took out.new) result.status
+        result.journal }
     ensures epoch { result.epoch ≡ 0 }
     ensures began { result.began ≡ 0 }
 {
@@ -103,7 +109,8 @@ fn accepted(alloc: Global, status: Status) -> Ran
 fn put_settings<K: Sink>(alloc: Global, settings: &Settings, out: &mut K) -> Status
     requires lists { length settings.now.dar.lists ≤ 65537 }
     requires tuples { All (λ list. length list.tuples ≤ 64) settings.now.dar.lists }
-    ensures { IsPut (Rose (K.faults out.old) (K.faults out.new)) (K.took out.old) (K.took out.new) (ok_line (length settings.now.config.app) (tuple_count settings.now.dar.lists)) result }
+    ensures { IsPut (Rose (K.faults out.old) (K.faults out.new)) (K.took out.old) (K.took out.new)
+        (ok_line (length settings.now.config.app) (tuple_count settings.now.dar.lists)) result }
 {
     put_ok(
         alloc,
@@ -118,7 +125,8 @@ fn put_settings<K: Sink>(alloc: Global, settings: &Settings, out: &mut K) -> Sta
 fn put_ok<K: Sink>(alloc: Global, apps: usize, lists: &[MethodList], out: &mut K) -> Status
     requires lists { length lists.now ≤ 65537 }
     requires tuples { All (λ list. length list.tuples ≤ 64) lists.now }
-    ensures { IsPut (Rose (K.faults out.old) (K.faults out.new)) (K.took out.old) (K.took out.new) (ok_line apps (tuple_count lists.now)) result }
+    ensures { IsPut (Rose (K.faults out.old) (K.faults out.new)) (K.took out.old) (K.took out.new)
+        (ok_line apps (tuple_count lists.now)) result }
 {
     let mut text = Text::new(alloc);
     match write_ok(apps as u64, tuple_count(lists), &mut text) {

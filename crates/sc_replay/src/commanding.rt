@@ -29,13 +29,14 @@ pub enum Command {
     Usage,
 }
 
-/// The command whose form the words have, and `Usage` exactly where they have none. N is a decimal from
-/// 1 to 1,000 without leading zero; CONFIG, DAR and SCRIPT are any words.
+/// The command whose form the words have, and `Usage` exactly where they have none. N is a decimal
+/// from 1 to 1,000 without leading zero; CONFIG, DAR and SCRIPT are any words.
 #[tactic(auto, using(crate::proofs::FormLaws::form_named, crate::proofs::FormLaws::form_only))]
 pub fn command_of(words: &[String]) -> Command
     ensures exact { result ≡ command_of (map string_bytes words.now) }
     ensures named { IsNamed result (map string_bytes words.now) }
-    ensures only { (command : Command) → HasForm command (map string_bytes words.now) → result ≡ command }
+    ensures only { (command : Command) → HasForm command (map string_bytes words.now)
+        → result ≡ command }
 {
     form_of(words)
 }
@@ -46,12 +47,18 @@ pub fn command_of(words: &[String]) -> Command
 pub fn commands_are_named()
     ensures replays { (words : List Bytes) → IsReplay words → command_of words ≡ Command.Replay }
     ensures replay { (words : List Bytes) → command_of words ≡ Command.Replay → IsReplay words }
-    ensures checks { (words : List Bytes) → is_some (checked_names words) ≡ true → command_of words ≡ Command.Check }
-    ensures check { (words : List Bytes) → command_of words ≡ Command.Check → is_some (checked_names words) ≡ true }
-    ensures makes { (words : List Bytes) → is_some (made_count words) ≡ true → command_of words ≡ Command.Make }
-    ensures make { (words : List Bytes) → command_of words ≡ Command.Make → is_some (made_count words) ≡ true }
-    ensures trials { (words : List Bytes) → is_some (tried_count words) ≡ true → command_of words ≡ Command.Trial }
-    ensures trial { (words : List Bytes) → command_of words ≡ Command.Trial → is_some (tried_count words) ≡ true }
+    ensures checks { (words : List Bytes) → is_some (checked_names words) ≡ true
+        → command_of words ≡ Command.Check }
+    ensures check { (words : List Bytes) → command_of words ≡ Command.Check
+        → is_some (checked_names words) ≡ true }
+    ensures makes { (words : List Bytes) → is_some (made_count words) ≡ true
+        → command_of words ≡ Command.Make }
+    ensures make { (words : List Bytes) → command_of words ≡ Command.Make
+        → is_some (made_count words) ≡ true }
+    ensures trials { (words : List Bytes) → is_some (tried_count words) ≡ true
+        → command_of words ≡ Command.Trial }
+    ensures trial { (words : List Bytes) → command_of words ≡ Command.Trial
+        → is_some (tried_count words) ≡ true }
 {}
 
 // The command by its first word and the number of words.

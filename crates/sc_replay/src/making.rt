@@ -14,8 +14,8 @@ use sc_switch::{Ran, Status};
 use sc_value::{NoMemory, Text};
 use std::alloc::Global;
 
-/// Writes the script of N calls. The words are `make N`, N a decimal from 1 to 1,000 without leading
-/// zero.
+/// Writes the script of N calls. The words are `make N`, N a decimal from 1 to 1,000 without
+/// leading zero.
 ///
 /// The status says how it ended:
 ///
@@ -27,7 +27,9 @@ use std::alloc::Global;
 /// There is no journal.
 #[tactic(auto, unfolding(crate::specs::Making::Makes))]
 pub fn make<K: Sink>(alloc: Global, words: &[String], out: &mut K) -> Ran
-    ensures makes { Makes (made_count (map string_bytes words.now)) (Rose (K.faults out.old) (K.faults out.new)) (K.took out.old) (K.took out.new) result.status }
+    ensures makes { Makes (made_count (map string_bytes words.now))
+        (Rose (K.faults out.old) (K.faults out.new)) (K.took out.old) (K.took out.new)
+        result.status }
     ensures journal { result.journal ≡ None }
     ensures epoch { result.epoch ≡ 0 }
     ensures began { result.began ≡ 0 }
@@ -43,7 +45,8 @@ pub fn make<K: Sink>(alloc: Global, words: &[String], out: &mut K) -> Ran
 fn put_script<K: Sink>(alloc: Global, n: u32, out: &mut K) -> Status
     requires least { 1 ≤ n }
     requires most { n ≤ 1000 }
-    ensures { IsPut (Rose (K.faults out.old) (K.faults out.new)) (K.took out.old) (K.took out.new) (generated n) result }
+    ensures { IsPut (Rose (K.faults out.old) (K.faults out.new)) (K.took out.old) (K.took out.new)
+        (generated n) result }
 {
     let mut text = Text::new(alloc);
     match script(alloc, n, &mut text) {

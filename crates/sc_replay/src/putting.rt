@@ -16,7 +16,8 @@ use std::alloc::Global;
 /// Puts all bytes of a text. After a failure the sink took a part from their front.
 #[tactic(auto, unfolding(crate::specs::Putting::IsPut))]
 pub fn put_whole<K: Sink>(text: &Text, out: &mut K) -> Status
-    ensures { IsPut (Rose (K.faults out.old) (K.faults out.new)) (K.took out.old) (K.took out.new) text.now result }
+    ensures { IsPut (Rose (K.faults out.old) (K.faults out.new)) (K.took out.old) (K.took out.new)
+        text.now result }
 {
     match put_all(out, text.as_bytes()) {
         Ok(()) => Status::Done,

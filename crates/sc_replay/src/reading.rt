@@ -30,7 +30,8 @@ pub enum ScriptUnread {
 pub fn read_text<F: Shelf>(alloc: Global, name: &String, max: usize, shelf: &mut F) -> Shelved
     ensures same { (n : List ℕ) → F.holds shelf.new n ≡ F.holds shelf.old n }
     ensures later { F.faults shelf.old ≤ F.faults shelf.new }
-    ensures gives { Gives result (F.holds shelf.old (string_bytes name.now)) max (Rose (F.faults shelf.old) (F.faults shelf.new)) }
+    ensures gives { Gives result (F.holds shelf.old (string_bytes name.now)) max
+        (Rose (F.faults shelf.old) (F.faults shelf.new)) }
 {
     match Text::from_slice(alloc, name.as_bytes()) {
         Ok(name) => shelf.read(&name, max),
@@ -51,8 +52,12 @@ pub fn read_script<F: Shelf>(
     shelf: &mut F,
 ) -> Result<List<Line>, ScriptUnread>
     ensures later { F.faults shelf.old ≤ F.faults shelf.new }
-    ensures found { IfOk result (λ lines. TellsScript (F.holds shelf.old (string_bytes name.now)) lines) }
-    ensures unread { IfErr result (λ cause. IsUnread (F.holds shelf.old (string_bytes name.now)) (Rose (F.faults shelf.old) (F.faults shelf.new)) cause) }
+    ensures found { IfOk result
+        (λ lines. TellsScript (F.holds shelf.old (string_bytes name.now)) lines) }
+    ensures unread { IfErr result
+        (λ cause.
+        IsUnread (F.holds shelf.old (string_bytes name.now))
+        (Rose (F.faults shelf.old) (F.faults shelf.new)) cause) }
 {
     match read_text(alloc, name, LONGEST, shelf) {
         Shelved::Got(text) => lines_of(alloc, &text),
@@ -68,8 +73,10 @@ pub fn read_script<F: Shelf>(
 /// The lines of a script's text.
 #[tactic(auto, unfolding(crate::specs::Running::IsUnread, sc_script::specs::Reading::Gives), using(crate::proofs::Readings::told_lines, crate::proofs::Readings::told_fault))]
 fn lines_of(alloc: Global, text: &Text) -> Result<List<Line>, ScriptUnread>
-    ensures found { (told : Option (List ℕ)) → GivesAll text.now told → IfOk result (λ lines. TellsScript told lines) }
-    ensures unread { (told : Option (List ℕ)) → GivesAll text.now told → IfErr result (λ cause. IsUnread told ⊥ cause) }
+    ensures found { (told : Option (List ℕ)) → GivesAll text.now told
+        → IfOk result (λ lines. TellsScript told lines) }
+    ensures unread { (told : Option (List ℕ)) → GivesAll text.now told
+        → IfErr result (λ cause. IsUnread told ⊥ cause) }
 {
     match read_lines(alloc, text.as_bytes()) {
         Ok(lines) => Ok(lines),

@@ -18,10 +18,10 @@ use sc_switch::{Ran, Status, Switch};
 use sc_value::NoMemory;
 use std::alloc::Global;
 
-/// Runs a script and puts what it sent: a record for each message, `out PLACE N`, the N bytes of the
-/// message, and then the line `end STEPS SENT LIVE`. The words are `replay CONFIG DAR SCRIPT`, the
-/// names of three texts on the shelf, which are read in this order: the configuration, the routing
-/// table for its applications, and the script.
+/// Runs a script and puts what it sent: a record for each message, `out PLACE N`, the N bytes of
+/// the message, and then the line `end STEPS SENT LIVE`. The words are `replay CONFIG DAR SCRIPT`,
+/// the names of three texts on the shelf, which are read in this order: the configuration, the
+/// routing table for its applications, and the script.
 ///
 /// The status says how it ended:
 ///
@@ -44,8 +44,18 @@ pub fn replay<F: Shelf, K: Sink>(
     out: &mut K,
 ) -> Ran
     ensures usage { result.status ≡ Status.Usage ↔ (IsReplay (map string_bytes words.now) → ⊥) }
-    ensures wrong { result.status ≡ Status.Usage → (result.journal ≡ None) × (K.took out.new ≡ K.took out.old) }
-    ensures ends { IsReplay (map string_bytes words.now) → Ends apps.now.names (map (λ k. both_charters (stated (k.servlet.vtable, k.servlet.value)) (option_map (λ l. listens (l.vtable, l.value)) k.listener)) apps.now.kinds) (told_by (λ name. F.holds shelf.old name) (map string_bytes words.now)) (Rose (F.faults shelf.old) (F.faults shelf.new)) (Rose (K.faults out.old) (K.faults out.new)) (K.took out.old) (K.took out.new) result.status result.journal }
+    ensures wrong { result.status ≡ Status.Usage
+        → (result.journal ≡ None) × (K.took out.new ≡ K.took out.old) }
+    ensures ends { IsReplay (map string_bytes words.now)
+        → Ends apps.now.names
+        (map
+        (λ k.
+        both_charters (stated (k.servlet.vtable, k.servlet.value))
+        (option_map (λ l. listens (l.vtable, l.value)) k.listener)) apps.now.kinds)
+        (told_by (λ name. F.holds shelf.old name) (map string_bytes words.now))
+        (Rose (F.faults shelf.old) (F.faults shelf.new))
+        (Rose (K.faults out.old) (K.faults out.new)) (K.took out.old) (K.took out.new)
+        result.status result.journal }
     ensures epoch { result.epoch ≡ 0 }
     ensures began { result.began ≡ 0 }
 {
@@ -60,9 +70,12 @@ pub fn replay<F: Shelf, K: Sink>(
 /// The names of the three texts, None exactly where the words are not `replay CONFIG DAR SCRIPT`.
 fn texts_of(words: &[String]) -> Option<(&String, &String, &String)>
     ensures replay { IsTrue (is_some result) ↔ IsReplay (map string_bytes words.now) }
-    ensures config { IfSome result (λ names. string_bytes names.0.now ≡ get_or (map string_bytes words.now) 1 []) }
-    ensures dar { IfSome result (λ names. string_bytes names.1.now ≡ get_or (map string_bytes words.now) 2 []) }
-    ensures script { IfSome result (λ names. string_bytes names.2.now ≡ get_or (map string_bytes words.now) 3 []) }
+    ensures config { IfSome result
+        (λ names. string_bytes names.0.now ≡ get_or (map string_bytes words.now) 1 []) }
+    ensures dar { IfSome result
+        (λ names. string_bytes names.1.now ≡ get_or (map string_bytes words.now) 2 []) }
+    ensures script { IfSome result
+        (λ names. string_bytes names.2.now ≡ get_or (map string_bytes words.now) 3 []) }
 {
     let [word, config, dar, script] = words else {
         return None;
@@ -84,7 +97,18 @@ fn replay_texts<F: Shelf, K: Sink>(
     apps: &Catalogue,
     out: &mut K,
 ) -> Ran
-    ensures ends { Ends apps.now.names (map (λ k. both_charters (stated (k.servlet.vtable, k.servlet.value)) (option_map (λ l. listens (l.vtable, l.value)) k.listener)) apps.now.kinds) (record { config = F.holds shelf.old (string_bytes config.now); dar = F.holds shelf.old (string_bytes dar.now); script = F.holds shelf.old (string_bytes script.now) }) (Rose (F.faults shelf.old) (F.faults shelf.new)) (Rose (K.faults out.old) (K.faults out.new)) (K.took out.old) (K.took out.new) result.status result.journal }
+    ensures ends { Ends apps.now.names
+        (map
+        (λ k.
+        both_charters (stated (k.servlet.vtable, k.servlet.value))
+        (option_map (λ l. listens (l.vtable, l.value)) k.listener)) apps.now.kinds)
+        (record {
+          config = F.holds shelf.old (string_bytes config.now);
+          dar = F.holds shelf.old (string_bytes dar.now);
+          script = F.holds shelf.old (string_bytes script.now);
+        }) (Rose (F.faults shelf.old) (F.faults shelf.new))
+        (Rose (K.faults out.old) (K.faults out.new)) (K.took out.old) (K.took out.new) result.status
+        result.journal }
     ensures epoch { result.epoch ≡ 0 }
     ensures began { result.began ≡ 0 }
 {
@@ -103,8 +127,26 @@ fn replay_over<F: Shelf, K: Sink>(
     apps: &Catalogue,
     out: &mut K,
 ) -> Ran
-    requires { IsSetup (record { config = settings.config; dar = settings.dar; kinds = map (λ k. both_charters (stated (k.servlet.vtable, k.servlet.value)) (option_map (λ l. listens (l.vtable, l.value)) k.listener)) apps.now.kinds }) }
-    ensures ran { IsRan (record { config = settings.config; dar = settings.dar; kinds = map (λ k. both_charters (stated (k.servlet.vtable, k.servlet.value)) (option_map (λ l. listens (l.vtable, l.value)) k.listener)) apps.now.kinds }) (F.holds shelf.old (string_bytes name.now)) (Rose (F.faults shelf.old) (F.faults shelf.new)) (Rose (K.faults out.old) (K.faults out.new)) (K.took out.old) (K.took out.new) result }
+    requires { IsSetup
+        (record {
+          config = settings.config;
+          dar = settings.dar;
+          kinds = map
+              (λ k.
+              both_charters (stated (k.servlet.vtable, k.servlet.value))
+              (option_map (λ l. listens (l.vtable, l.value)) k.listener)) apps.now.kinds;
+        }) }
+    ensures ran { IsRan
+        (record {
+          config = settings.config;
+          dar = settings.dar;
+          kinds = map
+              (λ k.
+              both_charters (stated (k.servlet.vtable, k.servlet.value))
+              (option_map (λ l. listens (l.vtable, l.value)) k.listener)) apps.now.kinds;
+        }) (F.holds shelf.old (string_bytes name.now))
+        (Rose (F.faults shelf.old) (F.faults shelf.new))
+        (Rose (K.faults out.old) (K.faults out.new)) (K.took out.old) (K.took out.new) result }
     ensures later { F.faults shelf.old ≤ F.faults shelf.new }
     ensures epoch { result.epoch ≡ 0 }
     ensures began { result.began ≡ 0 }
@@ -127,9 +169,15 @@ fn replay_on<F: Shelf, K: Sink>(
 ) -> Ran
     requires new { IsNew switch }
     requires right { IsSetup switch.setup }
-    requires kinds { switch.setup.kinds ≡ map (λ k. both_charters (stated (k.servlet.vtable, k.servlet.value)) (option_map (λ l. listens (l.vtable, l.value)) k.listener)) apps.now.kinds }
+    requires kinds { switch.setup.kinds
+        ≡ map
+        (λ k.
+        both_charters (stated (k.servlet.vtable, k.servlet.value))
+        (option_map (λ l. listens (l.vtable, l.value)) k.listener)) apps.now.kinds }
     ensures later { F.faults shelf.old ≤ F.faults shelf.new }
-    ensures ran { IsRan switch.setup (F.holds shelf.old (string_bytes name.now)) (Rose (F.faults shelf.old) (F.faults shelf.new)) (Rose (K.faults out.old) (K.faults out.new)) (K.took out.old) (K.took out.new) result }
+    ensures ran { IsRan switch.setup (F.holds shelf.old (string_bytes name.now))
+        (Rose (F.faults shelf.old) (F.faults shelf.new))
+        (Rose (K.faults out.old) (K.faults out.new)) (K.took out.old) (K.took out.new) result }
     ensures epoch { result.epoch ≡ 0 }
     ensures began { result.began ≡ 0 }
 {
@@ -149,14 +197,22 @@ fn run_script<F: Shelf, K: Sink>(
 ) -> Status
     requires new { IsNew switch.old }
     requires right { IsSetup switch.old.setup }
-    requires kinds { switch.old.setup.kinds ≡ map (λ k. both_charters (stated (k.servlet.vtable, k.servlet.value)) (option_map (λ l. listens (l.vtable, l.value)) k.listener)) apps.now.kinds }
+    requires kinds { switch.old.setup.kinds
+        ≡ map
+        (λ k.
+        both_charters (stated (k.servlet.vtable, k.servlet.value))
+        (option_map (λ l. listens (l.vtable, l.value)) k.listener)) apps.now.kinds }
     ensures setup { switch.new.setup ≡ switch.old.setup }
     ensures epoch { switch.new.epoch ≡ 0 }
     ensures began { switch.new.began ≡ 0 }
     ensures handed { switch.new.handed ≡ [] }
     ensures later { F.faults shelf.old ≤ F.faults shelf.new }
-    ensures comes { ComesIn switch.old.setup (F.holds shelf.old (string_bytes name.now)) (Rose (F.faults shelf.old) (F.faults shelf.new)) (Rose (K.faults out.old) (K.faults out.new)) result }
-    ensures leaves { Leaves switch.old.setup (F.holds shelf.old (string_bytes name.now)) (Rose (K.faults out.old) (K.faults out.new)) (K.took out.old) (K.took out.new) result switch.new.journal }
+    ensures comes { ComesIn switch.old.setup (F.holds shelf.old (string_bytes name.now))
+        (Rose (F.faults shelf.old) (F.faults shelf.new))
+        (Rose (K.faults out.old) (K.faults out.new)) result }
+    ensures leaves { Leaves switch.old.setup (F.holds shelf.old (string_bytes name.now))
+        (Rose (K.faults out.old) (K.faults out.new)) (K.took out.old) (K.took out.new) result
+        switch.new.journal }
 {
     match read_script(alloc, name, shelf) {
         Ok(lines) => match drive(alloc, switch, lines.as_slice(), apps, out) {

@@ -37,8 +37,8 @@ pub enum RunRefused {
 /// # Errors
 ///
 /// `JournalFull` where a step was due that the journal had no room for: the records are then put
-/// without the last line. `Write` only where the sink counted a fault, and `NoMemory`: the sink then
-/// took a part from the front of the output.
+/// without the last line. `Write` only where the sink counted a fault, and `NoMemory`: the sink
+/// then took a part from the front of the output.
 pub fn drive<K: Sink>(
     alloc: Global,
     switch: &mut Switch,
@@ -48,14 +48,24 @@ pub fn drive<K: Sink>(
 ) -> Result<(), RunRefused>
     requires new { IsNew switch.old }
     requires right { IsSetup switch.old.setup }
-    requires kinds { switch.old.setup.kinds ≡ map (λ k. both_charters (stated (k.servlet.vtable, k.servlet.value)) (option_map (λ l. listens (l.vtable, l.value)) k.listener)) apps.now.kinds }
+    requires kinds { switch.old.setup.kinds
+        ≡ map
+        (λ k.
+        both_charters (stated (k.servlet.vtable, k.servlet.value))
+        (option_map (λ l. listens (l.vtable, l.value)) k.listener)) apps.now.kinds }
     ensures setup { switch.new.setup ≡ switch.old.setup }
     ensures epoch { switch.new.epoch ≡ 0 }
     ensures began { switch.new.began ≡ 0 }
     ensures handed { switch.new.handed ≡ [] }
-    ensures follows { OnOk result (Follows as_session switch.old.setup lines.now switch.new.journal) }
-    ensures takes { OnOk result (Takes (K.took out.old) (K.took out.new) (output as_session switch.old.setup switch.new.journal)) }
-    ensures cut { IfErr result (λ cause. IsCutShort switch.old.setup lines.now (Rose (K.faults out.old) (K.faults out.new)) (K.took out.old) (K.took out.new) switch.new.journal cause) }
+    ensures follows { OnOk result
+        (Follows as_session switch.old.setup lines.now switch.new.journal) }
+    ensures takes { OnOk result
+        (Takes (K.took out.old) (K.took out.new)
+        (output as_session switch.old.setup switch.new.journal)) }
+    ensures cut { IfErr result
+        (λ cause.
+        IsCutShort switch.old.setup lines.now (Rose (K.faults out.old) (K.faults out.new))
+        (K.took out.old) (K.took out.new) switch.new.journal cause) }
 {
     match follow(alloc, switch, lines, apps) {
         Ok(()) => put_whole(alloc, switch, out),
@@ -71,8 +81,13 @@ fn put_whole<K: Sink>(alloc: Global, switch: &mut Switch, out: &mut K) -> Result
     requires began { switch.old.began ≡ 0 }
     requires untaken { IsUntaken switch.old }
     ensures same { switch.new ≡ record switch.old { left = switch.new.left } }
-    ensures ok { OnOk result (Takes (K.took out.old) (K.took out.new) (output as_session switch.old.setup switch.old.journal)) }
-    ensures err { IfErr result (λ cause. IsUnput (Rose (K.faults out.old) (K.faults out.new)) (K.took out.old) (K.took out.new) (output as_session switch.old.setup switch.old.journal) cause) }
+    ensures ok { OnOk result
+        (Takes (K.took out.old) (K.took out.new)
+        (output as_session switch.old.setup switch.old.journal)) }
+    ensures err { IfErr result
+        (λ cause.
+        IsUnput (Rose (K.faults out.old) (K.faults out.new)) (K.took out.old) (K.took out.new)
+        (output as_session switch.old.setup switch.old.journal) cause) }
 {
     match put_output(alloc, switch, out) {
         Ok(()) => Ok(()),
@@ -87,7 +102,8 @@ fn put_cut<K: Sink>(alloc: Global, switch: &mut Switch, out: &mut K) -> RunRefus
     requires began { switch.old.began ≡ 0 }
     requires untaken { IsUntaken switch.old }
     ensures same { switch.new ≡ record switch.old { left = switch.new.left } }
-    ensures put { IsPutWithoutEnd switch.old.setup (Rose (K.faults out.old) (K.faults out.new)) (K.took out.old) (K.took out.new) switch.old.journal result }
+    ensures put { IsPutWithoutEnd switch.old.setup (Rose (K.faults out.old) (K.faults out.new))
+        (K.took out.old) (K.took out.new) switch.old.journal result }
 {
     match put_sent(alloc, switch, out) {
         Ok(()) => RunRefused::JournalFull,

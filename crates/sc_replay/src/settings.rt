@@ -26,13 +26,14 @@ pub struct Settings {
     pub dar: Dar,
 }
 
-/// The settings that the shelf holds under the names of a configuration and a routing table. `kinds`
-/// are the names of the kinds of applications.
+/// The settings that the shelf holds under the names of a configuration and a routing table.
+/// `kinds` are the names of the kinds of applications.
 ///
 /// # Errors
 ///
 /// `Config` only where the configuration's text is refused so; else `Dar` only where the routing
-/// table's text is refused so for its applications; `Read` only where the shelf counted a fault; and
+/// table's text is refused so for its applications; `Read` only where the shelf counted a fault;
+/// and
 /// `NoMemory`.
 pub fn read_settings<F: Shelf>(
     alloc: Global,
@@ -41,11 +42,21 @@ pub fn read_settings<F: Shelf>(
     shelf: &mut F,
     kinds: &List<Text>,
 ) -> Result<Settings, Status>
-    ensures config { IfOk result (λ settings. TellsConfig kinds.now (F.holds shelf.old (string_bytes config.now)) settings.config) }
-    ensures table { IfOk result (λ settings. TellsTable (app_names settings.config) (F.holds shelf.old (string_bytes dar.now)) settings.dar) }
+    ensures config { IfOk result
+        (λ settings.
+        TellsConfig kinds.now (F.holds shelf.old (string_bytes config.now)) settings.config) }
+    ensures table { IfOk result
+        (λ settings.
+        TellsTable (app_names settings.config) (F.holds shelf.old (string_bytes dar.now))
+        settings.dar) }
     ensures lists { IfOk result (λ settings. length settings.dar.lists ≤ 65537) }
-    ensures tuples { IfOk result (λ settings. All (λ list. length list.tuples ≤ 64) settings.dar.lists) }
-    ensures unset { IfErr result (λ status. IsUnset kinds.now (F.holds shelf.old (string_bytes config.now)) (F.holds shelf.old (string_bytes dar.now)) (Rose (F.faults shelf.old) (F.faults shelf.new)) status) }
+    ensures tuples { IfOk result
+        (λ settings. All (λ list. length list.tuples ≤ 64) settings.dar.lists) }
+    ensures unset { IfErr result
+        (λ status.
+        IsUnset kinds.now (F.holds shelf.old (string_bytes config.now))
+        (F.holds shelf.old (string_bytes dar.now))
+        (Rose (F.faults shelf.old) (F.faults shelf.new)) status) }
     ensures same { (n : List ℕ) → F.holds shelf.new n ≡ F.holds shelf.old n }
     ensures later { F.faults shelf.old ≤ F.faults shelf.new }
 {
@@ -55,8 +66,8 @@ pub fn read_settings<F: Shelf>(
     }
 }
 
-/// The settings of a configuration's and a routing table's text. `kinds` are the names of the kinds of
-/// applications.
+/// The settings of a configuration's and a routing table's text. `kinds` are the names of the kinds
+/// of applications.
 ///
 /// # Errors
 ///
@@ -68,9 +79,12 @@ pub fn settings_of(
     dar: &Text,
     kinds: &List<Text>,
 ) -> Result<Settings, Status>
-    ensures config { IfOk result (λ settings. TellsConfig kinds.now (Some config.now) settings.config) }
-    ensures table { IfOk result (λ settings. TellsTable (app_names settings.config) (Some dar.now) settings.dar) }
-    ensures unset { IfErr result (λ status. IsUnset kinds.now (Some config.now) (Some dar.now) ⊥ status) }
+    ensures config { IfOk result
+        (λ settings. TellsConfig kinds.now (Some config.now) settings.config) }
+    ensures table { IfOk result
+        (λ settings. TellsTable (app_names settings.config) (Some dar.now) settings.dar) }
+    ensures unset { IfErr result
+        (λ status. IsUnset kinds.now (Some config.now) (Some dar.now) ⊥ status) }
 {
     match config_of(alloc, config, kinds) {
         Ok(config) => with_table_of(alloc, config, dar),
@@ -81,8 +95,10 @@ pub fn settings_of(
 /// The settings of this configuration and of the routing table of this text.
 fn with_table_of(alloc: Global, config: Config, text: &Text) -> Result<Settings, Status>
     ensures config { IfOk result (λ settings. settings.config ≡ config) }
-    ensures table { IfOk result (λ settings. TellsTable (app_names config) (Some text.now) settings.dar) }
-    ensures unread { IfErr result (λ status. IsTableUnread (app_names config) (Some text.now) ⊥ status) }
+    ensures table { IfOk result
+        (λ settings. TellsTable (app_names config) (Some text.now) settings.dar) }
+    ensures unread { IfErr result
+        (λ status. IsTableUnread (app_names config) (Some text.now) ⊥ status) }
 {
     match table_of(alloc, text, config.app.as_slice()) {
         Ok(dar) => Ok(Settings { config, dar }),
@@ -101,10 +117,16 @@ fn with_table<F: Shelf>(
     shelf: &mut F,
 ) -> Result<Settings, Status>
     ensures config { IfOk result (λ settings. settings.config ≡ config) }
-    ensures table { IfOk result (λ settings. TellsTable (app_names config) (F.holds shelf.old (string_bytes name.now)) settings.dar) }
+    ensures table { IfOk result
+        (λ settings.
+        TellsTable (app_names config) (F.holds shelf.old (string_bytes name.now)) settings.dar) }
     ensures lists { IfOk result (λ settings. length settings.dar.lists ≤ 65537) }
-    ensures tuples { IfOk result (λ settings. All (λ list. length list.tuples ≤ 64) settings.dar.lists) }
-    ensures unread { IfErr result (λ status. IsTableUnread (app_names config) (F.holds shelf.old (string_bytes name.now)) (Rose (F.faults shelf.old) (F.faults shelf.new)) status) }
+    ensures tuples { IfOk result
+        (λ settings. All (λ list. length list.tuples ≤ 64) settings.dar.lists) }
+    ensures unread { IfErr result
+        (λ status.
+        IsTableUnread (app_names config) (F.holds shelf.old (string_bytes name.now))
+        (Rose (F.faults shelf.old) (F.faults shelf.new)) status) }
     ensures same { (n : List ℕ) → F.holds shelf.new n ≡ F.holds shelf.old n }
     ensures later { F.faults shelf.old ≤ F.faults shelf.new }
 {
@@ -125,8 +147,12 @@ fn read_config<F: Shelf>(
     shelf: &mut F,
     kinds: &List<Text>,
 ) -> Result<Config, Status>
-    ensures found { IfOk result (λ config. TellsConfig kinds.now (F.holds shelf.old (string_bytes name.now)) config) }
-    ensures unread { IfErr result (λ status. IsConfigUnread kinds.now (F.holds shelf.old (string_bytes name.now)) (Rose (F.faults shelf.old) (F.faults shelf.new)) status) }
+    ensures found { IfOk result
+        (λ config. TellsConfig kinds.now (F.holds shelf.old (string_bytes name.now)) config) }
+    ensures unread { IfErr result
+        (λ status.
+        IsConfigUnread kinds.now (F.holds shelf.old (string_bytes name.now))
+        (Rose (F.faults shelf.old) (F.faults shelf.new)) status) }
     ensures same { (n : List ℕ) → F.holds shelf.new n ≡ F.holds shelf.old n }
     ensures later { F.faults shelf.old ≤ F.faults shelf.new }
 {
@@ -141,8 +167,10 @@ fn read_config<F: Shelf>(
 /// The configuration of a text.
 #[tactic(auto, unfolding(crate::specs::Running::IsConfigUnread, sc_config::specs::ReadSettings::fault_told), using(crate::proofs::Settled::config_fault))]
 fn config_of(alloc: Global, text: &Text, kinds: &List<Text>) -> Result<Config, Status>
-    ensures found { (told : Option (List ℕ)) → GivesAll text.now told → IfOk result (λ config. TellsConfig kinds.now told config) }
-    ensures unread { (told : Option (List ℕ)) → GivesAll text.now told → IfErr result (λ status. IsConfigUnread kinds.now told ⊥ status) }
+    ensures found { (told : Option (List ℕ)) → GivesAll text.now told
+        → IfOk result (λ config. TellsConfig kinds.now told config) }
+    ensures unread { (told : Option (List ℕ)) → GivesAll text.now told
+        → IfErr result (λ status. IsConfigUnread kinds.now told ⊥ status) }
 {
     match sc_config::read(alloc, text.as_bytes(), kinds) {
         Ok(config) => Ok(config),
@@ -169,10 +197,16 @@ fn read_table<F: Shelf>(
     shelf: &mut F,
     apps: &[AppEntry],
 ) -> Result<Dar, Status>
-    ensures found { IfOk result (λ dar. TellsTable (map (λ app. app.name) apps.now) (F.holds shelf.old (string_bytes name.now)) dar) }
+    ensures found { IfOk result
+        (λ dar.
+        TellsTable (map (λ app. app.name) apps.now) (F.holds shelf.old (string_bytes name.now))
+        dar) }
     ensures lists { IfOk result (λ dar. length dar.lists ≤ 65537) }
     ensures tuples { IfOk result (λ dar. All (λ list. length list.tuples ≤ 64) dar.lists) }
-    ensures unread { IfErr result (λ status. IsTableUnread (map (λ app. app.name) apps.now) (F.holds shelf.old (string_bytes name.now)) (Rose (F.faults shelf.old) (F.faults shelf.new)) status) }
+    ensures unread { IfErr result
+        (λ status.
+        IsTableUnread (map (λ app. app.name) apps.now) (F.holds shelf.old (string_bytes name.now))
+        (Rose (F.faults shelf.old) (F.faults shelf.new)) status) }
     ensures same { (n : List ℕ) → F.holds shelf.new n ≡ F.holds shelf.old n }
     ensures later { F.faults shelf.old ≤ F.faults shelf.new }
 {
@@ -187,10 +221,12 @@ fn read_table<F: Shelf>(
 /// The routing table of a text, for these applications.
 #[tactic(auto, unfolding(crate::specs::Running::IsTableUnread))]
 fn table_of(alloc: Global, text: &Text, apps: &[AppEntry]) -> Result<Dar, Status>
-    ensures found { (told : Option (List ℕ)) → GivesAll text.now told → IfOk result (λ dar. TellsTable (map (λ app. app.name) apps.now) told dar) }
+    ensures found { (told : Option (List ℕ)) → GivesAll text.now told
+        → IfOk result (λ dar. TellsTable (map (λ app. app.name) apps.now) told dar) }
     ensures lists { IfOk result (λ dar. length dar.lists ≤ 65537) }
     ensures tuples { IfOk result (λ dar. All (λ list. length list.tuples ≤ 64) dar.lists) }
-    ensures unread { (told : Option (List ℕ)) → GivesAll text.now told → IfErr result (λ status. IsTableUnread (map (λ app. app.name) apps.now) told ⊥ status) }
+    ensures unread { (told : Option (List ℕ)) → GivesAll text.now told
+        → IfErr result (λ status. IsTableUnread (map (λ app. app.name) apps.now) told ⊥ status) }
 {
     match names_of(alloc, apps) {
         Ok(names) => table_for(alloc, text, &names),
@@ -201,10 +237,12 @@ fn table_of(alloc: Global, text: &Text, apps: &[AppEntry]) -> Result<Dar, Status
 /// The routing table of a text, for applications of these names.
 #[tactic(auto, unfolding(crate::specs::Running::IsTableUnread), using(crate::proofs::Settled::table_fault, crate::proofs::TableLengths::few_lists))]
 fn table_for(alloc: Global, text: &Text, names: &List<Text>) -> Result<Dar, Status>
-    ensures found { (told : Option (List ℕ)) → GivesAll text.now told → IfOk result (λ dar. TellsTable names.now told dar) }
+    ensures found { (told : Option (List ℕ)) → GivesAll text.now told
+        → IfOk result (λ dar. TellsTable names.now told dar) }
     ensures lists { IfOk result (λ dar. length dar.lists ≤ 65537) }
     ensures tuples { IfOk result (λ dar. All (λ list. length list.tuples ≤ 64) dar.lists) }
-    ensures unread { (told : Option (List ℕ)) → GivesAll text.now told → IfErr result (λ status. IsTableUnread names.now told ⊥ status) }
+    ensures unread { (told : Option (List ℕ)) → GivesAll text.now told
+        → IfErr result (λ status. IsTableUnread names.now told ⊥ status) }
 {
     match sc_dar::read(alloc, text.as_bytes(), names) {
         Ok(dar) => Ok(dar),

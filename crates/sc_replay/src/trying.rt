@@ -25,10 +25,10 @@ use sc_terms::Line;
 use sc_value::{List, NoMemory, Text, write_u64};
 use std::alloc::Global;
 
-/// Runs the script of N calls, that of `make N`, through a recorder, a back-to-back user agent and a
-/// phone that answers after a second, and puts one line: `trial N steps S sent M live L`, how many
-/// steps were taken, messages sent, and application sessions live on. The words are `trial N`, N a
-/// decimal from 1 to 1,000 without leading zero.
+/// Runs the script of N calls, that of `make N`, through a recorder, a back-to-back user agent and
+/// a phone that answers after a second, and puts one line: `trial N steps S sent M live L`, how
+/// many steps were taken, messages sent, and application sessions live on. The words are `trial N`,
+/// N a decimal from 1 to 1,000 without leading zero.
 ///
 /// The status says how it ended:
 ///
@@ -40,10 +40,16 @@ use std::alloc::Global;
 /// - `Write`: only where the sink's count of faults rose in this call.
 /// - `NoMemory`: want of memory, at any place.
 ///
-/// The journal is there exactly where words and settings were accepted, and it is lawful. At `Write`
-/// and `NoMemory` a part from the front of the line was put.
+/// The journal is there exactly where words and settings were accepted, and it is lawful. At
+/// `Write` and `NoMemory` a part from the front of the line was put.
 pub fn trial<K: Sink>(alloc: Global, words: &[String], apps: &Catalogue, out: &mut K) -> Ran
-    ensures trials { TrialsWords (tried_count (map string_bytes words.now)) apps.now.names (map (λ k. both_charters (stated (k.servlet.vtable, k.servlet.value)) (option_map (λ l. listens (l.vtable, l.value)) k.listener)) apps.now.kinds) (Rose (K.faults out.old) (K.faults out.new)) (K.took out.old) (K.took out.new) result.status result.journal }
+    ensures trials { TrialsWords (tried_count (map string_bytes words.now)) apps.now.names
+        (map
+        (λ k.
+        both_charters (stated (k.servlet.vtable, k.servlet.value))
+        (option_map (λ l. listens (l.vtable, l.value)) k.listener)) apps.now.kinds)
+        (Rose (K.faults out.old) (K.faults out.new)) (K.took out.old) (K.took out.new) result.status
+        result.journal }
     ensures epoch { result.epoch ≡ 0 }
     ensures began { result.began ≡ 0 }
 {
@@ -57,7 +63,13 @@ pub fn trial<K: Sink>(alloc: Global, words: &[String], apps: &Catalogue, out: &m
 fn trial_calls<K: Sink>(alloc: Global, count: u32, apps: &Catalogue, out: &mut K) -> Ran
     requires least { 1 ≤ count }
     requires most { count ≤ 1000 }
-    ensures trials { Trials apps.now.names (map (λ k. both_charters (stated (k.servlet.vtable, k.servlet.value)) (option_map (λ l. listens (l.vtable, l.value)) k.listener)) apps.now.kinds) count (Rose (K.faults out.old) (K.faults out.new)) (K.took out.old) (K.took out.new) result.status result.journal }
+    ensures trials { Trials apps.now.names
+        (map
+        (λ k.
+        both_charters (stated (k.servlet.vtable, k.servlet.value))
+        (option_map (λ l. listens (l.vtable, l.value)) k.listener)) apps.now.kinds) count
+        (Rose (K.faults out.old) (K.faults out.new)) (K.took out.old) (K.took out.new) result.status
+        result.journal }
     ensures epoch { result.epoch ≡ 0 }
     ensures began { result.began ≡ 0 }
 {
@@ -70,9 +82,12 @@ fn trial_calls<K: Sink>(alloc: Global, count: u32, apps: &Catalogue, out: &mut K
 /// The settings of a trial.
 #[tactic(auto, unfolding(crate::specs::Replaying::IsUnset))]
 fn trial_settings(alloc: Global, kinds: &List<Text>) -> Result<Settings, Status>
-    ensures config { IfOk result (λ settings. TellsConfig kinds.now (Some trial_config) settings.config) }
-    ensures table { IfOk result (λ settings. TellsTable (app_names settings.config) (Some trial_table) settings.dar) }
-    ensures unset { IfErr result (λ status. IsUnset kinds.now (Some trial_config) (Some trial_table) ⊥ status) }
+    ensures config { IfOk result
+        (λ settings. TellsConfig kinds.now (Some trial_config) settings.config) }
+    ensures table { IfOk result
+        (λ settings. TellsTable (app_names settings.config) (Some trial_table) settings.dar) }
+    ensures unset { IfErr result
+        (λ status. IsUnset kinds.now (Some trial_config) (Some trial_table) ⊥ status) }
 {
     match trial_texts(alloc) {
         Ok((config, dar)) => settings_of(alloc, &config, &dar, kinds),
@@ -107,8 +122,25 @@ fn trial_over<K: Sink>(
 ) -> Ran
     requires least { 1 ≤ count }
     requires most { count ≤ 1000 }
-    requires right { IsSetup (record { config = settings.config; dar = settings.dar; kinds = map (λ k. both_charters (stated (k.servlet.vtable, k.servlet.value)) (option_map (λ l. listens (l.vtable, l.value)) k.listener)) apps.now.kinds }) }
-    ensures tried { IsTried (record { config = settings.config; dar = settings.dar; kinds = map (λ k. both_charters (stated (k.servlet.vtable, k.servlet.value)) (option_map (λ l. listens (l.vtable, l.value)) k.listener)) apps.now.kinds }) count (Rose (K.faults out.old) (K.faults out.new)) (K.took out.old) (K.took out.new) result }
+    requires right { IsSetup
+        (record {
+          config = settings.config;
+          dar = settings.dar;
+          kinds = map
+              (λ k.
+              both_charters (stated (k.servlet.vtable, k.servlet.value))
+              (option_map (λ l. listens (l.vtable, l.value)) k.listener)) apps.now.kinds;
+        }) }
+    ensures tried { IsTried
+        (record {
+          config = settings.config;
+          dar = settings.dar;
+          kinds = map
+              (λ k.
+              both_charters (stated (k.servlet.vtable, k.servlet.value))
+              (option_map (λ l. listens (l.vtable, l.value)) k.listener)) apps.now.kinds;
+        }) count (Rose (K.faults out.old) (K.faults out.new)) (K.took out.old) (K.took out.new)
+        result }
     ensures epoch { result.epoch ≡ 0 }
     ensures began { result.began ≡ 0 }
 {
@@ -131,8 +163,13 @@ fn trial_on<K: Sink>(
     requires most { count ≤ 1000 }
     requires new { IsNew switch }
     requires right { IsSetup switch.setup }
-    requires kinds { switch.setup.kinds ≡ map (λ k. both_charters (stated (k.servlet.vtable, k.servlet.value)) (option_map (λ l. listens (l.vtable, l.value)) k.listener)) apps.now.kinds }
-    ensures tried { IsTried switch.setup count (Rose (K.faults out.old) (K.faults out.new)) (K.took out.old) (K.took out.new) result }
+    requires kinds { switch.setup.kinds
+        ≡ map
+        (λ k.
+        both_charters (stated (k.servlet.vtable, k.servlet.value))
+        (option_map (λ l. listens (l.vtable, l.value)) k.listener)) apps.now.kinds }
+    ensures tried { IsTried switch.setup count (Rose (K.faults out.old) (K.faults out.new))
+        (K.took out.old) (K.took out.new) result }
     ensures epoch { result.epoch ≡ 0 }
     ensures began { result.began ≡ 0 }
 {
@@ -152,12 +189,17 @@ fn run_calls<K: Sink>(
     requires most { count ≤ 1000 }
     requires new { IsNew switch.old }
     requires right { IsSetup switch.old.setup }
-    requires kinds { switch.old.setup.kinds ≡ map (λ k. both_charters (stated (k.servlet.vtable, k.servlet.value)) (option_map (λ l. listens (l.vtable, l.value)) k.listener)) apps.now.kinds }
+    requires kinds { switch.old.setup.kinds
+        ≡ map
+        (λ k.
+        both_charters (stated (k.servlet.vtable, k.servlet.value))
+        (option_map (λ l. listens (l.vtable, l.value)) k.listener)) apps.now.kinds }
     ensures setup { switch.new.setup ≡ switch.old.setup }
     ensures epoch { switch.new.epoch ≡ 0 }
     ensures began { switch.new.began ≡ 0 }
     ensures handed { switch.new.handed ≡ [] }
-    ensures leaves { TrialLeaves switch.old.setup count (Rose (K.faults out.old) (K.faults out.new)) (K.took out.old) (K.took out.new) result switch.new.journal }
+    ensures leaves { TrialLeaves switch.old.setup count (Rose (K.faults out.old) (K.faults out.new))
+        (K.took out.old) (K.took out.new) result switch.new.journal }
 {
     match made_lines(alloc, count) {
         Ok(lines) => try_lines(alloc, switch, count, lines.as_slice(), apps, out),
@@ -190,8 +232,8 @@ fn lines_of_calls(alloc: Global, n: u32, text: &[u8]) -> Result<List<Line>, NoMe
     }
 }
 
-/// Runs the lines of a script of so many calls on a switch that took no step, and puts the line of what
-/// came of it.
+/// Runs the lines of a script of so many calls on a switch that took no step, and puts the line of
+/// what came of it.
 fn try_lines<K: Sink>(
     alloc: Global,
     switch: &mut Switch,
@@ -203,12 +245,17 @@ fn try_lines<K: Sink>(
     requires lines { script_of (generated count) ≡ Ok lines.now }
     requires new { IsNew switch.old }
     requires right { IsSetup switch.old.setup }
-    requires kinds { switch.old.setup.kinds ≡ map (λ k. both_charters (stated (k.servlet.vtable, k.servlet.value)) (option_map (λ l. listens (l.vtable, l.value)) k.listener)) apps.now.kinds }
+    requires kinds { switch.old.setup.kinds
+        ≡ map
+        (λ k.
+        both_charters (stated (k.servlet.vtable, k.servlet.value))
+        (option_map (λ l. listens (l.vtable, l.value)) k.listener)) apps.now.kinds }
     ensures setup { switch.new.setup ≡ switch.old.setup }
     ensures epoch { switch.new.epoch ≡ 0 }
     ensures began { switch.new.began ≡ 0 }
     ensures handed { switch.new.handed ≡ [] }
-    ensures leaves { TrialLeaves switch.old.setup count (Rose (K.faults out.old) (K.faults out.new)) (K.took out.old) (K.took out.new) result switch.new.journal }
+    ensures leaves { TrialLeaves switch.old.setup count (Rose (K.faults out.old) (K.faults out.new))
+        (K.took out.old) (K.took out.new) result switch.new.journal }
 {
     match follow(alloc, switch, lines, apps) {
         Ok(()) => put_counts(alloc, count, switch, out),
@@ -222,7 +269,8 @@ fn put_counts<K: Sink>(alloc: Global, count: u32, switch: &Switch, out: &mut K) 
     requires epoch { switch.now.epoch ≡ 0 }
     requires began { switch.now.began ≡ 0 }
     requires untaken { IsUntaken switch.now }
-    ensures { IsPut (Rose (K.faults out.old) (K.faults out.new)) (K.took out.old) (K.took out.new) (trial_line switch.now.setup count switch.now.journal) result }
+    ensures { IsPut (Rose (K.faults out.old) (K.faults out.new)) (K.took out.old) (K.took out.new)
+        (trial_line switch.now.setup count switch.now.journal) result }
 {
     let steps = switch.journal().len();
     let sent = switch.untaken();
@@ -240,7 +288,8 @@ fn put_line<K: Sink>(
     live: u64,
     out: &mut K,
 ) -> Status
-    ensures { IsPut (Rose (K.faults out.old) (K.faults out.new)) (K.took out.old) (K.took out.new) (trial_text count steps sent live) result }
+    ensures { IsPut (Rose (K.faults out.old) (K.faults out.new)) (K.took out.old) (K.took out.new)
+        (trial_text count steps sent live) result }
 {
     let mut text = Text::new(alloc);
     match write_line(count, steps, sent, live, &mut text) {

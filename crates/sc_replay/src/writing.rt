@@ -39,9 +39,13 @@ pub fn put_output<K: Sink>(
     requires untaken { IsUntaken switch.old }
     ensures later { K.faults out.old ≤ K.faults out.new }
     ensures same { switch.new ≡ record switch.old { left = switch.new.left } }
-    ensures ok { OnOk result (Takes (K.took out.old) (K.took out.new) (output as_session switch.old.setup switch.old.journal)) }
+    ensures ok { OnOk result
+        (Takes (K.took out.old) (K.took out.new)
+        (output as_session switch.old.setup switch.old.journal)) }
     ensures failed { result ≡ Err WriteRefused.Failed → Rose (K.faults out.old) (K.faults out.new) }
-    ensures part { OnErr result (TakesPart (K.took out.old) (K.took out.new) (output as_session switch.old.setup switch.old.journal)) }
+    ensures part { OnErr result
+        (TakesPart (K.took out.old) (K.took out.new)
+        (output as_session switch.old.setup switch.old.journal)) }
 {
     let steps = switch.journal().len();
     let sent = switch.untaken();
@@ -64,9 +68,12 @@ pub fn put_sent<K: Sink>(
 ) -> Result<(), WriteRefused>
     ensures later { K.faults out.old ≤ K.faults out.new }
     ensures same { switch.new ≡ record switch.old { left = switch.new.left } }
-    ensures ok { OnOk result ((switch.new.left ≡ []) × Takes (K.took out.old) (K.took out.new) (records switch.old.left)) }
+    ensures ok { OnOk result
+        ((switch.new.left ≡ [])
+        × Takes (K.took out.old) (K.took out.new) (records switch.old.left)) }
     ensures failed { result ≡ Err WriteRefused.Failed → Rose (K.faults out.old) (K.faults out.new) }
-    ensures part { OnErr result (TakesPart (K.took out.old) (K.took out.new) (records switch.old.left)) }
+    ensures part { OnErr result
+        (TakesPart (K.took out.old) (K.took out.new) (records switch.old.left)) }
 {
     while switch.untaken() > 0 {
         let Some(sent) = switch.take_sent() else {
@@ -84,7 +91,8 @@ fn put_one<K: Sink>(alloc: Global, sent: &Sent, out: &mut K) -> Result<(), Write
     ensures later { K.faults out.old ≤ K.faults out.new }
     ensures ok { OnOk result (Takes (K.took out.old) (K.took out.new) (record_text sent.now)) }
     ensures failed { result ≡ Err WriteRefused.Failed → Rose (K.faults out.old) (K.faults out.new) }
-    ensures part { OnErr result (TakesPart (K.took out.old) (K.took out.new) (record_text sent.now)) }
+    ensures part { OnErr result
+        (TakesPart (K.took out.old) (K.took out.new) (record_text sent.now)) }
 {
     let mut text = Text::new(alloc);
     match write_sent(alloc, sent, &mut text) {
@@ -109,7 +117,8 @@ pub fn put_end<K: Sink>(
     ensures later { K.faults out.old ≤ K.faults out.new }
     ensures ok { OnOk result (Takes (K.took out.old) (K.took out.new) (end_text steps sent live)) }
     ensures failed { result ≡ Err WriteRefused.Failed → Rose (K.faults out.old) (K.faults out.new) }
-    ensures part { OnErr result (TakesPart (K.took out.old) (K.took out.new) (end_text steps sent live)) }
+    ensures part { OnErr result
+        (TakesPart (K.took out.old) (K.took out.new) (end_text steps sent live)) }
 {
     let mut text = Text::new(alloc);
     match write_end(alloc, steps, sent, live, &mut text) {

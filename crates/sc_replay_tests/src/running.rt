@@ -90,7 +90,8 @@ fn name_of(status: &Status) -> &'static [u8] {
     }
 }
 
-/// The run in which the read and the put of these numbers, from 1, fail. A put takes at most 16 bytes.
+/// The run in which the read and the put of these numbers, from 1, fail. A put takes at most 16
+/// bytes.
 pub fn run(alloc: Global, apps: &Catalogue, read: u64, put: u64) -> Result<Left, Fail> {
     let words = words(alloc)?;
     let mut shelf = MemShelf::new(alloc, items(alloc)?, only(alloc, read)?);

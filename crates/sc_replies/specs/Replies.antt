@@ -1,4 +1,5 @@
--- The answers that the turns of an application session tell of, and the orders that they are (RFC 3261 sections 8.2.6 and 16.7).
+-- The answers that the turns of an application session tell of, and the orders that they are (RFC
+-- 3261 sections 8.2.6 and 16.7).
 use Rattle.std.specs.Prelude.{◌≡◌, ℕ, List, [], ◌∷◌, ◌++◌, Bool, Option, None, Some, is_some}
 use Rattle.std.specs.List.{filter_map, find}
 use Rattle.sc_value.specs.declared.ids.AppId.{AppId}
@@ -24,22 +25,28 @@ use Rattle.sc_answered.specs.Happened.{Happened, at_moment, cancelled, got, show
 
 -- ## What a turn tells, by where it comes from
 
--- what came with the event of a turn: the response that it brings to a request of one's own, and what comes of that in other
--- SipSessions
+-- what came with the event of a turn: the response that it brings to a request of one's own, and
+-- what comes of that in other SipSessions
 unfoldable pub came : Session → Queued → List Happened
-came session (queued.Response branch response) = got session response (find (is_sent_on branch) session.known.kept)
+came session (queued.Response branch response) =
+    got session response (find (is_sent_on branch) session.known.kept)
 came session event = []
 
--- what the container answers before anyone is called: 500 to a request whose number is too low, 487 to an INVITE whose CANCEL came
+-- what the container answers before anyone is called: 500 to a request whose number is too low, 487
+-- to an INVITE whose CANCEL came
 unfoldable pub answered_first : Session → ℕ → Queued → List Happened
-answered_first session number (queued.Request request) = too_low session number request (session_for session request)
-answered_first session number (queued.Cancelled event) = cancelled session (find (is_invited event) session.known.invited)
+answered_first session number (queued.Request request) =
+    too_low session number request (session_for session request)
+answered_first session number (queued.Cancelled event) =
+    cancelled session (find (is_invited event) session.known.invited)
 answered_first session number event = []
 
--- what a turn gave: what the container answered first, what its calls answered, and what followed them
+-- what a turn gave: what the container answered first, what its calls answered, and what followed
+-- them
 unfoldable pub gave : Config → Session → Turn → List Happened
 gave config session turn =
-    shown_by config turn (prepared config turn.ringing session turn.waiting turn.now) ++ answered_first (at_moment turn.now session) turn.waiting.number turn.waiting.event
+    shown_by config turn (prepared config turn.ringing session turn.waiting turn.now)
+    ++ answered_first (at_moment turn.now session) turn.waiting.number turn.waiting.event
 
 -- ## Answers and orders
 
@@ -75,8 +82,8 @@ pub record HasOrder (reply : Reply) (given : List Order) : Type 0 where
   pub is : given ≡ before ++ order ∷ later
   pub answers : IsReply reply order
 
--- each answer of a list, the newest first, is an order of its own among these, which stand in the order in which they are given: what
--- was answered earlier is given before it
+-- each answer of a list, the newest first, is an order of its own among these, which stand in the
+-- order in which they are given: what was answered earlier is given before it
 unfoldable pub AreGiven : List Reply → List Order → Type 0
 AreGiven [] given = Unit {0}
 AreGiven (reply ∷ earlier) given = (place : HasOrder reply given) × AreGiven earlier place.before
@@ -85,16 +92,19 @@ AreGiven (reply ∷ earlier) given = (place : HasOrder reply given) × AreGiven 
 
 -- what a turn of the session gives to its host to send
 abbrev pub orders_of : Config → Session → Turn → List Order
-orders_of config session turn = (outcome config turn.ringing session turn.waiting turn.now turn.calls turn.end).orders
+orders_of config session turn =
+    (outcome config turn.ringing session turn.waiting turn.now turn.calls turn.end).orders
 
 -- what each of these turns of a history answered, it gave to send
 unfoldable pub GaveAll : Config → History → List Turn → Type 0
 GaveAll config history [] = Unit {0}
 GaveAll config history (turn ∷ earlier) =
-    AreGiven (replies (gave config (session_after config history earlier) turn)) (orders_of config (session_after config history earlier) turn)
+    AreGiven (replies (gave config (session_after config history earlier) turn))
+    (orders_of config (session_after config history earlier) turn)
     × GaveAll config history earlier
 
 -- the session comes of a history with these turns, each of which gave to send what it answered
-pub record HasGivenAll (setup : Setup) (app : AppId) (given : List Told) (session : Session) (inbox : List Waiting) : Type 0 where
+pub record HasGivenAll (setup : Setup) (app : AppId) (given : List Told) (session : Session)
+    (inbox : List Waiting) : Type 0 where
   pub lived : HasLived setup app given session inbox
   pub gave : GaveAll setup.config lived.history lived.history.turns

@@ -13,20 +13,29 @@ ghost use Rattle.sc_lived.specs.Lived.{told};
 ghost use Rattle.sc_answered.specs.Happened.{at_moment, happened_by};
 ghost use Rattle.sc_replies.specs.Replies.{GaveAll, HasGivenAll, came, gave};
 
-/// What a turn tells of its SipSessions is what it gave, and before it what came with its event, a response to a request
-/// of one's own and what comes of that. In every history of an application session each answer that a turn gave, by a
-/// call, by the container or as a proxy, is an order of its own among those that the turn gives to its host: a response
-/// of that code, with a To tag or without, in the order in which they are told. The contract is the law, and the call
-/// does nothing.
+/// What a turn tells of its SipSessions is what it gave, and before it what came with its event, a
+/// response to a request of one's own and what comes of that. In every history of an application
+/// session each answer that a turn gave, by a call, by the container or as a proxy, is an order of
+/// its own among those that the turn gives to its host: a response of that code, with a To tag or
+/// without, in the order in which they are told. The contract is the law, and the call does
+/// nothing.
 pub fn answers_are_given()
-    ensures parts { (config : Config) (session : Session) (turn : Turn) → happened_by config session turn ≡ gave config session turn ++ came (at_moment turn.now session) turn.waiting.event }
+    ensures parts { (config : Config) (session : Session) (turn : Turn)
+        → happened_by config session turn
+        ≡ gave config session turn ++ came (at_moment turn.now session) turn.waiting.event }
     ensures given { (config : Config) (history : History) → GaveAll config history history.turns }
 {}
 
-/// After a lawful journal each answer that a turn of a live session gave is an order of that turn. A session that is kept
-/// as what it is comes of such a history, whose turns are those that the journal tells of it. The contract is the law,
-/// and the call does nothing.
+/// After a lawful journal each answer that a turn of a live session gave is an order of that turn.
+/// A session that is kept as what it is comes of such a history, whose turns are those that the
+/// journal tells of it. The contract is the law, and the call does nothing.
 pub fn live_answers_are_given()
-    ensures history { (setup : Setup) (epoch began : ℕ) (journal : List Step) (app : AppId) (live : Live History) → IsLawful (as_history setup.config) setup epoch began journal → live_at app (chained (as_history setup.config) setup epoch began journal) ≡ Some live → GaveAll setup.config live.session live.session.turns }
-    ensures session { (setup : Setup) (epoch began : ℕ) (journal : List Step) (app : AppId) (live : Live Session) → IsLawful as_session setup epoch began journal → live_at app (chained as_session setup epoch began journal) ≡ Some live → HasGivenAll setup app (told app journal) live.session live.inbox }
+    ensures history { (setup : Setup) (epoch began : ℕ) (journal : List Step) (app : AppId)
+        (live : Live History) → IsLawful (as_history setup.config) setup epoch began journal
+        → live_at app (chained (as_history setup.config) setup epoch began journal) ≡ Some live
+        → GaveAll setup.config live.session live.session.turns }
+    ensures session { (setup : Setup) (epoch began : ℕ) (journal : List Step) (app : AppId)
+        (live : Live Session) → IsLawful as_session setup epoch began journal
+        → live_at app (chained as_session setup epoch began journal) ≡ Some live
+        → HasGivenAll setup app (told app journal) live.session live.inbox }
 {}

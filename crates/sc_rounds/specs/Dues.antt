@@ -8,5 +8,6 @@ use Rattle.sc_rounds.specs.Serving.{running}
 
 -- for want of room a step is due there, under right settings
 unfoldable pub HasDue : Known → StepRefused → Type 0
-HasDue known (refused.JournalFull steps bytes) = IsSetup known.setup → IsDue known.setup (running known) known.journal
+HasDue known (refused.JournalFull steps bytes) =
+    IsSetup known.setup → IsDue known.setup (running known) known.journal
 HasDue known refused.NoMemory = Unit {0}

@@ -15,12 +15,19 @@ use Rattle.sc_rounds.specs.Serving.{Ends, Stands, deed}
 unfoldable pub BrokeOff : Place → Bad → Core → Core → Told → Told → Type 0
 BrokeOff at bad old new told told2 =
     (from : Beginning) (edge : EdgeState) (deeds : List Deed) → Stands from edge told old deeds
-    → (sent : List Sent) × (sent2 : List Sent) × Stands from edge told2 new ((deeds ++ deed (steps.Bad at bad) sent false ∷ []) ++ deed (steps.Lost at) sent2 false ∷ [])
+    → (sent : List Sent) × (sent2 : List Sent)
+    × Stands from edge told2 new
+    ((deeds ++ deed (steps.Bad at bad) sent false ∷ []) ++ deed (steps.Lost at) sent2 false
+    ∷ [])
 
 -- the run ended before them, between them, or behind them
 unfoldable pub BrokeUpto : Place → Bad → Core → Core → Told → Told → Type 0
 BrokeUpto at bad old new told told2 =
     (from : Beginning) (edge : EdgeState) (deeds : List Deed) → Stands from edge told old deeds
     → Ends from edge told2 new.switch deeds
-    ⊎ (((sent : List Sent) × Ends from edge told2 new.switch (deeds ++ deed (steps.Bad at bad) sent false ∷ []))
-    ⊎ ((sent : List Sent) × (sent2 : List Sent) × Ends from edge told2 new.switch ((deeds ++ deed (steps.Bad at bad) sent false ∷ []) ++ deed (steps.Lost at) sent2 false ∷ [])))
+    ⊎ (((sent : List Sent)
+    × Ends from edge told2 new.switch (deeds ++ deed (steps.Bad at bad) sent false ∷ []))
+    ⊎ ((sent : List Sent) × (sent2 : List Sent)
+    × Ends from edge told2 new.switch
+    ((deeds ++ deed (steps.Bad at bad) sent false ∷ []) ++ deed (steps.Lost at) sent2 false
+    ∷ [])))

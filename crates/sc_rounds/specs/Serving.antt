@@ -42,7 +42,8 @@ timed step from = record from { moments = moments_after step from.moments }
 
 -- what the notice was told of the run's steps and of what lives
 abbrev pub Reported : Beginning → Told → ℕ → ℕ → Known → Type 0
-Reported from told count unlisted known = Reports from.setup from.told told count unlisted known.handed (running known)
+Reported from told count unlisted known =
+    Reports from.setup from.told told count unlisted known.handed (running known)
 
 -- the same, but for the last step, of which it isn't told yet
 abbrev pub Unreported : Beginning → Told → ℕ → Known → Type 0
@@ -62,7 +63,8 @@ abbrev pub EndsAsSet : Beginning → Core → Type 0
 EndsAsSet from core = core.turning.epoch_steps ≡ from.setup.config.epoch_steps
 
 -- between two steps all that was sent was taken from the switch, and was put or is left to be put
-pub record Stands (from : Beginning) (edge : EdgeState) (told : Told) (core : Core) (deeds : List Deed) : Type 0 where
+pub record Stands (from : Beginning) (edge : EdgeState) (told : Told) (core : Core)
+    (deeds : List Deed) : Type 0 where
   pub runs : Runs from told core.switch deeds
   pub left_is : core.switch.left ≡ []
   pub puts : Puts from.edge edge deeds core.outs []
@@ -71,7 +73,8 @@ pub record Stands (from : Beginning) (edge : EdgeState) (told : Told) (core : Co
   pub as_set : EndsAsSet from core
 
 -- where a run ends, whatever is left to be put
-pub record Ends (from : Beginning) (edge : EdgeState) (told : Told) (known : Known) (deeds : List Deed) : Type 0 where
+pub record Ends (from : Beginning) (edge : EdgeState) (told : Told) (known : Known)
+    (deeds : List Deed) : Type 0 where
   pub runs : Runs from told known deeds
   pub cut : IsCut from.edge edge deeds
   pub ticked : TickedPart from.moments deeds
@@ -85,41 +88,58 @@ deed step sent failed = record { step = step; sent = sent; failed = failed }
 
 -- no step was taken
 unfoldable pub Same : Core → Core → Told → Told → Type 0
-Same old new told told2 = (from : Beginning) (edge : EdgeState) (deeds : List Deed) → Stands from edge told old deeds → Stands from edge told2 new deeds
+Same old new told told2 =
+    (from : Beginning) (edge : EdgeState) (deeds : List Deed) → Stands from edge told old deeds
+    → Stands from edge told2 new deeds
 
 -- where it stood so, the epoch that runs now hasn't to end
 unfoldable pub HasNoEnd : Core → Told → Known → Type 0
-HasNoEnd old told known = (from : Beginning) (edge : EdgeState) (deeds : List Deed) → Stands from edge told old deeds → HasToEnd from.setup (running known) → ⊥
+HasNoEnd old told known =
+    (from : Beginning) (edge : EdgeState) (deeds : List Deed) → Stands from edge told old deeds
+    → HasToEnd from.setup (running known) → ⊥
 
 -- no step was taken, and the clock answered this
 unfoldable pub SameAt : ℕ → Core → Core → Told → Told → Type 0
-SameAt now old new told told2 = (from : Beginning) (edge : EdgeState) (deeds : List Deed) → Stands from edge told old deeds → Stands (since from (now ∷ [])) edge told2 new deeds
+SameAt now old new told told2 =
+    (from : Beginning) (edge : EdgeState) (deeds : List Deed) → Stands from edge told old deeds
+    → Stands (since from (now ∷ [])) edge told2 new deeds
 
 -- this step was taken
 unfoldable pub Took : Step → Bool → Core → Core → Told → Told → Type 0
 Took step failed old new told told2 =
     (from : Beginning) (edge : EdgeState) (deeds : List Deed) → Stands from edge told old deeds
-    → (sent : List Sent) × Stands (timed step from) edge told2 new (deeds ++ deed step sent failed ∷ [])
+    → (sent : List Sent)
+    × Stands (timed step from) edge told2 new (deeds ++ deed step sent failed ∷ [])
 
 -- the run ended before this step, or behind it
 unfoldable pub Stopped : Step → Bool → Core → Core → Told → Told → Type 0
 Stopped step failed old new told told2 =
     (from : Beginning) (edge : EdgeState) (deeds : List Deed) → Stands from edge told old deeds
-    → Ends (timed step from) edge told2 new.switch deeds ⊎ ((sent : List Sent) × Ends (timed step from) edge told2 new.switch (deeds ++ deed step sent failed ∷ []))
+    → Ends (timed step from) edge told2 new.switch deeds
+    ⊎ ((sent : List Sent)
+    × Ends (timed step from) edge told2 new.switch (deeds ++ deed step sent failed ∷ []))
 
 -- what the last step sent was taken from the switch
 unfoldable pub Settles : Core → Core → Told → Told → Type 0
 Settles old new told told2 =
-    (from : Beginning) (edge : EdgeState) (deeds : List Deed) → Runs from told old.switch deeds → Puts from.edge edge deeds old.outs old.switch.left → Ticked from.moments deeds (net_of old.switch).moment → Unreported from told old.handed old.switch → EndsAsSet from old → Stands from edge told2 new deeds
+    (from : Beginning) (edge : EdgeState) (deeds : List Deed) → Runs from told old.switch deeds
+    → Puts from.edge edge deeds old.outs old.switch.left
+    → Ticked from.moments deeds (net_of old.switch).moment
+    → Unreported from told old.handed old.switch → EndsAsSet from old
+    → Stands from edge told2 new deeds
 
 -- the switch goes on in the same course, and the notice was told of its last step
 unfoldable pub RunsOn : Core → Core → Told → Told → Type 0
-RunsOn old new told told2 = (from : Beginning) (deeds : List Deed) → Runs from told old.switch deeds → Unreported from told old.handed old.switch → Runs from told2 new.switch deeds × Counted from told2 new.switch
+RunsOn old new told told2 =
+    (from : Beginning) (deeds : List Deed) → Runs from told old.switch deeds
+    → Unreported from told old.handed old.switch
+    → Runs from told2 new.switch deeds × Counted from told2 new.switch
 
 -- ## With what was heard
 
 -- between two steps
-pub record Serves (from : Beginning) (edge : EdgeState) (told : Told) (core : Core) (streams : List Pending) : Type 0 where
+pub record Serves (from : Beginning) (edge : EdgeState) (told : Told) (core : Core)
+    (streams : List Pending) : Type 0 where
   pub deeds : List Deed
   pub stands : Stands from edge told core deeds
   pub hearing : Hearing from.edge.polled edge.polled deeds (bytes_of streams)
@@ -131,12 +151,15 @@ pub record Ended (from : Beginning) (edge : EdgeState) (told : Told) (known : Kn
   pub hearing : HearingPart from.edge.polled edge.polled deeds
 
 -- within an answer of the edge, these bytes of a place
-pub record ServesOn (from : Beginning) (edge : EdgeState) (told : Told) (core : Core) (streams : List Pending) (place : Place) (text : Bytes) : Type 0 where
+pub record ServesOn (from : Beginning) (edge : EdgeState) (told : Told) (core : Core)
+    (streams : List Pending) (place : Place) (text : Bytes) : Type 0 where
   pub deeds : List Deed
   pub stands : Stands from edge told core deeds
   pub on : HearsOn from.edge.polled edge.polled deeds (bytes_of streams) place text
 
 -- within it, or behind it
-unfoldable pub ServesMore : Beginning → EdgeState → Told → Core → List Pending → Place → Bytes → Bool → Type 0
-ServesMore from edge told core streams place text true = ServesOn from edge told core streams place text
+unfoldable pub ServesMore : Beginning → EdgeState → Told → Core → List Pending → Place → Bytes
+    → Bool → Type 0
+ServesMore from edge told core streams place text true =
+    ServesOn from edge told core streams place text
 ServesMore from edge told core streams place text false = Serves from edge told core streams

@@ -14,7 +14,8 @@ use Rattle.sc_courses.specs.Courses.{Beginning, Told, ordered}
 use Rattle.sc_rounds.specs.declared.stepping.Core.{Core}
 use Rattle.sc_rounds.specs.Serving.{Ends, Same, SameAt, Stands, Took, deed}
 
--- the epoch that runs has as many steps as the settings ask for, which isn't 0, where so many of them were handed on
+-- the epoch that runs has as many steps as the settings ask for, which isn't 0, where so many of
+-- them were handed on
 pub record IsLong (core : Core) (handed : ℕ) : Type 0 where
   pub asked : 0 < core.turning.epoch_steps
   pub steps : core.turning.epoch_steps ≤ handed + length core.switch.journal
@@ -32,17 +33,24 @@ order_at core app = record { epoch = core.switch.epoch; app = app }
 unfoldable pub Ordered : AppId → Core → Core → Told → Told → Type 0
 Ordered app old new told told2 =
     (from : Beginning) (edge : EdgeState) (deeds : List Deed) → Stands from edge told old deeds
-    → (sent : List Sent) × Stands (ordered from (Some (order_at old app) ∷ [])) edge told2 new (deeds ++ deed (steps.Withdraw app) sent false ∷ [])
+    → (sent : List Sent)
+    × Stands (ordered from (Some (order_at old app) ∷ [])) edge told2 new
+    (deeds ++ deed (steps.Withdraw app) sent false ∷ [])
 
 -- nothing was withdrawn at this answer
 unfoldable pub Unordered : Option Order → Core → Core → Told → Told → Type 0
-Unordered answer old new told told2 = (from : Beginning) (edge : EdgeState) (deeds : List Deed) → Stands from edge told old deeds → Stands (ordered from (answer ∷ [])) edge told2 new deeds
+Unordered answer old new told told2 =
+    (from : Beginning) (edge : EdgeState) (deeds : List Deed) → Stands from edge told old deeds
+    → Stands (ordered from (answer ∷ [])) edge told2 new deeds
 
 -- the run ended before this withdrawal, or behind it
 unfoldable pub StoppedAt : AppId → Core → Core → Told → Told → Type 0
 StoppedAt app old new told told2 =
     (from : Beginning) (edge : EdgeState) (deeds : List Deed) → Stands from edge told old deeds
-    → Ends from edge told2 new.switch deeds ⊎ ((sent : List Sent) × Ends (ordered from (Some (order_at old app) ∷ [])) edge told2 new.switch (deeds ++ deed (steps.Withdraw app) sent false ∷ []))
+    → Ends from edge told2 new.switch deeds
+    ⊎ ((sent : List Sent)
+    × Ends (ordered from (Some (order_at old app) ∷ [])) edge told2 new.switch
+    (deeds ++ deed (steps.Withdraw app) sent false ∷ []))
 
 -- the session was withdrawn, or it didn't live
 unfoldable pub Withdraws : AppId → Core → Core → Told → Told → Bool → Type 0

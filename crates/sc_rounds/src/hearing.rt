@@ -34,8 +34,12 @@ pub fn hear_all<N: Notice<Journal<Step>>>(
     at: Place,
     broken: &mut bool,
 ) -> Result<(), StepRefused>
-    ensures ok { (from : Beginning) (edge : EdgeState) (text : Bytes) → ServesOn from edge (N.noted notice.old) core.old streams.old at text → OnOk result (Serves from edge (N.noted notice.new) core.new streams.new) }
-    ensures err { (from : Beginning) (edge : EdgeState) (text : Bytes) → ServesOn from edge (N.noted notice.old) core.old streams.old at text → OnErr result (Ended from edge (N.noted notice.new) core.new.switch) }
+    ensures ok { (from : Beginning) (edge : EdgeState) (text : Bytes)
+        → ServesOn from edge (N.noted notice.old) core.old streams.old at text
+        → OnOk result (Serves from edge (N.noted notice.new) core.new streams.new) }
+    ensures err { (from : Beginning) (edge : EdgeState) (text : Bytes)
+        → ServesOn from edge (N.noted notice.old) core.old streams.old at text
+        → OnErr result (Ended from edge (N.noted notice.new) core.new.switch) }
     ensures due { IfErr result (λ cause. HasDue core.new.switch cause) }
 {
     while hear_one(core, streams, notice, at, broken)? {}
@@ -50,10 +54,16 @@ fn hear_one<N: Notice<Journal<Step>>>(
     at: Place,
     broken: &mut bool,
 ) -> Result<bool, StepRefused>
-    ensures on { (from : Beginning) (edge : EdgeState) (text : Bytes) → ServesOn from edge (N.noted notice.old) core.old streams.old at text → IfOk result (λ more. ServesMore from edge (N.noted notice.new) core.new streams.new at text more) }
-    ensures err { (from : Beginning) (edge : EdgeState) (text : Bytes) → ServesOn from edge (N.noted notice.old) core.old streams.old at text → OnErr result (Ended from edge (N.noted notice.new) core.new.switch) }
+    ensures on { (from : Beginning) (edge : EdgeState) (text : Bytes)
+        → ServesOn from edge (N.noted notice.old) core.old streams.old at text
+        → IfOk result
+        (λ more. ServesMore from edge (N.noted notice.new) core.new streams.new at text more) }
+    ensures err { (from : Beginning) (edge : EdgeState) (text : Bytes)
+        → ServesOn from edge (N.noted notice.old) core.old streams.old at text
+        → OnErr result (Ended from edge (N.noted notice.new) core.new.switch) }
     ensures due { IfErr result (λ cause. HasDue core.new.switch cause) }
-    ensures less { result ≡ Ok true → length (bytes_of streams.new at) < length (bytes_of streams.old at) }
+    ensures less { result ≡ Ok true
+        → length (bytes_of streams.new at) < length (bytes_of streams.old at) }
 {
     match streams.next(at) {
         Heard::Message(message) => take_message(core, notice, at, message),
@@ -79,8 +89,12 @@ fn take_message<N: Notice<Journal<Step>>>(
 ) -> Result<bool, StepRefused>
     requires { HasVia message }
     ensures more { IfOk result (λ more. more ≡ true) }
-    ensures ok { OnOk result (Took (Step.In at message) false core.old core.new (N.noted notice.old) (N.noted notice.new)) }
-    ensures err { OnErr result (Stopped (Step.In at message) false core.old core.new (N.noted notice.old) (N.noted notice.new)) }
+    ensures ok { OnOk result
+        (Took (Step.In at message) false core.old core.new (N.noted notice.old)
+        (N.noted notice.new)) }
+    ensures err { OnErr result
+        (Stopped (Step.In at message) false core.old core.new (N.noted notice.old)
+        (N.noted notice.new)) }
     ensures due { IfErr result (λ cause. HasDue core.new.switch cause) }
 {
     match core.arrive(notice, at, message) {
@@ -99,8 +113,10 @@ fn break_off<N: Notice<Journal<Step>>>(
 ) -> Result<bool, StepRefused>
     ensures more { IfOk result (λ more. more ≡ false) }
     ensures kept { IsKept (bytes_of streams.old) at [] (bytes_of streams.new) }
-    ensures ok { OnOk result (BrokeOff at bad core.old core.new (N.noted notice.old) (N.noted notice.new)) }
-    ensures err { OnErr result (BrokeUpto at bad core.old core.new (N.noted notice.old) (N.noted notice.new)) }
+    ensures ok { OnOk result
+        (BrokeOff at bad core.old core.new (N.noted notice.old) (N.noted notice.new)) }
+    ensures err { OnErr result
+        (BrokeUpto at bad core.old core.new (N.noted notice.old) (N.noted notice.new)) }
     ensures due { IfErr result (λ cause. HasDue core.new.switch cause) }
 {
     streams.drop_of(at);
@@ -122,8 +138,10 @@ fn end_long<N: Notice<Journal<Step>>>(
 ) -> Result<bool, StepRefused>
     ensures more { IfOk result (λ more. more ≡ false) }
     ensures kept { IsKept (bytes_of streams.old) at [] (bytes_of streams.new) }
-    ensures ok { OnOk result (Took (Step.Lost at) false core.old core.new (N.noted notice.old) (N.noted notice.new)) }
-    ensures err { OnErr result (Stopped (Step.Lost at) false core.old core.new (N.noted notice.old) (N.noted notice.new)) }
+    ensures ok { OnOk result
+        (Took (Step.Lost at) false core.old core.new (N.noted notice.old) (N.noted notice.new)) }
+    ensures err { OnErr result
+        (Stopped (Step.Lost at) false core.old core.new (N.noted notice.old) (N.noted notice.new)) }
     ensures due { IfErr result (λ cause. HasDue core.new.switch cause) }
 {
     match lose(core, streams, notice, at) {
@@ -140,8 +158,10 @@ pub fn lose<N: Notice<Journal<Step>>>(
     at: Place,
 ) -> Result<(), StepRefused>
     ensures kept { IsKept (bytes_of streams.old) at [] (bytes_of streams.new) }
-    ensures ok { OnOk result (Took (Step.Lost at) false core.old core.new (N.noted notice.old) (N.noted notice.new)) }
-    ensures err { OnErr result (Stopped (Step.Lost at) false core.old core.new (N.noted notice.old) (N.noted notice.new)) }
+    ensures ok { OnOk result
+        (Took (Step.Lost at) false core.old core.new (N.noted notice.old) (N.noted notice.new)) }
+    ensures err { OnErr result
+        (Stopped (Step.Lost at) false core.old core.new (N.noted notice.old) (N.noted notice.new)) }
     ensures due { IfErr result (λ cause. HasDue core.new.switch cause) }
 {
     streams.drop_of(at);

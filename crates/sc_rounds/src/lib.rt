@@ -1,5 +1,5 @@
-//! The parts of a server's round: what comes from the edge makes steps, turns are taken, and what was sent is
-//! put. After each of them a server stands where its journal's run does.
+//! The parts of a server's round: what comes from the edge makes steps, turns are taken, and what
+//! was sent is put. After each of them a server stands where its journal's run does.
 #![tactic(auto)]
 
 mod hearing;

@@ -47,8 +47,12 @@ pub fn take_got<N: Notice<Journal<Step>>>(
     room: &[u8],
 ) -> Result<Came, StepRefused>
     requires { IsWithin got (length room.now) }
-    ensures ok { (from : Beginning) (old new : EdgeState) → Serves from old (N.noted notice.old) core.old streams.old → Polls old new got room.now → OnOk result (Serves from new (N.noted notice.new) core.new streams.new) }
-    ensures err { (from : Beginning) (old new : EdgeState) → Serves from old (N.noted notice.old) core.old streams.old → Polls old new got room.now → OnErr result (Ended from new (N.noted notice.new) core.new.switch) }
+    ensures ok { (from : Beginning) (old new : EdgeState)
+        → Serves from old (N.noted notice.old) core.old streams.old → Polls old new got room.now
+        → OnOk result (Serves from new (N.noted notice.new) core.new streams.new) }
+    ensures err { (from : Beginning) (old new : EdgeState)
+        → Serves from old (N.noted notice.old) core.old streams.old → Polls old new got room.now
+        → OnErr result (Ended from new (N.noted notice.new) core.new.switch) }
     ensures due { IfErr result (λ cause. HasDue core.new.switch cause) }
 {
     match got {
@@ -68,8 +72,12 @@ fn take_end<N: Notice<Journal<Step>>>(
     notice: &mut N,
     at: Place,
 ) -> Result<Came, StepRefused>
-    ensures ok { (from : Beginning) (old new : EdgeState) → Serves from old (N.noted notice.old) core.old streams.old → Comes old new (Polled.End at) → OnOk result (Serves from new (N.noted notice.new) core.new streams.new) }
-    ensures err { (from : Beginning) (old new : EdgeState) → Serves from old (N.noted notice.old) core.old streams.old → Comes old new (Polled.End at) → OnErr result (Ended from new (N.noted notice.new) core.new.switch) }
+    ensures ok { (from : Beginning) (old new : EdgeState)
+        → Serves from old (N.noted notice.old) core.old streams.old → Comes old new (Polled.End at)
+        → OnOk result (Serves from new (N.noted notice.new) core.new streams.new) }
+    ensures err { (from : Beginning) (old new : EdgeState)
+        → Serves from old (N.noted notice.old) core.old streams.old → Comes old new (Polled.End at)
+        → OnErr result (Ended from new (N.noted notice.new) core.new.switch) }
     ensures due { IfErr result (λ cause. HasDue core.new.switch cause) }
 {
     match lose(core, streams, notice, at) {
@@ -85,8 +93,14 @@ fn take_failure<N: Notice<Journal<Step>>>(
     notice: &mut N,
     at: Place,
 ) -> Result<Came, StepRefused>
-    ensures ok { (from : Beginning) (old new : EdgeState) → Serves from old (N.noted notice.old) core.old streams.old → Comes old new (Polled.Failed at) → OnOk result (Serves from new (N.noted notice.new) core.new streams.new) }
-    ensures err { (from : Beginning) (old new : EdgeState) → Serves from old (N.noted notice.old) core.old streams.old → Comes old new (Polled.Failed at) → OnErr result (Ended from new (N.noted notice.new) core.new.switch) }
+    ensures ok { (from : Beginning) (old new : EdgeState)
+        → Serves from old (N.noted notice.old) core.old streams.old
+        → Comes old new (Polled.Failed at)
+        → OnOk result (Serves from new (N.noted notice.new) core.new streams.new) }
+    ensures err { (from : Beginning) (old new : EdgeState)
+        → Serves from old (N.noted notice.old) core.old streams.old
+        → Comes old new (Polled.Failed at)
+        → OnErr result (Ended from new (N.noted notice.new) core.new.switch) }
     ensures due { IfErr result (λ cause. HasDue core.new.switch cause) }
 {
     match fail(core, streams, notice, at) {
@@ -95,16 +109,22 @@ fn take_failure<N: Notice<Journal<Step>>>(
     }
 }
 
-/// A connection failed, at a poll or at a put: its place is lost, with its stream and what is left to be put
-/// there.
+/// A connection failed, at a poll or at a put: its place is lost, with its stream and what is left
+/// to be put there.
 pub fn fail<N: Notice<Journal<Step>>>(
     core: &mut Core,
     streams: &mut Streams,
     notice: &mut N,
     at: Place,
 ) -> Result<(), StepRefused>
-    ensures ok { (from : Beginning) (old new : EdgeState) → Serves from old (N.noted notice.old) core.old streams.old → Comes old new (Polled.Failed at) → OnOk result (Serves from new (N.noted notice.new) core.new streams.new) }
-    ensures err { (from : Beginning) (old new : EdgeState) → Serves from old (N.noted notice.old) core.old streams.old → Comes old new (Polled.Failed at) → OnErr result (Ended from new (N.noted notice.new) core.new.switch) }
+    ensures ok { (from : Beginning) (old new : EdgeState)
+        → Serves from old (N.noted notice.old) core.old streams.old
+        → Comes old new (Polled.Failed at)
+        → OnOk result (Serves from new (N.noted notice.new) core.new streams.new) }
+    ensures err { (from : Beginning) (old new : EdgeState)
+        → Serves from old (N.noted notice.old) core.old streams.old
+        → Comes old new (Polled.Failed at)
+        → OnErr result (Ended from new (N.noted notice.new) core.new.switch) }
     ensures due { IfErr result (λ cause. HasDue core.new.switch cause) }
 {
     streams.drop_of(at);
@@ -119,8 +139,14 @@ fn take_bytes<N: Notice<Journal<Step>>>(
     at: Place,
     text: &[u8],
 ) -> Result<Came, StepRefused>
-    ensures ok { (from : Beginning) (old new : EdgeState) → Serves from old (N.noted notice.old) core.old streams.old → Comes old new (Polled.Bytes at text.now) → OnOk result (Serves from new (N.noted notice.new) core.new streams.new) }
-    ensures err { (from : Beginning) (old new : EdgeState) → Serves from old (N.noted notice.old) core.old streams.old → Comes old new (Polled.Bytes at text.now) → OnErr result (Ended from new (N.noted notice.new) core.new.switch) }
+    ensures ok { (from : Beginning) (old new : EdgeState)
+        → Serves from old (N.noted notice.old) core.old streams.old
+        → Comes old new (Polled.Bytes at text.now)
+        → OnOk result (Serves from new (N.noted notice.new) core.new streams.new) }
+    ensures err { (from : Beginning) (old new : EdgeState)
+        → Serves from old (N.noted notice.old) core.old streams.old
+        → Comes old new (Polled.Bytes at text.now)
+        → OnErr result (Ended from new (N.noted notice.new) core.new.switch) }
     ensures due { IfErr result (λ cause. HasDue core.new.switch cause) }
 {
     match streams.feed(core.alloc, at, text) {
@@ -136,8 +162,12 @@ fn hear_bytes<N: Notice<Journal<Step>>>(
     notice: &mut N,
     at: Place,
 ) -> Result<Came, StepRefused>
-    ensures ok { (from : Beginning) (edge : EdgeState) (text : Bytes) → ServesOn from edge (N.noted notice.old) core.old streams.old at text → OnOk result (Serves from edge (N.noted notice.new) core.new streams.new) }
-    ensures err { (from : Beginning) (edge : EdgeState) (text : Bytes) → ServesOn from edge (N.noted notice.old) core.old streams.old at text → OnErr result (Ended from edge (N.noted notice.new) core.new.switch) }
+    ensures ok { (from : Beginning) (edge : EdgeState) (text : Bytes)
+        → ServesOn from edge (N.noted notice.old) core.old streams.old at text
+        → OnOk result (Serves from edge (N.noted notice.new) core.new streams.new) }
+    ensures err { (from : Beginning) (edge : EdgeState) (text : Bytes)
+        → ServesOn from edge (N.noted notice.old) core.old streams.old at text
+        → OnErr result (Ended from edge (N.noted notice.new) core.new.switch) }
     ensures due { IfErr result (λ cause. HasDue core.new.switch cause) }
 {
     let mut broken = false;

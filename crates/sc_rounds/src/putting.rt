@@ -39,8 +39,12 @@ pub fn put_place<E: Edge, N: Notice<Journal<Step>>>(
     notice: &mut N,
     place: Place,
 ) -> Result<Went, StepRefused>
-    ensures ok { (from : Beginning) → Serves from (E.state edge.old) (N.noted notice.old) core.old streams.old → OnOk result (Serves from (E.state edge.new) (N.noted notice.new) core.new streams.new) }
-    ensures err { (from : Beginning) → Serves from (E.state edge.old) (N.noted notice.old) core.old streams.old → OnErr result (Ended from (E.state edge.new) (N.noted notice.new) core.new.switch) }
+    ensures ok { (from : Beginning)
+        → Serves from (E.state edge.old) (N.noted notice.old) core.old streams.old
+        → OnOk result (Serves from (E.state edge.new) (N.noted notice.new) core.new streams.new) }
+    ensures err { (from : Beginning)
+        → Serves from (E.state edge.old) (N.noted notice.old) core.old streams.old
+        → OnErr result (Ended from (E.state edge.new) (N.noted notice.new) core.new.switch) }
     ensures due { IfErr result (λ cause. HasDue core.new.switch cause) }
     ensures later { CountsOn (E.state edge.old) (E.state edge.new) }
     ensures polled { IsNoPoll (E.state edge.old) (E.state edge.new) }

@@ -36,7 +36,8 @@ pub struct Turning {
 /// After so many milliseconds the steps that are kept are handed on, where they are recorded.
 const RECORD_EVERY: u64 = 1_000;
 
-/// A switch, and what is left to be put of what it sent. Between two steps nothing is left in the switch.
+/// A switch, and what is left to be put of what it sent. Between two steps nothing is left in the
+/// switch.
 #[derive(Drop)]
 pub struct Core {
     pub alloc: Global,
@@ -47,7 +48,8 @@ pub struct Core {
     pub handed: u64,
     /// At which moment steps were handed on last, 0 where none were.
     pub handed_at: u64,
-    /// How many steps were taken since the notice was told what lives; it stays at its greatest value.
+    /// How many steps were taken since the notice was told what lives; it stays at its greatest
+    /// value.
     pub unlisted: u64,
 }
 
@@ -73,7 +75,8 @@ impl Core {
 
     /// How many steps the running epoch has, those that were handed on too.
     pub fn steps(&self) -> u64
-        ensures { result ≡ min (self.now.handed + length self.now.switch.journal) 18446744073709551615 }
+        ensures { result
+            ≡ min (self.now.handed + length self.now.switch.journal) 18446744073709551615 }
     {
         self.handed.saturating_add(self.switch.journal().len())
     }
@@ -106,14 +109,17 @@ impl Core {
 
     /// Whether the epoch has as many steps as the settings ask for, and no session lives.
     fn is_epoch_due(&self) -> bool
-        ensures long { result ≡ true → (handed : ℕ) → self.now.handed ≡ min handed 18446744073709551615 → IsLong self.now handed }
-        ensures lives { result ≡ false → live_count (net_of self.now.switch) ≡ 0 → (handed : ℕ) → self.now.handed ≡ min handed 18446744073709551615 → IsLong self.now handed → ⊥ }
+        ensures long { result ≡ true → (handed : ℕ)
+            → self.now.handed ≡ min handed 18446744073709551615 → IsLong self.now handed }
+        ensures lives { result ≡ false → live_count (net_of self.now.switch) ≡ 0 → (handed : ℕ)
+            → self.now.handed ≡ min handed 18446744073709551615 → IsLong self.now handed → ⊥ }
     {
         let least = self.turning.epoch_steps.get();
         least > 0 && self.switch.live() == 0 && self.steps() >= least
     }
 
-    /// Hands on the steps that are kept, where the settings ask for it and the journal is half full.
+    /// Hands on the steps that are kept, where the settings ask for it and the journal is half
+    /// full.
     fn hand_on<N: Notice<Journal<Step>>>(&mut self, notice: &mut N)
         ensures same { Same self.old self.new (N.noted notice.old) (N.noted notice.new) }
         ensures moment { (net_of self.new.switch).moment ≡ (net_of self.old.switch).moment }
@@ -130,7 +136,8 @@ impl Core {
         self.turning.parts && is_half_full(self.switch.journal())
     }
 
-    /// Hands on the steps that are kept, where they are recorded and steps were handed on a second ago or before.
+    /// Hands on the steps that are kept, where they are recorded and steps were handed on a second
+    /// ago or before.
     pub fn hand_old<N: Notice<Journal<Step>>>(&mut self, notice: &mut N)
         ensures { Same self.old self.new (N.noted notice.old) (N.noted notice.new) }
     {
@@ -170,7 +177,8 @@ impl Core {
 
     /// Tells the notice of a step, and takes what it sent.
     fn settle<N: Notice<Journal<Step>>>(&mut self, notice: &mut N) -> Result<(), StepRefused>
-        ensures ok { OnOk result (Settles self.old self.new (N.noted notice.old) (N.noted notice.new)) }
+        ensures ok { OnOk result
+            (Settles self.old self.new (N.noted notice.old) (N.noted notice.new)) }
         ensures err { RunsOn self.old self.new (N.noted notice.old) (N.noted notice.new) }
         ensures due { IfErr result (λ cause. HasDue self.new.switch cause) }
     {
@@ -182,14 +190,18 @@ impl Core {
         }
     }
 
-    /// Takes all that was sent from the switch, and puts each text behind what is left of its place.
+    /// Takes all that was sent from the switch, and puts each text behind what is left of its
+    /// place.
     fn drain(&mut self) -> Result<(), NoMemory>
         ensures same { self.new.switch ≡ record self.old.switch { left = self.new.switch.left } }
         ensures turning { self.new.turning ≡ self.old.turning }
         ensures handed { self.new.handed ≡ self.old.handed }
         ensures unlisted { self.new.unlisted ≡ self.old.unlisted }
         ensures all { OnOk result (self.new.switch.left ≡ []) }
-        ensures keeps { OnOk result ((first now : EdgeState) (deeds : List Deed) → Puts first now deeds self.old.outs self.old.switch.left → Puts first now deeds self.new.outs []) }
+        ensures keeps { OnOk result
+            ((first now : EdgeState) (deeds : List Deed)
+            → Puts first now deeds self.old.outs self.old.switch.left
+            → Puts first now deeds self.new.outs []) }
     {
         while let Some(sent) = self.switch.take_sent() {
             self.outs.owe(self.alloc, sent)?;
@@ -210,8 +222,12 @@ impl Core {
         message: Message,
     ) -> Result<(), StepRefused>
         requires { HasVia message }
-        ensures ok { OnOk result (Took (Step.In from message) false self.old self.new (N.noted notice.old) (N.noted notice.new)) }
-        ensures err { OnErr result (Stopped (Step.In from message) false self.old self.new (N.noted notice.old) (N.noted notice.new)) }
+        ensures ok { OnOk result
+            (Took (Step.In from message) false self.old self.new (N.noted notice.old)
+            (N.noted notice.new)) }
+        ensures err { OnErr result
+            (Stopped (Step.In from message) false self.old self.new (N.noted notice.old)
+            (N.noted notice.new)) }
         ensures due { IfErr result (λ cause. HasDue self.new.switch cause) }
     {
         self.make_room(notice);
@@ -232,8 +248,12 @@ impl Core {
         from: Place,
         bad: Bad,
     ) -> Result<(), StepRefused>
-        ensures ok { OnOk result (Took (Step.Bad from bad) false self.old self.new (N.noted notice.old) (N.noted notice.new)) }
-        ensures err { OnErr result (Stopped (Step.Bad from bad) false self.old self.new (N.noted notice.old) (N.noted notice.new)) }
+        ensures ok { OnOk result
+            (Took (Step.Bad from bad) false self.old self.new (N.noted notice.old)
+            (N.noted notice.new)) }
+        ensures err { OnErr result
+            (Stopped (Step.Bad from bad) false self.old self.new (N.noted notice.old)
+            (N.noted notice.new)) }
         ensures due { IfErr result (λ cause. HasDue self.new.switch cause) }
     {
         self.make_room(notice);
@@ -243,7 +263,8 @@ impl Core {
         }
     }
 
-    /// A place is lost that gives nothing more, or nothing that is heard. What was sent there is still put.
+    /// A place is lost that gives nothing more, or nothing that is heard. What was sent there is
+    /// still put.
     ///
     /// # Errors
     ///
@@ -253,8 +274,12 @@ impl Core {
         notice: &mut N,
         at: Place,
     ) -> Result<(), StepRefused>
-        ensures ok { OnOk result (Took (Step.Lost at) false self.old self.new (N.noted notice.old) (N.noted notice.new)) }
-        ensures err { OnErr result (Stopped (Step.Lost at) false self.old self.new (N.noted notice.old) (N.noted notice.new)) }
+        ensures ok { OnOk result
+            (Took (Step.Lost at) false self.old self.new (N.noted notice.old)
+            (N.noted notice.new)) }
+        ensures err { OnErr result
+            (Stopped (Step.Lost at) false self.old self.new (N.noted notice.old)
+            (N.noted notice.new)) }
         ensures due { IfErr result (λ cause. HasDue self.new.switch cause) }
     {
         self.make_room(notice);
@@ -274,8 +299,11 @@ impl Core {
         notice: &mut N,
         at: Place,
     ) -> Result<(), StepRefused>
-        ensures ok { OnOk result (Took (Step.Lost at) true self.old self.new (N.noted notice.old) (N.noted notice.new)) }
-        ensures err { OnErr result (Stopped (Step.Lost at) true self.old self.new (N.noted notice.old) (N.noted notice.new)) }
+        ensures ok { OnOk result
+            (Took (Step.Lost at) true self.old self.new (N.noted notice.old) (N.noted notice.new)) }
+        ensures err { OnErr result
+            (Stopped (Step.Lost at) true self.old self.new (N.noted notice.old)
+            (N.noted notice.new)) }
         ensures due { IfErr result (λ cause. HasDue self.new.switch cause) }
     {
         self.make_room(notice);
@@ -291,8 +319,8 @@ impl Core {
         }
     }
 
-    /// The clock tells a moment, in milliseconds: false where it is no later one than the last. One past 2^63
-    /// is none.
+    /// The clock tells a moment, in milliseconds: false where it is no later one than the last. One
+    /// past 2^63 is none.
     ///
     /// # Errors
     ///
@@ -302,8 +330,11 @@ impl Core {
         notice: &mut N,
         now: u64,
     ) -> Result<bool, StepRefused>
-        ensures ok { IfOk result (λ later. Ticks now self.old self.new (N.noted notice.old) (N.noted notice.new) later) }
-        ensures err { OnErr result (Stopped (Step.Tick now) false self.old self.new (N.noted notice.old) (N.noted notice.new)) }
+        ensures ok { IfOk result
+            (λ later. Ticks now self.old self.new (N.noted notice.old) (N.noted notice.new) later) }
+        ensures err { OnErr result
+            (Stopped (Step.Tick now) false self.old self.new (N.noted notice.old)
+            (N.noted notice.new)) }
         ensures due { IfErr result (λ cause. HasDue self.new.switch cause) }
     {
         if now <= self.switch.now() || now > 1 << 63 {
@@ -323,8 +354,12 @@ impl Core {
     ) -> Result<(), StepRefused>
         requires later { (net_of self.old.switch).moment < now }
         requires within { now ≤ 9223372036854775808 }
-        ensures ok { OnOk result (Took (Step.Tick now) false self.old self.new (N.noted notice.old) (N.noted notice.new)) }
-        ensures err { OnErr result (Stopped (Step.Tick now) false self.old self.new (N.noted notice.old) (N.noted notice.new)) }
+        ensures ok { OnOk result
+            (Took (Step.Tick now) false self.old self.new (N.noted notice.old)
+            (N.noted notice.new)) }
+        ensures err { OnErr result
+            (Stopped (Step.Tick now) false self.old self.new (N.noted notice.old)
+            (N.noted notice.new)) }
         ensures due { IfErr result (λ cause. HasDue self.new.switch cause) }
     {
         self.make_room(notice);
@@ -344,8 +379,11 @@ impl Core {
         notice: &mut N,
         app: AppId,
     ) -> Result<bool, StepRefused>
-        ensures ok { IfOk result (λ lived. Withdraws app self.old self.new (N.noted notice.old) (N.noted notice.new) lived) }
-        ensures err { OnErr result (StoppedAt app self.old self.new (N.noted notice.old) (N.noted notice.new)) }
+        ensures ok { IfOk result
+            (λ lived.
+            Withdraws app self.old self.new (N.noted notice.old) (N.noted notice.new) lived) }
+        ensures err { OnErr result
+            (StoppedAt app self.old self.new (N.noted notice.old) (N.noted notice.new)) }
         ensures due { IfErr result (λ cause. HasDue self.new.switch cause) }
     {
         self.hand_on(notice);
@@ -369,8 +407,12 @@ impl Core {
         notice: &mut N,
         done: Done,
     ) -> Result<Committed, StepRefused>
-        ensures ok { IfOk result (λ answer. Commits done self.old self.new (N.noted notice.old) (N.noted notice.new) answer) }
-        ensures err { OnErr result (Stopped (step_of done) false self.old self.new (N.noted notice.old) (N.noted notice.new)) }
+        ensures ok { IfOk result
+            (λ answer.
+            Commits done self.old self.new (N.noted notice.old) (N.noted notice.new) answer) }
+        ensures err { OnErr result
+            (Stopped (step_of done) false self.old self.new (N.noted notice.old)
+            (N.noted notice.new)) }
         ensures due { IfErr result (λ cause. HasDue self.new.switch cause) }
     {
         self.hand_on(notice);
@@ -402,8 +444,9 @@ impl Core {
         self.switch.lease(self.alloc)
     }
 
-    /// Whether the notice is to be told what lives: a step was taken since it was told, and there is nothing to do, or
-    /// as many steps were taken as application sessions live. A listing walks over these, so a step pays for one.
+    /// Whether the notice is to be told what lives: a step was taken since it was told, and there
+    /// is nothing to do, or as many steps were taken as application sessions live. A listing walks
+    /// over these, so a step pays for one.
     pub fn is_list_due(&self, is_busy: bool) -> bool {
         self.unlisted > 0 && (!is_busy || self.unlisted >= self.switch.live())
     }

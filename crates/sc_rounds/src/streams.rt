@@ -48,7 +48,9 @@ impl Streams {
 
     /// Bytes came from a place. They come behind what is kept of it.
     pub fn feed(&mut self, alloc: Global, place: Place, text: &[u8]) -> Result<(), NoMemory>
-        ensures { OnOk result (IsKept (bytes_of self.old) place (bytes_of self.old place ++ text.now) (bytes_of self.new)) }
+        ensures { OnOk result
+            (IsKept (bytes_of self.old) place (bytes_of self.old place ++ text.now)
+            (bytes_of self.new)) }
     {
         match place_of(self.pending.as_slice(), place) {
             Some(at) => feed_at(&mut self.pending.items, place, at, text),
@@ -59,8 +61,10 @@ impl Streams {
     /// The next message of a place's stream, which is taken from it, as [`Stream::next`].
     pub fn next(&mut self, place: Place) -> Heard
         ensures hears { Hears result (bytes_of self.old place) (bytes_of self.new place) }
-        ensures kept { IsKept (bytes_of self.old) place (bytes_of self.new place) (bytes_of self.new) }
-        ensures less { (message : Message) → result ≡ Heard.Message message → length (bytes_of self.new place) < length (bytes_of self.old place) }
+        ensures kept { IsKept (bytes_of self.old) place (bytes_of self.new place)
+            (bytes_of self.new) }
+        ensures less { (message : Message) → result ≡ Heard.Message message
+            → length (bytes_of self.new place) < length (bytes_of self.old place) }
     {
         next_in(&mut self.pending.items, place)
     }
@@ -91,7 +95,9 @@ fn is_elsewhere(place: Place, pending: &Pending) -> bool
 
 fn feed_at(streams: &mut [Pending], place: Place, at: usize, text: &[u8]) -> Result<(), NoMemory>
     requires { position (is_at place) streams.old ≡ Some at }
-    ensures { OnOk result (IsKept (bytes_of streams.old) place (bytes_of streams.old place ++ text.now) (bytes_of streams.new)) }
+    ensures { OnOk result
+        (IsKept (bytes_of streams.old) place (bytes_of streams.old place ++ text.now)
+        (bytes_of streams.new)) }
 {
     streams[at].stream.feed(text)
 }
@@ -103,7 +109,9 @@ fn feed_new(
     text: &[u8],
 ) -> Result<(), NoMemory>
     requires { position (is_at place) streams.old ≡ None }
-    ensures { OnOk result (IsKept (bytes_of streams.old) place (bytes_of streams.old place ++ text.now) (bytes_of streams.new)) }
+    ensures { OnOk result
+        (IsKept (bytes_of streams.old) place (bytes_of streams.old place ++ text.now)
+        (bytes_of streams.new)) }
 {
     let mut stream = Stream::new(alloc);
     match stream.feed(text) {
@@ -114,7 +122,8 @@ fn feed_new(
 
 fn add_stream(streams: &mut List<Pending>, pending: Pending) -> Result<(), NoMemory>
     requires { position (is_at pending.place) streams.old ≡ None }
-    ensures { OnOk result (IsKept (bytes_of streams.old) pending.place pending.stream (bytes_of streams.new)) }
+    ensures { OnOk result
+        (IsKept (bytes_of streams.old) pending.place pending.stream (bytes_of streams.new)) }
 {
     streams.push(pending)?;
     Ok(())
@@ -122,8 +131,10 @@ fn add_stream(streams: &mut List<Pending>, pending: Pending) -> Result<(), NoMem
 
 fn next_in(streams: &mut [Pending], place: Place) -> Heard
     ensures hears { Hears result (bytes_of streams.old place) (bytes_of streams.new place) }
-    ensures kept { IsKept (bytes_of streams.old) place (bytes_of streams.new place) (bytes_of streams.new) }
-    ensures less { (message : Message) → result ≡ Heard.Message message → length (bytes_of streams.new place) < length (bytes_of streams.old place) }
+    ensures kept { IsKept (bytes_of streams.old) place (bytes_of streams.new place)
+        (bytes_of streams.new) }
+    ensures less { (message : Message) → result ≡ Heard.Message message
+        → length (bytes_of streams.new place) < length (bytes_of streams.old place) }
 {
     match place_of(streams, place) {
         Some(at) => next_at(streams, place, at),
@@ -134,8 +145,10 @@ fn next_in(streams: &mut [Pending], place: Place) -> Heard
 fn next_at(streams: &mut [Pending], place: Place, at: usize) -> Heard
     requires { position (is_at place) streams.old ≡ Some at }
     ensures hears { Hears result (bytes_of streams.old place) (bytes_of streams.new place) }
-    ensures kept { IsKept (bytes_of streams.old) place (bytes_of streams.new place) (bytes_of streams.new) }
-    ensures less { (message : Message) → result ≡ Heard.Message message → length (bytes_of streams.new place) < length (bytes_of streams.old place) }
+    ensures kept { IsKept (bytes_of streams.old) place (bytes_of streams.new place)
+        (bytes_of streams.new) }
+    ensures less { (message : Message) → result ≡ Heard.Message message
+        → length (bytes_of streams.new place) < length (bytes_of streams.old place) }
 {
     fronts_stay();
     streams[at].stream.next()

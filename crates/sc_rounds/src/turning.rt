@@ -12,8 +12,8 @@ use sc_switch::StepRefused;
 use sc_terms::Step;
 use sc_value::NoMemory;
 
-/// Takes one order, if there is one: whether a session was withdrawn. An order of another epoch withdraws
-/// nothing.
+/// Takes one order, if there is one: whether a session was withdrawn. An order of another epoch
+/// withdraws nothing.
 ///
 /// # Errors
 ///
@@ -23,8 +23,12 @@ pub fn take_order<O: Orders, N: Notice<Journal<Step>>>(
     notice: &mut N,
     orders: &mut O,
 ) -> Result<bool, StepRefused>
-    ensures ok { OnOk result (MovesOrdered core.old core.new (N.noted notice.old) (N.noted notice.new) (O.asked orders.old, O.comes orders.old) (O.asked orders.new, O.comes orders.new)) }
-    ensures err { OnErr result (BreaksOrdered core.old core.new (N.noted notice.old) (N.noted notice.new) (O.asked orders.old, O.comes orders.old) (O.asked orders.new, O.comes orders.new)) }
+    ensures ok { OnOk result
+        (MovesOrdered core.old core.new (N.noted notice.old) (N.noted notice.new)
+        (O.asked orders.old, O.comes orders.old) (O.asked orders.new, O.comes orders.new)) }
+    ensures err { OnErr result
+        (BreaksOrdered core.old core.new (N.noted notice.old) (N.noted notice.new)
+        (O.asked orders.old, O.comes orders.old) (O.asked orders.new, O.comes orders.new)) }
     ensures due { IfErr result (λ cause. HasDue core.new.switch cause) }
 {
     match orders.next() {
@@ -48,8 +52,12 @@ pub fn take_moment<T: Clock, N: Notice<Journal<Step>>>(
     notice: &mut N,
     clock: &mut T,
 ) -> Result<bool, StepRefused>
-    ensures ok { OnOk result (MovesOn core.old core.new (N.noted notice.old) (N.noted notice.new) (T.asked clock.old, T.comes clock.old) (T.asked clock.new, T.comes clock.new)) }
-    ensures err { OnErr result (BreaksOn core.old core.new (N.noted notice.old) (N.noted notice.new) (T.asked clock.old, T.comes clock.old) (T.asked clock.new, T.comes clock.new)) }
+    ensures ok { OnOk result
+        (MovesOn core.old core.new (N.noted notice.old) (N.noted notice.new)
+        (T.asked clock.old, T.comes clock.old) (T.asked clock.new, T.comes clock.new)) }
+    ensures err { OnErr result
+        (BreaksOn core.old core.new (N.noted notice.old) (N.noted notice.new)
+        (T.asked clock.old, T.comes clock.old) (T.asked clock.new, T.comes clock.new)) }
     ensures due { IfErr result (λ cause. HasDue core.new.switch cause) }
 {
     core.tick(notice, clock.now())
@@ -62,7 +70,8 @@ pub fn take_moment<T: Clock, N: Notice<Journal<Step>>>(
 /// `NoMemory`.
 pub fn list<N: Notice<Journal<Step>>>(core: &mut Core, notice: &mut N) -> Result<(), StepRefused>
     ensures ok { OnOk result (Moves core.old core.new (N.noted notice.old) (N.noted notice.new)) }
-    ensures err { OnErr result (Breaks core.old core.new (N.noted notice.old) (N.noted notice.new)) }
+    ensures err { OnErr result
+        (Breaks core.old core.new (N.noted notice.old) (N.noted notice.new)) }
     ensures due { IfErr result (λ cause. HasDue core.new.switch cause) }
 {
     match core.list(notice) {
@@ -71,7 +80,8 @@ pub fn list<N: Notice<Journal<Step>>>(core: &mut Core, notice: &mut N) -> Result
     }
 }
 
-/// Hands on the steps that are kept, where they are recorded and steps were handed on a second ago or before.
+/// Hands on the steps that are kept, where they are recorded and steps were handed on a second ago
+/// or before.
 pub fn hand_old<N: Notice<Journal<Step>>>(core: &mut Core, notice: &mut N)
     ensures { Moves core.old core.new (N.noted notice.old) (N.noted notice.new) }
 {

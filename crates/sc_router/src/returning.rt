@@ -59,7 +59,8 @@ fn loose_param(alloc: Global) -> Result<Param, NoMemory>
 
 #[tactic(auto, unfolding(sc_model::specs::Names::ar_name))]
 fn ar_param(alloc: Global, order: u32, region: Region) -> Result<Param, NoMemory>
-    ensures { IfOk result (λ p. p ≡ record { name = ar_name; value = Some (ar_value order region) }) }
+    ensures { IfOk result
+        (λ p. p ≡ record { name = ar_name; value = Some (ar_value order region) }) }
 {
     let name = Text::from_slice(alloc, b"ar")?;
     let value = ar_value(alloc, order, region)?;
@@ -81,7 +82,11 @@ fn put_param(params: &mut List<Param>, param: Param) -> Result<(), NoMemory>
 // `transport=tcp;lr;ar=n-R`
 #[tactic(auto, using(sc_model::proofs::HostFacts::return_kept))]
 fn return_params(alloc: Global, order: u32, region: Region) -> Result<List<Param>, NoMemory>
-    ensures exact { IfOk result (λ ps. ps ≡ tcp_param ∷ loose_param ∷ record { name = ar_name; value = Some (ar_value order region) } ∷ []) }
+    ensures exact { IfOk result
+        (λ ps.
+        ps
+        ≡ tcp_param ∷ loose_param
+        ∷ record { name = ar_name; value = Some (ar_value order region) } ∷ []) }
     ensures kept { IfOk result (λ ps. AreUriParams ps) }
 {
     let mut params = List::new(alloc);
@@ -103,7 +108,8 @@ fn listen_host(alloc: Global, ip: [u8; 4]) -> Result<Text, NoMemory>
 // `sip:host:port;transport=tcp;lr;ar=n-R`
 #[tactic(auto, unfolding(sc_model::specs::Names::return_uri, sc_model::specs::Names::own_uri, sc_tokens::specs::UriTokens::IsUser))]
 fn return_uri(alloc: Global, config: &Config, order: u32, region: Region) -> Result<Uri, NoMemory>
-    ensures { IfOk result (λ u. u ≡ Sip (return_uri (listen_host config.now) config.now.listen.1 order region)) }
+    ensures { IfOk result
+        (λ u. u ≡ Sip (return_uri (listen_host config.now) config.now.listen.1 order region)) }
 {
     let host = listen_host(alloc, config.listen.0)?;
     let params = return_params(alloc, order, region)?;

@@ -15,16 +15,16 @@ use sc_value::{Address, CloneIn, Directive, List, NoMemory, Region, Request};
 use std::alloc::Global;
 
 /// Where an initial request goes, by the table of the Default Application Router (JSR 289 appendix
-/// C). `region` is that of the request's origin, and `state` the order at which CONTINUE goes on: one
-/// above the origin's, or the place that the container's own return route names.
+/// C). `region` is that of the request's origin, and `state` the order at which CONTINUE goes on:
+/// one above the origin's, or the place that the container's own return route names.
 ///
-/// NEW begins at the first tuple of the method, CONTINUE at `state`, and REVERSE at the first tuple of
-/// the region opposite to `region`, NEUTRAL's being NEUTRAL. Of the list of a method the first 64
-/// tuples count. Where there is a tuple, its route takes the request out by ROUTE, unless the route is
-/// the container's own, and by ROUTE_BACK, with the own return route behind it that names the next
-/// order; else its application is chosen. Where there is none, or the method has no list, or CONTINUE
-/// has no state, the request goes `Onward` with a Route or with a Request-URI that the container isn't
-/// responsible for, and else it is `NotFound`.
+/// NEW begins at the first tuple of the method, CONTINUE at `state`, and REVERSE at the first tuple
+/// of the region opposite to `region`, NEUTRAL's being NEUTRAL. Of the list of a method the first
+/// 64 tuples count. Where there is a tuple, its route takes the request out by ROUTE, unless the
+/// route is the container's own, and by ROUTE_BACK, with the own return route behind it that names
+/// the next order; else its application is chosen. Where there is none, or the method has no list,
+/// or CONTINUE has no state, the request goes `Onward` with a Route or with a Request-URI that the
+/// container isn't responsible for, and else it is `NotFound`.
 ///
 /// # Errors
 ///
@@ -39,7 +39,8 @@ pub fn next(
     directive: Directive,
     state: Option<u32>,
 ) -> Result<Choice, NoMemory>
-    ensures { IfOk result (λ c. c ≡ choice_of config.now dar.now request.now region directive state) }
+    ensures { IfOk result
+        (λ c. c ≡ choice_of config.now dar.now request.now region directive state) }
 {
     let tuples = tuples_of(dar, request.method.as_bytes());
     let order = next_order(tuples, region, directive, state);
@@ -143,7 +144,9 @@ fn routed(
     tuple: &Tuple,
 ) -> Result<Choice, NoMemory>
     requires { order < 64 }
-    ensures { IfOk result (λ c. c ≡ routed config.now request.now order tuple.now tuple.now.modifier tuple.now.route) }
+    ensures { IfOk result
+        (λ c.
+        c ≡ routed config.now request.now order tuple.now tuple.now.modifier tuple.now.route) }
 {
     match (tuple.modifier, &tuple.route) {
         (Modifier::Route, Some(route)) => by_route(alloc, config, request, order, tuple, route),
@@ -220,7 +223,8 @@ fn app_of(
     tuple: &Tuple,
     popped: Option<&Address>,
 ) -> Result<Choice, NoMemory>
-    ensures { IfOk result (λ c. c ≡ app_of request.now order tuple.now (option_copied popped.entry)) }
+    ensures { IfOk result
+        (λ c. c ≡ app_of request.now order tuple.now (option_copied popped.entry)) }
 {
     let subscriber = subscriber_of(alloc, tuple.subscriber.as_bytes(), request)?;
     let popped = copy_of(alloc, popped)?;

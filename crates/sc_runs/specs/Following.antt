@@ -24,23 +24,27 @@ use Rattle.sc_runs.specs.Next.{next_event}
 
 -- the number of the first event that waits for a session
 unfoldable pub first_number : {S : Type 0} → Option (Live S) → Option ℕ
-first_number live = option_map (λ waiting. waiting.number) (option_and_then (λ live. slice_get live.inbox 0) live)
+first_number live =
+    option_map (λ waiting. waiting.number) (option_and_then (λ live. slice_get live.inbox 0) live)
 
 -- one turn of this event at this moment; none where there is no event
 unfoldable pub IsTurnOf : AppId → ℕ → Option ℕ → List Step → Type 0
 IsTurnOf app now None taken = taken ≡ []
-IsTurnOf app now (Some event) taken = (calls : List CallRecord) × (end : End) × (taken ≡ steps.Turn app event now calls end ∷ [])
+IsTurnOf app now (Some event) taken =
+    (calls : List CallRecord) × (end : End) × (taken ≡ steps.Turn app event now calls end ∷ [])
 
 -- the steps are turns, each of the lowest event that waits, at the last moment
 unfoldable pub IsPartRun : {S : Type 0} → Form S → Setup → Net S → List Step → Type 0
 IsPartRun form setup net [] = Unit {0}
 IsPartRun form setup net (steps.Turn app event now calls end ∷ later) =
-    (next_event net ≡ Some (record { app = app; number = event })) × (now ≡ net.moment) × IsPartRun form setup (after_step form setup net (steps.Turn app event now calls end)) later
+    (next_event net ≡ Some (record { app = app; number = event })) × (now ≡ net.moment)
+    × IsPartRun form setup (after_step form setup net (steps.Turn app event now calls end)) later
 IsPartRun form setup net (step ∷ later) = ⊥
 
 -- and none waits after the last
 unfoldable pub IsWholeRun : {S : Type 0} → Form S → Setup → Net S → List Step → Type 0
-IsWholeRun form setup net turns = IsPartRun form setup net turns × (next_event (chained_from form setup net turns) ≡ None)
+IsWholeRun form setup net turns =
+    IsPartRun form setup net turns × (next_event (chained_from form setup net turns) ≡ None)
 
 -- ## A line
 
@@ -54,7 +58,8 @@ no_bytes place = []
 
 -- these bytes are kept of the place, and of the others as before
 unfoldable pub IsKept : Streams → Place → Bytes → Streams → Type 0
-IsKept before place bytes after = (other : Place) → after other ≡ (if same_place other place then bytes else before other)
+IsKept before place bytes after =
+    (other : Place) → after other ≡ (if same_place other place then bytes else before other)
 
 -- an application session is ended where it lives
 unfoldable pub withdrawal : AppId → Bool → List Step
@@ -69,18 +74,26 @@ unfoldable pub tick_to : ℕ → ℕ → List Step
 tick_to moment now = if nat_le moment now && nat_le now MOST_MOMENT then steps.Tick now ∷ [] else []
 
 -- the line makes these steps, and this is then kept of the streams
-unfoldable pub Does : {S : Type 0} → Form S → Setup → Net S → Streams → Line → List Step → Streams → Type 0
-Does form setup net kept (lines.In place text) taken after = (rest : Bytes) × Hears place (kept place ++ text) taken rest × IsKept kept place rest after
-Does form setup net kept (lines.Turn app) taken after = IsTurnOf app net.moment (first_number (live_at app net)) taken × (after ≡ kept)
+unfoldable pub Does : {S : Type 0} → Form S → Setup → Net S → Streams → Line → List Step → Streams
+    → Type 0
+Does form setup net kept (lines.In place text) taken after =
+    (rest : Bytes) × Hears place (kept place ++ text) taken rest × IsKept kept place rest after
+Does form setup net kept (lines.Turn app) taken after =
+    IsTurnOf app net.moment (first_number (live_at app net)) taken × (after ≡ kept)
 Does form setup net kept lines.Run taken after = IsWholeRun form setup net taken × (after ≡ kept)
-Does form setup net kept (lines.Tick now) taken after = (taken ≡ tick_to net.moment now) × (after ≡ kept)
-Does form setup net kept (lines.Lost place) taken after = (taken ≡ steps.Lost place ∷ []) × IsKept kept place [] after
-Does form setup net kept (lines.Drop app) taken after = (taken ≡ withdrawal app (is_some (live_at app net))) × (after ≡ kept)
+Does form setup net kept (lines.Tick now) taken after =
+    (taken ≡ tick_to net.moment now) × (after ≡ kept)
+Does form setup net kept (lines.Lost place) taken after =
+    (taken ≡ steps.Lost place ∷ []) × IsKept kept place [] after
+Does form setup net kept (lines.Drop app) taken after =
+    (taken ≡ withdrawal app (is_some (live_at app net))) × (after ≡ kept)
 Does form setup net kept lines.End taken after = (taken ≡ []) × (after ≡ kept)
 
 -- the steps are a beginning of those that the line makes
-unfoldable pub DoesPart : {S : Type 0} → Form S → Setup → Net S → Streams → Line → List Step → Type 0
-DoesPart form setup net kept (lines.In place text) taken = HearsPart place (kept place ++ text) taken
+unfoldable pub DoesPart : {S : Type 0} → Form S → Setup → Net S → Streams → Line → List Step
+    → Type 0
+DoesPart form setup net kept (lines.In place text) taken =
+    HearsPart place (kept place ++ text) taken
 DoesPart form setup net kept lines.Run taken = IsPartRun form setup net taken
 DoesPart form setup net kept line taken = taken ≡ []
 
@@ -88,19 +101,23 @@ DoesPart form setup net kept line taken = taken ≡ []
 
 -- the steps are, line by line, what these lines say, from this net on and with this kept of the
 -- streams
-unfoldable pub FollowsFrom : {S : Type 0} → Form S → Setup → Net S → Streams → List Line → List Step → Type 0
+unfoldable pub FollowsFrom : {S : Type 0} → Form S → Setup → Net S → Streams → List Line → List Step
+    → Type 0
 FollowsFrom form setup net kept [] taken = taken ≡ []
 FollowsFrom form setup net kept (line ∷ later) taken =
     (made : List Step) × (rest : List Step) × (after : Streams)
-    × (taken ≡ made ++ rest) × Does form setup net kept line made after × FollowsFrom form setup (chained_from form setup net made) after later rest
+    × (taken ≡ made ++ rest) × Does form setup net kept line made after
+    × FollowsFrom form setup (chained_from form setup net made) after later rest
 
 -- the steps are a beginning of that
-unfoldable pub UptoFrom : {S : Type 0} → Form S → Setup → Net S → Streams → List Line → List Step → Type 0
+unfoldable pub UptoFrom : {S : Type 0} → Form S → Setup → Net S → Streams → List Line → List Step
+    → Type 0
 UptoFrom form setup net kept [] taken = taken ≡ []
 UptoFrom form setup net kept (line ∷ later) taken =
     DoesPart form setup net kept line taken
     ⊎ ((made : List Step) × (rest : List Step) × (after : Streams)
-    × (taken ≡ made ++ rest) × Does form setup net kept line made after × UptoFrom form setup (chained_from form setup net made) after later rest)
+    × (taken ≡ made ++ rest) × Does form setup net kept line made after
+    × UptoFrom form setup (chained_from form setup net made) after later rest)
 
 -- a journal of epoch 0, begun at 0, is line by line what a script says
 unfoldable pub Follows : {S : Type 0} → Form S → Setup → List Line → List Step → Type 0

@@ -17,9 +17,12 @@ AllKept before after = (place : Place) → after place ≡ before place
 
 -- the answer makes these steps, and this is then kept of the streams
 unfoldable pub Makes : Streams → Polled → List Step → Streams → Type 0
-Makes kept (answers.Bytes place text) taken after = (rest : Bytes) × Hears place (kept place ++ text) taken rest × IsKept kept place rest after
-Makes kept (answers.End place) taken after = (taken ≡ steps.Lost place ∷ []) × IsKept kept place [] after
-Makes kept (answers.Failed place) taken after = (taken ≡ steps.Lost place ∷ []) × IsKept kept place [] after
+Makes kept (answers.Bytes place text) taken after =
+    (rest : Bytes) × Hears place (kept place ++ text) taken rest × IsKept kept place rest after
+Makes kept (answers.End place) taken after =
+    (taken ≡ steps.Lost place ∷ []) × IsKept kept place [] after
+Makes kept (answers.Failed place) taken after =
+    (taken ≡ steps.Lost place ∷ []) × IsKept kept place [] after
 Makes kept answers.Closed taken after = (taken ≡ []) × AllKept kept after
 Makes kept answers.NotYet taken after = (taken ≡ []) × AllKept kept after
 Makes kept answers.Fault taken after = (taken ≡ []) × AllKept kept after
@@ -28,7 +31,8 @@ Makes kept answers.Fault taken after = (taken ≡ []) × AllKept kept after
 unfoldable pub HeardFrom : Streams → List Polled → List Step → Type 0
 HeardFrom kept [] taken = taken ≡ []
 HeardFrom kept (answer ∷ later) taken =
-    (made : List Step) × (rest : List Step) × (after : Streams) × (taken ≡ made ++ rest) × Makes kept answer made after × HeardFrom after later rest
+    (made : List Step) × (rest : List Step) × (after : Streams) × (taken ≡ made ++ rest)
+    × Makes kept answer made after × HeardFrom after later rest
 
 -- the steps are what these answers make
 unfoldable pub Heard : List Polled → List Step → Type 0
@@ -39,7 +43,8 @@ Heard given taken = HeardFrom no_bytes given taken
 -- the steps are a beginning of those that the answer makes
 unfoldable pub MakesPart : Streams → Polled → List Step → Type 0
 MakesPart kept answer [] = Unit {0}
-MakesPart kept (answers.Bytes place text) (step ∷ later) = HearsPart place (kept place ++ text) (step ∷ later)
+MakesPart kept (answers.Bytes place text) (step ∷ later) =
+    HearsPart place (kept place ++ text) (step ∷ later)
 MakesPart kept answer (step ∷ later) = ⊥
 
 -- the last steps may be but a beginning of what their answer makes
@@ -47,7 +52,8 @@ unfoldable pub HeardPartFrom : Streams → List Polled → List Step → Type 0
 HeardPartFrom kept [] taken = taken ≡ []
 HeardPartFrom kept (answer ∷ later) taken =
     MakesPart kept answer taken
-    ⊎ ((made : List Step) × (rest : List Step) × (after : Streams) × (taken ≡ made ++ rest) × Makes kept answer made after × HeardPartFrom after later rest)
+    ⊎ ((made : List Step) × (rest : List Step) × (after : Streams) × (taken ≡ made ++ rest)
+    × Makes kept answer made after × HeardPartFrom after later rest)
 
 -- the steps are a beginning of what these answers make
 unfoldable pub HeardPart : List Polled → List Step → Type 0

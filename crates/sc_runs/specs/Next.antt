@@ -13,12 +13,17 @@ pub record Next : Type 0 where
 
 -- the first event of a session of this host
 unfoldable pub next_of : {S : Type 0} → ℕ → Live S → Option Next
-next_of host live = option_map (λ waiting. record { app = record { host = host; serial = live.serial }; number = waiting.number }) (slice_get live.inbox 0)
+next_of host live =
+    option_map
+    (λ waiting.
+    record { app = record { host = host; serial = live.serial }; number = waiting.number })
+    (slice_get live.inbox 0)
 
 -- the first events of the sessions of these hosts, counted from this number
 unfoldable pub next_from : {S : Type 0} → ℕ → List (Host S) → List Next
 next_from number [] = []
-next_from number (host ∷ hosts) = filter_map (next_of number) host.sessions ++ next_from (number + 1) hosts
+next_from number (host ∷ hosts) =
+    filter_map (next_of number) host.sessions ++ next_from (number + 1) hosts
 
 -- the first event of each session that has one
 unfoldable pub next_events : {S : Type 0} → Net S → List Next

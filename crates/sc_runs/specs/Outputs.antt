@@ -13,7 +13,9 @@ journal_records form setup journal = records (all_sent form setup 0 0 journal)
 
 -- the last line: the steps, the sent messages and the live sessions
 unfoldable pub end_line : {S : Type 0} → Form S → Setup → List Step → Bytes
-end_line form setup journal = end_text (length journal) (length (all_sent form setup 0 0 journal)) (live_count (chained form setup 0 0 journal))
+end_line form setup journal =
+    end_text (length journal) (length (all_sent form setup 0 0 journal))
+    (live_count (chained form setup 0 0 journal))
 
 -- the whole output
 unfoldable pub output : {S : Type 0} → Form S → Setup → List Step → Bytes

@@ -14,7 +14,8 @@ unfoldable pub more_pieces : ℕ → Option Bytes → List Bytes
 more_pieces sign None = []
 more_pieces sign (Some rest) = pieces sign rest
 
--- the answer is what the line says, or the kind of what is wrong with it; want of memory says nothing
+-- the answer is what the line says, or the kind of what is wrong with it; want of memory says
+-- nothing
 unfoldable pub Says : {A : Type 0} → Result A RowRefused → Result A ℕ → Type 0
 Says (Ok row) said = said ≡ Ok row
 Says (Err (rows.Wrong kind)) said = said ≡ Err kind
@@ -27,7 +28,8 @@ Gives (Err (refused.Refused at kind)) read = read ≡ Err (record { at = at; kin
 Gives (Err refused.NoMemory) read = Unit {0}
 
 -- the list is that of the lines that the text says, or its first fault is told
-unfoldable pub Adds : {A : Type 0} → Result A ScriptRefused → List Line → Result (List Line) Fault → Type 0
+unfoldable pub Adds : {A : Type 0} → Result A ScriptRefused → List Line → Result (List Line) Fault
+    → Type 0
 Adds (Ok done) lines read = read ≡ Ok lines
 Adds (Err (refused.Refused at kind)) lines read = read ≡ Err (record { at = at; kind = kind })
 Adds (Err refused.NoMemory) lines read = Unit {0}

@@ -53,7 +53,9 @@ is_plain text = length text == 1 || not (begins 48 text)
 
 -- the number of a decimal without leading zero, at most so great
 unfoldable pub decimal_upto : ℕ → Bytes → Option ℕ
-decimal_upto most text = if is_digits text && (nat_le (number_in text) most && is_plain text) then Some (number_in text) else None
+decimal_upto most text =
+    if is_digits text && (nat_le (number_in text) most && is_plain text) then Some (number_in text)
+    else None
 
 -- so great may a serial and a moment be, and the number of a connection
 abbrev pub MOST_COUNT : ℕ
@@ -71,7 +73,8 @@ all_four a b c d = None
 
 -- `a.b.c.d`, from its pieces
 unfoldable pub ip_of : List Bytes → Option (List ℕ)
-ip_of (a ∷ b ∷ c ∷ d ∷ []) = all_four (decimal_upto 255 a) (decimal_upto 255 b) (decimal_upto 255 c) (decimal_upto 255 d)
+ip_of (a ∷ b ∷ c ∷ d ∷ []) =
+    all_four (decimal_upto 255 a) (decimal_upto 255 b) (decimal_upto 255 c) (decimal_upto 255 d)
 ip_of texts = None
 
 -- an address with its port, where both are there
@@ -87,13 +90,16 @@ address_in texts = None
 -- the place that a word names: a peer's connection, or an address
 unfoldable pub place_of : Bytes → Option Place
 place_of [] = None
-place_of (b ∷ bs) = if b == 99 then connection_of (decimal_upto MOST_COUNT bs) else address_in (pieces 58 (b ∷ bs))
+place_of (b ∷ bs) =
+    if b == 99 then connection_of (decimal_upto MOST_COUNT bs) else address_in (pieces 58 (b ∷ bs))
 
 -- ## The rows
 
 -- `run` or `end`
 unfoldable pub one_word : Bytes → Result Line ℕ
-one_word word = if same_bytes word (codes "run") then Ok lines.Run else (if same_bytes word (codes "end") then Ok lines.End else Err WORD)
+one_word word =
+    if same_bytes word (codes "run") then Ok lines.Run
+    else (if same_bytes word (codes "end") then Ok lines.End else Err WORD)
 
 -- `tick N`, N in milliseconds and not below the last one
 unfoldable pub tick_line : ℕ → Option ℕ → Result Line ℕ
@@ -130,19 +136,24 @@ drop_line (Err kind) = Err kind
 unfoldable pub three_words : Bytes → Bytes → Bytes → Result Line ℕ
 three_words word host serial =
     if same_bytes word (codes "turn") then turn_line (app_of (decimal_upto 4294967295 host) (decimal_upto MOST_COUNT serial))
-    else (if same_bytes word (codes "drop") then drop_line (app_of (decimal_upto 4294967295 host) (decimal_upto MOST_COUNT serial)) else Err WORD)
+    else
+    (if same_bytes word (codes "drop")
+    then drop_line (app_of (decimal_upto 4294967295 host) (decimal_upto MOST_COUNT serial))
+    else Err WORD)
 
 -- the byte is there and is a line feed
 unfoldable pub is_feed : Option ℕ → Bool
 is_feed None = false
 is_feed (Some b) = b == 10
 
--- the bytes that come from a place, so many of what stands after the line, with a line feed behind them; and
--- how far that goes
+-- the bytes that come from a place, so many of what stands after the line, with a line feed behind
+-- them; and how far that goes
 unfoldable pub incoming : Bytes → Option ℕ → Option Place → Result (Line × ℕ) ℕ
 incoming after None place = Err NUMBER
 incoming after (Some count) None = Err PLACE
-incoming after (Some count) (Some place) = if is_feed (slice_get after count) then Ok (lines.In place (take count after), count + 1) else Err SHORT
+incoming after (Some count) (Some place) =
+    if is_feed (slice_get after count) then Ok (lines.In place (take count after), count + 1)
+    else Err SHORT
 
 -- how many bytes come: 1 to 65,536
 unfoldable pub size_of : Option ℕ → Option ℕ
@@ -154,12 +165,14 @@ unfoldable pub alone : Result Line ℕ → Result (Line × ℕ) ℕ
 alone (Ok line) = Ok (line, 0)
 alone (Err kind) = Err kind
 
--- what the words of a line say, with what stands after it: the line, and how many bytes of that are its own;
--- else the lowest kind of what is wrong with it
+-- what the words of a line say, with what stands after it: the line, and how many bytes of that are
+-- its own; else the lowest kind of what is wrong with it
 unfoldable pub line_of : ℕ → Bytes → List Bytes → Result (Line × ℕ) ℕ
 line_of since after (a ∷ []) = alone (one_word a)
 line_of since after (a ∷ b ∷ []) = alone (two_words since a b)
-line_of since after (a ∷ b ∷ c ∷ []) = if same_bytes a (codes "in") then incoming after (size_of (decimal_upto 65536 c)) (place_of b) else alone (three_words a b c)
+line_of since after (a ∷ b ∷ c ∷ []) =
+    if same_bytes a (codes "in") then incoming after (size_of (decimal_upto 65536 c)) (place_of b)
+    else alone (three_words a b c)
 line_of since after words = Err WORD
 
 -- ## The whole text
@@ -169,16 +182,19 @@ unfoldable pub is_end : Line → Bool
 is_end lines.End = true
 is_end line = false
 
--- a line of so many bytes that begins at this place, and what stands after it; `end` is the last line
+-- a line of so many bytes that begins at this place, and what stands after it; `end` is the last
+-- line
 unfoldable pub row_with : ℕ → ℕ → Bytes → Result (Line × ℕ) ℕ → Result (Line × ℕ) Fault
 row_with at len after (Err kind) = Err (record { at = at; kind = kind })
 row_with at len after (Ok (line, more)) =
-    if is_end line && not (length after == 0) then Err (record { at = at + len; kind = NO_END }) else Ok (line, len + more)
+    if is_end line && not (length after == 0) then Err (record { at = at + len; kind = NO_END })
+    else Ok (line, len + more)
 
 -- up to a line feed, which has to be there
 unfoldable pub row_by : ℕ → ℕ → Bytes → Option Bytes → Result (Line × ℕ) Fault
 row_by at since text None = Err (record { at = at + length text; kind = NO_END })
-row_by at since text (Some after) = row_with at (length text + 1) after (line_of since after (pieces 32 text))
+row_by at since text (Some after) =
+    row_with at (length text + 1) after (line_of since after (pieces 32 text))
 
 -- the line that begins at this place, and how many bytes it has with its own bytes
 unfoldable pub row_at : ℕ → ℕ → Bytes → Result (Line × ℕ) Fault
@@ -195,15 +211,20 @@ with_first line (Ok later) = Ok (line ∷ later)
 with_first line (Err fault) = Err fault
 
 -- a line, and the lines after it
-unfoldable pub followed : Result (Line × ℕ) Fault → (Line → ℕ → Result (List Line) Fault) → Result (List Line) Fault
+unfoldable pub followed : Result (Line × ℕ) Fault → (Line → ℕ → Result (List Line) Fault)
+    → Result (List Line) Fault
 followed (Err fault) later = Err fault
-followed (Ok (line, size)) later = if is_end line then Ok (line ∷ []) else with_first line (later line size)
+followed (Ok (line, size)) later =
+    if is_end line then Ok (line ∷ []) else with_first line (later line size)
 
--- the lines of a text that begins at this place; its first bytes, so many, belong to the line before
+-- the lines of a text that begins at this place; its first bytes, so many, belong to the line
+-- before
 unfoldable pub lines_in : ℕ → ℕ → ℕ → Bytes → Result (List Line) Fault
 lines_in passed at since [] = Err (record { at = at; kind = NO_END })
 lines_in (suc passed) at since (b ∷ bs) = lines_in passed (at + 1) since bs
-lines_in zero at since (b ∷ bs) = followed (row_at at since (b ∷ bs)) (λ line size. lines_in (size - 1) (at + 1) (moment_after since line) bs)
+lines_in zero at since (b ∷ bs) =
+    followed (row_at at since (b ∷ bs))
+    (λ line size. lines_in (size - 1) (at + 1) (moment_after since line) bs)
 
 -- so many bytes has a script at most
 abbrev pub MOST_BYTES : ℕ
@@ -211,4 +232,6 @@ MOST_BYTES = 67108864
 
 -- the lines that a text says, or its first fault
 unfoldable pub script_of : Bytes → Result (List Line) Fault
-script_of text = if nat_lt MOST_BYTES (length text) then Err (record { at = MOST_BYTES; kind = LONG }) else lines_in 0 0 0 text
+script_of text =
+    if nat_lt MOST_BYTES (length text) then Err (record { at = MOST_BYTES; kind = LONG })
+    else lines_in 0 0 0 text

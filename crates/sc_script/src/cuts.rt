@@ -24,7 +24,8 @@ fn place_or_len(text: &[u8], sign: u8) -> usize
 fn parted(text: &[u8], sign: u8) -> (&[u8], Option<&[u8]>)
     ensures front { result.0.now ≡ before sign text.now }
     ensures rest { option_copied result.1 ≡ after sign text.now }
-    ensures less { IfSome result.1 (λ rest. length result.0.now + length rest.now + 1 ≡ length text.now) }
+    ensures less { IfSome result.1
+        (λ rest. length result.0.now + length rest.now + 1 ≡ length text.now) }
 {
     let place = place_or_len(text, sign);
     if place == text.len() {
@@ -39,8 +40,10 @@ fn parted(text: &[u8], sign: u8) -> (&[u8], Option<&[u8]>)
 pub fn cut(text: &[u8], sign: u8) -> (&[u8], Option<&[u8]>)
     ensures front { result.0.now ≡ before sign text.now }
     ensures rest { option_copied result.1 ≡ after sign text.now }
-    ensures pieces { pieces sign text.now ≡ result.0.now ∷ more_pieces sign (option_copied result.1) }
-    ensures less { IfSome result.1 (λ rest. length result.0.now + length rest.now + 1 ≡ length text.now) }
+    ensures pieces { pieces sign text.now
+        ≡ result.0.now ∷ more_pieces sign (option_copied result.1) }
+    ensures less { IfSome result.1
+        (λ rest. length result.0.now + length rest.now + 1 ≡ length text.now) }
 {
     parted(text, sign)
 }

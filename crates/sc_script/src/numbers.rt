@@ -19,7 +19,8 @@ pub fn decimal_upto(most: u64, text: &[u8]) -> Option<u64>
 }
 
 fn plain_upto(most: u64, number: u64, text: &[u8]) -> Option<u64>
-    ensures exact { result ≡ (if nat_le number most && is_plain text.now then Some number else None) }
+    ensures exact { result
+        ≡ (if nat_le number most && is_plain text.now then Some number else None) }
     ensures within { IfSome result (λ number. number ≤ most) }
 {
     if number <= most && is_plain(text) {

@@ -24,7 +24,8 @@ pub fn write_sent(alloc: Global, sent: &Sent, out: &mut Text) -> Result<(), NoMe
 
 // The record of a message with this text, in a text of its own.
 fn record_of(alloc: Global, place: Place, text: &[u8]) -> Result<Text, NoMemory>
-    ensures { IfOk result (λ whole. whole ≡ record_line place (length text.now) ++ text.now ++ 10 ∷ []) }
+    ensures { IfOk result
+        (λ whole. whole ≡ record_line place (length text.now) ++ text.now ++ 10 ∷ []) }
 {
     let mut whole = Text::new(alloc);
     put_record_line(place, text.len() as u64, &mut whole)?;

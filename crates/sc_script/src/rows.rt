@@ -119,7 +119,8 @@ fn drop_line(app: Result<AppId, u8>) -> Result<Line, u8>
 }
 
 fn named_app(host: &[u8], serial: &[u8]) -> Result<AppId, u8>
-    ensures { result ≡ app_of (decimal_upto 4294967295 host.now) (decimal_upto (2 ^ 63) serial.now) }
+    ensures { result
+        ≡ app_of (decimal_upto 4294967295 host.now) (decimal_upto (2 ^ 63) serial.now) }
 {
     app_of(
         decimal_upto(4_294_967_295, host),
@@ -191,7 +192,8 @@ fn line_of_three(
     b: &[u8],
     c: &[u8],
 ) -> Result<(Line, usize), RowRefused>
-    ensures says { (since : ℕ) → Says result (line_of since after.now (a.now ∷ b.now ∷ c.now ∷ [])) }
+    ensures says { (since : ℕ)
+        → Says result (line_of since after.now (a.now ∷ b.now ∷ c.now ∷ [])) }
     ensures within { IfOk result (λ row. row.1 ≤ length after.now) }
 {
     if a == b"in".as_slice() {

@@ -23,10 +23,10 @@ const LONG: u8 = 7;
 ///
 /// `Refused` with the first line that is wrong: the place of its first byte, and the lowest kind of
 /// what is wrong with it: 1 it has the words of no row, 2 a word is no number of its range, 3 or no
-/// place, 4 too few bytes follow an `in`, or no line feed after them, 5 a `tick` is below an earlier
-/// one. Kind 6: the text ends without `end`, at its length, or goes on after it, at the first byte
-/// there. Kind 7, before all others: it has more than 67,108,864 bytes, at that place. `NoMemory`
-/// says nothing of the text.
+/// place, 4 too few bytes follow an `in`, or no line feed after them, 5 a `tick` is below an
+/// earlier one. Kind 6: the text ends without `end`, at its length, or goes on after it, at the
+/// first byte there. Kind 7, before all others: it has more than 67,108,864 bytes, at that place.
+/// `NoMemory` says nothing of the text.
 #[tactic(auto, unfolding(crate::specs::ScriptTexts::script_of, crate::specs::Reading::Gives, crate::specs::Reading::Adds))]
 pub fn read_lines(alloc: Global, bytes: &[u8]) -> Result<List<Line>, ScriptRefused>
     ensures { Gives result (script_of bytes.now) }
@@ -122,7 +122,8 @@ fn row_with(
 ) -> Result<(Line, usize), ScriptRefused>
     requires short { at + len + length after.now ≤ 67108864 }
     requires own { IfOk said (λ row. row.1 ≤ length after.now) }
-    ensures gives { (row : Result (Line × ℕ) ℕ) → Says said row → Gives result (row_with at len after.now row) }
+    ensures gives { (row : Result (Line × ℕ) ℕ) → Says said row
+        → Gives result (row_with at len after.now row) }
     ensures some { IfOk result (λ row. len ≤ row.1) }
     ensures within { IfOk result (λ row. row.1 ≤ len + length after.now) }
 {

@@ -31,8 +31,15 @@ as_invalidated leg = record leg { invalidated = true }
 -- an initial request is sent, by the directive of its draft
 unfoldable pub begins : Config → Directive → SessId → Request → Working → Working
 begins config directive sess request working =
-    giving (orders.Begin (next_branch working) directive working.known.region (router_state directive working.known) (on_branch config working.play.view (next_branch working) request) ∷ [])
-    (keeps_sent sess request (record working { known = change_leg sess (with_first (record { 0 = working.play.view.next_request })) working.known }))
+    giving
+    (orders.Begin (next_branch working) directive working.known.region
+    (router_state directive working.known)
+    (on_branch config working.play.view (next_branch working) request) ∷ [])
+    (keeps_sent sess request
+    (record working {
+      known = change_leg sess (with_first (record { 0 = working.play.view.next_request }))
+          working.known;
+    }))
 
 -- the calls from where they begin
 unfoldable pub worked_on : Config → Working → List CallRecord → Working

@@ -37,7 +37,8 @@ fn with_leg(alloc: Global, working: &mut Working) -> Result<(), NoMemory>
 }
 
 fn own_request(alloc: Global, view: &View, ask: &Ask) -> Result<Shared<Request>, NoMemory>
-    ensures { IfOk result (λ r. r ≡ asked_request (new_call_id view.entry.now) (new_tag view.entry.now) ask.now) }
+    ensures { IfOk result
+        (λ r. r ≡ asked_request (new_call_id view.entry.now) (new_tag view.entry.now) ask.now) }
 {
     let call_id = new_call_id(alloc, view)?;
     let tag = new_tag(alloc, view)?;
@@ -84,7 +85,11 @@ fn second_request(
     uri: &Option<Uri>,
     kept: &Kept,
 ) -> Result<Shared<Request>, NoMemory>
-    ensures { IfOk result (λ r. r ≡ leg_request (new_call_id view.entry.now) (new_tag view.entry.now) uri.now kept.now.request) }
+    ensures { IfOk result
+        (λ r.
+        r
+        ≡ leg_request (new_call_id view.entry.now) (new_tag view.entry.now) uri.now
+        kept.now.request) }
 {
     let call_id = new_call_id(alloc, view)?;
     let tag = new_tag(alloc, view)?;
@@ -99,7 +104,16 @@ fn leg_draft(
     kept: &Kept,
     play: &Play,
 ) -> Result<Written, NoMemory>
-    ensures { IfOk result (λ draft. draft ≡ record { number = play.now.drafted + 1; directive = Directive.Continue; origin = Some req; asked = Asked.Initial (leg_request (new_call_id play.now.view) (new_tag play.now.view) uri.now kept.now.request) }) }
+    ensures { IfOk result
+        (λ draft.
+        draft
+        ≡ record {
+          number = play.now.drafted + 1;
+          directive = Directive.Continue;
+          origin = Some req;
+          asked = Asked.Initial
+              (leg_request (new_call_id play.now.view) (new_tag play.now.view) uri.now kept.now.request);
+        }) }
 {
     let number = sum_u32(play.drafted, 1)?;
     let request = second_request(alloc, &play.view, uri, kept)?;
@@ -119,7 +133,8 @@ pub fn drafts_leg(
     uri: &Option<Uri>,
     working: &mut Working,
 ) -> Result<(), NoMemory>
-    ensures { OnOk result (working.new ≡ drafts_leg req uri.now (kept_of working.old.known req) working.old) }
+    ensures { OnOk result
+        (working.new ≡ drafts_leg req uri.now (kept_of working.old.known req) working.old) }
 {
     match kept_of(&working.known, req) {
         Some(kept) => {
@@ -154,7 +169,8 @@ fn directed(draft: &mut Written, directive: Directive, origin: Option<ReqId>)
 
 #[tactic(auto, using(sc_value::proofs::ListFacts::change_first_position, sc_value::proofs::ListFacts::change_first_none))]
 fn direct_in(written: &mut [Written], number: u32, directive: Directive, origin: Option<ReqId>)
-    ensures { written.new ≡ change_first (is_written number) (directed directive origin) written.old }
+    ensures { written.new
+        ≡ change_first (is_written number) (directed directive origin) written.old }
 {
     match written_place(written, number) {
         Some(at) => directed(&mut written[at], directive, origin),

@@ -1,5 +1,5 @@
-//! What the accepted calls of a turn send: answers, requests of drafts, acknowledgements and proxied
-//! requests, and what the application session knows of them.
+//! What the accepted calls of a turn send: answers, requests of drafts, acknowledgements and
+//! proxied requests, and what the application session knows of them.
 #![tactic(auto)]
 
 mod drafting;

@@ -37,7 +37,10 @@ pub fn cancels(working: &mut Working, req: ReqId) -> Result<(), NoMemory>
 
 #[tactic(auto, using(sc_value::proofs::ListFacts::change_first_position, sc_value::proofs::ListFacts::change_first_none))]
 fn add_in(alloc: Global, proxies: &mut [Proxy], req: ReqId, uris: &[Uri]) -> Result<(), NoMemory>
-    ensures { OnOk result (proxies.new ≡ change_first (λ proxy. same_request proxy.req req) (with_targets uris.now) proxies.old) }
+    ensures { OnOk result
+        (proxies.new
+        ≡ change_first (λ proxy. same_request proxy.req req) (with_targets uris.now)
+        proxies.old) }
 {
     match proxy_place(proxies, req) {
         Some(at) => with_targets(alloc, &mut proxies[at], uris),
@@ -69,7 +72,11 @@ fn first_proxy(
     how: ProxyOptions,
     kept: &Kept,
 ) -> Result<Proxy, NoMemory>
-    ensures { IfOk result (λ proxy. proxy ≡ with_targets uris.now (new_proxy req kept.now.sess (event_of kept.now.way) kept.now.request (Some how))) }
+    ensures { IfOk result
+        (λ proxy.
+        proxy
+        ≡ with_targets uris.now
+        (new_proxy req kept.now.sess (event_of kept.now.way) kept.now.request (Some how))) }
 {
     let event = event_of(kept.way);
     let mut proxy = new_proxy(alloc, req, kept.sess, event, &kept.request, Some(how))?;
@@ -85,7 +92,8 @@ fn proxies_first(
     how: ProxyOptions,
     known: &mut Known,
 ) -> Result<(), NoMemory>
-    ensures { OnOk result (known.new ≡ proxies_first req uris.now how (kept_of known.old req) known.old) }
+    ensures { OnOk result
+        (known.new ≡ proxies_first req uris.now how (kept_of known.old req) known.old) }
 {
     let Some(kept) = kept_of(known, req) else {
         return Ok(());

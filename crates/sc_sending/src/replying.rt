@@ -25,7 +25,8 @@ fn given(
     request: &Request,
     answer: &Answer,
 ) -> Result<Shared<Response>, NoMemory>
-    ensures { IfOk result (λ r. r ≡ given_response config.now view.entry.now tag.now initial request.now answer.now) }
+    ensures { IfOk result
+        (λ r. r ≡ given_response config.now view.entry.now tag.now initial request.now answer.now) }
 {
     let response = given_response(alloc, config, view, tag, initial, request, answer)?;
     Shared::new(alloc, response)
@@ -42,7 +43,10 @@ fn answer_order(
     kept: &Kept,
     orders: &mut List<Order>,
 ) -> Result<(), NoMemory>
-    ensures { OnOk result (orders.new ≡ orders.old ++ answer_order config.now view.entry.now initial answer.now kept.now kept.now.way) }
+    ensures { OnOk result
+        (orders.new
+        ≡ orders.old
+        ++ answer_order config.now view.entry.now initial answer.now kept.now kept.now.way) }
 {
     match kept.way {
         Way::Received { event } => {
@@ -67,7 +71,10 @@ pub fn answers(
     initial: bool,
     orders: &mut List<Order>,
 ) -> Result<(), NoMemory>
-    ensures { OnOk result (orders.new ≡ orders.old ++ answers config.now answer.now view.entry.now (option_copied kept.entry) initial) }
+    ensures { OnOk result
+        (orders.new
+        ≡ orders.old
+        ++ answers config.now answer.now view.entry.now (option_copied kept.entry) initial) }
 {
     match kept {
         Some(kept) => answer_order(alloc, config, view, initial, answer, kept, orders),
@@ -83,7 +90,11 @@ fn answered_to(
     answer: &Answer,
     working: &mut Working,
 ) -> Result<(), NoMemory>
-    ensures { OnOk result (working.new ≡ giving (answers config.now answer.now working.old.play.view (kept_of working.old.known req) initial) working.old) }
+    ensures { OnOk result
+        (working.new
+        ≡ giving
+        (answers config.now answer.now working.old.play.view (kept_of working.old.known req)
+        initial) working.old) }
 {
     let kept = kept_of(&working.known, req);
     answers(
@@ -106,7 +117,8 @@ pub fn answering(
     answer: &Answer,
     working: &mut Working,
 ) -> Result<(), NoMemory>
-    ensures { OnOk result (working.new ≡ answering config.now (Some request.now) answer.now working.old) }
+    ensures { OnOk result
+        (working.new ≡ answering config.now (Some request.now) answer.now working.old) }
 {
     answered_to(alloc, config, request.id, request.initial, answer, working)
 }
@@ -120,7 +132,9 @@ pub fn answering_by(
     answer: &Answer,
     working: &mut Working,
 ) -> Result<(), NoMemory>
-    ensures { OnOk result (working.new ≡ answering config.now (request_in working.old.play.view req) answer.now working.old) }
+    ensures { OnOk result
+        (working.new
+        ≡ answering config.now (request_in working.old.play.view req) answer.now working.old) }
 {
     match request_in(&working.play.view, req) {
         Some(request) => {
@@ -140,7 +154,9 @@ pub fn answering_begun(
     answer: &Answer,
     working: &mut Working,
 ) -> Result<(), NoMemory>
-    ensures { OnOk result (working.new ≡ answering config.now (begun_by working.old.play.view sess) answer.now working.old) }
+    ensures { OnOk result
+        (working.new
+        ≡ answering config.now (begun_by working.old.play.view sess) answer.now working.old) }
 {
     match begun_by(&working.play.view, sess) {
         Some(request) => {

@@ -140,7 +140,8 @@ fn begins(
 }
 
 fn note_sent(known: &mut Known, sess: SessId, request: &Shared<Request>)
-    ensures { known.new ≡ change_leg sess (in_dialog (Passed.By_self (Message.Request request.now))) known.old }
+    ensures { known.new
+        ≡ change_leg sess (in_dialog (Passed.By_self (Message.Request request.now))) known.old }
 {
     take_sent(known, sess, request.get());
 }
@@ -199,7 +200,8 @@ fn next_here(
     dialog: &Dialog,
     ask: &Inside,
 ) -> Result<Shared<Request>, NoMemory>
-    ensures { IfOk result (λ r. r ≡ from_here config.now view.entry.now (next_request dialog.now ask.now)) }
+    ensures { IfOk result
+        (λ r. r ≡ from_here config.now view.entry.now (next_request dialog.now ask.now)) }
 {
     if 2_147_483_647 <= dialog.last_sent() {
         return Err(NoMemory);
@@ -216,7 +218,9 @@ fn sends_in(
     ask: &Inside,
     working: &mut Working,
 ) -> Result<(), NoMemory>
-    ensures { OnOk result (working.new ≡ sends_in config.now sess ask.now (dialog_in working.old.known sess) working.old) }
+    ensures { OnOk result
+        (working.new
+        ≡ sends_in config.now sess ask.now (dialog_in working.old.known sess) working.old) }
 {
     match dialog_in(&working.known, sess) {
         Some(dialog) => {
@@ -236,7 +240,8 @@ fn sends_initial(
     request: Shared<Request>,
     working: &mut Working,
 ) -> Result<(), NoMemory>
-    ensures { OnOk result (working.new ≡ sends_initial config.now draft.now sess request working.old) }
+    ensures { OnOk result
+        (working.new ≡ sends_initial config.now draft.now sess request working.old) }
 {
     begins(alloc, config, draft.directive, sess, request, working)
 }
@@ -250,7 +255,10 @@ fn sends_asked(
     request: &Shared<Request>,
     working: &mut Working,
 ) -> Result<(), NoMemory>
-    ensures { OnOk result (working.new ≡ sends_initial config.now draft.now sess (from_here config.now working.old.play.view request.now) working.old) }
+    ensures { OnOk result
+        (working.new
+        ≡ sends_initial config.now draft.now sess
+        (from_here config.now working.old.play.view request.now) working.old) }
 {
     let made = made_here(alloc, config, &working.play.view, request)?;
     sends_initial(alloc, config, draft, sess, made, working)
@@ -264,7 +272,8 @@ fn sends_written(
     sess: SessId,
     working: &mut Working,
 ) -> Result<(), NoMemory>
-    ensures { OnOk result (working.new ≡ sends_written config.now draft.now sess draft.now.asked working.old) }
+    ensures { OnOk result
+        (working.new ≡ sends_written config.now draft.now sess draft.now.asked working.old) }
 {
     match &draft.asked {
         Asked::Initial(request) => sends_asked(alloc, config, draft, sess, request, working),
@@ -293,7 +302,10 @@ pub fn sends(
     number: u32,
     working: &mut Working,
 ) -> Result<(), NoMemory>
-    ensures { OnOk result (working.new ≡ sends config.now number (find (is_written number) working.old.written) (draft_in working.old.play number) working.old) }
+    ensures { OnOk result
+        (working.new
+        ≡ sends config.now number (find (is_written number) working.old.written)
+        (draft_in working.old.play number) working.old) }
 {
     let Some(draft) = draft_in(&working.play, number) else {
         return Ok(());
@@ -328,7 +340,11 @@ fn acknowledgement(
     kept: &Kept,
     body: &Text,
 ) -> Result<Shared<Request>, NoMemory>
-    ensures { IfOk result (λ r. r ≡ on_branch config.now working.now.play.view (next_branch working.now) (ack_request dialog.now kept.now.request.head.cseq.number body.now)) }
+    ensures { IfOk result
+        (λ r.
+        r
+        ≡ on_branch config.now working.now.play.view (next_branch working.now)
+        (ack_request dialog.now kept.now.request.head.cseq.number body.now)) }
 {
     let branch = next_branch(working)?;
     let cseq = &kept.request.get().head.cseq;
@@ -346,7 +362,10 @@ fn ack_with(
     req: ReqId,
     working: &mut Working,
 ) -> Result<(), NoMemory>
-    ensures { OnOk result (working.new ≡ ack_with config.now body.now (dialog_in working.old.known sess) (kept_of working.old.known req) working.old) }
+    ensures { OnOk result
+        (working.new
+        ≡ ack_with config.now body.now (dialog_in working.old.known sess)
+        (kept_of working.old.known req) working.old) }
 {
     let Some(dialog) = dialog_in(&working.known, sess) else {
         return Ok(());
@@ -368,7 +387,10 @@ pub fn acknowledges(
     body: &Text,
     working: &mut Working,
 ) -> Result<(), NoMemory>
-    ensures { OnOk result (working.new ≡ acknowledges config.now sess body.now (find (awaits_ack sess) working.old.play.view.requests) working.old) }
+    ensures { OnOk result
+        (working.new
+        ≡ acknowledges config.now sess body.now
+        (find (awaits_ack sess) working.old.play.view.requests) working.old) }
 {
     match awaiting(&working.play.view, sess) {
         Some(request) => {

@@ -8,8 +8,9 @@ unfoldable pub counted_on : ℕ → ℕ → ℕ
 counted_on count zero = count
 counted_on count (suc more) = one_more (counted_on count more)
 
--- by the end of so many rounds an edge was polled at most once more than there were rounds, as a poll may end the run before its
--- round asks anything; and there were at most 16 rounds for each poll and 15 besides
+-- by the end of so many rounds an edge was polled at most once more than there were rounds, as a
+-- poll may end the run before its round asks anything; and there were at most 16 rounds for each
+-- poll and 15 besides
 pub record PollsOften (first now : EdgeState) (rounds : ℕ) : Type 0 where
   pub polls : ℕ
   pub counted : now.polls ≡ counted_on first.polls polls

@@ -26,11 +26,15 @@ use Rattle.sc_serve.specs.Served.{Leaves}
 
 -- it stands between two rounds as before
 unfoldable pub Goes : Server → Server → EdgeState → EdgeState → Told → Told → Type 0
-Goes old new edge edge2 told told2 = (from : Beginning) → Serves from edge told old.core old.streams → Serves from edge2 told2 new.core new.streams
+Goes old new edge edge2 told told2 =
+    (from : Beginning) → Serves from edge told old.core old.streams
+    → Serves from edge2 told2 new.core new.streams
 
 -- the run ended
 unfoldable pub Halts : Server → Server → EdgeState → EdgeState → Told → Told → Type 0
-Halts old new edge edge2 told told2 = (from : Beginning) → Serves from edge told old.core old.streams → Ended from edge2 told2 new.core.switch
+Halts old new edge edge2 told told2 =
+    (from : Beginning) → Serves from edge told old.core old.streams
+    → Ended from edge2 told2 new.core.switch
 
 -- a fault of the listener was counted where the cause is one
 unfoldable pub Blames : EdgeState → EdgeState → Stop → Type 0
@@ -40,7 +44,8 @@ Blames edge edge2 stops.NoMemory = Unit {0}
 
 -- for want of room a step is due there, under right settings
 unfoldable pub IsDueAt : Known → Stop → Type 0
-IsDueAt known stops.JournalFull = IsSetup known.setup → IsDue known.setup (running known) known.journal
+IsDueAt known stops.JournalFull =
+    IsSetup known.setup → IsDue known.setup (running known) known.journal
 IsDueAt known stops.Edge = Unit {0}
 IsDueAt known stops.NoMemory = Unit {0}
 
@@ -49,14 +54,16 @@ IsDueAt known stops.NoMemory = Unit {0}
 -- the edge was polled once, or it wasn't, as in no more than 15 rounds before
 abbrev pub Hears : Server → Server → EdgeState → EdgeState → Type 0
 Hears old new edge edge2 =
-    ((new.unpolled ≡ 0) × (edge2.polls ≡ one_more edge.polls)) ⊎ ((new.unpolled ≡ old.unpolled + 1) × (new.unpolled ≤ 15) × (edge2.polls ≡ edge.polls))
+    ((new.unpolled ≡ 0) × (edge2.polls ≡ one_more edge.polls))
+    ⊎ ((new.unpolled ≡ old.unpolled + 1) × (new.unpolled ≤ 15) × (edge2.polls ≡ edge.polls))
 
 -- no poll was made, and none is owed
 pub record IsUnheard (old new : Server) (edge edge2 : EdgeState) : Type 0 where
   pub unpolled : new.unpolled ≡ old.unpolled
   pub polls : edge2.polls ≡ edge.polls
 
--- in so many rounds the edge was polled once each at most, and each round without a poll is one of 15 in a row at most
+-- in so many rounds the edge was polled once each at most, and each round without a poll is one of
+-- 15 in a row at most
 pub record PollsOn (old new : Server) (edge edge2 : EdgeState) (rounds : ℕ) : Type 0 where
   pub polls : ℕ
   pub counted : edge2.polls ≡ counted_on edge.polls polls
@@ -76,36 +83,64 @@ pub record PollsPart (old : Server) (edge edge2 : EdgeState) (rounds : ℕ) : Ty
 -- it stands as before, once both were asked
 unfoldable pub Works : Server → Server → EdgeState → Told → Told → Sources → Sources → Type 0
 Works old new edge told told2 sources sources2 =
-    (given : Given) × AreAnswers 1 1 given × Asked sources sources2 given × ((from : Beginning) → Serves from edge told old.core old.streams → Serves (after from given) edge told2 new.core new.streams)
+    (given : Given) × AreAnswers 1 1 given × Asked sources sources2 given
+    × ((from : Beginning) → Serves from edge told old.core old.streams
+    → Serves (after from given) edge told2 new.core new.streams)
 
 -- the run ended, where orders were asked for
 unfoldable pub WorksPart : Server → Server → EdgeState → Told → Told → Sources → Sources → Type 0
 WorksPart old new edge told told2 sources sources2 =
-    (given : Given) × (length given.orders ≡ 1) × AreAlmostEven given × Asked sources sources2 given × ((from : Beginning) → Serves from edge told old.core old.streams → EndedAfter from given edge told2 new.core.switch)
+    (given : Given) × (length given.orders ≡ 1) × AreAlmostEven given × Asked sources sources2 given
+    × ((from : Beginning) → Serves from edge told old.core old.streams
+    → EndedAfter from given edge told2 new.core.switch)
 
--- it stands between two rounds as before, and in each round both were asked once, and the edge was polled once at most
-unfoldable pub GoesOn : Server → Server → EdgeState → EdgeState → Told → Told → Sources → Sources → Type 0
+-- it stands between two rounds as before, and in each round both were asked once, and the edge was
+-- polled once at most
+unfoldable pub GoesOn : Server → Server → EdgeState → EdgeState → Told → Told → Sources → Sources
+    → Type 0
 GoesOn old new edge edge2 told told2 sources sources2 =
-    (given : Given) × (AreEven given × PollsOn old new edge edge2 (length given.orders)) × Asked sources sources2 given × ((from : Beginning) → Serves from edge told old.core old.streams → Serves (after from given) edge2 told2 new.core new.streams)
+    (given : Given) × (AreEven given × PollsOn old new edge edge2 (length given.orders))
+    × Asked sources sources2 given
+    × ((from : Beginning) → Serves from edge told old.core old.streams
+    → Serves (after from given) edge2 told2 new.core new.streams)
 
 -- the run ended, where it had obeyed the orders, but maybe for the last one
-unfoldable pub HaltsOn : Server → Server → EdgeState → EdgeState → Told → Told → Sources → Sources → Type 0
+unfoldable pub HaltsOn : Server → Server → EdgeState → EdgeState → Told → Told → Sources → Sources
+    → Type 0
 HaltsOn old new edge edge2 told told2 sources sources2 =
-    (given : Given) × (AreAlmostEven given × PollsPart old edge edge2 (length given.orders)) × Asked sources sources2 given × ((from : Beginning) → Serves from edge told old.core old.streams → EndedAfter from given edge2 told2 new.core.switch)
+    (given : Given) × (AreAlmostEven given × PollsPart old edge edge2 (length given.orders))
+    × Asked sources sources2 given
+    × ((from : Beginning) → Serves from edge told old.core old.streams
+    → EndedAfter from given edge2 told2 new.core.switch)
 
 -- where it stood so, the epoch that runs now hasn't to end
 abbrev pub IsOver : Server → Server → EdgeState → Told → Type 0
-IsOver old new edge told = (from : Beginning) → Serves from edge told old.core old.streams → HasToEnd from.setup (running new.core.switch) → ⊥
+IsOver old new edge told =
+    (from : Beginning) → Serves from edge told old.core old.streams
+    → HasToEnd from.setup (running new.core.switch) → ⊥
 
--- it stands behind its last round, with nothing left to be put, the notice was told what lived behind the last step, and the
--- epoch hasn't to end
-unfoldable pub FinishesOn : Server → Server → EdgeState → EdgeState → Told → Told → Sources → Sources → Type 0
+-- it stands behind its last round, with nothing left to be put, the notice was told what lived
+-- behind the last step, and the epoch hasn't to end
+unfoldable pub FinishesOn : Server → Server → EdgeState → EdgeState → Told → Told → Sources
+    → Sources → Type 0
 FinishesOn old new edge edge2 told told2 sources sources2 =
-    GoesOn old new edge edge2 told told2 sources sources2 × ((place : Place) → left_at new.core.outs place ≡ []) × (new.core.unlisted ≡ 0) × IsOver old new edge told
+    GoesOn old new edge edge2 told told2 sources sources2
+    × ((place : Place) → left_at new.core.outs place ≡ []) × (new.core.unlisted ≡ 0)
+    × IsOver old new edge told
 
 -- a switch that took no step
 abbrev pub fresh : Setup → Known
-fresh setup = record { setup = setup; epoch = 0; began = 0; handed = []; journal = []; left = []; kept = []; leases = 0 }
+fresh setup =
+    record {
+      setup = setup;
+      epoch = 0;
+      began = 0;
+      handed = [];
+      journal = [];
+      left = [];
+      kept = [];
+      leases = 0;
+    }
 
 -- a server that took no step
 pub record IsNew (server : Server) : Type 0 where

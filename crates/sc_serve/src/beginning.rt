@@ -43,8 +43,24 @@ pub fn begin<F: Shelf>(
 ) -> Result<Begun, Ran>
     ensures new { IfOk result (λ begun. IsNew begun.server) }
     ensures right { IfOk result (λ begun. IsSetup begun.server.core.switch.setup) }
-    ensures asked { IfOk result (λ begun. IsAsked (served_names (map string_bytes words.now)) apps.now.names (map (λ k. both_charters (stated (k.servlet.vtable, k.servlet.value)) (option_map (λ l. listens (l.vtable, l.value)) k.listener)) apps.now.kinds) (λ name. F.holds shelf.old name) begun.server.core.switch.setup) }
-    ensures unserved { IfErr result (λ ran. (edge : EdgeState) (told : Told) (sources : Sources) → ServesWords (served_names (map string_bytes words.now)) apps.now.names (map (λ k. both_charters (stated (k.servlet.vtable, k.servlet.value)) (option_map (λ l. listens (l.vtable, l.value)) k.listener)) apps.now.kinds) (λ name. F.holds shelf.old name) (Rose (F.faults shelf.old) (F.faults shelf.new)) edge edge told told sources sources ran) }
+    ensures asked { IfOk result
+        (λ begun.
+        IsAsked (served_names (map string_bytes words.now)) apps.now.names
+        (map
+        (λ k.
+        both_charters (stated (k.servlet.vtable, k.servlet.value))
+        (option_map (λ l. listens (l.vtable, l.value)) k.listener)) apps.now.kinds)
+        (λ name. F.holds shelf.old name) begun.server.core.switch.setup) }
+    ensures unserved { IfErr result
+        (λ ran.
+        (edge : EdgeState) (told : Told) (sources : Sources)
+        → ServesWords (served_names (map string_bytes words.now)) apps.now.names
+        (map
+        (λ k.
+        both_charters (stated (k.servlet.vtable, k.servlet.value))
+        (option_map (λ l. listens (l.vtable, l.value)) k.listener)) apps.now.kinds)
+        (λ name. F.holds shelf.old name) (Rose (F.faults shelf.old) (F.faults shelf.new)) edge
+        edge told told sources sources ran) }
 {
     match served_names(words) {
         Some((config, dar)) => begin_named(alloc, config, dar, shelf, apps),
@@ -62,8 +78,27 @@ fn begin_named<F: Shelf>(
 ) -> Result<Begun, Ran>
     ensures new { IfOk result (λ begun. IsNew begun.server) }
     ensures right { IfOk result (λ begun. IsSetup begun.server.core.switch.setup) }
-    ensures set { IfOk result (λ begun. IsSetUp apps.now.names (map (λ k. both_charters (stated (k.servlet.vtable, k.servlet.value)) (option_map (λ l. listens (l.vtable, l.value)) k.listener)) apps.now.kinds) (F.holds shelf.old (string_bytes config.now)) (F.holds shelf.old (string_bytes dar.now)) begun.server.core.switch.setup) }
-    ensures unserved { IfErr result (λ ran. (edge : EdgeState) (told : Told) (sources : Sources) → Serves apps.now.names (map (λ k. both_charters (stated (k.servlet.vtable, k.servlet.value)) (option_map (λ l. listens (l.vtable, l.value)) k.listener)) apps.now.kinds) (F.holds shelf.old (string_bytes config.now)) (F.holds shelf.old (string_bytes dar.now)) (Rose (F.faults shelf.old) (F.faults shelf.new)) edge edge told told sources sources ran ran.journal) }
+    ensures set { IfOk result
+        (λ begun.
+        IsSetUp apps.now.names
+        (map
+        (λ k.
+        both_charters (stated (k.servlet.vtable, k.servlet.value))
+        (option_map (λ l. listens (l.vtable, l.value)) k.listener)) apps.now.kinds)
+        (F.holds shelf.old (string_bytes config.now)) (F.holds shelf.old (string_bytes dar.now))
+        begun.server.core.switch.setup) }
+    ensures unserved { IfErr result
+        (λ ran.
+        (edge : EdgeState) (told : Told) (sources : Sources)
+        → Serves apps.now.names
+        (map
+        (λ k.
+        both_charters (stated (k.servlet.vtable, k.servlet.value))
+        (option_map (λ l. listens (l.vtable, l.value)) k.listener)) apps.now.kinds)
+        (F.holds shelf.old (string_bytes config.now))
+        (F.holds shelf.old (string_bytes dar.now))
+        (Rose (F.faults shelf.old) (F.faults shelf.new)) edge edge told told sources sources
+        ran ran.journal) }
 {
     match read_settings(alloc, config, dar, shelf, apps.names()) {
         Ok(settings) => begin_over(alloc, settings, apps),
@@ -73,10 +108,35 @@ fn begin_named<F: Shelf>(
 
 /// A server with these settings.
 fn begin_over(alloc: Global, settings: Settings, apps: &Catalogue) -> Result<Begun, Ran>
-    requires { IsSetup (record { config = settings.config; dar = settings.dar; kinds = (map (λ k. both_charters (stated (k.servlet.vtable, k.servlet.value)) (option_map (λ l. listens (l.vtable, l.value)) k.listener)) apps.now.kinds) }) }
+    requires { IsSetup
+        (record {
+          config = settings.config;
+          dar = settings.dar;
+          kinds =
+              (map (λ k. both_charters (stated (k.servlet.vtable, k.servlet.value)) (option_map (λ l. listens (l.vtable, l.value)) k.listener)) apps.now.kinds);
+        }) }
     ensures new { IfOk result (λ begun. IsNew begun.server) }
-    ensures setup { IfOk result (λ begun. begun.server.core.switch.setup ≡ record { config = settings.config; dar = settings.dar; kinds = (map (λ k. both_charters (stated (k.servlet.vtable, k.servlet.value)) (option_map (λ l. listens (l.vtable, l.value)) k.listener)) apps.now.kinds) }) }
-    ensures unserved { IfErr result (λ ran. (edge : EdgeState) (told : Told) → IsServed (record { setup = record { config = settings.config; dar = settings.dar; kinds = (map (λ k. both_charters (stated (k.servlet.vtable, k.servlet.value)) (option_map (λ l. listens (l.vtable, l.value)) k.listener)) apps.now.kinds) }; told = told; edge = edge; moments = []; orders = [] }) edge told ran) }
+    ensures setup { IfOk result
+        (λ begun.
+        begun.server.core.switch.setup
+        ≡ record {
+          config = settings.config;
+          dar = settings.dar;
+          kinds =
+              (map (λ k. both_charters (stated (k.servlet.vtable, k.servlet.value)) (option_map (λ l. listens (l.vtable, l.value)) k.listener)) apps.now.kinds);
+        }) }
+    ensures unserved { IfErr result
+        (λ ran.
+        (edge : EdgeState) (told : Told)
+        → IsServed
+        (record {
+          setup =
+              record { config = settings.config; dar = settings.dar; kinds = (map (λ k. both_charters (stated (k.servlet.vtable, k.servlet.value)) (option_map (λ l. listens (l.vtable, l.value)) k.listener)) apps.now.kinds) };
+          told = told;
+          edge = edge;
+          moments = [];
+          orders = [];
+        }) edge told ran) }
 {
     let turning = Turning {
         epoch_steps: Within::of(settings.config.epoch_steps.get()),

@@ -14,7 +14,8 @@ use std::alloc::Global;
 /// The names of the configuration and of the routing table, None exactly where the words are not
 /// `serve CONFIG DAR`.
 pub fn served_names(words: &[String]) -> Option<(&String, &String)>
-    ensures { option_map (λ p. (string_bytes p.0.now, string_bytes p.1.now)) result ≡ served_names (map string_bytes words.now) }
+    ensures { option_map (λ p. (string_bytes p.0.now, string_bytes p.1.now)) result
+        ≡ served_names (map string_bytes words.now) }
 {
     let [word, config, dar] = words else {
         return None;
@@ -45,7 +46,8 @@ pub struct Listening {
 }
 
 /// What the settings of `serve CONFIG DAR` say of the outside: None of other words, and where the
-/// configuration or the routing table is refused or can't be read. `serve` reads them again, and says why.
+/// configuration or the routing table is refused or can't be read. `serve` reads them again, and
+/// says why.
 pub fn listening_at<F: Shelf>(
     alloc: Global,
     words: &[String],

@@ -18,9 +18,10 @@ use sc_terms::Step;
 use sc_value::NoMemory;
 use std::sync::Wait;
 
-/// A round: what came is heard, an order and the clock are asked, turns are lent out, those that were made are
-/// taken, and what was sent is put. Then steps are handed on that are recorded, and the notice is told what lives, each
-/// where it is due. Whether anything came, was lent, was taken or was put.
+/// A round: what came is heard, an order and the clock are asked, turns are lent out, those that
+/// were made are taken, and what was sent is put. Then steps are handed on that are recorded, and
+/// the notice is told what lives, each where it is due. Whether anything came, was lent, was taken
+/// or was put.
 ///
 /// # Errors
 ///
@@ -35,8 +36,16 @@ pub fn round<R: Wait, E: Edge, T: Clock, O: Orders, N: Notice<Journal<Step>>>(
     notice: &mut N,
     apps: &Catalogue,
 ) -> Result<bool, Stop>
-    ensures ok { OnOk result (GoesOn server.old server.new (E.state edge.old) (E.state edge.new) (N.noted notice.old) (N.noted notice.new) ((T.asked clock.old, T.comes clock.old), (O.asked orders.old, O.comes orders.old)) ((T.asked clock.new, T.comes clock.new), (O.asked orders.new, O.comes orders.new))) }
-    ensures err { OnErr result (HaltsOn server.old server.new (E.state edge.old) (E.state edge.new) (N.noted notice.old) (N.noted notice.new) ((T.asked clock.old, T.comes clock.old), (O.asked orders.old, O.comes orders.old)) ((T.asked clock.new, T.comes clock.new), (O.asked orders.new, O.comes orders.new))) }
+    ensures ok { OnOk result
+        (GoesOn server.old server.new (E.state edge.old) (E.state edge.new) (N.noted notice.old)
+        (N.noted notice.new)
+        ((T.asked clock.old, T.comes clock.old), (O.asked orders.old, O.comes orders.old))
+        ((T.asked clock.new, T.comes clock.new), (O.asked orders.new, O.comes orders.new))) }
+    ensures err { OnErr result
+        (HaltsOn server.old server.new (E.state edge.old) (E.state edge.new) (N.noted notice.old)
+        (N.noted notice.new)
+        ((T.asked clock.old, T.comes clock.old), (O.asked orders.old, O.comes orders.old))
+        ((T.asked clock.new, T.comes clock.new), (O.asked orders.new, O.comes orders.new))) }
     ensures due { IfErr result (λ cause. IsDueAt server.new.core.switch cause) }
     ensures later { CountsOn (E.state edge.old) (E.state edge.new) }
     ensures blames { IfErr result (λ cause. Blames (E.state edge.old) (E.state edge.new) cause) }
@@ -73,12 +82,17 @@ fn hear_once<E: Edge, N: Notice<Journal<Step>>>(
     edge: &mut E,
     notice: &mut N,
 ) -> Result<bool, Stop>
-    ensures ok { OnOk result (Goes server.old server.new (E.state edge.old) (E.state edge.new) (N.noted notice.old) (N.noted notice.new)) }
-    ensures err { OnErr result (Halts server.old server.new (E.state edge.old) (E.state edge.new) (N.noted notice.old) (N.noted notice.new)) }
+    ensures ok { OnOk result
+        (Goes server.old server.new (E.state edge.old) (E.state edge.new) (N.noted notice.old)
+        (N.noted notice.new)) }
+    ensures err { OnErr result
+        (Halts server.old server.new (E.state edge.old) (E.state edge.new) (N.noted notice.old)
+        (N.noted notice.new)) }
     ensures due { IfErr result (λ cause. IsDueAt server.new.core.switch cause) }
     ensures later { CountsOn (E.state edge.old) (E.state edge.new) }
     ensures blames { IfErr result (λ cause. Blames (E.state edge.old) (E.state edge.new) cause) }
-    ensures hears { OnOk result (Hears server.old server.new (E.state edge.old) (E.state edge.new)) }
+    ensures hears { OnOk result
+        (Hears server.old server.new (E.state edge.old) (E.state edge.new)) }
     ensures polled { OnErr result ((E.state edge.new).polls ≡ one_more (E.state edge.old).polls) }
 {
     if !server.takes_more() {
@@ -96,8 +110,12 @@ fn poll_once<E: Edge, N: Notice<Journal<Step>>>(
     edge: &mut E,
     notice: &mut N,
 ) -> Result<bool, Stop>
-    ensures ok { OnOk result (Goes server.old server.new (E.state edge.old) (E.state edge.new) (N.noted notice.old) (N.noted notice.new)) }
-    ensures err { OnErr result (Halts server.old server.new (E.state edge.old) (E.state edge.new) (N.noted notice.old) (N.noted notice.new)) }
+    ensures ok { OnOk result
+        (Goes server.old server.new (E.state edge.old) (E.state edge.new) (N.noted notice.old)
+        (N.noted notice.new)) }
+    ensures err { OnErr result
+        (Halts server.old server.new (E.state edge.old) (E.state edge.new) (N.noted notice.old)
+        (N.noted notice.new)) }
     ensures due { IfErr result (λ cause. IsDueAt server.new.core.switch cause) }
     ensures later { CountsOn (E.state edge.old) (E.state edge.new) }
     ensures blames { IfErr result (λ cause. Blames (E.state edge.old) (E.state edge.new) cause) }
@@ -135,8 +153,8 @@ fn is_fault(got: Got) -> bool
     }
 }
 
-/// Takes one order, asks the clock, lends out turns and takes those that were made: whether an order was taken,
-/// or a turn was lent or taken.
+/// Takes one order, asks the clock, lends out turns and takes those that were made: whether an
+/// order was taken, or a turn was lent or taken.
 fn step_once<R: Wait, T: Clock, O: Orders, N: Notice<Journal<Step>>>(
     rt: &R,
     server: &mut Server,
@@ -146,8 +164,16 @@ fn step_once<R: Wait, T: Clock, O: Orders, N: Notice<Journal<Step>>>(
     notice: &mut N,
     apps: &Catalogue,
 ) -> Result<bool, Stop>
-    ensures ok { OnOk result ((edge : EdgeState) → Works server.old server.new edge (N.noted notice.old) (N.noted notice.new) ((T.asked clock.old, T.comes clock.old), (O.asked orders.old, O.comes orders.old)) ((T.asked clock.new, T.comes clock.new), (O.asked orders.new, O.comes orders.new))) }
-    ensures err { OnErr result ((edge : EdgeState) → WorksPart server.old server.new edge (N.noted notice.old) (N.noted notice.new) ((T.asked clock.old, T.comes clock.old), (O.asked orders.old, O.comes orders.old)) ((T.asked clock.new, T.comes clock.new), (O.asked orders.new, O.comes orders.new))) }
+    ensures ok { OnOk result
+        ((edge : EdgeState)
+        → Works server.old server.new edge (N.noted notice.old) (N.noted notice.new)
+        ((T.asked clock.old, T.comes clock.old), (O.asked orders.old, O.comes orders.old))
+        ((T.asked clock.new, T.comes clock.new), (O.asked orders.new, O.comes orders.new))) }
+    ensures err { OnErr result
+        ((edge : EdgeState)
+        → WorksPart server.old server.new edge (N.noted notice.old) (N.noted notice.new)
+        ((T.asked clock.old, T.comes clock.old), (O.asked orders.old, O.comes orders.old))
+        ((T.asked clock.new, T.comes clock.new), (O.asked orders.new, O.comes orders.new))) }
     ensures due { IfErr result (λ cause. IsDueAt server.new.core.switch cause) }
     ensures blames { IfErr result (λ cause. (edge : EdgeState) → Blames edge edge cause) }
     ensures unpolled { server.new.unpolled ≡ server.old.unpolled }
@@ -164,15 +190,19 @@ fn step_once<R: Wait, T: Clock, O: Orders, N: Notice<Journal<Step>>>(
     }
 }
 
-/// Puts what is left to each place once, and closes the places that gave what is no message: whether anything
-/// was put or failed.
+/// Puts what is left to each place once, and closes the places that gave what is no message:
+/// whether anything was put or failed.
 fn put_once<E: Edge, N: Notice<Journal<Step>>>(
     server: &mut Server,
     edge: &mut E,
     notice: &mut N,
 ) -> Result<bool, Stop>
-    ensures ok { OnOk result (Goes server.old server.new (E.state edge.old) (E.state edge.new) (N.noted notice.old) (N.noted notice.new)) }
-    ensures err { OnErr result (Halts server.old server.new (E.state edge.old) (E.state edge.new) (N.noted notice.old) (N.noted notice.new)) }
+    ensures ok { OnOk result
+        (Goes server.old server.new (E.state edge.old) (E.state edge.new) (N.noted notice.old)
+        (N.noted notice.new)) }
+    ensures err { OnErr result
+        (Halts server.old server.new (E.state edge.old) (E.state edge.new) (N.noted notice.old)
+        (N.noted notice.new)) }
     ensures due { IfErr result (λ cause. IsDueAt server.new.core.switch cause) }
     ensures later { CountsOn (E.state edge.old) (E.state edge.new) }
     ensures blames { IfErr result (λ cause. Blames (E.state edge.old) (E.state edge.new) cause) }
@@ -192,14 +222,19 @@ fn put_once<E: Edge, N: Notice<Journal<Step>>>(
     }
 }
 
-/// Puts what is left to each place once. An entry that is done is taken out, so it goes from the last one on.
+/// Puts what is left to each place once. An entry that is done is taken out, so it goes from the
+/// last one on.
 fn put_all<E: Edge, N: Notice<Journal<Step>>>(
     server: &mut Server,
     edge: &mut E,
     notice: &mut N,
 ) -> Result<bool, Stop>
-    ensures ok { OnOk result (Goes server.old server.new (E.state edge.old) (E.state edge.new) (N.noted notice.old) (N.noted notice.new)) }
-    ensures err { OnErr result (Halts server.old server.new (E.state edge.old) (E.state edge.new) (N.noted notice.old) (N.noted notice.new)) }
+    ensures ok { OnOk result
+        (Goes server.old server.new (E.state edge.old) (E.state edge.new) (N.noted notice.old)
+        (N.noted notice.new)) }
+    ensures err { OnErr result
+        (Halts server.old server.new (E.state edge.old) (E.state edge.new) (N.noted notice.old)
+        (N.noted notice.new)) }
     ensures due { IfErr result (λ cause. IsDueAt server.new.core.switch cause) }
     ensures later { CountsOn (E.state edge.old) (E.state edge.new) }
     ensures blames { IfErr result (λ cause. Blames (E.state edge.old) (E.state edge.new) cause) }
@@ -216,15 +251,20 @@ fn put_all<E: Edge, N: Notice<Journal<Step>>>(
     Ok(went)
 }
 
-/// Puts what is left to the place of this entry, where there is one: whether anything was put or failed.
+/// Puts what is left to the place of this entry, where there is one: whether anything was put or
+/// failed.
 fn put_at<E: Edge, N: Notice<Journal<Step>>>(
     server: &mut Server,
     edge: &mut E,
     notice: &mut N,
     at: usize,
 ) -> Result<bool, Stop>
-    ensures ok { OnOk result (Goes server.old server.new (E.state edge.old) (E.state edge.new) (N.noted notice.old) (N.noted notice.new)) }
-    ensures err { OnErr result (Halts server.old server.new (E.state edge.old) (E.state edge.new) (N.noted notice.old) (N.noted notice.new)) }
+    ensures ok { OnOk result
+        (Goes server.old server.new (E.state edge.old) (E.state edge.new) (N.noted notice.old)
+        (N.noted notice.new)) }
+    ensures err { OnErr result
+        (Halts server.old server.new (E.state edge.old) (E.state edge.new) (N.noted notice.old)
+        (N.noted notice.new)) }
     ensures due { IfErr result (λ cause. IsDueAt server.new.core.switch cause) }
     ensures later { CountsOn (E.state edge.old) (E.state edge.new) }
     ensures blames { IfErr result (λ cause. Blames (E.state edge.old) (E.state edge.new) cause) }
@@ -242,15 +282,19 @@ fn put_at<E: Edge, N: Notice<Journal<Step>>>(
     }
 }
 
-/// Hands on the steps that are recorded, and tells the notice what lives, each where it is due. `busy` is whether
-/// anything came, was lent, was taken or was put.
+/// Hands on the steps that are recorded, and tells the notice what lives, each where it is due.
+/// `busy` is whether anything came, was lent, was taken or was put.
 fn tell_once<N: Notice<Journal<Step>>>(
     server: &mut Server,
     notice: &mut N,
     busy: bool,
 ) -> Result<(), Stop>
-    ensures ok { OnOk result ((edge : EdgeState) → Goes server.old server.new edge edge (N.noted notice.old) (N.noted notice.new)) }
-    ensures err { OnErr result ((edge : EdgeState) → Halts server.old server.new edge edge (N.noted notice.old) (N.noted notice.new)) }
+    ensures ok { OnOk result
+        ((edge : EdgeState)
+        → Goes server.old server.new edge edge (N.noted notice.old) (N.noted notice.new)) }
+    ensures err { OnErr result
+        ((edge : EdgeState)
+        → Halts server.old server.new edge edge (N.noted notice.old) (N.noted notice.new)) }
     ensures due { IfErr result (λ cause. IsDueAt server.new.core.switch cause) }
     ensures blames { IfErr result (λ cause. (edge : EdgeState) → Blames edge edge cause) }
     ensures unpolled { server.new.unpolled ≡ server.old.unpolled }

@@ -23,8 +23,8 @@ use std::thread::Threads;
 /// The board has room for so many jobs, and for one more of each worker.
 const ROOM: usize = 64;
 
-/// How many milliseconds a server without work waits at most, until it asks its edge, the clock and orders again.
-/// What comes to the edge ends the wait.
+/// How many milliseconds a server without work waits at most, until it asks its edge, the clock and
+/// orders again. What comes to the edge ends the wait.
 const REST: u64 = 20;
 
 /// How many milliseconds it waits at most where a turn is lent out.
@@ -53,8 +53,16 @@ pub fn run_beside<
     notice: &mut N,
     apps: &Catalogue,
 ) -> Result<(), Stop>
-    ensures ok { OnOk result (FinishesOn server.old server.new (E.state edge.old) (E.state edge.new) (N.noted notice.old) (N.noted notice.new) ((T.asked clock.old, T.comes clock.old), (O.asked orders.old, O.comes orders.old)) ((T.asked clock.new, T.comes clock.new), (O.asked orders.new, O.comes orders.new))) }
-    ensures err { OnErr result (HaltsOn server.old server.new (E.state edge.old) (E.state edge.new) (N.noted notice.old) (N.noted notice.new) ((T.asked clock.old, T.comes clock.old), (O.asked orders.old, O.comes orders.old)) ((T.asked clock.new, T.comes clock.new), (O.asked orders.new, O.comes orders.new))) }
+    ensures ok { OnOk result
+        (FinishesOn server.old server.new (E.state edge.old) (E.state edge.new) (N.noted notice.old)
+        (N.noted notice.new)
+        ((T.asked clock.old, T.comes clock.old), (O.asked orders.old, O.comes orders.old))
+        ((T.asked clock.new, T.comes clock.new), (O.asked orders.new, O.comes orders.new))) }
+    ensures err { OnErr result
+        (HaltsOn server.old server.new (E.state edge.old) (E.state edge.new) (N.noted notice.old)
+        (N.noted notice.new)
+        ((T.asked clock.old, T.comes clock.old), (O.asked orders.old, O.comes orders.old))
+        ((T.asked clock.new, T.comes clock.new), (O.asked orders.new, O.comes orders.new))) }
     ensures due { IfErr result (λ cause. IsDueAt server.new.core.switch cause) }
     ensures later { CountsOn (E.state edge.old) (E.state edge.new) }
     ensures blames { IfErr result (λ cause. Blames (E.state edge.old) (E.state edge.new) cause) }
@@ -72,7 +80,8 @@ pub fn run_beside<
     }
 }
 
-/// Runs a server at a board, of which this is the first pass, beside a worker for each of the others.
+/// Runs a server at a board, of which this is the first pass, beside a worker for each of the
+/// others.
 fn run_at<
     R: Threads + Wait + Sync,
     E: Edge,
@@ -98,8 +107,16 @@ fn run_at<
     requires kinds { (jobs_of pass).kinds ≡ length apps.now.kinds }
     requires last { (jobs_of pass).last ≡ 0 }
     requires passes { All (MayWork board.now (length apps.now.kinds)) passes.items }
-    ensures ok { OnOk result (FinishesOn server.old server.new (E.state edge.old) (E.state edge.new) (N.noted notice.old) (N.noted notice.new) ((T.asked clock.old, T.comes clock.old), (O.asked orders.old, O.comes orders.old)) ((T.asked clock.new, T.comes clock.new), (O.asked orders.new, O.comes orders.new))) }
-    ensures err { OnErr result (HaltsOn server.old server.new (E.state edge.old) (E.state edge.new) (N.noted notice.old) (N.noted notice.new) ((T.asked clock.old, T.comes clock.old), (O.asked orders.old, O.comes orders.old)) ((T.asked clock.new, T.comes clock.new), (O.asked orders.new, O.comes orders.new))) }
+    ensures ok { OnOk result
+        (FinishesOn server.old server.new (E.state edge.old) (E.state edge.new) (N.noted notice.old)
+        (N.noted notice.new)
+        ((T.asked clock.old, T.comes clock.old), (O.asked orders.old, O.comes orders.old))
+        ((T.asked clock.new, T.comes clock.new), (O.asked orders.new, O.comes orders.new))) }
+    ensures err { OnErr result
+        (HaltsOn server.old server.new (E.state edge.old) (E.state edge.new) (N.noted notice.old)
+        (N.noted notice.new)
+        ((T.asked clock.old, T.comes clock.old), (O.asked orders.old, O.comes orders.old))
+        ((T.asked clock.new, T.comes clock.new), (O.asked orders.new, O.comes orders.new))) }
     ensures due { IfErr result (λ cause. IsDueAt server.new.core.switch cause) }
     ensures later { CountsOn (E.state edge.old) (E.state edge.new) }
     ensures blames { IfErr result (λ cause. Blames (E.state edge.old) (E.state edge.new) cause) }
@@ -108,11 +125,28 @@ fn run_at<
     let workers = passes.len();
     let mut seat = Some(Seat::new(board, pass, apps.kinds.len()));
     let mut here = || -> Result<(), Stop>
-        ensures ok { OnOk result (FinishesOn server.entry.now server.exit.now (E.state edge.entry.now) (E.state edge.exit.now) (N.noted notice.entry.now) (N.noted notice.exit.now) ((T.asked clock.entry.now, T.comes clock.entry.now), (O.asked orders.entry.now, O.comes orders.entry.now)) ((T.asked clock.exit.now, T.comes clock.exit.now), (O.asked orders.exit.now, O.comes orders.exit.now))) }
-        ensures err { OnErr result (HaltsOn server.entry.now server.exit.now (E.state edge.entry.now) (E.state edge.exit.now) (N.noted notice.entry.now) (N.noted notice.exit.now) ((T.asked clock.entry.now, T.comes clock.entry.now), (O.asked orders.entry.now, O.comes orders.entry.now)) ((T.asked clock.exit.now, T.comes clock.exit.now), (O.asked orders.exit.now, O.comes orders.exit.now))) }
+        ensures ok { OnOk result
+            (FinishesOn server.entry.now server.exit.now (E.state edge.entry.now)
+            (E.state edge.exit.now) (N.noted notice.entry.now) (N.noted notice.exit.now) (
+              (T.asked clock.entry.now, T.comes clock.entry.now),
+              (O.asked orders.entry.now, O.comes orders.entry.now),
+            ) (
+              (T.asked clock.exit.now, T.comes clock.exit.now),
+              (O.asked orders.exit.now, O.comes orders.exit.now),
+            )) }
+        ensures err { OnErr result
+            (HaltsOn server.entry.now server.exit.now (E.state edge.entry.now)
+            (E.state edge.exit.now) (N.noted notice.entry.now) (N.noted notice.exit.now) (
+              (T.asked clock.entry.now, T.comes clock.entry.now),
+              (O.asked orders.entry.now, O.comes orders.entry.now),
+            ) (
+              (T.asked clock.exit.now, T.comes clock.exit.now),
+              (O.asked orders.exit.now, O.comes orders.exit.now),
+            )) }
         ensures due { IfErr result (λ cause. IsDueAt server.exit.now.core.switch cause) }
         ensures later { CountsOn (E.state edge.entry.now) (E.state edge.exit.now) }
-        ensures blames { IfErr result (λ cause. Blames (E.state edge.entry.now) (E.state edge.exit.now) cause) }
+        ensures blames { IfErr result
+            (λ cause. Blames (E.state edge.entry.now) (E.state edge.exit.now) cause) }
     {
         run_for(
             rt, workers, server, &mut seat, edge, clock, orders, notice, apps,
@@ -134,8 +168,16 @@ fn run_for<R: Wait, E: Edge, T: Clock, O: Orders, N: Notice<Journal<Step>>>(
     notice: &mut N,
     apps: &Catalogue,
 ) -> Result<(), Stop>
-    ensures ok { OnOk result (FinishesOn server.old server.new (E.state edge.old) (E.state edge.new) (N.noted notice.old) (N.noted notice.new) ((T.asked clock.old, T.comes clock.old), (O.asked orders.old, O.comes orders.old)) ((T.asked clock.new, T.comes clock.new), (O.asked orders.new, O.comes orders.new))) }
-    ensures err { OnErr result (HaltsOn server.old server.new (E.state edge.old) (E.state edge.new) (N.noted notice.old) (N.noted notice.new) ((T.asked clock.old, T.comes clock.old), (O.asked orders.old, O.comes orders.old)) ((T.asked clock.new, T.comes clock.new), (O.asked orders.new, O.comes orders.new))) }
+    ensures ok { OnOk result
+        (FinishesOn server.old server.new (E.state edge.old) (E.state edge.new) (N.noted notice.old)
+        (N.noted notice.new)
+        ((T.asked clock.old, T.comes clock.old), (O.asked orders.old, O.comes orders.old))
+        ((T.asked clock.new, T.comes clock.new), (O.asked orders.new, O.comes orders.new))) }
+    ensures err { OnErr result
+        (HaltsOn server.old server.new (E.state edge.old) (E.state edge.new) (N.noted notice.old)
+        (N.noted notice.new)
+        ((T.asked clock.old, T.comes clock.old), (O.asked orders.old, O.comes orders.old))
+        ((T.asked clock.new, T.comes clock.new), (O.asked orders.new, O.comes orders.new))) }
     ensures due { IfErr result (λ cause. IsDueAt server.new.core.switch cause) }
     ensures later { CountsOn (E.state edge.old) (E.state edge.new) }
     ensures blames { IfErr result (λ cause. Blames (E.state edge.old) (E.state edge.new) cause) }
@@ -146,7 +188,8 @@ fn run_for<R: Wait, E: Edge, T: Clock, O: Orders, N: Notice<Journal<Step>>>(
     ended
 }
 
-/// Makes rounds until the run is over. After a round in which nothing came, was lent, was taken or was put it rests.
+/// Makes rounds until the run is over. After a round in which nothing came, was lent, was taken or
+/// was put it rests.
 ///
 /// # Errors
 ///
@@ -161,8 +204,16 @@ pub fn run<R: Wait, E: Edge, T: Clock, O: Orders, N: Notice<Journal<Step>>>(
     notice: &mut N,
     apps: &Catalogue,
 ) -> Result<(), Stop>
-    ensures ok { OnOk result (FinishesOn server.old server.new (E.state edge.old) (E.state edge.new) (N.noted notice.old) (N.noted notice.new) ((T.asked clock.old, T.comes clock.old), (O.asked orders.old, O.comes orders.old)) ((T.asked clock.new, T.comes clock.new), (O.asked orders.new, O.comes orders.new))) }
-    ensures err { OnErr result (HaltsOn server.old server.new (E.state edge.old) (E.state edge.new) (N.noted notice.old) (N.noted notice.new) ((T.asked clock.old, T.comes clock.old), (O.asked orders.old, O.comes orders.old)) ((T.asked clock.new, T.comes clock.new), (O.asked orders.new, O.comes orders.new))) }
+    ensures ok { OnOk result
+        (FinishesOn server.old server.new (E.state edge.old) (E.state edge.new) (N.noted notice.old)
+        (N.noted notice.new)
+        ((T.asked clock.old, T.comes clock.old), (O.asked orders.old, O.comes orders.old))
+        ((T.asked clock.new, T.comes clock.new), (O.asked orders.new, O.comes orders.new))) }
+    ensures err { OnErr result
+        (HaltsOn server.old server.new (E.state edge.old) (E.state edge.new) (N.noted notice.old)
+        (N.noted notice.new)
+        ((T.asked clock.old, T.comes clock.old), (O.asked orders.old, O.comes orders.old))
+        ((T.asked clock.new, T.comes clock.new), (O.asked orders.new, O.comes orders.new))) }
     ensures due { IfErr result (λ cause. IsDueAt server.new.core.switch cause) }
     ensures later { CountsOn (E.state edge.old) (E.state edge.new) }
     ensures blames { IfErr result (λ cause. Blames (E.state edge.old) (E.state edge.new) cause) }

@@ -13,7 +13,8 @@ const ROOM: usize = 4_096;
 /// So many rounds in a row go by at most without a poll.
 const MOST_UNPOLLED: u32 = 15;
 
-/// Where more application sessions live, what lives is told each second at most while nothing else is to do.
+/// Where more application sessions live, what lives is told each second at most while nothing else
+/// is to do.
 const FEW: u64 = 256;
 
 /// What a server holds between two rounds.
@@ -53,8 +54,8 @@ impl Server {
         }
     }
 
-    /// Begins a round: whether it polls the edge. It doesn't while a turn is due, so that what came is worked on before
-    /// more is heard; but one of 16 rounds does in any case.
+    /// Begins a round: whether it polls the edge. It doesn't while a turn is due, so that what came
+    /// is worked on before more is heard; but one of 16 rounds does in any case.
     pub fn takes_more(&mut self) -> bool
         ensures core { self.new.core ≡ self.old.core }
         ensures streams { self.new.streams ≡ self.old.streams }
@@ -74,8 +75,8 @@ impl Server {
         true
     }
 
-    /// Whether telling what lives waits for more steps, as there is other work, or it would come more often than the
-    /// clock goes on. At the end nothing is waited for.
+    /// Whether telling what lives waits for more steps, as there is other work, or it would come
+    /// more often than the clock goes on. At the end nothing is waited for.
     pub fn puts_off_listing(&self, is_busy: bool) -> bool {
         is_busy || self.core.switch.leases() > 0 || !(self.ticked || self.watch.is_over())
     }
@@ -109,8 +110,9 @@ impl Server {
         }
     }
 
-    /// Remembers what a put to a place came to: whether bytes were taken, or the place failed. Only a connection that
-    /// the server made can begin by a put; one that ended before isn't open again by what is still put on it.
+    /// Remembers what a put to a place came to: whether bytes were taken, or the place failed. Only
+    /// a connection that the server made can begin by a put; one that ended before isn't open again
+    /// by what is still put on it.
     pub fn note_put(&mut self, place: Place, went: Went) -> Result<bool, NoMemory>
         ensures core { self.new.core ≡ self.old.core }
         ensures streams { self.new.streams ≡ self.old.streams }
@@ -131,8 +133,8 @@ impl Server {
         }
     }
 
-    /// Whether the run is over: no more is waited for, no event waits, no turn is lent out, nothing is left to be put,
-    /// and the notice was told what lives behind the last step.
+    /// Whether the run is over: no more is waited for, no event waits, no turn is lent out, nothing
+    /// is left to be put, and the notice was told what lives behind the last step.
     pub fn is_done(&self) -> bool
         ensures left { result ≡ true → (place : Place) → left_at self.now.core.outs place ≡ [] }
         ensures listed { result ≡ true → self.now.core.unlisted ≡ 0 }
@@ -151,8 +153,9 @@ fn is_made_here(place: Place) -> bool {
     matches!(place, Place::To(..))
 }
 
-/// Whether the clock goes on from one moment to another so far that what lives is to be told, where so many sessions
-/// live. A listing walks over them, so many are told each second and not at each moment.
+/// Whether the clock goes on from one moment to another so far that what lives is to be told, where
+/// so many sessions live. A listing walks over them, so many are told each second and not at each
+/// moment.
 fn goes_on(before: u64, now: u64, live: u64) -> bool {
     if live > FEW {
         now / 1_000 != before / 1_000

@@ -12,7 +12,8 @@ pub struct Watch {
     stop_after: u64,
     /// How many ended.
     ended: u64,
-    /// The connections that gave or took bytes and haven't ended; kept only where `stop_after` isn't 0.
+    /// The connections that gave or took bytes and haven't ended; kept only where `stop_after`
+    /// isn't 0.
     open: List<Place>,
     /// Nothing comes any more from anywhere.
     closed: bool,
@@ -41,8 +42,8 @@ impl Watch {
         Ok(())
     }
 
-    /// The edge told that the connection ended or failed, which it tells once of each. That of a peer counts though it
-    /// gave and took nothing.
+    /// The edge told that the connection ended or failed, which it tells once of each. That of a
+    /// peer counts though it gave and took nothing.
     pub fn note_end(&mut self, place: Place) {
         if matches!(place, Place::Back(_)) || self.is_open(place) {
             self.count_end(place);
@@ -68,7 +69,8 @@ impl Watch {
             .any(|other| same_place(*other, place))
     }
 
-    /// Whether no more is waited for: nothing comes any more, or enough connections ended and none is open.
+    /// Whether no more is waited for: nothing comes any more, or enough connections ended and none
+    /// is open.
     pub fn is_over(&self) -> bool {
         self.closed
             || (self.stop_after > 0 && self.ended >= self.stop_after && self.open.is_empty())

@@ -1,5 +1,5 @@
-//! What the cases on `serve` are made of: rows with what comes to an edge in memory, to a clock and to orders, and the
-//! lines that are told of what came of it.
+//! What the cases on `serve` are made of: rows with what comes to an edge in memory, to a clock and
+//! to orders, and the lines that are told of what came of it.
 #![tactic(auto)]
 
 mod answers;

@@ -30,7 +30,8 @@ fn settings_text(alloc: Global, more: &[u8]) -> Result<Text, NoMemory> {
     Ok(text)
 }
 
-/// A shelf of a configuration with these lines more and of this table, whose read of this number fails; 0 for none.
+/// A shelf of a configuration with these lines more and of this table, whose read of this number
+/// fails; 0 for none.
 pub fn shelf_of(
     alloc: Global,
     more: &[u8],

@@ -66,7 +66,8 @@ pub fn tell_took(number: u64, took: &Text, told: &mut Text) -> Result<(), NoMemo
     told.append(b"\n")
 }
 
-// The names of the known texts, up to four that stand at the front, and the number of bytes behind them.
+// The names of the known texts, up to four that stand at the front, and the number of bytes behind
+// them.
 fn tell_texts(took: &[u8], told: &mut Text) -> Result<(), NoMemory> {
     let mut rest = took;
     for _ in 0..4 {

@@ -16,7 +16,8 @@ Promises charter view event calls end = Plays view (servlet_script charter view 
 
 -- what a listener of this charter promises
 unfoldable pub ListenerPromises : ListenerCharter → View → Event → List CallRecord → End → Type 0
-ListenerPromises charter view event calls end = Plays view (listener_script charter view event) calls end
+ListenerPromises charter view event calls end =
+    Plays view (listener_script charter view event) calls end
 
 -- a turn that wanted memory owes nothing
 unfoldable pub Meets : End → Type 0 → Type 0
@@ -26,16 +27,21 @@ Meets ends.Starved P = Unit {0}
 
 -- each call has its right answer, and the servlet kept its charter
 abbrev pub ServletAllowed : Charter → View → Event → List CallRecord → End → Type 0
-ServletAllowed charter view event calls end = IsAnswered view calls × Promises charter view event calls end
+ServletAllowed charter view event calls end =
+    IsAnswered view calls × Promises charter view event calls end
 
 -- each call has its right answer, and the listener kept its charter
 abbrev pub ListenerAllowed : ListenerCharter → View → Event → List CallRecord → End → Type 0
-ListenerAllowed charter view event calls end = IsAnswered view calls × ListenerPromises charter view event calls end
+ListenerAllowed charter view event calls end =
+    IsAnswered view calls × ListenerPromises charter view event calls end
 
 -- by whom was called: a servlet, a listener, or nobody, who makes no call
-unfoldable pub CalledAllowed : View → Option Event → Option Charter → Option ListenerCharter → List CallRecord → End → Type 0
-CalledAllowed view (Some event) (Some charter) None calls end = ServletAllowed charter view event calls end
-CalledAllowed view (Some event) None (Some charter) calls end = ListenerAllowed charter view event calls end
+unfoldable pub CalledAllowed : View → Option Event → Option Charter → Option ListenerCharter
+    → List CallRecord → End → Type 0
+CalledAllowed view (Some event) (Some charter) None calls end =
+    ServletAllowed charter view event calls end
+CalledAllowed view (Some event) None (Some charter) calls end =
+    ListenerAllowed charter view event calls end
 CalledAllowed view (Some event) (Some charter) (Some listener) calls end = ⊥
 CalledAllowed view (Some event) None None calls end = IsSilent calls end
 CalledAllowed view None None None calls end = IsSilent calls end
@@ -43,11 +49,13 @@ CalledAllowed view None (Some charter) listener calls end = ⊥
 CalledAllowed view None None (Some charter) calls end = ⊥
 
 -- what is brought of a turn that showed this view and event
-unfoldable pub IsBrought : View → Option Event → Option Charter → Option ListenerCharter → List CallRecord → End → Type 0
-IsBrought view event charter listener calls end = Meets end (CalledAllowed view event charter listener calls end)
+unfoldable pub IsBrought : View → Option Event → Option Charter → Option ListenerCharter
+    → List CallRecord → End → Type 0
+IsBrought view event charter listener calls end =
+    Meets end (CalledAllowed view event charter listener calls end)
 
--- the servlet's charter where it is called at the event: at all but those of the application session itself
--- (JSR 289 section 6.1.2)
+-- the servlet's charter where it is called at the event: at all but those of the application
+-- session itself (JSR 289 section 6.1.2)
 unfoldable pub called_servlet : Option Event → Charter → Option Charter
 called_servlet None charter = None
 called_servlet (Some event) charter = if is_listened event then None else Some charter

@@ -59,8 +59,14 @@ impl Catalogue {
         listener: Option<Box<dyn Listener>>,
     ) -> Result<(), AddRefused>
         ensures names { OnOk result (self.new.names ≡ self.old.names ++ name ∷ []) }
-        ensures charters { OnOk result (map (λ k. both_charters (stated k.servlet) (option_map (λ l. listens l) k.listener)) self.new.kinds ≡ map (λ k. both_charters (stated k.servlet) (option_map (λ l. listens l) k.listener)) self.old.kinds ++ both_charters (stated servlet) (option_map (λ l. listens l) listener) ∷ []) }
-        ensures double { IsErrOf result AddRefused.DoubleName ↔ IsTrue (is_some (position (λ known. same_bytes known name) self.old.names)) }
+        ensures charters { OnOk result
+            (map (λ k. both_charters (stated k.servlet) (option_map (λ l. listens l) k.listener))
+            self.new.kinds
+            ≡ map (λ k. both_charters (stated k.servlet) (option_map (λ l. listens l) k.listener))
+            self.old.kinds
+            ++ both_charters (stated servlet) (option_map (λ l. listens l) listener) ∷ []) }
+        ensures double { IsErrOf result AddRefused.DoubleName ↔ IsTrue
+            (is_some (position (λ known. same_bytes known name) self.old.names)) }
         ensures same_names { OnErr result (self.new.names ≡ self.old.names) }
         ensures same_kinds { OnErr result (self.new.kinds ≡ self.old.kinds) }
     {
@@ -102,7 +108,9 @@ impl Catalogue {
     /// The charters of a kind's servlet and listener.
     pub fn charters(&self, kind: usize) -> (Charter, Option<ListenerCharter>)
         requires { kind < length self.now.kinds }
-        ensures { slice_get (map (λ k. both_charters (stated k.servlet) (option_map (λ l. listens l) k.listener)) self.now.kinds) kind ≡ Some result }
+        ensures { slice_get
+            (map (λ k. both_charters (stated k.servlet) (option_map (λ l. listens l) k.listener))
+            self.now.kinds) kind ≡ Some result }
     {
         self.kinds.items[kind].charters()
     }
@@ -111,7 +119,9 @@ impl Catalogue {
 impl Kind {
     /// The charters of the servlet and of the listener.
     pub fn charters(&self) -> (Charter, Option<ListenerCharter>)
-        ensures { result ≡ both_charters (stated self.now.servlet) (option_map (λ l. listens l) self.now.listener) }
+        ensures { result
+            ≡ both_charters (stated self.now.servlet)
+            (option_map (λ l. listens l) self.now.listener) }
     {
         (self.servlet.charter(), listener_charter(&self.listener))
     }

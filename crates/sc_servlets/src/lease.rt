@@ -5,7 +5,8 @@ use sc_terms::{Event, View};
 use sc_value::{AppId, CloneIn, Discard, NoMemory, Same, Shared};
 use std::alloc::Global;
 
-/// A turn that is lent out to be made: what it is shown, and by which numbers it is known. A copy shares what is shown.
+/// A turn that is lent out to be made: what it is shown, and by which numbers it is known. A copy
+/// shares what is shown.
 #[derive(Drop)]
 pub struct Lease {
     /// The number of the lease, from 1.

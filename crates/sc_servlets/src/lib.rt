@@ -1,5 +1,5 @@
-//! The application's side: servlets and listeners, the catalogue of their kinds, and turns that are lent
-//! out, made and brought back (JSR 289 sections 3, 6 and 9).
+//! The application's side: servlets and listeners, the catalogue of their kinds, and turns that are
+//! lent out, made and brought back (JSR 289 sections 3, 6 and 9).
 #![tactic(auto)]
 
 mod catalogue;

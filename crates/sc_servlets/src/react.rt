@@ -21,16 +21,24 @@ struct Made {
 }
 
 impl Catalogue {
-    /// Makes the turn of a lease. At `Expired` and `Ready` the kind's listener is told, where there is
-    /// one, that the application session expires or is ready to go away (JSR 289 sections 6.1.2.1 and
-    /// 6.1.2.2). At every other event the kind's servlet is called. Else nobody is called: no calls,
-    /// and the end is `Fine`. For want of memory the end is `Starved`, whatever the servlet or listener
-    /// answered.
+    /// Makes the turn of a lease. At `Expired` and `Ready` the kind's listener is told, where there
+    /// is one, that the application session expires or is ready to go away (JSR 289 sections
+    /// 6.1.2.1 and 6.1.2.2). At every other event the kind's servlet is called. Else nobody is
+    /// called: no calls, and the end is `Fine`. For want of memory the end is `Starved`, whatever
+    /// the servlet or listener answered.
     pub fn react(&self, alloc: Global, lease: Lease) -> Done
         requires { lease.kind < length self.now.kinds }
         ensures lease { result.lease ≡ lease }
-        ensures charter { option_map (servlet_at lease.event) (slice_get (map (λ k. both_charters (stated k.servlet) (option_map (λ l. listens l) k.listener)) self.now.kinds) lease.kind) ≡ Some result.charter }
-        ensures listener { option_map (listener_at lease.event) (slice_get (map (λ k. both_charters (stated k.servlet) (option_map (λ l. listens l) k.listener)) self.now.kinds) lease.kind) ≡ Some result.listener }
+        ensures charter { option_map (servlet_at lease.event)
+            (slice_get
+            (map
+            (λ k. both_charters (stated k.servlet) (option_map (λ l. listens l) k.listener))
+            self.now.kinds) lease.kind) ≡ Some result.charter }
+        ensures listener { option_map (listener_at lease.event)
+            (slice_get
+            (map
+            (λ k. both_charters (stated k.servlet) (option_map (λ l. listens l) k.listener))
+            self.now.kinds) lease.kind) ≡ Some result.listener }
     {
         react_of(alloc, &self.kinds.items[lease.kind], lease)
     }
@@ -39,7 +47,8 @@ impl Catalogue {
 fn react_of(alloc: Global, kind: &Kind, lease: Lease) -> Done
     ensures lease { result.lease ≡ lease }
     ensures charter { result.charter ≡ called_servlet lease.event (stated kind.now.servlet) }
-    ensures listener { result.listener ≡ called_listener lease.event (option_map (λ l. listens l) kind.now.listener) }
+    ensures listener { result.listener
+        ≡ called_listener lease.event (option_map (λ l. listens l) kind.now.listener) }
 {
     let Lease {
         number,
@@ -75,8 +84,10 @@ fn react_of(alloc: Global, kind: &Kind, lease: Lease) -> Done
 fn made_of(alloc: Global, kind: &Kind, shown: Shared<View>, event: &Option<Shared<Event>>) -> Made
     ensures shown { result.called.shown ≡ shown }
     ensures charter { result.charter ≡ called_servlet event.now (stated kind.now.servlet) }
-    ensures listener { result.listener ≡ called_listener event.now (option_map (λ l. listens l) kind.now.listener) }
-    ensures brought { IsBrought shown event.now result.charter result.listener result.called.calls result.called.end }
+    ensures listener { result.listener
+        ≡ called_listener event.now (option_map (λ l. listens l) kind.now.listener) }
+    ensures brought { IsBrought shown event.now result.charter result.listener result.called.calls
+        result.called.end }
 {
     match event {
         None => nobody(alloc, shown),
@@ -116,7 +127,8 @@ fn made_told(
     ensures shown { result.called.shown ≡ shown }
     ensures charter { result.charter ≡ None }
     ensures listener { result.listener ≡ option_map (λ l. listens l) listener.now }
-    ensures brought { IsBrought shown (Some event.now) None result.listener result.called.calls result.called.end }
+    ensures brought { IsBrought shown (Some event.now) None result.listener result.called.calls
+        result.called.end }
 {
     match listener {
         Some(listener) => Made {
@@ -174,7 +186,8 @@ fn starved(alloc: Global, shown: Shared<View>) -> Called
 #[tactic(auto, unfolding(crate::specs::Brought::Meets))]
 fn call_servlet(alloc: Global, kind: &Kind, shown: Shared<View>, event: &Event) -> Called
     ensures shown { result.shown ≡ shown }
-    ensures allowed { Meets result.end (ServletAllowed (stated kind.now.servlet) shown event.now result.calls result.end) }
+    ensures allowed { Meets result.end
+        (ServletAllowed (stated kind.now.servlet) shown event.now result.calls result.end) }
 {
     match Turn::begin(alloc, shown) {
         Ok(mut turn) => {
@@ -194,7 +207,8 @@ fn call_listener(
 ) -> Called
     requires { is_listened event.now ≡ true }
     ensures shown { result.shown ≡ shown }
-    ensures allowed { Meets result.end (ListenerAllowed (listens listener.now) shown event.now result.calls result.end) }
+    ensures allowed { Meets result.end
+        (ListenerAllowed (listens listener.now) shown event.now result.calls result.end) }
 {
     match Turn::begin(alloc, shown) {
         Ok(mut turn) => {
@@ -210,7 +224,8 @@ fn servlet_turn(kind: &Kind, turn: &mut Turn, event: &Event) -> End
     requires calls { turn.old.calls ≡ [] }
     requires memory { turn.old.starved ≡ false }
     ensures same { turn.new.shown ≡ turn.old.shown }
-    ensures promised { Meets result (Promises (stated kind.now.servlet) turn.old.shown event.now turn.new.calls result) }
+    ensures promised { Meets result
+        (Promises (stated kind.now.servlet) turn.old.shown event.now turn.new.calls result) }
 {
     kind.servlet.turn(turn, event)
 }
@@ -222,7 +237,8 @@ fn listener_turn(listener: &Box<dyn Listener>, turn: &mut Turn, event: &Event) -
     requires calls { turn.old.calls ≡ [] }
     requires memory { turn.old.starved ≡ false }
     ensures same { turn.new.shown ≡ turn.old.shown }
-    ensures promised { Meets result (ListenerPromises (listens listener.now) turn.old.shown event.now turn.new.calls result) }
+    ensures promised { Meets result
+        (ListenerPromises (listens listener.now) turn.old.shown event.now turn.new.calls result) }
 {
     match event {
         Event::Expired => listener.expired(turn),

@@ -18,8 +18,8 @@ pub trait SipServlet: Send + Sync + Drop {
     fn charter(&self) -> Charter
         ensures { result ≡ stated self.now };
 
-    /// Handles an event. The turn comes with no calls made. A turn that doesn't end as `Starved` has
-    /// the calls and the end that the charter promises.
+    /// Handles an event. The turn comes with no calls made. A turn that doesn't end as `Starved`
+    /// has the calls and the end that the charter promises.
     fn turn(&self, t: &mut Turn, e: &Event) -> End
         requires calls { t.old.calls ≡ [] }
         requires memory { t.old.starved ≡ false }
@@ -45,8 +45,8 @@ pub trait Listener: Send + Sync + Drop {
         ensures same { t.new.shown ≡ t.old.shown }
         ensures promised { Meets result (ListenerPromises (listens self.now) t.old.shown Event.Expired t.new.calls result) };
 
-    /// The application session is ready to go away (JSR 289 section 6.1.2.2). The turn comes with no
-    /// calls made.
+    /// The application session is ready to go away (JSR 289 section 6.1.2.2). The turn comes with
+    /// no calls made.
     fn ready(&self, t: &mut Turn) -> End
         requires calls { t.old.calls ≡ [] }
         requires memory { t.old.starved ≡ false }

@@ -15,13 +15,21 @@ use Rattle.sc_shown.specs.declared.shown.Shown.{Shown}
 
 -- the session with what is shown of it
 abbrev pub prepared_as : Session → Shown → Prepared
-prepared_as session shown = record { view = session.view; known = session.known; event = shown.event; req = shown.req; orders = shown.orders }
+prepared_as session shown =
+    record {
+      view = session.view;
+      known = session.known;
+      event = shown.event;
+      req = shown.req;
+      orders = shown.orders;
+    }
 
 -- a later request taken in a SipSession of this role
 unfoldable pub taken_by : Session → ℕ → SessId → Role → Request → Prepared
 taken_by session number sess role request =
     let after : Session = received session number sess false (is_proxy role) request in
-    showing (record after { known = change_leg sess (with_request request) after.known }) (events.Request (next_id session) sess request) (Some (next_id session)) []
+    showing (record after { known = change_leg sess (with_request request) after.known })
+    (events.Request (next_id session) sess request) (Some (next_id session)) []
 
 -- so many branches more
 unfoldable pub more_branches : ℕ → RequestView → RequestView

@@ -77,7 +77,8 @@ fn more_branches(request: &mut RequestView, count: usize) -> Result<(), NoMemory
 
 #[tactic(auto, using(sc_value::proofs::ListFacts::change_first_position, sc_value::proofs::ListFacts::change_first_none))]
 fn more_in(requests: &mut [RequestView], req: ReqId, count: usize) -> Result<(), NoMemory>
-    ensures { OnOk result (requests.new ≡ change_first (is_request req) (more_branches count) requests.old) }
+    ensures { OnOk result
+        (requests.new ≡ change_first (is_request req) (more_branches count) requests.old) }
 {
     match request_place(requests, req) {
         Some(at) => more_branches(&mut requests[at], count),
@@ -109,7 +110,10 @@ fn hear_in(
     response: &Shared<Response>,
     now: u64,
 ) -> Result<(), NoMemory>
-    ensures { OnOk result (proxies.new ≡ change_first (λ proxy. same_request proxy.req req) (heard branch sess response.now now) proxies.old) }
+    ensures { OnOk result
+        (proxies.new
+        ≡ change_first (λ proxy. same_request proxy.req req) (heard branch sess response.now now)
+        proxies.old) }
 {
     match proxy_place(proxies, req) {
         Some(at) => heard(alloc, &mut proxies[at], branch, sess, response, now),
@@ -126,7 +130,8 @@ fn hear(
     response: &Shared<Response>,
     now: u64,
 ) -> Result<(), NoMemory>
-    ensures { OnOk result (known.new ≡ change_proxy req (heard branch sess response.now now) known.old) }
+    ensures { OnOk result
+        (known.new ≡ change_proxy req (heard branch sess response.now now) known.old) }
 {
     hear_in(
         alloc,
@@ -152,7 +157,9 @@ fn dialog_options(known: &Known, sess: SessId) -> Option<ProxyOptions>
 
 #[tactic(auto, unfolding(sc_hosts::specs::Preparing::proxy_of))]
 fn options_at(known: &Known, req: ReqId) -> Option<ProxyOptions>
-    ensures { result ≡ option_and_then (λ proxy. proxy.options) (find (λ proxy. same_request proxy.req req) known.now.proxies) }
+    ensures { result
+        ≡ option_and_then (λ proxy. proxy.options)
+        (find (λ proxy. same_request proxy.req req) known.now.proxies) }
 {
     match proxy_of(known, req) {
         Some(proxy) => proxy.options,
@@ -161,7 +168,11 @@ fn options_at(known: &Known, req: ReqId) -> Option<ProxyOptions>
 }
 
 fn options_of(known: &Known, first: Option<ReqId>) -> Option<ProxyOptions>
-    ensures { result ≡ option_and_then (λ req. option_and_then (λ proxy. proxy.options) (find (λ proxy. same_request proxy.req req) known.now.proxies)) first }
+    ensures { result
+        ≡ option_and_then
+        (λ req.
+        option_and_then (λ proxy. proxy.options)
+        (find (λ proxy. same_request proxy.req req) known.now.proxies)) first }
 {
     match first {
         Some(req) => options_at(known, req),
@@ -190,7 +201,9 @@ fn heard_in(
     response: &Shared<Response>,
     sess: SessId,
 ) -> Result<Shown, NoMemory>
-    ensures { IfOk result (λ s. heard_in proxy.now branch response.now (sess, session.old) ≡ prepared_as session.new s) }
+    ensures { IfOk result
+        (λ s.
+        heard_in proxy.now branch response.now (sess, session.old) ≡ prepared_as session.new s) }
 {
     let now = session.view.now;
     let watched = is_watched(&session.known, proxy);
@@ -221,7 +234,9 @@ fn placed_by(
     response: &Response,
     original: &Option<SessionView>,
 ) -> Result<SessId, NoMemory>
-    ensures { IfOk result (λ sess. branch_placed session.old proxy.now response.now original.now ≡ (sess, session.new)) }
+    ensures { IfOk result
+        (λ sess.
+        branch_placed session.old proxy.now response.now original.now ≡ (sess, session.new)) }
 {
     match original {
         Some(original) => {
@@ -250,7 +265,10 @@ fn branch_placed(
     proxy: &Proxy,
     response: &Response,
 ) -> Result<SessId, NoMemory>
-    ensures { IfOk result (λ sess. branch_placed session.old proxy.now response.now (session_in session.old.view proxy.now.sess) ≡ (sess, session.new)) }
+    ensures { IfOk result
+        (λ sess.
+        branch_placed session.old proxy.now response.now
+        (session_in session.old.view proxy.now.sess) ≡ (sess, session.new)) }
 {
     let original = session_copy(alloc, &session.view, proxy.sess)?;
     placed_by(alloc, session, proxy, response, &original)
@@ -266,7 +284,9 @@ pub fn prepared_branch(
     branch: u64,
     response: &Shared<Response>,
 ) -> Result<Shown, NoMemory>
-    ensures { IfOk result (λ s. prepared_branch session.old proxy.now branch response.now ≡ prepared_as session.new s) }
+    ensures { IfOk result
+        (λ s.
+        prepared_branch session.old proxy.now branch response.now ≡ prepared_as session.new s) }
 {
     if is_invalid(&session.known, proxy.sess) {
         return Ok(silent(List::new(alloc)));

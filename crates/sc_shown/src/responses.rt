@@ -87,7 +87,12 @@ fn responded_view(
     response: &Response,
     sess: SessId,
 ) -> Result<(), NoMemory>
-    ensures { OnOk result (view.new ≡ tidy (change_request request.now.id (with_success sess response.now) (answered_in sess request.now (is_some (tag_of response.now.head.to)) response.now.code view.old))) }
+    ensures { OnOk result
+        (view.new
+        ≡ tidy
+        (change_request request.now.id (with_success sess response.now)
+        (answered_in sess request.now (is_some (tag_of response.now.head.to))
+        response.now.code view.old))) }
 {
     let tagged = tag(&response.head.to).is_some();
     answered_in(view, sess, request, tagged, response.code);
@@ -106,7 +111,8 @@ fn responded(
     response: &Response,
     sess: SessId,
 ) -> Result<(), NoMemory>
-    ensures { OnOk result (session.new ≡ responded kept.now request.now response.now sess session.old) }
+    ensures { OnOk result
+        (session.new ≡ responded kept.now request.now response.now sess session.old) }
 {
     settled_legs(alloc, session, request, sess, response)?;
     responded_view(&mut session.view, request, response, sess)?;
@@ -137,7 +143,10 @@ fn responded_shown(
     response: &Shared<Response>,
     sess: SessId,
 ) -> Result<Shown, NoMemory>
-    ensures { IfOk result (λ s. showing (responded kept.now request.now response.now sess session.old) (Event.Response kept.now.id sess response.now) None [] ≡ prepared_as session.new s) }
+    ensures { IfOk result
+        (λ s.
+        showing (responded kept.now request.now response.now sess session.old)
+        (Event.Response kept.now.id sess response.now) None [] ≡ prepared_as session.new s) }
 {
     responded(alloc, session, kept, request, response.get(), sess)?;
     let event = response_event(alloc, kept.id, sess, response)?;
@@ -154,7 +163,10 @@ fn responded_in(
     response: &Shared<Response>,
     sess: SessId,
 ) -> Result<Shown, NoMemory>
-    ensures { IfOk result (λ s. responded_in kept.now request.now response.now (sess, session.old) ≡ prepared_as session.new s) }
+    ensures { IfOk result
+        (λ s.
+        responded_in kept.now request.now response.now (sess, session.old)
+        ≡ prepared_as session.new s) }
 {
     if is_gone_in(&session.view, sess) {
         noted_final(session, kept.id, response.get().code);
@@ -172,7 +184,9 @@ fn placed_by(
     response: &Response,
     original: &Option<SessionView>,
 ) -> Result<SessId, NoMemory>
-    ensures { IfOk result (λ sess. placed session.old kept.now request.now response.now original.now ≡ (sess, session.new)) }
+    ensures { IfOk result
+        (λ sess.
+        placed session.old kept.now request.now response.now original.now ≡ (sess, session.new)) }
 {
     match original {
         Some(original) => {
@@ -194,7 +208,10 @@ fn placed(
     request: &RequestView,
     response: &Response,
 ) -> Result<SessId, NoMemory>
-    ensures { IfOk result (λ sess. placed session.old kept.now request.now response.now (session_in session.old.view request.now.sess) ≡ (sess, session.new)) }
+    ensures { IfOk result
+        (λ sess.
+        placed session.old kept.now request.now response.now
+        (session_in session.old.view request.now.sess) ≡ (sess, session.new)) }
 {
     let original = session_copy(alloc, &session.view, request.sess)?;
     placed_by(alloc, session, kept, request, response, &original)
@@ -217,7 +234,10 @@ fn responded_again(
     response: &Shared<Response>,
     sess: SessId,
 ) -> Result<Shown, NoMemory>
-    ensures { IfOk result (λ s. responded_again kept.now request.now response.now (sess, session.old) ≡ prepared_as session.new s) }
+    ensures { IfOk result
+        (λ s.
+        responded_again kept.now request.now response.now (sess, session.old)
+        ≡ prepared_as session.new s) }
 {
     if is_gone_in(&session.view, sess) {
         return Ok(silent(List::new(alloc)));
@@ -233,7 +253,11 @@ fn again_in(
     request: &RequestView,
     response: &Shared<Response>,
 ) -> Result<Shown, NoMemory>
-    ensures { IfOk result (λ s. responded_again kept.now request.now response.now (placed session.old kept.now request.now response.now (session_in session.old.view request.now.sess)) ≡ prepared_as session.new s) }
+    ensures { IfOk result
+        (λ s.
+        responded_again kept.now request.now response.now
+        (placed session.old kept.now request.now response.now
+        (session_in session.old.view request.now.sess)) ≡ prepared_as session.new s) }
 {
     let sess = placed(alloc, session, kept, request, response.get())?;
     responded_again(alloc, session, kept, request, response, sess)
@@ -247,7 +271,13 @@ fn again_shown(
     kept: &Kept,
     response: &Shared<Response>,
 ) -> Result<Shown, NoMemory>
-    ensures { IfOk result (λ s. responded_again kept.now (shown_again session.old.known kept.now response.now.code) response.now (placed session.old kept.now (shown_again session.old.known kept.now response.now.code) response.now (session_in session.old.view kept.now.sess)) ≡ prepared_as session.new s) }
+    ensures { IfOk result
+        (λ s.
+        responded_again kept.now (shown_again session.old.known kept.now response.now.code)
+        response.now
+        (placed session.old kept.now
+        (shown_again session.old.known kept.now response.now.code) response.now
+        (session_in session.old.view kept.now.sess)) ≡ prepared_as session.new s) }
 {
     let request = shown_again(alloc, &session.known, kept, response.get().code)?;
     again_in(alloc, session, kept, &request, response)
@@ -260,15 +290,19 @@ fn own_shown(
     request: &RequestView,
     response: &Shared<Response>,
 ) -> Result<Shown, NoMemory>
-    ensures { IfOk result (λ s. responded_in kept.now request.now response.now (placed session.old kept.now request.now response.now (session_in session.old.view request.now.sess)) ≡ prepared_as session.new s) }
+    ensures { IfOk result
+        (λ s.
+        responded_in kept.now request.now response.now
+        (placed session.old kept.now request.now response.now
+        (session_in session.old.view request.now.sess)) ≡ prepared_as session.new s) }
 {
     let sess = placed(alloc, session, kept, request, response.get())?;
     responded_in(alloc, session, kept, request, response, sess)
 }
 
 /// A response to a request of one's own. A request that the view shows no more has had its final
-/// response: where it is an INVITE, a 2xx brings it back, to be acknowledged again (RFC 3261 section
-/// 13.2.2.4).
+/// response: where it is an INVITE, a 2xx brings it back, to be acknowledged again (RFC 3261
+/// section 13.2.2.4).
 #[tactic(auto, unfolding(sc_hosts::specs::PreparingResponses::prepared_own, sc_hosts::specs::PreparingRequests::silent))]
 pub fn prepared_own(
     alloc: Global,
@@ -276,7 +310,10 @@ pub fn prepared_own(
     kept: &Kept,
     response: &Shared<Response>,
 ) -> Result<Shown, NoMemory>
-    ensures { IfOk result (λ s. prepared_own session.old kept.now response.now (request_in session.old.view kept.now.id) ≡ prepared_as session.new s) }
+    ensures { IfOk result
+        (λ s.
+        prepared_own session.old kept.now response.now (request_in session.old.view kept.now.id)
+        ≡ prepared_as session.new s) }
 {
     match request_copy(alloc, &session.view, kept.id)? {
         Some(request) => own_shown(alloc, session, kept, &request, response),

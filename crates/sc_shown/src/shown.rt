@@ -49,7 +49,12 @@ pub fn showing_in(
     req: Option<ReqId>,
     orders: List<Order>,
 ) -> Shown
-    ensures { result ≡ record { event = if is_gone_in view.entry.now sess then None else Some event; req = req; orders = orders } }
+    ensures { result
+        ≡ record {
+          event = if is_gone_in view.entry.now sess then None else Some event;
+          req = req;
+          orders = orders;
+        } }
 {
     let event = if is_gone_in(view, sess) {
         None

@@ -64,7 +64,9 @@ pub fn success_in(
     sess: SessId,
     response: &Response,
 ) -> Result<(), NoMemory>
-    ensures { OnOk result (requests.new ≡ change_first (is_request req) (with_success sess response.now) requests.old) }
+    ensures { OnOk result
+        (requests.new
+        ≡ change_first (is_request req) (with_success sess response.now) requests.old) }
 {
     match request_place(requests, req) {
         Some(at) => with_success(&mut requests[at], sess, response),

@@ -53,5 +53,7 @@ after_put to len put.Failed known = failed to known
 unfoldable pub PutBy : Standing → Known → Known → Place → ℕ → Put → Type 0
 PutBy Unborn old new to len result = (result ≡ put.NotYet) × (new ≡ old)
 PutBy Gone old new to len result = (result ≡ put.Failed) × (new ≡ failed to old)
-PutBy Closed old new to len result = (new ≡ after_put to len result (opened to old)) ⊎ ((result ≡ put.Failed) × (new ≡ failed to old))
+PutBy Closed old new to len result =
+    (new ≡ after_put to len result (opened to old))
+    ⊎ ((result ≡ put.Failed) × (new ≡ failed to old))
 PutBy Open old new to len result = new ≡ after_put to len result old

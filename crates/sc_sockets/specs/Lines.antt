@@ -20,13 +20,14 @@ use Rattle.sc_sockets.specs.declared.line.Standing.TheVariants.{Unborn, Gone, Cl
 abbrev pub fresh : Place → Line
 fresh place = record { place = place; is_read = true; is_cut = false; is_barred = false }
 
--- after a change: it ended or was closed, it failed, it was connected anew, it took so many bytes of a piece of
--- this length
+-- after a change: it ended or was closed, it failed, it was connected anew, it took so many bytes
+-- of a piece of this length
 abbrev pub after : Change → Line → Line
 after Halted line = record line { is_read = false; is_barred = line.is_barred || line.is_cut }
 after Pardoned line = record line { is_read = false; is_barred = false }
 after Reopened line = record line { is_read = true; is_barred = false }
-after (Part count len) line = record line { is_cut = if nat_lt 0 count then nat_lt count len else line.is_cut }
+after (Part count len) line =
+    record line { is_cut = if nat_lt 0 count then nat_lt count len else line.is_cut }
 
 -- an address, or a number that was given to a connection
 abbrev pub is_given : ℕ → Place → Bool
@@ -35,7 +36,8 @@ is_given last (To ip port) = true
 
 -- what a put meets at a connection
 abbrev pub standing_in : Place → Line → Standing
-standing_in place line = if line.is_barred then Gone else (if line.is_read || is_back place then Open else Closed)
+standing_in place line =
+    if line.is_barred then Gone else (if line.is_read || is_back place then Open else Closed)
 
 -- what a put meets at a given place
 abbrev pub standing_of : Place → Option Line → Standing
@@ -113,7 +115,8 @@ edge_state known = record {
 
 -- what a put meets at a place
 abbrev pub standing : Known → Place → Standing
-standing known place = if is_given known.last place then standing_of place (line_at known place) else Unborn
+standing known place =
+    if is_given known.last place then standing_of place (line_at known place) else Unborn
 
 -- the place is read
 abbrev pub is_heard : Known → Place → Bool
@@ -128,7 +131,11 @@ last_after last (To ip port) = last
 
 -- a peer opened one more connection
 abbrev pub accepted : Known → Known
-accepted known = record known { lines = known.lines ++ fresh (Back (known.last + 1)) ∷ []; last = known.last + 1 }
+accepted known =
+    record known {
+      lines = known.lines ++ fresh (Back (known.last + 1)) ∷ [];
+      last = known.last + 1;
+    }
 
 -- something of the connection is still to be known after it ended
 abbrev pub is_kept_ended : Place → Option Line → Bool
@@ -144,15 +151,26 @@ is_kept_shut place line = not (is_back place) && (is_cut_at line || is_barred_at
 
 -- the place ended
 unfoldable pub ended : Place → Known → Known
-ended place known = record known { lines = settled (is_kept_ended place (line_at known place)) Halted place known.lines }
+ended place known =
+    record known {
+      lines = settled (is_kept_ended place (line_at known place)) Halted place known.lines;
+    }
 
 -- the place failed, and that was counted
 unfoldable pub failed : Place → Known → Known
-failed place known = record known { lines = settled (is_kept_failed place (line_at known place)) Pardoned place known.lines; failures = one_more known.failures }
+failed place known =
+    record known {
+      lines = settled (is_kept_failed place (line_at known place)) Pardoned place known.lines;
+      failures = one_more known.failures;
+    }
 
 -- the place was closed
 unfoldable pub shut : Place → Known → Known
-shut place known = record known { lines = settled (is_kept_shut place (line_at known place)) Halted place known.lines; last = last_after known.last place }
+shut place known =
+    record known {
+      lines = settled (is_kept_shut place (line_at known place)) Halted place known.lines;
+      last = last_after known.last place;
+    }
 
 -- the lines after an address was connected
 abbrev pub opened_lines : Place → Option Line → List Line → List Line
@@ -165,4 +183,6 @@ opened place known = record known { lines = opened_lines place (line_at known pl
 
 -- a place took so many bytes of a piece of this length
 unfoldable pub served : Place → ℕ → ℕ → Known → Known
-served place count len known = if is_back place then known else (record known { lines = settled true (Part count len) place known.lines })
+served place count len known =
+    if is_back place then known
+    else (record known { lines = settled true (Part count len) place known.lines })

@@ -12,8 +12,8 @@ use sc_value::{Place, same_place};
 use std::alloc::Global;
 use std::marker::Model;
 
-// So many lines are kept before an address that isn't among them is refused. Few are: beside what is
-// connected only addresses that took a part of a piece when their connection was lost.
+// So many lines are kept before an address that isn't among them is refused. Few are: beside what
+// is connected only addresses that took a part of a piece when their connection was lost.
 const MOST_LINES: usize = 16_384;
 
 // The connections that something is known of, and the counts.
@@ -31,7 +31,14 @@ impl Model for Book {
 
     ghost Value = { Known };
 
-    ghost view = { λ s. record { lines = s.lines.items; last = s.last; polls = s.polls; faults = s.faults; failures = s.failures } };
+    ghost view = { λ s.
+        record {
+          lines = s.lines.items;
+          last = s.last;
+          polls = s.polls;
+          faults = s.faults;
+          failures = s.failures;
+        } };
 }
 
 #[tactic(auto, unfolding(crate::specs::Lines::is_other))]

@@ -15,11 +15,11 @@ const GRAIN: u64 = 100;
 // The last moment that a clock may tell.
 const LAST: u64 = 1 << 63;
 
-/// The time since the clock was made, in milliseconds, from the system's clock that never goes back.
-/// It is rounded down to whole tenths of a second, so that a server where nothing happens sees ten
-/// moments in a second and not a thousand. What waits 500 ms is due after 400 to 600 ms: a moment may
-/// be up to 100 ms early where the wait begins, and up to 100 ms late where it ends. Where the
-/// system's clock can't be read the clock stands still.
+/// The time since the clock was made, in milliseconds, from the system's clock that never goes
+/// back. It is rounded down to whole tenths of a second, so that a server where nothing happens
+/// sees ten moments in a second and not a thousand. What waits 500 ms is due after 400 to 600 ms: a
+/// moment may be up to 100 ms early where the wait begins, and up to 100 ms late where it ends.
+/// Where the system's clock can't be read the clock stands still.
 #[derive(Drop)]
 pub struct WallClock<'a, R> {
     rt: &'a R,

@@ -20,9 +20,9 @@ use std::marker::Model;
 use std::net::Net;
 use std::time::Clock;
 
-/// Connections over TCP sockets. Peers open connections to the address that it listens at, up to 256
-/// at once; one more is dropped at once, unless one of them has sent its end. To other addresses it
-/// connects at the first put, up to 512 at once; one more put to a new address fails.
+/// Connections over TCP sockets. Peers open connections to the address that it listens at, up to
+/// 256 at once; one more is dropped at once, unless one of them has sent its end. To other
+/// addresses it connects at the first put, up to 512 at once; one more put to a new address fails.
 ///
 /// - `poll` reads once, from the connections that gave something in turn. A connection that ended is
 ///   named once; a peer's is still written to, until it fails, until 64 s without a put, or until
@@ -35,10 +35,11 @@ use std::time::Clock;
 /// - `rest` returns as soon as something comes. The first 32 rests after something came or was put
 ///   only look and return at once, so that what other threads make ready is put soon.
 ///
-/// Where connections are used again ([`MioEdge::set_reuse`]), a put to an address that isn't connected goes
-/// out by the open connection that came from there, whole pieces of the one place after whole pieces of
-/// the other. When that connection is lost both places are: each is named by a poll of its own. When the
-/// peer sends its end the address is lost, and the peer is still written to.
+/// Where connections are used again ([`MioEdge::set_reuse`]), a put to an address that isn't
+/// connected goes out by the open connection that came from there, whole pieces of the one place
+/// after whole pieces of the other. When that connection is lost both places are: each is named by
+/// a poll of its own. When the peer sends its end the address is lost, and the peer is still
+/// written to.
 ///
 /// A put to the address that it listens at fails.
 ///
@@ -65,8 +66,9 @@ impl<'a, R> Model for MioEdge<'a, R> {
 
 impl<'a, R: Net + Clock> MioEdge<'a, R> {
     /// Listens at an IPv4 address and a port, with which the peers' connections come; at all of the
-    /// machine's addresses where `ip` is 0.0.0.0, and at a port that the system picks where `port` is
-    /// 0. It fails where the system refuses that: `AddrInUse` where another program listens there,
+    /// machine's addresses where `ip` is 0.0.0.0, and at a port that the system picks where `port`
+    /// is 0. It fails where the system refuses that: `AddrInUse` where another program listens
+    /// there,
     /// `AddrNotAvailable` where the address isn't one of the machine's, `PermissionDenied` where the
     /// port is reserved, `OutOfMemory` where the memory is short; with other kinds where the system
     /// has no room for one more descriptor, or its clock can't be read.
@@ -81,8 +83,8 @@ impl<'a, R: Net + Clock> MioEdge<'a, R> {
         })
     }
 
-    /// An edge that can't listen: each poll answers `Fault`, which is counted, each put to an address
-    /// fails, and `rest` returns at once.
+    /// An edge that can't listen: each poll answers `Fault`, which is counted, each put to an
+    /// address fails, and `rest` returns at once.
     pub fn deaf(rt: &'a R, alloc: Global) -> MioEdge<'a, R>
         ensures { result ≡ made }
     {
@@ -104,8 +106,9 @@ impl<'a, R: Net + Clock> MioEdge<'a, R> {
         }
     }
 
-    /// Whether a put to an address goes out by an open connection that comes from that address from now
-    /// on, in place of one that is made to it (RFC 5923, without TLS). It is off at the beginning.
+    /// Whether a put to an address goes out by an open connection that comes from that address from
+    /// now on, in place of one that is made to it (RFC 5923, without TLS). It is off at the
+    /// beginning.
     pub fn set_reuse(&mut self, is_on: bool)
         ensures { self.new ≡ self.old }
     {

@@ -1,4 +1,5 @@
-//! The outside over the system: connections over TCP sockets ([`MioEdge`]) and the time ([`WallClock`]).
+//! The outside over the system: connections over TCP sockets ([`MioEdge`]) and the time
+//! ([`WallClock`]).
 #![tactic(auto)]
 
 mod book;

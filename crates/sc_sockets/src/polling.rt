@@ -95,7 +95,8 @@ fn hear(book: &mut Book, sockets: &mut Sockets, at: usize, place: Place, room: &
     ensures gives { Gives book.old book.new result }
     ensures within { IsWithin result (length room.new) }
     ensures later { book.old.failures ≤ book.new.failures }
-    ensures rose { (place : Place) → result ≡ Got.Failed place → Rose book.old.failures book.new.failures }
+    ensures rose { (place : Place) → result ≡ Got.Failed place
+        → Rose book.old.failures book.new.failures }
 {
     match sockets.read(at, room) {
         Heard::Some(count) => Got::Bytes(place, count),
@@ -120,7 +121,8 @@ fn hear_next(book: &mut Book, sockets: &mut Sockets, room: &mut [u8]) -> Got
     ensures gives { Gives book.old book.new result }
     ensures within { IsWithin result (length room.new) }
     ensures later { book.old.failures ≤ book.new.failures }
-    ensures rose { (place : Place) → result ≡ Got.Failed place → Rose book.old.failures book.new.failures }
+    ensures rose { (place : Place) → result ≡ Got.Failed place
+        → Rose book.old.failures book.new.failures }
 {
     match sockets.next_ready() {
         Some((at, place)) if book.is_heard(place) => hear(book, sockets, at, place, room),

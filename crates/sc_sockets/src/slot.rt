@@ -14,8 +14,8 @@ use sc_value::{Place, same_place};
 // minutes.
 const LONGEST_CONNECT: u64 = 10_000;
 
-// A peer that sends no more is kept so long without a put, in milliseconds: twice the longest time that
-// a request waits for its response (RFC 3261 section 17.1.1.2).
+// A peer that sends no more is kept so long without a put, in milliseconds: twice the longest time
+// that a request waits for its response (RFC 3261 section 17.1.1.2).
 const LONGEST_SILENCE: u64 = 64_000;
 
 // A piece that would wait may be so long, in bytes; with a longer one the peer is given up.
@@ -109,7 +109,8 @@ impl Slot {
         same_place(self.place, place) || self.is_lent && is_place(self.origin, place)
     }
 
-    // From now on what goes to an address goes out here, where it came from there and is read still.
+    // From now on what goes to an address goes out here, where it came from there and is read
+    // still.
     pub(crate) fn lend(&mut self, place: Place) -> bool {
         let is_lent = !self.is_ended && is_place(self.origin, place);
         self.is_lent = self.is_lent || is_lent;

@@ -167,8 +167,8 @@ impl Slots {
         !self.ready.is_empty() || !self.lost.is_empty()
     }
 
-    // The next connection that may give something, with its slot; a place that was lost with another
-    // one comes first, with no slot, so that a read of it fails.
+    // The next connection that may give something, with its slot; a place that was lost with
+    // another one comes first, with no slot, so that a read of it fails.
     pub(crate) fn next_ready(&mut self) -> Option<(usize, Place)> {
         if let Some(place) = self.lost.pop_front() {
             return Some((NOWHERE, place));

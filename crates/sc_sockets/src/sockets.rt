@@ -32,7 +32,8 @@ const SWEEP: u64 = 1_000;
 // The token of the listener. That of a connection is its slot.
 const LISTENER: Token = Token(usize::MAX);
 
-// A connection that a peer opened, with the address that it came from where what goes there is to go out by it.
+// A connection that a peer opened, with the address that it came from where what goes there is to
+// go out by it.
 #[derive(Drop)]
 pub(crate) struct Opened {
     stream: TcpStream,
@@ -125,7 +126,8 @@ impl Sockets {
         })
     }
 
-    // Whether what goes to an address goes out by an open connection that comes from there from now on.
+    // Whether what goes to an address goes out by an open connection that comes from there from now
+    // on.
     pub(crate) fn set_reuse(&mut self, is_reusing: bool) {
         self.is_reusing = is_reusing;
     }
@@ -146,8 +148,8 @@ impl Sockets {
         }
     }
 
-    // Asks the system what is ready, for up to so many milliseconds, and notes it. It answers whether
-    // there was something.
+    // Asks the system what is ready, for up to so many milliseconds, and notes it. It answers
+    // whether there was something.
     fn wait<R: Clock>(&mut self, rt: &R, ms: u64) -> bool {
         self.reads = READS;
         let timeout = Duration::from_millis(ms);
@@ -267,7 +269,8 @@ impl Sockets {
         self.slots.fill(at, place, stream, origin, self.now)
     }
 
-    // Whether an address is the own one. One that listens at all addresses knows those of the loopback.
+    // Whether an address is the own one. One that listens at all addresses knows those of the
+    // loopback.
     fn is_own(&self, ip: [u8; 4], port: u16) -> bool {
         let (own, own_port) = parts(self.own);
         port == own_port && (ip == own || own == [0; 4] && ip[0] == 127)

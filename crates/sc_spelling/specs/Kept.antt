@@ -1,5 +1,5 @@
--- What a message keeps whose written form can be read (RFC 3261 section 25.1): each part is one of its
--- kind. The parts with structure keep the rules of their types.
+-- What a message keeps whose written form can be read (RFC 3261 section 25.1): each part is one of
+-- its kind. The parts with structure keep the rules of their types.
 use Rattle.std.specs.Prelude.{◌≡◌, ℕ, true, false, List, [], ◌∷◌, Option, None, Some, ◌≤◌, ◌<◌, ◌^◌, length, slice_get, ⊤}
 use Rattle.std.specs.Option.{option_map_or}
 use Rattle.sc_tokens.specs.HeaderNames.{long_name}
@@ -26,7 +26,9 @@ AllKeep Keeps (x ∷ xs) = Keeps x × AllKeep Keeps xs
 
 -- a header without structure: its name is long, and none of those with structure
 abbrev pub IsField : Field → Type 0
-IsField field = (is_token field.name ≡ true) × (long_name field.name ≡ field.name) × (is_other field ≡ true) × IsValue field.value
+IsField field =
+    (is_token field.name ≡ true) × (long_name field.name ≡ field.name) × (is_other field ≡ true)
+    × IsValue field.value
 
 -- ## Messages
 
@@ -46,8 +48,10 @@ pub record IsHead (head : Head) : Type 0 where
 
 -- the start line: Max-Forwards is at most 255, and a status code 100 to 699
 unfoldable pub IsStart : Message → Type 0
-IsStart (Request request) = (is_token request.method ≡ true) × IsUri request.uri × (request.hops ≤ 255)
-IsStart (Response response) = (100 ≤ response.code) × (response.code ≤ 699) × (is_one_line response.reason ≡ true)
+IsStart (Request request) =
+    (is_token request.method ≡ true) × IsUri request.uri × (request.hops ≤ 255)
+IsStart (Response response) =
+    (100 ≤ response.code) × (response.code ≤ 699) × (is_one_line response.reason ≡ true)
 
 -- the message's parts are each one of their kind, and its method is that of CSeq
 abbrev pub KeepsGrammar : Message → Type 0
@@ -66,4 +70,6 @@ written_hops (Response response) = None
 
 -- the values of its written form, at most 128
 abbrev pub HasRoom : Message → Type 0
-HasRoom message = value_count (head_in message) (written_hops message) (Some (length (head_in message).body)) ≤ 128
+HasRoom message =
+    value_count (head_in message) (written_hops message) (Some (length (head_in message).body)) ≤
+    128

@@ -10,7 +10,8 @@ use Rattle.sc_spelling.specs.SpelledMessages.{head_in}
 
 -- the start line: Max-Forwards has 8 bits, and a status code 16
 unfoldable pub IsMadeStart : Message → Type 0
-IsMadeStart (Request request) = (is_token request.method ≡ true) × IsUri request.uri × (request.hops < 256)
+IsMadeStart (Request request) =
+    (is_token request.method ≡ true) × IsUri request.uri × (request.hops < 256)
 IsMadeStart (Response response) = (is_one_line response.reason ≡ true) × (response.code < 65536)
 
 -- a message as its types let it be made

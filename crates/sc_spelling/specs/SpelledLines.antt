@@ -1,5 +1,5 @@
--- Which texts spell header lines (RFC 3261 sections 7.3.1 and 25.1): a name, a colon and a value, each line
--- with its CR LF, and folds.
+-- Which texts spell header lines (RFC 3261 sections 7.3.1 and 25.1): a name, a colon and a value,
+-- each line with its CR LF, and folds.
 use Rattle.std.specs.Prelude.{◌≡◌, true, false, List, [], ◌∷◌, ◌++◌, ◌==◌, length, ⊤}
 use Rattle.std.specs.List.{fold, flat_map}
 use Rattle.sc_tokens.specs.HeaderNames.{long_name}
@@ -23,12 +23,15 @@ ArePieces (piece ∷ more) = (is_one_line piece ≡ true) × (begins_blank piece
 
 -- a first piece begins with a byte that is no blank
 abbrev pub IsFirst : Bytes → Type 0
-IsFirst first = (is_one_line first ≡ true) × ((length first == 0) ≡ false) × (begins_blank first ≡ false)
+IsFirst first =
+    (is_one_line first ≡ true) × ((length first == 0) ≡ false) × (begins_blank first ≡ false)
 
--- the line is a piece and those that continue it, each behind CR LF. In the text each CR LF, with all
--- blanks round it, is one space
+-- the line is a piece and those that continue it, each behind CR LF. In the text each CR LF, with
+-- all blanks round it, is one space
 abbrev pub IsFolded : Bytes → Bytes → Type 0
-IsFolded line text = (first : Bytes) × (more : List Bytes) × IsFirst first × ArePieces more × (line ≡ first ++ flat_map ended more) × (text ≡ fold continued first more)
+IsFolded line text =
+    (first : Bytes) × (more : List Bytes) × IsFirst first × ArePieces more
+    × (line ≡ first ++ flat_map ended more) × (text ≡ fold continued first more)
 
 -- ## Names and values
 
@@ -36,11 +39,12 @@ IsFolded line text = (first : Bytes) × (more : List Bytes) × IsFirst first × 
 abbrev pub IsValue : Bytes → Type 0
 IsValue value = (is_one_line value ≡ true) × (trimmed value ≡ value)
 
--- a name, long or compact, blanks or none, a colon, and the value between blanks or none. The field has
--- the long name
+-- a name, long or compact, blanks or none, a colon, and the value between blanks or none. The field
+-- has the long name
 abbrev pub IsFieldSpelled : Bytes → Field → Type 0
 IsFieldSpelled text field =
-    (name gap rest : Bytes) × (is_token name ≡ true) × (long_name name ≡ field.name) × IsBlanks gap × IsValue field.value × Padded field.value rest × (text ≡ name ++ (gap ++ 58 ∷ rest))
+    (name gap rest : Bytes) × (is_token name ≡ true) × (long_name name ≡ field.name) × IsBlanks gap
+    × IsValue field.value × Padded field.value rest × (text ≡ name ++ (gap ++ 58 ∷ rest))
 
 -- the line, with its folds joined, is the field
 abbrev pub IsLineSpelled : Bytes → Field → Type 0
@@ -49,4 +53,6 @@ IsLineSpelled line field = (text : Bytes) × IsFolded line text × IsFieldSpelle
 -- the lines, each with its CR LF
 unfoldable pub AreLinesSpelled : Bytes → List Field → Type 0
 AreLinesSpelled text [] = text ≡ []
-AreLinesSpelled text (field ∷ fields) = (line rest : Bytes) × IsLineSpelled line field × AreLinesSpelled rest fields × (text ≡ line ++ ended rest)
+AreLinesSpelled text (field ∷ fields) =
+    (line rest : Bytes) × IsLineSpelled line field × AreLinesSpelled rest fields
+    × (text ≡ line ++ ended rest)

@@ -1,5 +1,5 @@
--- Which texts spell a message (RFC 3261 sections 7 and 25.1): a start line, header lines, an empty line
--- and a body.
+-- Which texts spell a message (RFC 3261 sections 7 and 25.1): a start line, header lines, an empty
+-- line and a body.
 use Rattle.std.specs.Prelude.{◌≡◌, ℕ, true, false, List, ◌++◌, Option, ◌≤◌, length, slice_get, unwrap_or, ⊤}
 use Rattle.std.specs.Option.{option_map_or}
 use Rattle.sc_value.specs.declared.parts.Field.{Field}
@@ -28,7 +28,8 @@ HasHops hops (Request request) = request.hops ≡ unwrap_or hops 70
 HasHops hops (Response response) = ⊤
 
 -- the start line, the fields and the body are those of the message
-pub record IsSpelledBy (start : Bytes) (fields : List Field) (body : Bytes) (message : Message) : Type 0 where
+pub record IsSpelledBy (start : Bytes) (fields : List Field) (body : Bytes)
+    (message : Message) : Type 0 where
   -- Max-Forwards and Content-Length, where they stand
   pub hops : Option ℕ
   pub len : Option ℕ
@@ -46,4 +47,5 @@ pub record IsSpelledBy (start : Bytes) (fields : List Field) (body : Bytes) (mes
 -- the text spells the message: its lines each have their CR LF, and so has the empty line
 abbrev pub IsSpelled : Bytes → Message → Type 0
 IsSpelled text message =
-    (start lines body : Bytes) × (fields : List Field) × AreLinesSpelled lines fields × IsSpelledBy start fields body message × (text ≡ start ++ ended (lines ++ ended body))
+    (start lines body : Bytes) × (fields : List Field) × AreLinesSpelled lines fields
+    × IsSpelledBy start fields body message × (text ≡ start ++ ended (lines ++ ended body))

@@ -15,12 +15,14 @@ IsCodeSpelled text code = (length text ≡ 3) × (number_below 700 text ≡ Some
 -- method, Request-URI and version
 abbrev pub IsRequestLine : Bytes → Bytes → Uri → Type 0
 IsRequestLine line method target =
-    (is_token method ≡ true) × (uri : Bytes) × IsUriSpelled uri target × (line ≡ method ++ 32 ∷ (uri ++ 32 ∷ codes "SIP/2.0"))
+    (is_token method ≡ true) × (uri : Bytes) × IsUriSpelled uri target
+    × (line ≡ method ++ 32 ∷ (uri ++ 32 ∷ codes "SIP/2.0"))
 
 -- version, code and reason
 abbrev pub IsStatusLine : Bytes → ℕ → Bytes → Type 0
 IsStatusLine line code reason =
-    (is_one_line reason ≡ true) × (digits : Bytes) × IsCodeSpelled digits code × (line ≡ codes "SIP/2.0" ++ 32 ∷ (digits ++ 32 ∷ reason))
+    (is_one_line reason ≡ true) × (digits : Bytes) × IsCodeSpelled digits code
+    × (line ≡ codes "SIP/2.0" ++ 32 ∷ (digits ++ 32 ∷ reason))
 
 -- that of the message
 unfoldable pub IsStartSpelled : Bytes → Message → Type 0

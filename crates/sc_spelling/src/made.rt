@@ -13,15 +13,17 @@ ghost use Rattle.sc_spelling.specs.SpelledMessages.{HasMethod};
 
 use sc_value::{Address, Contact, Head, Message, Via};
 
-/// The written form of a message is never read as another message, and it is read as this one again,
-/// where the method of a request is that of its CSeq, the code of a response is 100 to 699, the first
-/// Via has its branch, and there are at most 128 values (RFC 3261 section 7). That each part keeps the
-/// grammar is no premise, since its type keeps it. The contract is the law, and the call does nothing
-/// but look at the parts.
+/// The written form of a message is never read as another message, and it is read as this one
+/// again, where the method of a request is that of its CSeq, the code of a response is 100 to 699,
+/// the first Via has its branch, and there are at most 128 values (RFC 3261 section 7). That each
+/// part keeps the grammar is no premise, since its type keeps it. The contract is the law, and the
+/// call does nothing but look at the parts.
 #[tactic(auto, using(crate::proofs::MadeLaws::made_again, crate::proofs::NeverAnother::never_another))]
 pub fn written_again(message: &Message)
-    ensures again { HasMethod message.now → HasCode message.now → HasBranch message.now → HasRoom message.now → message_of (written message.now) ≡ Ok message.now }
-    ensures never_another { (other : Message) → message_of (written message.now) ≡ Ok other → other ≡ message.now }
+    ensures again { HasMethod message.now → HasCode message.now → HasBranch message.now
+        → HasRoom message.now → message_of (written message.now) ≡ Ok message.now }
+    ensures never_another { (other : Message) → message_of (written message.now) ≡ Ok other
+        → other ≡ message.now }
 {
     known(message);
 }

@@ -28,21 +28,27 @@ decided_begun invite code moment = if invite && is_success code then Some moment
 
 -- the timer after a provisional response: timer B runs no more, and the one after a CANCEL begins
 abbrev pub provisional_begun : TxnState → Option ℕ → Bool → ℕ → Option ℕ
-provisional_begun state begun asked moment = if is_calling state then (if asked then Some moment else None) else begun
+provisional_begun state begun asked moment =
+    if is_calling state then (if asked then Some moment else None) else begun
 
--- when the timer began that runs after an item which comes where nothing has decided the transaction
+-- when the timer began that runs after an item which comes where nothing has decided the
+-- transaction
 abbrev pub next_waiting_begun : Bool → TxnState → Option ℕ → Bool → ClientItem → Option ℕ
 next_waiting_begun invite state begun asked (client.ResponseCame code moment) =
-    if is_final code then decided_begun invite code moment else provisional_begun state begun asked moment
-next_waiting_begun invite state begun asked (client.CancelAsked moment) = if sends_cancel invite state asked (client.CancelAsked moment) then Some moment else begun
-next_waiting_begun invite state begun asked (client.MomentCame moment) = if is_reached (due_since begun) moment then None else begun
+    if is_final code then decided_begun invite code moment
+    else provisional_begun state begun asked moment
+next_waiting_begun invite state begun asked (client.CancelAsked moment) =
+    if sends_cancel invite state asked (client.CancelAsked moment) then Some moment else begun
+next_waiting_begun invite state begun asked (client.MomentCame moment) =
+    if is_reached (due_since begun) moment then None else begun
 next_waiting_begun invite state begun asked client.PlaceLost = None
 
 -- when the timer began that runs after an item
 abbrev pub next_begun : Bool → TxnState → Option ℕ → Bool → ClientItem → Option ℕ
 next_begun invite Calling begun asked item = next_waiting_begun invite Calling begun asked item
 next_begun invite Trying begun asked item = next_waiting_begun invite Trying begun asked item
-next_begun invite Proceeding begun asked item = next_waiting_begun invite Proceeding begun asked item
+next_begun invite Proceeding begun asked item =
+    next_waiting_begun invite Proceeding begun asked item
 next_begun invite Completed begun asked item = begun
 next_begun invite Accepted begun asked item = if reaches (due_since begun) item then None else begun
 next_begun invite Terminated begun asked item = begun
@@ -56,7 +62,8 @@ client_next invite stage item = record {
 }
 
 -- it is what these items have made of a transaction that was sent at this moment
-pub record ClientStands (stage : ClientStage) (invite : Bool) (sent : ℕ) (passed : List ClientItem) : Type 0 where
+pub record ClientStands (stage : ClientStage) (invite : Bool) (sent : ℕ)
+    (passed : List ClientItem) : Type 0 where
   pub state_is : stage.state ≡ client_state invite sent passed
   pub due_is : due_since stage.begun ≡ client_due invite sent passed
   pub asked_is : stage.asked ≡ has_asking passed
@@ -79,8 +86,10 @@ abbrev pub next_server_begun : Bool → TxnState → Option ℕ → ServerItem �
 next_server_begun invite Calling begun item = undecided_begun invite item
 next_server_begun invite Trying begun item = undecided_begun invite item
 next_server_begun invite Proceeding begun item = undecided_begun invite item
-next_server_begun invite Completed begun item = if ends Completed (due_since begun) item then None else begun
-next_server_begun invite Accepted begun item = if ends Accepted (due_since begun) item then None else begun
+next_server_begun invite Completed begun item =
+    if ends Completed (due_since begun) item then None else begun
+next_server_begun invite Accepted begun item =
+    if ends Accepted (due_since begun) item then None else begun
 next_server_begun invite Terminated begun item = begun
 
 -- the stage of a server transaction after one item more
@@ -91,6 +100,7 @@ server_next invite stage item = record {
 }
 
 -- it is what these items have made of a transaction
-pub record ServerStands (stage : ServerStage) (invite : Bool) (passed : List ServerItem) : Type 0 where
+pub record ServerStands (stage : ServerStage) (invite : Bool)
+    (passed : List ServerItem) : Type 0 where
   pub state_is : stage.state ≡ server_state invite passed
   pub due_is : due_since stage.begun ≡ server_due invite passed

@@ -135,7 +135,9 @@ fn provisional_begun(state: TxnState, begun: Option<u64>, asked: bool, moment: u
 }
 
 fn response_begun(invite: bool, stage: ClientStage, code: u16, moment: u64) -> Option<u64>
-    ensures { result ≡ (if is_final code then decided_begun invite code moment else provisional_begun stage.state stage.begun stage.asked moment) }
+    ensures { result
+        ≡ (if is_final code then decided_begun invite code moment
+        else provisional_begun stage.state stage.begun stage.asked moment) }
 {
     if 199 < code {
         decided_begun(invite, code, moment)

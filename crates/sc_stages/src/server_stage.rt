@@ -33,7 +33,9 @@ fn answered_state(invite: bool, code: u16) -> TxnState
 }
 
 fn decided_state(invite: bool, code: u16) -> TxnState
-    ensures { result ≡ (if invite then (if is_success code then TxnState.Accepted else TxnState.Completed) else TxnState.Terminated) }
+    ensures { result
+        ≡ (if invite then (if is_success code then TxnState.Accepted else TxnState.Completed)
+        else TxnState.Terminated) }
 {
     if !invite {
         return TxnState::Terminated;

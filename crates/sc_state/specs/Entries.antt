@@ -10,8 +10,8 @@ use Rattle.sc_state.specs.declared.queue.Queued.{Queued}
 use Rattle.sc_state.specs.declared.queue.Queued.TheVariants as queued
 use Rattle.sc_state.specs.declared.session.Session.{Session}
 
--- an entry of a session: the number of one is 8*x + c, with c 0 for the expiry, 1 for the timer x, and 2
--- for the timer of branch x
+-- an entry of a session: the number of one is 8*x + c, with c 0 for the expiry, 1 for the timer x,
+-- and 2 for the timer of branch x
 pub record SessionEntry : Type 0 where
   pub due : ℕ
   pub number : ℕ
@@ -24,7 +24,8 @@ expiry_entry (Some due) = record { due = due; number = 0; event = queued.Expired
 
 -- a servlet timer that is active
 unfoldable pub timer_entry : TimerView → SessionEntry
-timer_entry timer = record { due = timer.due; number = 8 * timer.id.0 + 1; event = queued.Timer timer.id }
+timer_entry timer =
+    record { due = timer.due; number = 8 * timer.id.0 + 1; event = queued.Timer timer.id }
 
 -- the timer of a branch, none where it doesn't run
 unfoldable pub branch_entry : Branch → List SessionEntry
@@ -32,7 +33,12 @@ branch_entry branch = entry_at branch.due
   where
     entry_at : Option ℕ → List SessionEntry
     entry_at None = []
-    entry_at (Some due) = record { due = due; number = 8 * branch.number + 2; event = queued.BranchTimer branch.number due } ∷ []
+    entry_at (Some due) =
+        record {
+          due = due;
+          number = 8 * branch.number + 2;
+          event = queued.BranchTimer branch.number due;
+        } ∷ []
 
 -- all that runs in a session
 unfoldable pub entries_of : Session → List SessionEntry

@@ -1,5 +1,5 @@
--- The numbers under which transactions are found. Those that are looked for have the same; others may
--- have it too, which costs time alone.
+-- The numbers under which transactions are found. Those that are looked for have the same; others
+-- may have it too, which costs time alone.
 use Rattle.std.specs.Prelude.{ℕ, ◌+◌, ◌*◌, ◌%◌, ◌^◌, List, decimal}
 use Rattle.std.specs.List.{fold}
 use Rattle.std.specs.Option.{option_map_or}

@@ -18,18 +18,26 @@ is_live serial live = live.serial == serial
 unfoldable pub lives_here : {S : Type 0} → AppId → Host S → Bool
 lives_here app host = list_any (λ live. live.serial == app.serial) host.sessions
 
--- a transaction is kept until it is over, and one of an INVITE as long as its session lives: a timer
--- may still ask what came, and a further 2xx may still go
+-- a transaction is kept until it is over, and one of an INVITE as long as its session lives: a
+-- timer may still ask what came, and a further 2xx may still go
 unfoldable pub is_kept_client : {S : Type 0} → Host S → Client → Bool
-is_kept_client host client = not (is_over (state_of_client client)) || (is_invite_client client && lives_here client.app host)
+is_kept_client host client =
+    not (is_over (state_of_client client))
+    || (is_invite_client client && lives_here client.app host)
 
 -- the same for a server transaction
 unfoldable pub is_kept_server : {S : Type 0} → Host S → Server → Bool
-is_kept_server host server = not (is_over (state_of_server server)) || (is_invite_server server && lives_here server.app host)
+is_kept_server host server =
+    not (is_over (state_of_server server))
+    || (is_invite_server server && lives_here server.app host)
 
 -- the host without the transactions that it doesn't keep
 unfoldable pub tidied : {S : Type 0} → Host S → Host S
-tidied host = record host { clients = filter (is_kept_client host) host.clients; servers = filter (is_kept_server host) host.servers }
+tidied host =
+    record host {
+      clients = filter (is_kept_client host) host.clients;
+      servers = filter (is_kept_server host) host.servers;
+    }
 
 -- ## The same by the sessions alone
 
@@ -39,15 +47,21 @@ lives_among serial sessions = list_any (is_live serial) sessions
 
 -- a client transaction is kept beside these sessions
 abbrev pub kept_client : {S : Type 0} → List (Live S) → Client → Bool
-kept_client sessions client = not (is_over (state_of_client client)) || (is_invite_client client && lives_among client.app.serial sessions)
+kept_client sessions client =
+    not (is_over (state_of_client client))
+    || (is_invite_client client && lives_among client.app.serial sessions)
 
 -- a server transaction is kept beside these sessions
 abbrev pub kept_server : {S : Type 0} → List (Live S) → Server → Bool
-kept_server sessions server = not (is_over (state_of_server server)) || (is_invite_server server && lives_among server.app.serial sessions)
+kept_server sessions server =
+    not (is_over (state_of_server server))
+    || (is_invite_server server && lives_among server.app.serial sessions)
 
 -- all are kept beside these sessions
 abbrev pub AllKept : {S : Type 0} → List (Live S) → List Client → List Server → Type 0
-AllKept sessions clients servers = (list_all (kept_client sessions) clients ≡ true) × (list_all (kept_server sessions) servers ≡ true)
+AllKept sessions clients servers =
+    (list_all (kept_client sessions) clients ≡ true)
+    × (list_all (kept_server sessions) servers ≡ true)
 
 -- the client transaction that this one takes the place of
 abbrev pub is_same_client : Client → Client → Bool

@@ -55,7 +55,9 @@ is_same_app a b = a.host == b.host && a.serial == b.serial
 
 -- the client transaction of this session's branch, or of its CANCEL
 unfoldable pub is_client : AppId → ℕ → Bool → Client → Bool
-is_client app branch cancelling client = is_same_app client.app app && client.branch == branch && same_bool (is_cancel_client client) cancelling
+is_client app branch cancelling client =
+    is_same_app client.app app && client.branch == branch
+    && same_bool (is_cancel_client client) cancelling
   where
     same_bool : Bool → Bool → Bool
     same_bool true b = b

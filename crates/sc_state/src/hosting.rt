@@ -24,8 +24,8 @@ use sc_value::{AppId, CloneIn, List, NoMemory, Shared};
 use std::alloc::Global;
 use std::marker::Model;
 
-/// A host: it knows its own transactions and sessions alone. A contract sees their lists. A copy costs
-/// little, and so does a change, however many there are.
+/// A host: it knows its own transactions and sessions alone. A contract sees their lists. A copy
+/// costs little, and so does a change, however many there are.
 #[derive(Drop)]
 pub struct Host<S: Timed> {
     clients: Line<Client>,
@@ -44,7 +44,8 @@ impl<S: Timed> Model for Host<S> {
 
     ghost Value = { Seen S };
 
-    ghost view = { λ h. record { clients = h.clients; servers = h.servers; sessions = h.sessions; last = h.last } };
+    ghost view = { λ h.
+        record { clients = h.clients; servers = h.servers; sessions = h.sessions; last = h.last } };
 
     ghost invariant = { λ h. h.tidy ≡ true → AllKept h.sessions h.clients h.servers };
 }
@@ -77,8 +78,8 @@ impl<S: Timed> Host<S> {
         self.tidy = true;
     }
 
-    /// Lets what was changed since the last time go where a look-up costs least. It is called once a
-    /// step was taken, when no other copy lives.
+    /// Lets what was changed since the last time go where a look-up costs least. It is called once
+    /// a step was taken, when no other copy lives.
     pub fn settle(&mut self, alloc: Global)
         ensures { self.new ≡ self.old }
     {
@@ -94,8 +95,8 @@ impl<S: Timed> Host<S> {
         self.last
     }
 
-    /// Lets go of the transactions that are over, but for those of an INVITE whose session lives. In
-    /// constant time where all are known to be kept.
+    /// Lets go of the transactions that are over, but for those of an INVITE whose session lives.
+    /// In constant time where all are known to be kept.
     #[tactic(auto, using(crate::proofs::KeptLaws::tidied_is, crate::proofs::KeptLaws::clients_filtered, crate::proofs::KeptLaws::servers_filtered))]
     pub fn tidied(&mut self, alloc: Global) -> Result<(), NoMemory>
         ensures { OnOk result (self.new ≡ tidied self.old) }
@@ -122,8 +123,10 @@ impl<S: Timed> Host<S> {
         group: u64,
         probe: &P,
     ) -> Result<Option<&Shared<Live<S>>>, NoMemory>
-        requires { (x : Live S) → P.passes probe.now x ≡ true → belongs groups_of_live group x ≡ true }
-        ensures { IfOk result (λ found. option_copied found ≡ find (P.passes probe.now) self.now.sessions) }
+        requires { (x : Live S) → P.passes probe.now x ≡ true
+            → belongs groups_of_live group x ≡ true }
+        ensures { IfOk result
+            (λ found. option_copied found ≡ find (P.passes probe.now) self.now.sessions) }
     {
         self.sessions.find_first(alloc, group, probe)
     }
@@ -149,27 +152,37 @@ impl<S: Timed> Host<S> {
         self.sessions.as_list(alloc)
     }
 
-    /// The sessions of which something is due before a moment, in order. `NoMemory` too where changes
-    /// aren't settled.
+    /// The sessions of which something is due before a moment, in order. `NoMemory` too where
+    /// changes aren't settled.
     pub fn due_lives(&self, alloc: Global, past: u64) -> Result<List<Shared<Live<S>>>, NoMemory>
-        ensures { IfOk result (λ own. own ≡ filter (λ live. is_before past (least_due live.fired (S.entries live.session))) self.now.sessions) }
+        ensures { IfOk result
+            (λ own.
+            own
+            ≡ filter (λ live. is_before past (least_due live.fired (S.entries live.session)))
+            self.now.sessions) }
     {
         self.sessions.due_before(alloc, past)
     }
 
-    /// The lowest number of an event that is first in its session, with the session's number, of the
-    /// sessions that aren't among these. `NoMemory` too where changes aren't settled.
+    /// The lowest number of an event that is first in its session, with the session's number, of
+    /// the sessions that aren't among these. `NoMemory` too where changes aren't settled.
     pub fn next_but(&self, skip: &[u64]) -> Result<Option<(u64, u64)>, NoMemory>
-        ensures { IfOk result (λ next. next ≡ earliest (λ live. live.serial) first_number (filter (λ live. is_free skip.now live.serial) self.now.sessions)) }
+        ensures { IfOk result
+            (λ next.
+            next
+            ≡ earliest (λ live. live.serial) first_number
+            (filter (λ live. is_free skip.now live.serial) self.now.sessions)) }
     {
         self.sessions.first_but(skip)
     }
 
-    /// One session more, and the serial of the last one. `NoMemory` too where its number isn't above
-    /// all.
+    /// One session more, and the serial of the last one. `NoMemory` too where its number isn't
+    /// above all.
     #[tactic(auto, using(crate::proofs::KeptLaws::begun_clients, crate::proofs::KeptLaws::begun_servers))]
     pub fn push_live(&mut self, live: Shared<Live<S>>, last: u64) -> Result<(), NoMemory>
-        ensures { OnOk result (self.new ≡ record self.old { sessions = self.old.sessions ++ live ∷ []; last = last }) }
+        ensures { OnOk result
+            (self.new
+            ≡ record self.old { sessions = self.old.sessions ++ live ∷ []; last = last }) }
     {
         let tidy = self.tidy;
         self.tidy = false;
@@ -182,7 +195,11 @@ impl<S: Timed> Host<S> {
     /// Puts a session in place of the one of its number.
     #[tactic(auto, using(crate::proofs::KeptLaws::changed_clients, crate::proofs::KeptLaws::changed_servers))]
     pub fn set_live(&mut self, live: Shared<Live<S>>) -> Result<(), NoMemory>
-        ensures { OnOk result (self.new ≡ record self.old { sessions = change_first (is_live live.serial) (λ _. live) self.old.sessions }) }
+        ensures { OnOk result
+            (self.new
+            ≡ record self.old {
+              sessions = change_first (is_live live.serial) (λ _. live) self.old.sessions;
+            }) }
     {
         let tidy = self.tidy;
         self.tidy = false;
@@ -191,11 +208,14 @@ impl<S: Timed> Host<S> {
         Ok(())
     }
 
-    /// Takes the session of this number away, and lets go of the transactions that aren't kept without
-    /// it.
+    /// Takes the session of this number away, and lets go of the transactions that aren't kept
+    /// without it.
     #[tactic(auto, using(crate::proofs::KeptLaws::clients_beside, crate::proofs::KeptLaws::servers_beside, crate::proofs::KeptLaws::tidied_is, crate::proofs::KeptLaws::clients_filtered, crate::proofs::KeptLaws::servers_filtered))]
     pub fn end_live(&mut self, alloc: Global, serial: u64) -> Result<(), NoMemory>
-        ensures { OnOk result (self.new ≡ tidied (record self.old { sessions = remove_first (is_live serial) self.old.sessions })) }
+        ensures { OnOk result
+            (self.new
+            ≡ tidied
+            (record self.old { sessions = remove_first (is_live serial) self.old.sessions })) }
     {
         let tidy = self.tidy;
         self.tidy = false;
@@ -215,7 +235,9 @@ impl<S: Timed> Host<S> {
         branch: u64,
         cancelling: bool,
     ) -> Result<Option<&Shared<Client>>, NoMemory>
-        ensures { IfOk result (λ found. option_copied found ≡ find (is_client app branch cancelling) self.now.clients) }
+        ensures { IfOk result
+            (λ found.
+            option_copied found ≡ find (is_client app branch cancelling) self.now.clients) }
     {
         let probe = NamedClient {
             app,
@@ -233,8 +255,10 @@ impl<S: Timed> Host<S> {
         group: u64,
         probe: &P,
     ) -> Result<Option<&Shared<Client>>, NoMemory>
-        requires { (x : Client) → P.passes probe.now x ≡ true → belongs groups_of_client group x ≡ true }
-        ensures { IfOk result (λ found. option_copied found ≡ find (P.passes probe.now) self.now.clients) }
+        requires { (x : Client) → P.passes probe.now x ≡ true
+            → belongs groups_of_client group x ≡ true }
+        ensures { IfOk result
+            (λ found. option_copied found ≡ find (P.passes probe.now) self.now.clients) }
     {
         self.clients.find_first(alloc, group, probe)
     }
@@ -242,7 +266,8 @@ impl<S: Timed> Host<S> {
     /// The client transactions of a group, in order: those of the session of this number are among
     /// them.
     pub fn clients_of(&self, alloc: Global, group: u64) -> Result<List<Shared<Client>>, NoMemory>
-        ensures { IfOk result (λ own. own ≡ filter (belongs groups_of_client group) self.now.clients) }
+        ensures { IfOk result
+            (λ own. own ≡ filter (belongs groups_of_client group) self.now.clients) }
     {
         self.clients.of(alloc, group)
     }
@@ -257,7 +282,9 @@ impl<S: Timed> Host<S> {
     /// The client transactions that are due before a moment, in order. `NoMemory` too where changes
     /// aren't settled.
     pub fn due_clients(&self, alloc: Global, past: u64) -> Result<List<Shared<Client>>, NoMemory>
-        ensures { IfOk result (λ own. own ≡ filter (λ client. is_before past (due_of_client client)) self.now.clients) }
+        ensures { IfOk result
+            (λ own.
+            own ≡ filter (λ client. is_before past (due_of_client client)) self.now.clients) }
     {
         self.clients.due_before(alloc, past)
     }
@@ -272,7 +299,8 @@ impl<S: Timed> Host<S> {
     /// One client transaction more.
     #[tactic(auto, using(crate::proofs::KeptLaws::client_pushed))]
     pub fn push_client(&mut self, client: Shared<Client>) -> Result<(), NoMemory>
-        ensures { OnOk result (self.new ≡ record self.old { clients = self.old.clients ++ client ∷ [] }) }
+        ensures { OnOk result
+            (self.new ≡ record self.old { clients = self.old.clients ++ client ∷ [] }) }
     {
         let tidy = self.tidy && is_kept_client(&self.sessions, client.get());
         self.tidy = false;
@@ -281,11 +309,16 @@ impl<S: Timed> Host<S> {
         Ok(())
     }
 
-    /// Puts a client transaction in place of the one of its session, branch and kind, and lets go of
-    /// what isn't kept.
+    /// Puts a client transaction in place of the one of its session, branch and kind, and lets go
+    /// of what isn't kept.
     #[tactic(auto, using(crate::proofs::KeptLaws::tidied_is, crate::proofs::KeptLaws::clients_filtered, crate::proofs::KeptLaws::servers_filtered))]
     pub fn change_client(&mut self, alloc: Global, client: Shared<Client>) -> Result<(), NoMemory>
-        ensures { OnOk result (self.new ≡ tidied (record self.old { clients = change_first (is_same_client client) (λ _. client) self.old.clients })) }
+        ensures { OnOk result
+            (self.new
+            ≡ tidied
+            (record self.old {
+              clients = change_first (is_same_client client) (λ _. client) self.old.clients;
+            })) }
     {
         let tidy = self.tidy;
         self.tidy = false;
@@ -309,8 +342,10 @@ impl<S: Timed> Host<S> {
         group: u64,
         probe: &P,
     ) -> Result<Option<&Shared<Server>>, NoMemory>
-        requires { (x : Server) → P.passes probe.now x ≡ true → belongs groups_of_server group x ≡ true }
-        ensures { IfOk result (λ found. option_copied found ≡ find (P.passes probe.now) self.now.servers) }
+        requires { (x : Server) → P.passes probe.now x ≡ true
+            → belongs groups_of_server group x ≡ true }
+        ensures { IfOk result
+            (λ found. option_copied found ≡ find (P.passes probe.now) self.now.servers) }
     {
         self.servers.find_first(alloc, group, probe)
     }
@@ -325,7 +360,9 @@ impl<S: Timed> Host<S> {
     /// The server transactions that are due before a moment, in order. `NoMemory` too where changes
     /// aren't settled.
     pub fn due_servers(&self, alloc: Global, past: u64) -> Result<List<Shared<Server>>, NoMemory>
-        ensures { IfOk result (λ own. own ≡ filter (λ server. is_before past (due_of_server server)) self.now.servers) }
+        ensures { IfOk result
+            (λ own.
+            own ≡ filter (λ server. is_before past (due_of_server server)) self.now.servers) }
     {
         self.servers.due_before(alloc, past)
     }
@@ -340,7 +377,8 @@ impl<S: Timed> Host<S> {
     /// One server transaction more. `NoMemory` too where its event isn't above all.
     #[tactic(auto, using(crate::proofs::KeptLaws::server_pushed))]
     pub fn push_server(&mut self, server: Shared<Server>) -> Result<(), NoMemory>
-        ensures { OnOk result (self.new ≡ record self.old { servers = self.old.servers ++ server ∷ [] }) }
+        ensures { OnOk result
+            (self.new ≡ record self.old { servers = self.old.servers ++ server ∷ [] }) }
     {
         let tidy = self.tidy && is_kept_server(&self.sessions, server.get());
         self.tidy = false;
@@ -352,7 +390,11 @@ impl<S: Timed> Host<S> {
     /// Puts a server transaction in place of the one of its event.
     #[tactic(auto, using(crate::proofs::KeptLaws::server_changed))]
     pub fn set_server(&mut self, server: Shared<Server>) -> Result<(), NoMemory>
-        ensures { OnOk result (self.new ≡ record self.old { servers = change_first (is_server server.event) (λ _. server) self.old.servers }) }
+        ensures { OnOk result
+            (self.new
+            ≡ record self.old {
+              servers = change_first (is_server server.event) (λ _. server) self.old.servers;
+            }) }
     {
         let tidy = self.tidy;
         self.tidy = false;
@@ -368,7 +410,12 @@ impl<S: Timed> Host<S> {
     /// Puts a server transaction in place of the one of its event, and lets go of what isn't kept.
     #[tactic(auto, using(crate::proofs::KeptLaws::tidied_is, crate::proofs::KeptLaws::clients_filtered, crate::proofs::KeptLaws::servers_filtered))]
     pub fn change_server(&mut self, alloc: Global, server: Shared<Server>) -> Result<(), NoMemory>
-        ensures { OnOk result (self.new ≡ tidied (record self.old { servers = change_first (is_server server.event) (λ _. server) self.old.servers })) }
+        ensures { OnOk result
+            (self.new
+            ≡ tidied
+            (record self.old {
+              servers = change_first (is_server server.event) (λ _. server) self.old.servers;
+            })) }
     {
         let tidy = self.tidy;
         self.tidy = false;

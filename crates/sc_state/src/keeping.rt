@@ -56,7 +56,8 @@ fn set_client(
     client: Shared<Client>,
     clients: &mut Line<Client>,
 ) -> Result<(), NoMemory>
-    ensures { OnOk result (clients.new ≡ change_first (is_same_client client) (λ _. client) clients.old) }
+    ensures { OnOk result
+        (clients.new ≡ change_first (is_same_client client) (λ _. client) clients.old) }
 {
     let probe = same_client(client.get());
     let group = branch_number(probe.app, probe.branch);
@@ -82,7 +83,10 @@ fn change_kept_client<S: Timed>(
     clients: &mut Line<Client>,
 ) -> Result<(), NoMemory>
     requires { list_all (kept_client sessions.now) clients.old ≡ true }
-    ensures { OnOk result (clients.new ≡ filter (kept_client sessions.now) (change_first (is_same_client client) (λ _. client) clients.old)) }
+    ensures { OnOk result
+        (clients.new
+        ≡ filter (kept_client sessions.now)
+        (change_first (is_same_client client) (λ _. client) clients.old)) }
 {
     if is_kept_client(sessions, client.get()) {
         set_client(alloc, client, clients)?;
@@ -101,7 +105,10 @@ pub fn change_client<S: Timed>(
     clients: &mut Line<Client>,
 ) -> Result<(), NoMemory>
     requires { tidy ≡ true → list_all (kept_client sessions.now) clients.old ≡ true }
-    ensures { OnOk result (clients.new ≡ filter (kept_client sessions.now) (change_first (is_same_client client) (λ _. client) clients.old)) }
+    ensures { OnOk result
+        (clients.new
+        ≡ filter (kept_client sessions.now)
+        (change_first (is_same_client client) (λ _. client) clients.old)) }
 {
     if tidy {
         return change_kept_client(alloc, sessions, client, clients);
@@ -119,7 +126,10 @@ fn change_kept_server<S: Timed>(
     servers: &mut Rows<Server>,
 ) -> Result<(), NoMemory>
     requires { list_all (kept_server sessions.now) servers.old ≡ true }
-    ensures { OnOk result (servers.new ≡ filter (kept_server sessions.now) (change_first (is_server server.event) (λ _. server) servers.old)) }
+    ensures { OnOk result
+        (servers.new
+        ≡ filter (kept_server sessions.now)
+        (change_first (is_server server.event) (λ _. server) servers.old)) }
 {
     if is_kept_server(sessions, server.get()) {
         servers.set(server)?;
@@ -138,7 +148,10 @@ pub fn change_server<S: Timed>(
     servers: &mut Rows<Server>,
 ) -> Result<(), NoMemory>
     requires { tidy ≡ true → list_all (kept_server sessions.now) servers.old ≡ true }
-    ensures { OnOk result (servers.new ≡ filter (kept_server sessions.now) (change_first (is_server server.event) (λ _. server) servers.old)) }
+    ensures { OnOk result
+        (servers.new
+        ≡ filter (kept_server sessions.now)
+        (change_first (is_server server.event) (λ _. server) servers.old)) }
 {
     if tidy {
         return change_kept_server(sessions, server, servers);
@@ -156,7 +169,9 @@ pub fn leave_clients<S: Timed>(
     sessions: &Rows<Live<S>>,
     clients: &mut Line<Client>,
 ) -> Result<(), NoMemory>
-    requires { tidy ≡ true → list_all (λ client. (client.app.serial == serial) || kept_client sessions.now client) clients.old ≡ true }
+    requires { tidy ≡ true
+        → list_all (λ client. (client.app.serial == serial) || kept_client sessions.now client)
+        clients.old ≡ true }
     ensures { OnOk result (clients.new ≡ filter (kept_client sessions.now) clients.old) }
 {
     if tidy {
@@ -175,7 +190,9 @@ pub fn leave_servers<S: Timed>(
     sessions: &Rows<Live<S>>,
     servers: &mut Rows<Server>,
 ) -> Result<(), NoMemory>
-    requires { tidy ≡ true → list_all (λ server. (server.app.serial == serial) || kept_server sessions.now server) servers.old ≡ true }
+    requires { tidy ≡ true
+        → list_all (λ server. (server.app.serial == serial) || kept_server sessions.now server)
+        servers.old ≡ true }
     ensures { OnOk result (servers.new ≡ filter (kept_server sessions.now) servers.old) }
 {
     if tidy {

@@ -1,6 +1,6 @@
 //! What an application session, a host and the net of hosts are made of: the definitions of the
-//! container's steps speak of these types. All is plain data but for a host, which finds what it has
-//! by its name, keeps what is due in order, and lets go of the transactions that are over.
+//! container's steps speak of these types. All is plain data but for a host, which finds what it
+//! has by its name, keeps what is due in order, and lets go of the transactions that are over.
 #![tactic(auto)]
 
 mod copies;

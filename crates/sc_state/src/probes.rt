@@ -65,7 +65,8 @@ pub struct LeftClient<'a, S: Timed> {
 }
 
 impl<S: Timed> Probe<Client> for LeftClient<'_, S> {
-    ghost passes = { λ p client. not (client.app.serial == p.serial) || kept_client p.sessions.now client };
+    ghost passes = { λ p client.
+        not (client.app.serial == p.serial) || kept_client p.sessions.now client };
 
     fn passes(&self, client: &Client) -> bool {
         client.app.serial != self.serial || is_kept_client(self.sessions, client)
@@ -80,7 +81,8 @@ pub struct LeftServer<'a, S: Timed> {
 }
 
 impl<S: Timed> Probe<Server> for LeftServer<'_, S> {
-    ghost passes = { λ p server. not (server.app.serial == p.serial) || kept_server p.sessions.now server };
+    ghost passes = { λ p server.
+        not (server.app.serial == p.serial) || kept_server p.sessions.now server };
 
     fn passes(&self, server: &Server) -> bool {
         server.app.serial != self.serial || is_kept_server(self.sessions, server)

@@ -79,7 +79,8 @@ fn timer_due(timer: &TimerView, fired: &[Fired]) -> Result<Option<u64>, NoMemory
 
 #[tactic(auto, using(crate::proofs::LeastDue::least_none, crate::proofs::LeastDue::least_both))]
 fn timers_due(timers: &[TimerView], fired: &[Fired]) -> Result<Option<u64>, NoMemory>
-    ensures { IfOk result (λ due. due ≡ least_due fired.now (flat_map (λ timer. timer_entry timer ∷ []) timers.now)) }
+    ensures { IfOk result
+        (λ due. due ≡ least_due fired.now (flat_map (λ timer. timer_entry timer ∷ []) timers.now)) }
 {
     let mut least = None;
     for timer in timers {
@@ -116,7 +117,11 @@ fn branches_due(branches: &[Branch], fired: &[Fired]) -> Result<Option<u64>, NoM
 
 #[tactic(auto, using(crate::proofs::LeastDue::least_none, crate::proofs::LeastDue::least_both))]
 fn proxies_due(proxies: &[Proxy], fired: &[Fired]) -> Result<Option<u64>, NoMemory>
-    ensures { IfOk result (λ due. due ≡ least_due fired.now (flat_map (λ proxy. flat_map branch_entry proxy.branches) proxies.now)) }
+    ensures { IfOk result
+        (λ due.
+        due
+        ≡ least_due fired.now
+        (flat_map (λ proxy. flat_map branch_entry proxy.branches) proxies.now)) }
 {
     let mut least = None;
     for proxy in proxies {

@@ -30,15 +30,23 @@ use Rattle.sc_hosts.specs.Transacting.{tidied}
 
 -- the entry still runs in the session
 unfoldable pub is_running : Session → Fired → Bool
-is_running session fired = list_any (λ entry. entry.due == fired.due && entry.number == fired.number) (entries_of session)
+is_running session fired =
+    list_any (λ entry. entry.due == fired.due && entry.number == fired.number) (entries_of session)
 
 -- the live session after its turn, which made this of its session
 unfoldable pub live_after : ℕ → Session → Live Session → Live Session
-live_after now session live = record live { session = session; inbox = drop 1 live.inbox; since = now; fired = still_fired session live.fired }
+live_after now session live =
+    record live {
+      session = session;
+      inbox = drop 1 live.inbox;
+      since = now;
+      fired = still_fired session live.fired;
+    }
 
 -- its host
 unfoldable pub host_after : ℕ → ℕ → Session → Host Session → Host Session
-host_after serial now session host = record host { sessions = change_first (is_live serial) (live_after now session) host.sessions }
+host_after serial now session host =
+    record host { sessions = change_first (is_live serial) (live_after now session) host.sessions }
 
 -- its net
 unfoldable pub net_after : AppId → Session → Net Session → Net Session
@@ -46,7 +54,8 @@ net_after app session net = change_host app.host (host_after app.serial net.mome
 
 -- the host without it
 unfoldable pub host_without : ℕ → Host Session → Host Session
-host_without serial host = tidied (record host { sessions = remove_first (is_live serial) host.sessions })
+host_without serial host =
+    tidied (record host { sessions = remove_first (is_live serial) host.sessions })
 
 -- ## How a turn closes
 
@@ -56,36 +65,47 @@ wakes session live = length live.inbox == 0 && is_ready session && session.view.
 
 -- the session's readiness is queued, where it is so
 unfoldable pub ready_by : AppId → Session → Net Session → Net Session
-ready_by app session net = if option_map_or (wakes session) (live_at app net) false then queue_for app queued.Ready net else net
+ready_by app session net =
+    if option_map_or (wakes session) (live_at app net) false then queue_for app queued.Ready net
+    else net
 
 -- the session ends with its turn, or goes on
 unfoldable pub closed_by : Setup → AppId → Session → Bool → Net Session → Net Session
-closed_by setup app session true net = invalidated setup app session (inbox_of (live_at app net)) net
+closed_by setup app session true net =
+    invalidated setup app session (inbox_of (live_at app net)) net
 closed_by setup app session false net = ready_by app session net
 
 -- what a turn makes of the net
 unfoldable pub turned_by : Setup → AppId → Outcome → Net Session → Net Session
-turned_by setup app done net = closed_by setup app done.session done.ends (obeyed setup app done.orders (net_after app done.session net))
+turned_by setup app done net =
+    closed_by setup app done.session done.ends
+    (obeyed setup app done.orders (net_after app done.session net))
 
 -- a turn with the first event, where one waits
-unfoldable pub first_by : Setup → AppId → Session → Option Waiting → ℕ → List CallRecord → End → Net Session → Net Session
+unfoldable pub first_by : Setup → AppId → Session → Option Waiting → ℕ → List CallRecord → End
+    → Net Session → Net Session
 first_by setup app session None now made end net = net
 first_by setup app session (Some waiting) now made end net =
-    turned_by setup app (outcome_by as_session setup.config session (turn_of net app waiting now made end)) net
+    turned_by setup app
+    (outcome_by as_session setup.config session (turn_of net app waiting now made end)) net
 
 -- a turn of a live session, where there is one
-unfoldable pub turns_by : Setup → AppId → Option (Live Session) → ℕ → List CallRecord → End → Net Session → Net Session
+unfoldable pub turns_by : Setup → AppId → Option (Live Session) → ℕ → List CallRecord → End
+    → Net Session → Net Session
 turns_by setup app None now made end net = net
-turns_by setup app (Some live) now made end net = first_by setup app live.session (slice_get live.inbox 0) now made end net
+turns_by setup app (Some live) now made end net =
+    first_by setup app live.session (slice_get live.inbox 0) now made end net
 
 -- ## What a turn begins with
 
 -- the turn of this event at this moment begins with it, where an event waits
 unfoldable pub FirstBegins : Config → List ℕ → Session → Option Waiting → ℕ → Prepared → Type 0
 FirstBegins config ringing session None now begun = Unit {0}
-FirstBegins config ringing session (Some waiting) now begun = prepared config ringing session waiting now ≡ begun
+FirstBegins config ringing session (Some waiting) now begun =
+    prepared config ringing session waiting now ≡ begun
 
 -- so does the turn of the first event of this session, where it lives
 unfoldable pub Begins : Config → List ℕ → Option (Live Session) → ℕ → Prepared → Type 0
 Begins config ringing None now begun = Unit {0}
-Begins config ringing (Some live) now begun = FirstBegins config ringing live.session (slice_get live.inbox 0) now begun
+Begins config ringing (Some live) now begun =
+    FirstBegins config ringing live.session (slice_get live.inbox 0) now begun

@@ -78,7 +78,8 @@ fn ended_by(
     live: &Option<Shared<Live<Session>>>,
     net: &mut Net<Session>,
 ) -> Result<(), NoMemory>
-    ensures { OnOk result (net.new ≡ invalidated setup.now app session.now (inbox_of live.now) net.old) }
+    ensures { OnOk result
+        (net.new ≡ invalidated setup.now app session.now (inbox_of live.now) net.old) }
 {
     match live {
         Some(live) => invalidated(alloc, setup, app, session, live.get().inbox.as_slice(), net),
@@ -94,7 +95,8 @@ pub fn ended(
     session: &Session,
     net: &mut Net<Session>,
 ) -> Result<(), NoMemory>
-    ensures { OnOk result (net.new ≡ invalidated setup.now app session.now (inbox_of (live_at app net.old)) net.old) }
+    ensures { OnOk result
+        (net.new ≡ invalidated setup.now app session.now (inbox_of (live_at app net.old)) net.old) }
 {
     let live = live_copy(alloc, app, net)?;
     ended_by(alloc, setup, app, session, &live, net)
@@ -133,7 +135,8 @@ pub fn withdrawn(
     app: AppId,
     net: &mut Net<Session>,
 ) -> Result<(), NoMemory>
-    ensures { OnOk result (net.new ≡ withdrawn as_session setup.now app (live_at app net.old) net.old) }
+    ensures { OnOk result
+        (net.new ≡ withdrawn as_session setup.now app (live_at app net.old) net.old) }
 {
     let live = live_copy(alloc, app, net)?;
     withdrawn_by(alloc, setup, app, &live, net)

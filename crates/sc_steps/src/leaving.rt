@@ -110,7 +110,8 @@ fn hosts_after(
     session: &Shared<Session>,
     hosts: &mut [Host<Session>],
 ) -> Result<(), NoMemory>
-    ensures { OnOk result (hosts.new ≡ change_nth app.host (host_after app.serial now session.now) hosts.old) }
+    ensures { OnOk result
+        (hosts.new ≡ change_nth app.host (host_after app.serial now session.now) hosts.old) }
 {
     let at = app.host as usize;
     if at < hosts.len() {

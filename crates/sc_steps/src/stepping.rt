@@ -84,7 +84,8 @@ pub fn after_step(
     delivered(alloc, setup, net)
 }
 
-/// What a turn of an event makes of a net, as `after_step`; it may be known already what the turn begins with.
+/// What a turn of an event makes of a net, as `after_step`; it may be known already what the turn
+/// begins with.
 #[tactic(auto, unfolding(sc_hosts::specs::Runs::after_step, sc_hosts::specs::Steps::stepped))]
 pub fn after_begun(
     alloc: Global,
@@ -97,8 +98,12 @@ pub fn after_begun(
     end: End,
     net: &mut Net<Session>,
 ) -> Result<(), NoMemory>
-    requires { IfSome begun (λ shown. Begins setup.now.config (ringing_at app (host_at app.host net.old)) (live_at app net.old) now shown) }
-    ensures { OnOk result (net.new ≡ after_step as_session setup.now net.old (Step.Turn app event now made.now end)) }
+    requires { IfSome begun
+        (λ shown.
+        Begins setup.now.config (ringing_at app (host_at app.host net.old)) (live_at app net.old)
+        now shown) }
+    ensures { OnOk result
+        (net.new ≡ after_step as_session setup.now net.old (Step.Turn app event now made.now end)) }
 {
     let _ = event;
     nothing_sent(alloc, net);

@@ -54,7 +54,11 @@ fn outcome_by(
     end: End,
     net: &Net<Session>,
 ) -> Result<Outcome, NoMemory>
-    ensures { IfOk result (λ done. done ≡ outcome_by as_session config.now session.now (turn_of net.now app waiting.now now made.now end)) }
+    ensures { IfOk result
+        (λ done.
+        done
+        ≡ outcome_by as_session config.now session.now
+        (turn_of net.now app waiting.now now made.now end)) }
 {
     let ringing = ringing_at(alloc, app, net)?;
     let session = session.clone_in(alloc)?;
@@ -84,8 +88,15 @@ fn outcome_begun(
     end: End,
     net: &Net<Session>,
 ) -> Result<Outcome, NoMemory>
-    requires { IfSome begun (λ shown. prepared config.now (ringing_at app (host_at app.host net.now)) session.now waiting.now now ≡ shown) }
-    ensures { IfOk result (λ done. done ≡ outcome_by as_session config.now session.now (turn_of net.now app waiting.now now made.now end)) }
+    requires { IfSome begun
+        (λ shown.
+        prepared config.now (ringing_at app (host_at app.host net.now)) session.now waiting.now
+        now ≡ shown) }
+    ensures { IfOk result
+        (λ done.
+        done
+        ≡ outcome_by as_session config.now session.now
+        (turn_of net.now app waiting.now now made.now end)) }
 {
     match begun {
         Some(shown) => outcome_from(alloc, config, shown, waiting, made, end),
@@ -110,8 +121,14 @@ fn first_by(
     end: End,
     net: &mut Net<Session>,
 ) -> Result<(), NoMemory>
-    requires { IfSome begun (λ shown. FirstBegins setup.now.config (ringing_at app (host_at app.host net.old)) session.now (option_copied waiting) now shown) }
-    ensures { OnOk result (net.new ≡ first_by setup.now app session.now (option_copied waiting.entry) now made.now end net.old) }
+    requires { IfSome begun
+        (λ shown.
+        FirstBegins setup.now.config (ringing_at app (host_at app.host net.old)) session.now
+        (option_copied waiting) now shown) }
+    ensures { OnOk result
+        (net.new
+        ≡ first_by setup.now app session.now (option_copied waiting.entry) now made.now end
+        net.old) }
 {
     match waiting {
         Some(waiting) => {
@@ -148,7 +165,9 @@ fn turns_by(
     end: End,
     net: &mut Net<Session>,
 ) -> Result<(), NoMemory>
-    requires { IfSome begun (λ shown. Begins setup.now.config (ringing_at app (host_at app.host net.old)) live.now now shown) }
+    requires { IfSome begun
+        (λ shown.
+        Begins setup.now.config (ringing_at app (host_at app.host net.old)) live.now now shown) }
     ensures { OnOk result (net.new ≡ turns_by setup.now app live.now now made.now end net.old) }
 {
     match live {
@@ -174,8 +193,8 @@ fn turns_by(
     }
 }
 
-/// A session takes a turn with its first event, where it lives and one waits. What the turn begins with
-/// may be known already.
+/// A session takes a turn with its first event, where it lives and one waits. What the turn begins
+/// with may be known already.
 #[tactic(auto, using(crate::proofs::LiveTurns::turns_taken))]
 pub fn turns(
     alloc: Global,
@@ -187,8 +206,12 @@ pub fn turns(
     end: End,
     net: &mut Net<Session>,
 ) -> Result<(), NoMemory>
-    requires { IfSome begun (λ shown. Begins setup.now.config (ringing_at app (host_at app.host net.old)) (live_at app net.old) now shown) }
-    ensures { OnOk result (net.new ≡ turns as_session setup.now app (live_at app net.old) now made.now end net.old) }
+    requires { IfSome begun
+        (λ shown.
+        Begins setup.now.config (ringing_at app (host_at app.host net.old)) (live_at app net.old)
+        now shown) }
+    ensures { OnOk result
+        (net.new ≡ turns as_session setup.now app (live_at app net.old) now made.now end net.old) }
 {
     match live_copy(alloc, app, net) {
         Ok(live) => turns_by(alloc, setup, app, begun, &live, now, made, end, net),

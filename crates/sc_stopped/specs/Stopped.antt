@@ -1,5 +1,5 @@
--- What a later request gets that comes to no session, or that its session shows to nobody: the container answers it by itself (RFC 3261
--- sections 8.2, 12.2.2 and 21.5.4).
+-- What a later request gets that comes to no session, or that its session shows to nobody: the
+-- container answers it by itself (RFC 3261 sections 8.2, 12.2.2 and 21.5.4).
 use Rattle.std.specs.Prelude.{◌≡◌, ◌⊎◌, ◌≤◌, ◌^◌, ℕ, List, [], ◌∷◌, ◌++◌, true, false, None, Some, is_some, if◌then◌else◌, length, slice_get, drop}
 use Rattle.sc_value.specs.declared.ids.AppId.{AppId}
 use Rattle.sc_value.specs.declared.ids.Place.{Place}
@@ -41,7 +41,8 @@ use Rattle.sc_lasting.specs.Lasting.{All}
 use Rattle.sc_reached.specs.Reached.{AllSmall, AreSmall, IsLater}
 
 -- its own URI, the top Route or the Request-URI, names this session; and names have 64 bits
-pub record IsLaterTo {S : Type 0} (setup : Setup) (from : Place) (request : Request) (net : Net S) (app : AppId) : Type 0 where
+pub record IsLaterTo {S : Type 0} (setup : Setup) (from : Place) (request : Request) (net : Net S)
+    (app : AppId) : Type 0 where
   pub later : IsLater from request net
   pub uri : Uri
   pub by : own_uri setup.config request ≡ Some uri
@@ -50,21 +51,28 @@ pub record IsLaterTo {S : Type 0} (setup : Setup) (from : Place) (request : Requ
   pub count : length net.hosts ≤ 2 ^ 64
   pub small : AllSmall net.hosts
 
--- what is sent back to where it came from: this answer of the container by itself; nothing to an ACK
+-- what is sent back to where it came from: this answer of the container by itself; nothing to an
+-- ACK
 unfoldable pub answer_to : Config → Place → ℕ → Bytes → Request → List Sent
 answer_to config from code reason request =
     if same_bytes (method_of request) ack then []
-    else record { place = from; message = messages.Response (own_response (edge_tag config.salt) code reason request) } ∷ []
+    else
+    record {
+      place = from;
+      message = messages.Response (own_response (edge_tag config.salt) code reason request);
+    } ∷ []
 
 -- the net with that sent, and else as it was
 abbrev pub answered : {S : Type 0} → Config → Place → ℕ → Bytes → Request → Net S → Net S
-answered config from code reason request net = record net { sent = net.sent ++ answer_to config from code reason request }
+answered config from code reason request net =
+    record net { sent = net.sent ++ answer_to config from code reason request }
 
 -- ## Between hosts
 
--- the first of the wire is a request, no CANCEL, with a To tag and of no transaction of the host that it comes to; its own URI
--- names this session of that host; and names have 64 bits
-pub record IsFirstTo {S : Type 0} (setup : Setup) (entry : Entry) (request : Request) (net : Net S) (app : AppId) : Type 0 where
+-- the first of the wire is a request, no CANCEL, with a To tag and of no transaction of the host
+-- that it comes to; its own URI names this session of that host; and names have 64 bits
+pub record IsFirstTo {S : Type 0} (setup : Setup) (entry : Entry) (request : Request) (net : Net S)
+    (app : AppId) : Type 0 where
   pub first : slice_get net.wire 0 ≡ Some entry
   pub message : entry.message ≡ messages.Request request
   pub receiver : entry.receiver ≡ app.host
@@ -79,24 +87,35 @@ pub record IsFirstTo {S : Type 0} (setup : Setup) (entry : Entry) (request : Req
   pub within : IsOf64 net.epoch app 0
   pub small : AreSmall host.sessions
 
--- what is put on the wire: this answer of the container by itself, to the host that sent the request; nothing to an ACK
+-- what is put on the wire: this answer of the container by itself, to the host that sent the
+-- request; nothing to an ACK
 unfoldable pub answer_back : Config → Entry → ℕ → Bytes → Request → List Entry
 answer_back config entry code reason request =
     if same_bytes (method_of request) ack then []
-    else record { sender = entry.receiver; receiver = entry.sender; message = messages.Response (own_response (edge_tag config.salt) code reason request); note = None } ∷ []
+    else
+    record {
+      sender = entry.receiver;
+      receiver = entry.sender;
+      message = messages.Response (own_response (edge_tag config.salt) code reason request);
+      note = None;
+    } ∷ []
 
 -- the net without the first of the wire and with that behind the others, and else as it was
 abbrev pub returned : {S : Type 0} → Config → Entry → ℕ → Bytes → Request → Net S → Net S
-returned config entry code reason request net = record net { wire = drop 1 net.wire ++ answer_back config entry code reason request }
+returned config entry code reason request net =
+    record net { wire = drop 1 net.wire ++ answer_back config entry code reason request }
 
 -- ## In the turn of its session
 
--- a later request that no turn shows: no SipSession of the session is of its dialog, or its sequence number is lower than one that came
--- there before; with the code and reason of the answer (RFC 3261 section 12.2.2)
+-- a later request that no turn shows: no SipSession of the session is of its dialog, or its
+-- sequence number is lower than one that came there before; with the code and reason of the answer
+-- (RFC 3261 section 12.2.2)
 unfoldable pub IsRefusedThere : Session → Request → ℕ → Bytes → Type 0
 IsRefusedThere session request code reason =
     ((session_for session request ≡ None) × (code ≡ 481) × (reason ≡ does_not_exist))
-    ⊎ ((sess : SessId) × (found : SessionView) × (session_for session request ≡ Some sess) × (session_in session.view sess ≡ Some found) × (is_low (leg_of session.known sess) request ≡ true)
+    ⊎ ((sess : SessId) × (found : SessionView) × (session_for session request ≡ Some sess)
+    × (session_in session.view sess ≡ Some found)
+    × (is_low (leg_of session.known sess) request ≡ true)
     × (code ≡ 500) × (reason ≡ server_error))
 
 -- the order sends no request in a dialog
@@ -105,8 +124,10 @@ IsNoLater (orders.Send branch request) = ⊥
 IsNoLater (orders.Acknowledge request) = ⊥
 IsNoLater order = Unit {0}
 
--- nobody is called in the turn; it gives these orders first, and behind them none that sends a request in a dialog
-pub record RefusesFirst (config : Config) (ringing : List ℕ) (session : Session) (waiting : Waiting) (now : ℕ) (made : List CallRecord) (end : End) (first : List Order) : Type 0 where
+-- nobody is called in the turn; it gives these orders first, and behind them none that sends a
+-- request in a dialog
+pub record RefusesFirst (config : Config) (ringing : List ℕ) (session : Session) (waiting : Waiting)
+    (now : ℕ) (made : List CallRecord) (end : End) (first : List Order) : Type 0 where
   pub event : (prepared config ringing session waiting now).event ≡ None
   pub more : List Order
   pub given : (outcome config ringing session waiting now made end).orders ≡ first ++ more

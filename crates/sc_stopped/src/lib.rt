@@ -1,4 +1,5 @@
-//! What a later request gets that comes to no session, or that its session shows to nobody, as laws.
+//! What a later request gets that comes to no session, or that its session shows to nobody, as
+//! laws.
 #![tactic(auto)]
 
 mod laws;

@@ -14,13 +14,16 @@ use Rattle.sc_head_text.specs.declared.unread.Unread.{Unread}
 use Rattle.sc_head_text.specs.Answers.{Fails}
 
 -- what stands here is what stood and the Vias that are read
-abbrev pub TakesVias : {U : Type 0} → Result U Unread → List Via → List Via → Option (List Via) → Type 0
+abbrev pub TakesVias : {U : Type 0} → Result U Unread → List Via → List Via → Option (List Via)
+    → Type 0
 TakesVias (Ok done) old now read = (more : List Via) × (read ≡ Some more) × (now ≡ old ++ more)
 TakesVias (Err unread) old now read = Fails unread read
 
 -- the Vias of all fields of that name
 abbrev pub all_vias : List Field → Option (List Via)
-all_vias fields = option_map (λ lists. flat_map (λ vias. vias) lists) (all_read (in_line vias_of) (values_of via_name fields))
+all_vias fields =
+    option_map (λ lists. flat_map (λ vias. vias) lists)
+    (all_read (in_line vias_of) (values_of via_name fields))
 
 -- those of one field
 unfoldable pub vias_at : Field → Option (List Via)

@@ -1,4 +1,5 @@
--- What a stream keeps, and how it ends (RFC 3261 section 18.3). An ended stream keeps its answer alone.
+-- What a stream keeps, and how it ends (RFC 3261 section 18.3). An ended stream keeps its answer
+-- alone.
 use Rattle.std.specs.Prelude.{◌≡◌, ℕ, Option, Some, None, [], ◌≤◌, length, drop, ⊤}
 use Rattle.sc_syntax.specs.declared.front.Front.TheVariants as fronts
 use Rattle.sc_tokens.specs.Bytes.{Bytes}
@@ -20,8 +21,8 @@ abbrev pub bytes_of : Option Ended → Bytes → Bytes → Bytes
 bytes_of None kept gone = kept
 bytes_of (Some ended) kept gone = gone
 
--- what is true of what a stream keeps, in memory for so many bytes: once it has ended no byte is left, and
--- no memory for one
+-- what is true of what a stream keeps, in memory for so many bytes: once it has ended no byte is
+-- left, and no memory for one
 abbrev pub IsKept : Option Ended → ℕ → First → Bytes → ℕ → Bytes → Type 0
 IsKept None from first kept room gone = (from ≤ length kept) × IsFirst first (drop from kept)
 IsKept (Some ended) from first kept room gone = (kept ≡ []) × (room ≡ 0) × IsEnd ended gone

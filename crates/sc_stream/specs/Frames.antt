@@ -1,5 +1,5 @@
--- The messages of a stream (RFC 3261 sections 7.5 and 18.3). A stream is cut into line ends that are
--- skipped, messages and a rest.
+-- The messages of a stream (RFC 3261 sections 7.5 and 18.3). A stream is cut into line ends that
+-- are skipped, messages and a rest.
 use Rattle.std.specs.Prelude.{◌≡◌, ℕ, Bool, true, false, List, [], ◌∷◌, drop}
 use Rattle.sc_value.specs.declared.message.Message.{Message}
 use Rattle.sc_syntax.specs.declared.front.Front.{Front}
@@ -28,4 +28,6 @@ len_of Long = 0
 -- the stream begins with these messages, and this is what stands behind them
 unfoldable pub Splits : List Message → Bytes → Bytes → Type 0
 Splits [] fed rest = rest ≡ fed
-Splits (message ∷ more) fed rest = (len : ℕ) × (front_behind fed ≡ Whole len message) × Splits more (drop len (behind_breaks fed)) rest
+Splits (message ∷ more) fed rest =
+    (len : ℕ) × (front_behind fed ≡ Whole len message)
+    × Splits more (drop len (behind_breaks fed)) rest

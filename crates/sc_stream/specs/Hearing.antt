@@ -11,9 +11,11 @@ use Rattle.sc_stream.specs.Frames.{front_behind}
 
 -- what is heard of these kept bytes, and what is kept then
 abbrev pub Hears : Heard → Bytes → Bytes → Type 0
-Hears (heard.Message message) old now = (len : ℕ) × (front_behind old ≡ fronts.Whole len message) × (now ≡ drop len (behind_breaks old))
+Hears (heard.Message message) old now =
+    (len : ℕ) × (front_behind old ≡ fronts.Whole len message) × (now ≡ drop len (behind_breaks old))
 Hears heard.NotYet old now = (front_behind old ≡ fronts.Open) × (now ≡ old)
-Hears (heard.Bad bad) old now = (front_behind old ≡ fronts.Bad bad.at bad.kind bad.heads) × (now ≡ old)
+Hears (heard.Bad bad) old now =
+    (front_behind old ≡ fronts.Bad bad.at bad.kind bad.heads) × (now ≡ old)
 Hears heard.Long old now = (front_behind old ≡ fronts.Long) × (now ≡ old)
 Hears heard.NoMemory old now = now ≡ old
 

@@ -1,5 +1,5 @@
--- What a stream knows of its first message (RFC 3261 sections 7.5 and 18.3). It stays true whatever comes
--- behind.
+-- What a stream knows of its first message (RFC 3261 sections 7.5 and 18.3). It stays true whatever
+-- comes behind.
 use Rattle.std.specs.Prelude.{◌≡◌, ℕ, false, [], Option, Some, None, Ok, ◌+◌, ◌≤◌, ◌<◌, length, take, drop}
 use Rattle.sc_syntax.specs.declared.ending.Ending.TheVariants.{Empty}
 use Rattle.sc_tokens.specs.Bytes.{Bytes}
@@ -16,7 +16,9 @@ use Rattle.sc_stream.specs.declared.fronts.Wanted.TheVariants as wanted
 
 -- of a text with this head so many bytes are wanted, whatever stands behind it
 abbrev pub IsSized : Bytes → ℕ → Type 0
-IsSized head len = (length head + 4 ≤ len) × (len ≤ 65535) × ((text : Bytes) → headed text head (message_in head []) ≡ sized text head len)
+IsSized head len =
+    (length head + 4 ≤ len) × (len ≤ 65535)
+    × ((text : Bytes) → headed text head (message_in head []) ≡ sized text head len)
 
 -- what a head tells of the texts with it
 abbrev pub Tells : Wanted → Bytes → Type 0
@@ -32,10 +34,14 @@ IsLenOf (Some len) all = (len ≡ all) × (len ≤ 65535)
 
 -- what is known of what stands behind the line ends
 unfoldable pub IsKnown : Known → Bytes → Type 0
-IsKnown (Searched len) text = (len ≤ length text) × (len ≤ 65535) × (end_of Empty (take len text) ≡ None)
+IsKnown (Searched len) text =
+    (len ≤ length text) × (len ≤ 65535) × (end_of Empty (take len text) ≡ None)
 IsKnown (Read end len parts) text =
-    (begins_break text ≡ false) × (end_of Empty (take 65535 text) ≡ Some end) × IsSized (take end text) len × (parts_in (take end text) ≡ Ok parts)
+    (begins_break text ≡ false) × (end_of Empty (take 65535 text) ≡ Some end)
+    × IsSized (take end text) len × (parts_in (take end text) ≡ Ok parts)
 
 -- so many bytes are line ends, and this is known of what stands behind them
 unfoldable pub IsFirst : First → Bytes → Type 0
-IsFirst first text = (first.breaks ≤ length text) × (behind_breaks (drop first.breaks text) ≡ behind_breaks text) × IsKnown first.known (drop first.breaks text)
+IsFirst first text =
+    (first.breaks ≤ length text) × (behind_breaks (drop first.breaks text) ≡ behind_breaks text)
+    × IsKnown first.known (drop first.breaks text)

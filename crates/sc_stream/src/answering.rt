@@ -32,7 +32,8 @@ type Parts = ((List<Via>, (Address, Address)), (HeaderValue, CSeq));
 // What an answer to a head with a fault of this kind needs, where the head has it.
 #[tactic(auto, unfolding(sc_syntax::specs::Fronts::answerable_of, sc_syntax::specs::Lines::header_lines))]
 pub fn answerable_of(alloc: Global, head: &[u8], kind: u8) -> Result<Option<Answerable>, NoMemory>
-    ensures { IfOk result (λ heads. heads ≡ answerable_of head.now (record { at = 0; kind = kind })) }
+    ensures { IfOk result
+        (λ heads. heads ≡ answerable_of head.now (record { at = 0; kind = kind })) }
 {
     let (line, rest) = split_start(head);
     if is_status_line(line) || kind == 1 {
@@ -43,7 +44,12 @@ pub fn answerable_of(alloc: Global, head: &[u8], kind: u8) -> Result<Option<Answ
 
 #[tactic(auto, using(crate::proofs::ReadSteps::are_trimmed))]
 fn answerable_behind(alloc: Global, rest: Option<&[u8]>) -> Result<Option<Answerable>, NoMemory>
-    ensures { IfOk result (λ heads. heads ≡ answerable_in (filter_map (λ line. field_of (joined line)) (lines_behind (option_copied rest.entry)))) }
+    ensures { IfOk result
+        (λ heads.
+        heads
+        ≡ answerable_in
+        (filter_map (λ line. field_of (joined line))
+        (lines_behind (option_copied rest.entry)))) }
 {
     let fields = fields_behind(alloc, rest)?;
     answerable_in(alloc, fields.as_slice())
@@ -93,7 +99,11 @@ fn with_parts(parts: Option<Parts>) -> Option<Answerable>
 
 // From and To.
 fn read_peers(alloc: Global, fields: &[Field]) -> Result<Option<(Address, Address)>, NoMemory>
-    ensures { IfOk result (λ peers. peers ≡ option_zip (once address_of from_name fields.now) (once address_of to_name fields.now)) }
+    ensures { IfOk result
+        (λ peers.
+        peers
+        ≡ option_zip (once address_of from_name fields.now)
+        (once address_of to_name fields.now)) }
 {
     let from = read_peer(alloc, fields, names::from())?;
     let to = read_peer(alloc, fields, names::to())?;
@@ -129,7 +139,10 @@ fn told<X: Drop>(read: Result<X, Unread>) -> Result<Option<X>, NoMemory>
 // Call-ID and CSeq.
 fn read_call(alloc: Global, fields: &[Field]) -> Result<Option<(HeaderValue, CSeq)>, NoMemory>
     requires { AreTrimmed fields.now }
-    ensures { IfOk result (λ call. call ≡ option_zip (once Some call_id_name fields.now) (once cseq_of cseq_name fields.now)) }
+    ensures { IfOk result
+        (λ call.
+        call
+        ≡ option_zip (once Some call_id_name fields.now) (once cseq_of cseq_name fields.now)) }
 {
     let call_id = read_call_id(alloc, fields)?;
     let cseq = read_sequence(alloc, fields)?;

@@ -16,7 +16,11 @@ use std::alloc::Global;
 
 // The fields of the lines behind an end; a line whose name is none is passed over.
 pub fn fields_behind(alloc: Global, rest: Option<&[u8]>) -> Result<List<Field>, NoMemory>
-    ensures { IfOk result (λ fields. fields ≡ filter_map (λ line. field_of (joined line)) (lines_behind (option_copied rest.entry))) }
+    ensures { IfOk result
+        (λ fields.
+        fields
+        ≡ filter_map (λ line. field_of (joined line))
+        (lines_behind (option_copied rest.entry))) }
 {
     let mut fields = List::new(alloc);
     let mut rest = rest;

@@ -1,5 +1,5 @@
-//! What is known of the first message of a stream, so that no byte is looked at again and again (RFC
-//! 3261 sections 7.5 and 18.3).
+//! What is known of the first message of a stream, so that no byte is looked at again and again
+//! (RFC 3261 sections 7.5 and 18.3).
 
 ghost use Rattle.std.specs.Prelude.{◌≡◌, ◌≤◌, ◌<◌, ◌+◌, ◌^◌, false, None, IfOk, IfSome, length, take, drop};
 ghost use Rattle.sc_syntax.specs.declared.ending.Ending.TheVariants.{Empty};

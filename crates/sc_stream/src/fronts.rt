@@ -17,10 +17,10 @@ use std::alloc::Global;
 
 /// What a text begins with whose first bytes are no CR LF (RFC 3261 sections 7.5 and 18.3): exactly
 /// `front_of`. `Whole` is a message of at most 65,535 bytes, with its length and itself. `Bad` comes as
-/// soon as the empty line of a head has come that spells none, and says the place and the kind of its
-/// first fault. `Long` comes exactly where the first 65,535 bytes hold no empty line and a further byte
-/// has come, or where head and body together have more. Else it is `Open`. `NoMemory` says nothing of
-/// the text.
+/// soon as the empty line of a head has come that spells none, and says the place and the kind of
+/// its first fault. `Long` comes exactly where the first 65,535 bytes hold no empty line and a
+/// further byte has come, or where head and body together have more. Else it is `Open`. `NoMemory`
+/// says nothing of the text.
 #[tactic(auto, unfolding(sc_syntax::specs::Fronts::front_of))]
 pub fn front(alloc: Global, b: &[u8]) -> Result<Front, NoMemory>
     ensures { IfOk result (λ front. front ≡ front_of b.now) }
@@ -99,7 +99,8 @@ pub fn wanted_by(alloc: Global, head: &[u8]) -> Result<Wanted, NoMemory>
 
 // A head with this fault, which isn't the length of its body.
 fn wanted_never(alloc: Global, head: &[u8], at: usize, kind: u8) -> Result<Wanted, NoMemory>
-    ensures { IfOk result (λ wanted. wanted ≡ Nothing (bad head.now (record { at = at; kind = kind }))) }
+    ensures { IfOk result
+        (λ wanted. wanted ≡ Nothing (bad head.now (record { at = at; kind = kind }))) }
 {
     match bad(alloc, head, at, kind) {
         Ok(front) => Ok(Wanted::Nothing(front)),

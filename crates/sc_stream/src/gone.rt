@@ -5,7 +5,8 @@ ghost use Rattle.std.specs.Borrow.{ftrue};
 
 use std::marker::Model;
 
-/// Bytes that are let go. The value has no size, and its functions do nothing when the program runs.
+/// Bytes that are let go. The value has no size, and its functions do nothing when the program
+/// runs.
 #[derive(Drop)]
 pub struct Gone {
     pub ghost bytes: { List ℕ },

@@ -1,5 +1,5 @@
-//! Streams: bytes go in in any pieces, and messages come out whole (RFC 3261 section 18.3). A stream
-//! that has ended lets its bytes go.
+//! Streams: bytes go in in any pieces, and messages come out whole (RFC 3261 section 18.3). A
+//! stream that has ended lets its bytes go.
 
 ghost use Rattle.std.specs.Prelude.{◌≡◌, ◌≤◌, ◌<◌, ◌^◌, ◌++◌, [], List, IfOk, OnOk, OnErr, drop, length};
 ghost use Rattle.sc_value.specs.declared.message.Message.{Message};
@@ -36,13 +36,15 @@ pub enum Heard {
 
 /// The bytes of a stream behind the messages that were given. A contract sees these bytes.
 ///
-/// What is known of the first message there is kept, so that the work grows with the bytes that come,
-/// in whatever pieces, and not with those that are kept. Its head is read once, when its empty line has
-/// come, and is kept read beside its bytes until the body has come; only for want of memory it is read again.
+/// What is known of the first message there is kept, so that the work grows with the bytes that
+/// come, in whatever pieces, and not with those that are kept. Its head is read once, when its
+/// empty line has come, and is kept read beside its bytes until the body has come; only for want of
+/// memory it is read again.
 ///
-/// Once `Bad` or `Long` was answered the stream has ended: it keeps that answer, no byte and no memory
-/// for one, and what comes is let go at once. The model's invariant says so. The bytes of which
-/// contracts speak are there in proofs alone then, and the kept answer is the one that they call for.
+/// Once `Bad` or `Long` was answered the stream has ended: it keeps that answer, no byte and no
+/// memory for one, and what comes is let go at once. The model's invariant says so. The bytes of
+/// which contracts speak are there in proofs alone then, and the kept answer is the one that they
+/// call for.
 #[derive(Drop)]
 pub struct Stream {
     alloc: Global,
@@ -62,7 +64,8 @@ impl Model for Stream {
 
     ghost view = { λ s. bytes_of s.ended (drop s.from s.kept.items) s.gone.bytes };
 
-    ghost invariant = { λ s. IsKept s.ended s.from s.first s.kept.items (vec_capacity s.kept) s.gone.bytes };
+    ghost invariant = { λ s.
+        IsKept s.ended s.from s.first s.kept.items (vec_capacity s.kept) s.gone.bytes };
 }
 
 impl Stream {
@@ -82,11 +85,13 @@ impl Stream {
         }
     }
 
-    /// A piece of the stream has come. For want of memory all is as before. An ended stream lets the
-    /// piece go, and takes no memory.
+    /// A piece of the stream has come. For want of memory all is as before. An ended stream lets
+    /// the piece go, and takes no memory.
     pub fn feed(&mut self, piece: &[u8]) -> Result<(), NoMemory>
         ensures kept { OnOk result (self.new ≡ self.old ++ piece.now) }
-        ensures stands { OnOk result ((fed : Bytes) (given : List Message) → Splits given fed self.old → Splits given (fed ++ piece.now) self.new) }
+        ensures stands { OnOk result
+            ((fed : Bytes) (given : List Message) → Splits given fed self.old
+            → Splits given (fed ++ piece.now) self.new) }
         ensures err { OnErr result (self.new ≡ self.old) }
     {
         if self.ended.is_some() {
@@ -99,10 +104,12 @@ impl Stream {
 
     /// The next message, which is taken from the stream. `NotYet` comes exactly where more bytes
     /// may end it, `Bad` and `Long` exactly as [`front`](crate::front) says; then nothing changes,
-    /// and the stream answers the same for ever, by a copy of what it keeps. `NoMemory` changes nothing.
+    /// and the stream answers the same for ever, by a copy of what it keeps. `NoMemory` changes
+    /// nothing.
     pub fn next(&mut self) -> Heard
         ensures hears { Hears result self.old self.new }
-        ensures stands { (fed : Bytes) (given : List Message) → Splits given fed self.old → Splits (given_after given result) fed self.new }
+        ensures stands { (fed : Bytes) (given : List Message) → Splits given fed self.old
+            → Splits (given_after given result) fed self.new }
     {
         if let Some(ended) = &self.ended {
             return again(self.alloc, ended);
@@ -128,8 +135,8 @@ impl Stream {
     }
 }
 
-// Bytes before `from` are let go of once they are half of all, so that each byte is moved for one that
-// was given. How many of them are still there.
+// Bytes before `from` are let go of once they are half of all, so that each byte is moved for one
+// that was given. How many of them are still there.
 fn let_go(bytes: &mut Vec<u8>, from: usize) -> usize
     requires { from ≤ length bytes.old.items }
     ensures exact { drop result bytes.new.items ≡ drop from bytes.old.items }

@@ -15,15 +15,17 @@ use Rattle.sc_switch.specs.declared.leasing.Offered.{Offered}
 use Rattle.sc_switch.specs.declared.readied.Begun.{Begun}
 use Rattle.sc_switch.specs.Offering.{IsOffer}
 
--- the event is the timer of a branch: its turn alone asks for the settings and for the branches that ring
+-- the event is the timer of a branch: its turn alone asks for the settings and for the branches
+-- that ring
 unfoldable pub is_branch_timer : Queued → Bool
 is_branch_timer (queued.BranchTimer branch due) = true
 is_branch_timer event = false
 
--- the turn of the session's first event at this moment begins with it, where the session lives and one waits,
--- whatever the settings and the branches that ring
+-- the turn of the session's first event at this moment begins with it, where the session lives and
+-- one waits, whatever the settings and the branches that ring
 unfoldable pub BeginsAnyhow : Net Session → AppId → ℕ → Prepared → Type 0
-BeginsAnyhow net app now shown = (config : Config) → (ringing : List ℕ) → Begins config ringing (live_at app net) now shown
+BeginsAnyhow net app now shown =
+    (config : Config) → (ringing : List ℕ) → Begins config ringing (live_at app net) now shown
 
 -- what is kept is so, where something is
 unfoldable pub IsBegun : Net Session → Option Begun → Type 0
@@ -32,7 +34,9 @@ IsBegun net (Some begun) = BeginsAnyhow net begun.app begun.now begun.shown
 
 -- the lease is offered of a session, and its turn begins with this, where that is known
 unfoldable pub IsOfferBegun : Setup → Net Session → AppId → ℕ → Offered → Type 0
-IsOfferBegun setup net app number offered = IsOffer setup net app number offered.lease × IfSome offered.begun (λ shown. BeginsAnyhow net app net.moment shown)
+IsOfferBegun setup net app number offered =
+    IsOffer setup net app number offered.lease
+    × IfSome offered.begun (λ shown. BeginsAnyhow net app net.moment shown)
 
 -- what is offered of a session; none where it doesn't live or no event waits for it
 unfoldable pub OffersBegun : Setup → Net Session → AppId → ℕ → Option Offered → Type 0

@@ -17,7 +17,8 @@ is_busy_server server = not (is_over (state_of_server server))
 
 -- those of a host that aren't Terminated
 unfoldable pub busy_at : {S : Type 0} → Host S → ℕ
-busy_at host = length (filter is_busy_client host.clients) + length (filter is_busy_server host.servers)
+busy_at host =
+    length (filter is_busy_client host.clients) + length (filter is_busy_server host.servers)
 
 -- those of all hosts
 unfoldable pub busy_count : {S : Type 0} → Net S → ℕ

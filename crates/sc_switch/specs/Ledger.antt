@@ -4,10 +4,11 @@ use Rattle.sc_switch.specs.declared.refused.Committed.{Committed}
 use Rattle.sc_switch.specs.declared.refused.Committed.TheVariants as committed
 use Rattle.sc_switch.specs.Standing.{Known, whole}
 
--- the last lease number is at most the steps of all epochs, of which so many are of earlier ones, the live leases, and
--- so many answers `Other` together
+-- the last lease number is at most the steps of all epochs, of which so many are of earlier ones,
+-- the live leases, and so many answers `Other` together
 abbrev pub IsCounted : ℕ → ℕ → Known → Type 0
-IsCounted earlier others known = known.leases ≤ earlier + length (whole known) + length known.kept + others
+IsCounted earlier others known =
+    known.leases ≤ earlier + length (whole known) + length known.kept + others
 
 -- an answer `Other` counts
 unfoldable pub others_after : ℕ → Committed → ℕ

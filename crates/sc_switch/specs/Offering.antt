@@ -20,7 +20,8 @@ use Rattle.sc_switch.specs.Standing.{is_live_lease, Fits}
 use Rattle.sc_leases.specs.Leases.{IsLeaseOf, is_leased}
 
 -- the lease of the first event of a session, of this number, at the last moment
-pub record IsOffer (setup : Setup) (net : Net Session) (app : AppId) (number : ℕ) (lease : Lease) : Type 0 where
+pub record IsOffer (setup : Setup) (net : Net Session) (app : AppId) (number : ℕ)
+    (lease : Lease) : Type 0 where
   pub number_is : lease.number ≡ number
   pub app_is : lease.app ≡ app
   pub first_is : first_number (live_at app net) ≡ Some lease.event_number
@@ -33,7 +34,8 @@ Offers setup net app number None = first_number (live_at app net) ≡ None
 Offers setup net app number (Some lease) = IsOffer setup net app number lease
 
 -- the parts of a lease
-pub record IsMade (number : ℕ) (app : AppId) (kind event now : ℕ) (shown : Prepared) (lease : Lease) : Type 0 where
+pub record IsMade (number : ℕ) (app : AppId) (kind event now : ℕ) (shown : Prepared)
+    (lease : Lease) : Type 0 where
   pub number_is : lease.number ≡ number
   pub app_is : lease.app ≡ app
   pub kind_is : lease.kind ≡ kind
@@ -56,7 +58,8 @@ with_next kept best (Some next) = if is_leased kept next.app then best else bett
 
 -- the sessions of a host that have a live lease
 unfoldable pub leased_at : ℕ → List Lease → List ℕ
-leased_at number kept = map (λ lease. lease.app.serial) (filter (λ lease. lease.app.host == number) kept)
+leased_at number kept =
+    map (λ lease. lease.app.serial) (filter (λ lease. lease.app.host == number) kept)
 
 -- the lower of the best so far and the first event of this session, where that isn't leased
 unfoldable pub with_live : List Lease → ℕ → Option Next → Live Session → Option Next
@@ -69,7 +72,8 @@ with_host kept number best host = fold (with_live kept number) best host.session
 -- the same for these hosts, counted from this number
 unfoldable pub with_hosts : List Lease → ℕ → Option Next → List (Host Session) → Option Next
 with_hosts kept number best [] = best
-with_hosts kept number best (host ∷ hosts) = with_hosts kept (number + 1) (with_host kept number best host) hosts
+with_hosts kept number best (host ∷ hosts) =
+    with_hosts kept (number + 1) (with_host kept number best host) hosts
 
 -- ## What a brought turn is
 
@@ -77,4 +81,5 @@ with_hosts kept number best (host ∷ hosts) = with_hosts kept (number + 1) (wit
 unfoldable pub Judges : Setup → List Lease → Done → Judged → Type 0
 Judges setup kept done judged.Fits = Fits setup kept done
 Judges setup kept done judged.Gone = is_live_lease kept done.lease.number ≡ false
-Judges setup kept done judged.Other = (is_live_lease kept done.lease.number ≡ true) × (Fits setup kept done → ⊥)
+Judges setup kept done judged.Other =
+    (is_live_lease kept done.lease.number ≡ true) × (Fits setup kept done → ⊥)

@@ -1,5 +1,5 @@
--- What callers see of a switch, and what it stands for: the run of its journal, with sessions kept as what
--- they are.
+-- What callers see of a switch, and what it stands for: the run of its journal, with sessions kept
+-- as what they are.
 use Rattle.std.specs.Prelude.{◌≡◌, ℕ, ◌≤◌, List, [], ◌++◌, Bool, Option, Some, is_some, length, min}
 use Rattle.std.specs.List.{find, flat_map}
 use Rattle.std.specs.Option.{option_and_then}
@@ -28,9 +28,9 @@ use Rattle.sc_hosts.specs.Transacting.{is_same_app}
 use Rattle.sc_leases.specs.Leases.{AreLeases, has_number}
 use Rattle.sc_runs.specs.Next.{Next, next_events, lowest}
 
--- what callers see: the set-up, the number and the first moment of the epoch, the steps of the epoch that were
--- handed on, those that are kept, what was sent and not taken yet, the live leases in the order in which they were
--- given, and the number of the last lease
+-- what callers see: the set-up, the number and the first moment of the epoch, the steps of the
+-- epoch that were handed on, those that are kept, what was sent and not taken yet, the live leases
+-- in the order in which they were given, and the number of the last lease
 pub record Known : Type 0 where
   pub setup : Setup
   pub epoch : ℕ
@@ -55,7 +55,8 @@ steps_of journals = flat_map (λ journal. journal.items) journals
 
 -- ## Leases
 
--- each live lease shows what there is, no two are of one session, and their numbers rise up to the last
+-- each live lease shows what there is, no two are of one session, and their numbers rise up to the
+-- last
 abbrev pub AreKept : Known → Type 0
 AreKept known = AreLeases as_session known.setup (net_of known) known.kept 0 known.leases
 
@@ -69,9 +70,11 @@ servlet_of setup lease = option_and_then (servlet_at lease.event) (charters_of s
 
 -- the listener that a lease calls, where it calls one
 unfoldable pub listener_of : Setup → Lease → Option ListenerCharter
-listener_of setup lease = option_and_then (listener_at lease.event) (charters_of setup lease.app.host)
+listener_of setup lease =
+    option_and_then (listener_at lease.event) (charters_of setup lease.app.host)
 
--- the brought lease is the live one of its number, and those were called whom it calls; the net is no matter
+-- the brought lease is the live one of its number, and those were called whom it calls; the net is
+-- no matter
 pub record Fits (setup : Setup) (kept : List Lease) (done : Done) : Type 0 where
   pub lease_is : find (has_number done.lease.number) kept ≡ Some done.lease
   pub charter_is : done.charter ≡ servlet_of setup done.lease
@@ -79,7 +82,8 @@ pub record Fits (setup : Setup) (kept : List Lease) (done : Done) : Type 0 where
 
 -- the step of a turn that is brought
 unfoldable pub step_of : Done → Step
-step_of done = steps.Turn done.lease.app done.lease.event_number done.lease.shown.now done.calls done.end
+step_of done =
+    steps.Turn done.lease.app done.lease.event_number done.lease.shown.now done.calls done.end
 
 -- ## What the switch stands for
 
@@ -95,7 +99,8 @@ pub record IsNet (run net : Net Session) (live waiting : ℕ) : Type 0 where
   pub waiting_is : waiting ≡ waiting_count run
 
 -- the limits judge the steps that are kept; all else is of the whole epoch
-pub record IsSwitch (known : Known) (journal : Kept Step) (before : ℕ) (net : Net Session) (live waiting : ℕ) : Type 0 where
+pub record IsSwitch (known : Known) (journal : Kept Step) (before : ℕ) (net : Net Session)
+    (live waiting : ℕ) : Type 0 where
   pub right : IsSetup known.setup
   pub items_is : journal.items ≡ known.journal
   pub steps_is : journal.most_items ≡ known.setup.config.journal_steps
@@ -105,5 +110,6 @@ pub record IsSwitch (known : Known) (journal : Kept Step) (before : ℕ) (net : 
   pub before_is : before ≡ min (length known.handed) 18446744073709551615
   pub lawful : IsLawful as_session known.setup known.epoch known.began (whole known)
   pub net_is : IsNet (net_of known) net live waiting
-  pub sent_is : IsAllSent (all_sent as_session known.setup known.epoch known.began (whole known)) known.left
+  pub sent_is : IsAllSent (all_sent as_session known.setup known.epoch known.began (whole known))
+      known.left
   pub leases_are : AreKept known

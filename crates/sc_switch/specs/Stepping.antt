@@ -14,7 +14,8 @@ use Rattle.sc_switch.specs.declared.stepping.Stepped.{Stepped}
 use Rattle.sc_switch.specs.Standing.{IsNet}
 
 -- what the step makes of the net, which had nothing on its way outside
-pub record IsStepped (setup : Setup) (net : Net Session) (step : Step) (made : Stepped) : Type 0 where
+pub record IsStepped (setup : Setup) (net : Net Session) (step : Step)
+    (made : Stepped) : Type 0 where
   pub sent_is : made.sent ≡ (after_step as_session setup net step).sent
   pub net_is : IsNet (after_step as_session setup net step) made.net made.live made.waiting
 
@@ -27,7 +28,8 @@ pub record HasRoom (journal : Kept Step) (bytes : ℕ) : Type 0 where
 -- the journal refuses a step of so many bytes
 abbrev pub Refuses : Kept Step → ℕ → StepRefused → Type 0
 Refuses journal size (refused.JournalFull steps bytes) =
-    (steps ≡ journal.most_items) × (bytes ≡ journal.most_bytes) × ((length journal.items ≡ journal.most_items) ⊎ (journal.most_bytes < journal.used + size))
+    (steps ≡ journal.most_items) × (bytes ≡ journal.most_bytes)
+    × ((length journal.items ≡ journal.most_items) ⊎ (journal.most_bytes < journal.used + size))
 Refuses journal size refused.NoMemory = Unit {0}
 
 -- how many events wait at a host

@@ -70,7 +70,9 @@ fn judge_by(setup: &Setup, kept: &[Lease], lease: &Lease, done: &Done) -> Judged
 
 /// Whether those were called whom the lease calls.
 fn calls_right(setup: &Setup, done: &Done) -> bool
-    ensures { IsTrue result ↔ ((done.now.charter ≡ servlet_of setup.now done.now.lease) × (done.now.listener ≡ listener_of setup.now done.now.lease)) }
+    ensures { IsTrue result ↔
+        ((done.now.charter ≡ servlet_of setup.now done.now.lease)
+        × (done.now.listener ≡ listener_of setup.now done.now.lease)) }
 {
     done.charter == servlet_of(setup, &done.lease)
         && done.listener == listener_of(setup, &done.lease)

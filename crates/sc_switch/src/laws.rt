@@ -14,10 +14,27 @@ ghost use Rattle.sc_switch.specs.Standing.{Known, AreKept, whole};
 /// `Other` of `commit` together: so it is of a new switch, and what each call changes keeps it. The
 /// contract is the law, and the call does nothing.
 pub fn leases_are_counted()
-    ensures new { (setup : Setup) → IsCounted 0 0 (record { setup = setup; epoch = 0; began = 0; handed = []; journal = []; left = []; kept = []; leases = 0 }) }
-    ensures step { (earlier others : ℕ) (old : Known) (step : Step) → AreKept old → IsCounted earlier others old → IsCounted earlier others (with_step old step) }
-    ensures given { (earlier others : ℕ) (old new : Known) (lease : Lease) → IsGiven old new lease → IsCounted earlier others old → IsCounted earlier others new }
-    ensures brought { (earlier others : ℕ) (old new : Known) (done : Done) (answer : Committed) → Received old new done answer → AreKept old → IsCounted earlier others old → IsCounted earlier (others_after others answer) new }
-    ensures turned { (earlier others : ℕ) (old new : Known) (ended : Epoch) → IsTurned old new ended → IsCounted earlier others old → IsCounted (earlier + length (whole old)) others new }
-    ensures handed { (earlier others : ℕ) (old : Known) → IsCounted earlier others old → IsCounted earlier others (handing old) }
+    ensures new { (setup : Setup)
+        → IsCounted 0 0
+        (record {
+          setup = setup;
+          epoch = 0;
+          began = 0;
+          handed = [];
+          journal = [];
+          left = [];
+          kept = [];
+          leases = 0;
+        }) }
+    ensures step { (earlier others : ℕ) (old : Known) (step : Step) → AreKept old
+        → IsCounted earlier others old → IsCounted earlier others (with_step old step) }
+    ensures given { (earlier others : ℕ) (old new : Known) (lease : Lease) → IsGiven old new lease
+        → IsCounted earlier others old → IsCounted earlier others new }
+    ensures brought { (earlier others : ℕ) (old new : Known) (done : Done) (answer : Committed)
+        → Received old new done answer → AreKept old → IsCounted earlier others old
+        → IsCounted earlier (others_after others answer) new }
+    ensures turned { (earlier others : ℕ) (old new : Known) (ended : Epoch) → IsTurned old new ended
+        → IsCounted earlier others old → IsCounted (earlier + length (whole old)) others new }
+    ensures handed { (earlier others : ℕ) (old : Known) → IsCounted earlier others old
+        → IsCounted earlier others (handing old) }
 {}

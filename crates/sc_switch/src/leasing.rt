@@ -22,7 +22,8 @@ use sc_terms::{AppEntry, Event, SessionView, View};
 use sc_value::{AppId, CloneIn, List, NoMemory, Same, Shared};
 use std::alloc::Global;
 
-/// A lease that is offered, and what its turn begins with, where the session and its event alone tell it.
+/// A lease that is offered, and what its turn begins with, where the session and its event alone
+/// tell it.
 #[derive(Drop)]
 pub struct Offered {
     pub lease: Lease,
@@ -54,7 +55,9 @@ fn ringing_for(
     event: &Queued,
     net: &Net<Session>,
 ) -> Result<List<u64>, NoMemory>
-    ensures { IfOk result (λ ringing. is_branch_timer event.now ≡ true → ringing ≡ ringing_at app (host_at app.host net.now)) }
+    ensures { IfOk result
+        (λ ringing.
+        is_branch_timer event.now ≡ true → ringing ≡ ringing_at app (host_at app.host net.now)) }
 {
     if is_branch_timer(event) {
         let ringing = ringing_at(alloc, app, net)?;
@@ -74,7 +77,8 @@ fn shown(
     waiting: &Waiting,
     now: u64,
 ) -> Result<Prepared, NoMemory>
-    ensures { IfOk result (λ p. p ≡ shown as_session setup.now net.now app live.now waiting.now now) }
+    ensures { IfOk result
+        (λ p. p ≡ shown as_session setup.now net.now app live.now waiting.now now) }
 {
     let ringing = ringing_for(alloc, app, &waiting.event, net)?;
     let session = live.session.get().clone_in(alloc)?;
@@ -121,8 +125,8 @@ fn shared_event(alloc: Global, event: &Option<Event>) -> Result<Option<Shared<Ev
     }
 }
 
-/// The lease that shows this, at this moment. `NoMemory` too where its numbers are out of the ranges
-/// of a lease.
+/// The lease that shows this, at this moment. `NoMemory` too where its numbers are out of the
+/// ranges of a lease.
 fn lease_of(
     alloc: Global,
     number: u64,
@@ -277,7 +281,8 @@ fn offer_first(
     requires first { slice_get live.now.inbox 0 ≡ Some waiting.now }
     requires past { live.now.since ≤ net.now.moment }
     requires kind { is_some (app_of setup.now.config app.host) ≡ true }
-    requires begun { begun.now ≡ shown as_session setup.now net.now app live.now waiting.now net.now.moment }
+    requires begun { begun.now
+        ≡ shown as_session setup.now net.now app live.now waiting.now net.now.moment }
     ensures { IfOk result (λ lease. IsOffer setup.now net.now app number lease) }
 {
     let kind = match app_of(setup, app.host) {

@@ -34,7 +34,9 @@ fn add_lives(
     sessions: &[Shared<Live<Session>>],
     all: &mut List<AppId>,
 ) -> Result<(), NoMemory>
-    ensures { OnOk result (all.new ≡ all.old ++ map (λ live. record { host = number; serial = live.serial }) sessions.now) }
+    ensures { OnOk result
+        (all.new
+        ≡ all.old ++ map (λ live. record { host = number; serial = live.serial }) sessions.now) }
 {
     for live in sessions {
         all.push(AppId {

@@ -40,8 +40,8 @@ pub fn is_leased(kept: &[Lease], app: AppId) -> bool
     kept.iter().any(|lease| is_same_app(lease.app, app))
 }
 
-/// The event with the lowest number among the first ones of the sessions without a lease. `NoMemory` too
-/// where a step's changes aren't settled yet.
+/// The event with the lowest number among the first ones of the sessions without a lease.
+/// `NoMemory` too where a step's changes aren't settled yet.
 #[tactic(auto, using(crate::proofs::Nexts::next_of_hosts))]
 pub fn next_free(alloc: Global, net: &Readied, kept: &[Lease]) -> Result<Option<Next>, NoMemory>
     ensures { IfOk result (λ next. next ≡ next_free net.now kept.now) }

@@ -86,8 +86,8 @@ impl Readied {
         }
     }
 
-    /// Another net takes the place of this one. What a step changed goes where a look-up costs least, as
-    /// nobody else holds it now.
+    /// Another net takes the place of this one. What a step changed goes where a look-up costs
+    /// least, as nobody else holds it now.
     #[tactic(auto, unfolding(crate::specs::Beginnings::IsBegun))]
     pub fn set(&mut self, alloc: Global, next: Net<Session>)
         ensures { self.new ≡ next }
@@ -100,7 +100,15 @@ impl Readied {
     /// Hosts without sessions take the place of these, in this epoch, at the moment that is.
     #[tactic(auto, unfolding(crate::specs::Beginnings::IsBegun))]
     pub fn begin_epoch(&mut self, epoch: u32)
-        ensures { self.new ≡ record { hosts = map (λ host. quiet_host) self.old.hosts; wire = []; epoch = epoch; moment = self.old.moment; count = 0; sent = [] } }
+        ensures { self.new
+            ≡ record {
+              hosts = map (λ host. quiet_host) self.old.hosts;
+              wire = [];
+              epoch = epoch;
+              moment = self.old.moment;
+              count = 0;
+              sent = [];
+            } }
     {
         self.begun = None;
         quiet_net(epoch, &mut self.net);

@@ -1,4 +1,5 @@
-//! How many bytes a step counts in the journal. A number that passes 64 bits stands at the greatest.
+//! How many bytes a step counts in the journal. A number that passes 64 bits stands at the
+//! greatest.
 
 ghost use Rattle.std.specs.Prelude.{◌≡◌, ℕ, ◌+◌, min, length, sum_by, Option};
 ghost use Rattle.std.specs.Option.{option_copied};

@@ -67,7 +67,15 @@ fn quiet_host(alloc: Global) -> Host<Session>
 
 /// Hosts without sessions in place of these, in this epoch, at the moment that is.
 pub fn quiet_net(epoch: u32, net: &mut Net<Session>)
-    ensures { net.new ≡ record { hosts = map (λ host. quiet_host) net.old.hosts; wire = []; epoch = epoch; moment = net.old.moment; count = 0; sent = [] } }
+    ensures { net.new
+        ≡ record {
+          hosts = map (λ host. quiet_host) net.old.hosts;
+          wire = [];
+          epoch = epoch;
+          moment = net.old.moment;
+          count = 0;
+          sent = [];
+        } }
 {
     quiet_all(&mut net.hosts.items);
     net.wire.items.clear();
@@ -97,7 +105,13 @@ pub fn kinds_of(
     alloc: Global,
     apps: &Catalogue,
 ) -> Result<List<(Charter, Option<ListenerCharter>)>, NoMemory>
-    ensures { IfOk result (λ kinds. kinds ≡ map (λ k. both_charters (stated (k.servlet.vtable, k.servlet.value)) (option_map (λ l. listens (l.vtable, l.value)) k.listener)) apps.now.kinds) }
+    ensures { IfOk result
+        (λ kinds.
+        kinds
+        ≡ map
+        (λ k.
+        both_charters (stated (k.servlet.vtable, k.servlet.value))
+        (option_map (λ l. listens (l.vtable, l.value)) k.listener)) apps.now.kinds) }
 {
     let mut kinds = List::new(alloc);
     add_kinds(apps.kinds.as_slice(), &mut kinds)?;
@@ -108,7 +122,13 @@ fn add_kinds(
     kinds: &[Kind],
     all: &mut List<(Charter, Option<ListenerCharter>)>,
 ) -> Result<(), NoMemory>
-    ensures { OnOk result (all.new ≡ all.old ++ map (λ k. both_charters (stated (k.servlet.vtable, k.servlet.value)) (option_map (λ l. listens (l.vtable, l.value)) k.listener)) kinds.now) }
+    ensures { OnOk result
+        (all.new
+        ≡ all.old
+        ++ map
+        (λ k.
+        both_charters (stated (k.servlet.vtable, k.servlet.value))
+        (option_map (λ l. listens (l.vtable, l.value)) k.listener)) kinds.now) }
 {
     match kinds {
         [first, rest @ ..] => {

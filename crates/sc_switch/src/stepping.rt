@@ -1,5 +1,5 @@
-//! Taking a step: it is taken on a copy of the net, and room is made for all that it changes, before the
-//! first change.
+//! Taking a step: it is taken on a copy of the net, and room is made for all that it changes,
+//! before the first change.
 
 ghost use Rattle.std.specs.Prelude.{◌≡◌, ◌+◌, ◌≤◌, ◌++◌, [], length, IfOk, IfSome, OnOk, IfErr};
 ghost use Rattle.std.specs.VecDeque.{deque_len, deque_capacity};
@@ -49,7 +49,8 @@ pub fn plan_step(
     requires within { length journal.old.items ≤ journal.old.most_items }
     ensures stepped { IfOk result (λ s. IsStepped setup.now net.now step.now s) }
     ensures room { IfOk result (λ s. HasRoom journal.new bytes) }
-    ensures left_room { IfOk result (λ s. deque_len left.new + length s.sent ≤ deque_capacity left.new) }
+    ensures left_room { IfOk result
+        (λ s. deque_len left.new + length s.sent ≤ deque_capacity left.new) }
     ensures refused { IfErr result (λ cause. Refuses journal.old bytes cause) }
     ensures same { journal.new ≡ record journal.old { room = journal.new.room } }
     ensures same_left { left.new.items ≡ left.old.items }
@@ -74,7 +75,8 @@ pub fn plan_turn(
     requires within { length journal.old.items ≤ journal.old.most_items }
     ensures stepped { IfOk result (λ s. IsStepped setup.now net.old (step_of done.now) s) }
     ensures room { IfOk result (λ s. HasRoom journal.new bytes) }
-    ensures left_room { IfOk result (λ s. deque_len left.new + length s.sent ≤ deque_capacity left.new) }
+    ensures left_room { IfOk result
+        (λ s. deque_len left.new + length s.sent ≤ deque_capacity left.new) }
     ensures refused { IfErr result (λ cause. Refuses journal.old bytes cause) }
     ensures same { journal.new ≡ record journal.old { room = journal.new.room } }
     ensures same_left { left.new.items ≡ left.old.items }
@@ -159,8 +161,10 @@ fn turned_net(
     begun: Option<Prepared>,
     done: &Done,
 ) -> Result<Net<Session>, NoMemory>
-    requires { IfSome begun (λ shown. BeginsAnyhow net.now done.now.lease.app done.now.lease.shown.now shown) }
-    ensures { IfOk result (λ next. next ≡ after_step as_session setup.now net.now (step_of done.now)) }
+    requires { IfSome begun
+        (λ shown. BeginsAnyhow net.now done.now.lease.app done.now.lease.shown.now shown) }
+    ensures { IfOk result
+        (λ next. next ≡ after_step as_session setup.now net.now (step_of done.now)) }
 {
     match copy_net(alloc, net) {
         Ok(next) => turned_copy(alloc, setup, begun, done, next),
@@ -179,7 +183,8 @@ fn turned_copy(
     done: &Done,
     net: Net<Session>,
 ) -> Result<Net<Session>, NoMemory>
-    requires { IfSome begun (λ shown. BeginsAnyhow net done.now.lease.app done.now.lease.shown.now shown) }
+    requires { IfSome begun
+        (λ shown. BeginsAnyhow net done.now.lease.app done.now.lease.shown.now shown) }
     ensures { IfOk result (λ next. next ≡ after_step as_session setup.now net (step_of done.now)) }
 {
     let mut next = net;
@@ -221,7 +226,8 @@ fn counted(alloc: Global, net: Net<Session>) -> Result<Stepped, NoMemory>
 }
 
 fn counts(net: &Net<Session>) -> Result<(u64, u64), NoMemory>
-    ensures { IfOk result (λ counts. (counts.0 ≡ live_count net.now) × (counts.1 ≡ waiting_count net.now)) }
+    ensures { IfOk result
+        (λ counts. (counts.0 ≡ live_count net.now) × (counts.1 ≡ waiting_count net.now)) }
 {
     let live = live_count(net)?;
     let waiting = waiting_count(net)?;
@@ -229,7 +235,13 @@ fn counts(net: &Net<Session>) -> Result<(u64, u64), NoMemory>
 }
 
 fn parted(alloc: Global, net: Net<Session>, live: u64, waiting: u64) -> Stepped
-    ensures { result ≡ record { net = record net { sent = [] }; sent = net.sent; live = live; waiting = waiting } }
+    ensures { result
+        ≡ record {
+          net = record net { sent = [] };
+          sent = net.sent;
+          live = live;
+          waiting = waiting;
+        } }
 {
     let Net {
         hosts,
@@ -257,7 +269,8 @@ fn parted(alloc: Global, net: Net<Session>, live: u64, waiting: u64) -> Stepped
 /// Makes room for the messages that are sent.
 fn with_room(left: &mut VecDeque<Sent>, stepped: Stepped) -> Result<Stepped, StepRefused>
     ensures ok { IfOk result (λ whole. whole ≡ stepped) }
-    ensures room { IfOk result (λ whole. deque_len left.new + length whole.sent ≤ deque_capacity left.new) }
+    ensures room { IfOk result
+        (λ whole. deque_len left.new + length whole.sent ≤ deque_capacity left.new) }
     ensures refused { IfErr result (λ cause. cause ≡ StepRefused.NoMemory) }
     ensures same { left.new.items ≡ left.old.items }
 {

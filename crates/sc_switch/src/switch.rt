@@ -74,9 +74,30 @@ impl Model for Switch {
 
     ghost Value = { Known };
 
-    ghost view = { λ s. record { setup = s.setup; epoch = s.epoch; began = s.began; handed = steps_of s.handed.items; journal = s.journal.items; left = s.left.items; kept = s.kept; leases = s.leases } };
+    ghost view = { λ s.
+        record {
+          setup = s.setup;
+          epoch = s.epoch;
+          began = s.began;
+          handed = steps_of s.handed.items;
+          journal = s.journal.items;
+          left = s.left.items;
+          kept = s.kept;
+          leases = s.leases;
+        } };
 
-    ghost invariant = { λ s. IsSwitch (record { setup = s.setup; epoch = s.epoch; began = s.began; handed = steps_of s.handed.items; journal = s.journal.items; left = s.left.items; kept = s.kept; leases = s.leases }) s.journal s.before s.net s.live s.waiting };
+    ghost invariant = { λ s.
+        IsSwitch
+        (record {
+          setup = s.setup;
+          epoch = s.epoch;
+          began = s.began;
+          handed = steps_of s.handed.items;
+          journal = s.journal.items;
+          left = s.left.items;
+          kept = s.kept;
+          leases = s.leases;
+        }) s.journal s.before s.net s.live s.waiting };
 }
 
 /// The number of the last lease that is given.
@@ -98,8 +119,29 @@ impl Switch {
         dar: Dar,
         apps: &Catalogue,
     ) -> Result<Switch, NoMemory>
-        requires { IsSetup (record { config = config; dar = dar; kinds = map (λ k. both_charters (stated (k.servlet.vtable, k.servlet.value)) (option_map (λ l. listens (l.vtable, l.value)) k.listener)) apps.now.kinds }) }
-        ensures { IfOk result (λ s. s ≡ record { setup = record { config = config; dar = dar; kinds = map (λ k. both_charters (stated (k.servlet.vtable, k.servlet.value)) (option_map (λ l. listens (l.vtable, l.value)) k.listener)) apps.now.kinds }; epoch = 0; began = 0; handed = []; journal = []; left = []; kept = []; leases = 0 }) }
+        requires { IsSetup
+            (record {
+              config = config;
+              dar = dar;
+              kinds = map
+                  (λ k.
+                  both_charters (stated (k.servlet.vtable, k.servlet.value))
+                  (option_map (λ l. listens (l.vtable, l.value)) k.listener)) apps.now.kinds;
+            }) }
+        ensures { IfOk result
+            (λ s.
+            s
+            ≡ record {
+              setup =
+                  record { config = config; dar = dar; kinds = map (λ k. both_charters (stated (k.servlet.vtable, k.servlet.value)) (option_map (λ l. listens (l.vtable, l.value)) k.listener)) apps.now.kinds };
+              epoch = 0;
+              began = 0;
+              handed = [];
+              journal = [];
+              left = [];
+              kept = [];
+              leases = 0;
+            }) }
     {
         match kinds_of(alloc, apps) {
             Ok(kinds) => switch_of(alloc, Setup { config, dar, kinds }),
@@ -117,7 +159,8 @@ impl Switch {
         requires size { bytes ≡ min (step_size step) u64.MAX }
         ensures ok { OnOk result (self.new ≡ with_step self.old step) }
         ensures room { OnOk result (¬ (IsFullFor self.old (step_size step))) }
-        ensures refused { IfErr result (λ untaken. RefusesRight self.old (step_size step) untaken.cause) }
+        ensures refused { IfErr result
+            (λ untaken. RefusesRight self.old (step_size step) untaken.cause) }
         ensures back { IfErr result (λ untaken. untaken.step ≡ step) }
         ensures err { OnErr result (self.new ≡ self.old) }
     {
@@ -166,7 +209,8 @@ impl Switch {
         requires { HasVia message }
         ensures ok { OnOk result (self.new ≡ with_step self.old (Step.In from message)) }
         ensures room { OnOk result (¬ (IsFullFor self.old (length (written message)))) }
-        ensures refused { IfErr result (λ cause. RefusesRight self.old (length (written message)) cause) }
+        ensures refused { IfErr result
+            (λ cause. RefusesRight self.old (length (written message)) cause) }
         ensures err { OnErr result (self.new ≡ self.old) }
     {
         match text_size(alloc, &message) {
@@ -282,7 +326,8 @@ impl Switch {
         requires few { self.old.leases < LAST_LEASE }
         requires free { next_free (net_of self.old) self.old.kept ≡ Some next }
         ensures given { IfOk result (λ lease. IsGiven self.old self.new lease) }
-        ensures next { IfOk result (λ lease. next ≡ record { app = lease.app; number = lease.event_number }) }
+        ensures next { IfOk result
+            (λ lease. next ≡ record { app = lease.app; number = lease.event_number }) }
         ensures err { OnErr result (self.new ≡ self.old) }
     {
         match self.offered(alloc, next.app)? {
@@ -294,7 +339,8 @@ impl Switch {
     /// The lease of the first event of a session, with the next number.
     fn offered(&mut self, alloc: Global, app: AppId) -> Result<Option<Lease>, NoMemory>
         requires { self.old.leases < LAST_LEASE }
-        ensures offers { IfOk result (λ lease. Offers self.old.setup (net_of self.old) app (self.old.leases + 1) lease) }
+        ensures offers { IfOk result
+            (λ lease. Offers self.old.setup (net_of self.old) app (self.old.leases + 1) lease) }
         ensures same { self.new ≡ self.old }
     {
         offer(alloc, &self.setup, &mut self.net, app, self.leases + 1)
@@ -306,7 +352,14 @@ impl Switch {
         requires number { lease.number ≡ self.old.leases + 1 }
         requires shows { IsLeaseOf as_session self.old.setup (net_of self.old) lease }
         requires free { is_leased self.old.kept lease.app ≡ false }
-        ensures ok { IfOk result (λ given. (given ≡ lease) × (self.new ≡ record self.old { kept = self.old.kept ++ lease ∷ []; leases = self.old.leases + 1 })) }
+        ensures ok { IfOk result
+            (λ given.
+            (given ≡ lease)
+            × (self.new
+            ≡ record self.old {
+              kept = self.old.kept ++ lease ∷ [];
+              leases = self.old.leases + 1;
+            })) }
         ensures err { OnErr result (self.new ≡ self.old) }
     {
         match keep_copy(alloc, &lease, &mut self.kept) {
@@ -321,8 +374,8 @@ impl Switch {
         }
     }
 
-    /// Lends out the turn of the first event of this session: None exactly where it doesn't live, no
-    /// event waits for it or it has a lease, or after the lease of the greatest number.
+    /// Lends out the turn of the first event of this session: None exactly where it doesn't live,
+    /// no event waits for it or it has a lease, or after the lease of the greatest number.
     #[tactic(auto, unfolding(crate::specs::Answers::LeasedOf, crate::specs::Offering::Offers))]
     pub fn lease_of(&mut self, alloc: Global, app: AppId) -> Result<Option<Lease>, NoMemory>
         ensures leased { IfOk result (λ lease. LeasedOf app self.old self.new lease) }
@@ -346,14 +399,16 @@ impl Switch {
     /// # Errors
     ///
     /// `JournalFull` exactly where the turn fits and the journal has no room for the step, but for
-    /// want of memory; `NoMemory` for want of memory, and where the turn ended as `Starved`. The turn
-    /// is handed back, its lease stays live, and nothing is changed.
+    /// want of memory; `NoMemory` for want of memory, and where the turn ended as `Starved`. The
+    /// turn is handed back, its lease stays live, and nothing is changed.
     #[tactic(auto, unfolding(crate::specs::Answers::Received, crate::specs::Answers::RefusesTurn))]
     pub fn commit(&mut self, alloc: Global, done: Done) -> Result<Committed, CommitRefused>
         ensures ok { IfOk result (λ answer. Received self.old self.new done answer) }
-        ensures room { result ≡ Ok Committed.Taken → ¬ (IsFullFor self.old (step_size (step_of done))) }
+        ensures room { result ≡ Ok Committed.Taken
+            → ¬ (IsFullFor self.old (step_size (step_of done))) }
         ensures err { OnErr result (self.new ≡ self.old) }
-        ensures refused { IfErr result (λ refused. RefusesTurn self.old done (step_size (step_of done)) refused.cause) }
+        ensures refused { IfErr result
+            (λ refused. RefusesTurn self.old done (step_size (step_of done)) refused.cause) }
         ensures back { IfErr result (λ refused. refused.done ≡ done) }
     {
         match self.judged(&done) {
@@ -380,7 +435,8 @@ impl Switch {
         ensures ok { IfOk result (λ answer. Received self.old self.new done answer) }
         ensures room { OnOk result (¬ (IsFullFor self.old (step_size (step_of done)))) }
         ensures err { OnErr result (self.new ≡ self.old) }
-        ensures refused { IfErr result (λ refused. RefusesTurn self.old done (step_size (step_of done)) refused.cause) }
+        ensures refused { IfErr result
+            (λ refused. RefusesTurn self.old done (step_size (step_of done)) refused.cause) }
         ensures back { IfErr result (λ refused. refused.done ≡ done) }
     {
         if let End::Starved = done.end {
@@ -419,8 +475,8 @@ impl Switch {
         }
     }
 
-    /// The oldest message that was sent and not taken yet, None exactly where all were taken; nothing
-    /// changes then.
+    /// The oldest message that was sent and not taken yet, None exactly where all were taken;
+    /// nothing changes then.
     pub fn take_sent(&mut self) -> Option<Sent>
         ensures some { IfSome result (λ sent. self.old.left ≡ sent ∷ self.new.left) }
         ensures none { IfNone result ((self.old.left ≡ []) × (self.new ≡ self.old)) }
@@ -436,20 +492,23 @@ impl Switch {
         self.left.len() as u64
     }
 
-    /// The journal, without the steps that were handed on. The steps of the whole epoch are lawful, and
-    /// all that they send is what was taken and then what is left.
+    /// The journal, without the steps that were handed on. The steps of the whole epoch are lawful,
+    /// and all that they send is what was taken and then what is left.
     pub fn journal(&self) -> &Journal<Step>
         ensures journal { result.now.items ≡ self.now.journal }
         ensures within { length self.now.journal ≤ self.now.setup.config.journal_steps }
-        ensures lawful { IsLawful as_session self.now.setup self.now.epoch self.now.began (whole self.now) }
-        ensures sent { (taken : List Sent) × (all_sent as_session self.now.setup self.now.epoch self.now.began (whole self.now) ≡ taken ++ self.now.left) }
+        ensures lawful { IsLawful as_session self.now.setup self.now.epoch self.now.began
+            (whole self.now) }
+        ensures sent { (taken : List Sent)
+            × (all_sent as_session self.now.setup self.now.epoch self.now.began (whole self.now)
+            ≡ taken ++ self.now.left) }
     {
         &self.journal
     }
 
-    /// Hands on the steps of the epoch that are kept, and goes on: the sessions live on, and leases stay.
-    /// It makes no step, takes no memory and isn't refused. The limits of steps and of bytes are from now
-    /// on those of what is kept.
+    /// Hands on the steps of the epoch that are kept, and goes on: the sessions live on, and leases
+    /// stay. It makes no step, takes no memory and isn't refused. The limits of steps and of bytes
+    /// are from now on those of what is kept.
     pub fn hand_on(&mut self) -> Journal<Step>
         ensures journal { result.items ≡ self.old.journal }
         ensures handed { self.new ≡ handing self.old }
@@ -489,15 +548,15 @@ impl Switch {
         self.began
     }
 
-    /// Ends the epoch, where nothing lives, and begins the next one at the last moment, with an empty
-    /// journal. Serials and event numbers begin at 1 again, names have the mark of the new epoch, and
-    /// lease numbers go on. It makes no step and takes no memory.
+    /// Ends the epoch, where nothing lives, and begins the next one at the last moment, with an
+    /// empty journal. Serials and event numbers begin at 1 again, names have the mark of the new
+    /// epoch, and lease numbers go on. It makes no step and takes no memory.
     ///
     /// # Errors
     ///
-    /// The first that holds: `Live` where application sessions live, `Busy` where transactions aren't
-    /// Terminated, `Unsent` where messages weren't taken, `Last` where it is the last epoch. Nothing is
-    /// then changed.
+    /// The first that holds: `Live` where application sessions live, `Busy` where transactions
+    /// aren't Terminated, `Unsent` where messages weren't taken, `Last` where it is the last epoch.
+    /// Nothing is then changed.
     pub fn turn_epoch(&mut self) -> Result<Epoch, EpochRefused>
         ensures turned { IfOk result (λ ended. IsTurned self.old self.new ended) }
         ensures last { OnOk result (self.old.epoch < LAST_EPOCH) }
@@ -557,8 +616,8 @@ impl Switch {
         }
     }
 
-    /// What lives now: the sessions by host and serial, and how many events wait, with the number of the
-    /// epoch and how many steps it has, those that were handed on too.
+    /// What lives now: the sessions by host and serial, and how many events wait, with the number
+    /// of the epoch and how many steps it has, those that were handed on too.
     ///
     /// # Errors
     ///
@@ -596,8 +655,8 @@ impl Switch {
         self.waiting
     }
 
-    /// How many leases are live. Each shows what there is, no two are of one session, and their numbers
-    /// rise.
+    /// How many leases are live. Each shows what there is, no two are of one session, and their
+    /// numbers rise.
     pub fn leases(&self) -> u64
         ensures count { result ≡ length self.now.kept }
         ensures kept { AreKept self.now }
@@ -662,7 +721,15 @@ fn set_net(alloc: Global, net: &mut Readied, next: Net<Session>)
 }
 
 fn begin_net(epoch: u32, net: &mut Readied)
-    ensures { net.new ≡ record { hosts = map (λ host. quiet_host) net.old.hosts; wire = []; epoch = epoch; moment = net.old.moment; count = 0; sent = [] } }
+    ensures { net.new
+        ≡ record {
+          hosts = map (λ host. quiet_host) net.old.hosts;
+          wire = [];
+          epoch = epoch;
+          moment = net.old.moment;
+          count = 0;
+          sent = [];
+        } }
 {
     net.begin_epoch(epoch);
 }
@@ -716,7 +783,19 @@ fn number_of(done: Done) -> u64
 
 fn switch_of(alloc: Global, setup: Setup) -> Result<Switch, NoMemory>
     requires { IsSetup setup }
-    ensures { IfOk result (λ s. s ≡ record { setup = setup; epoch = 0; began = 0; handed = []; journal = []; left = []; kept = []; leases = 0 }) }
+    ensures { IfOk result
+        (λ s.
+        s
+        ≡ record {
+          setup = setup;
+          epoch = 0;
+          began = 0;
+          handed = [];
+          journal = [];
+          left = [];
+          kept = [];
+          leases = 0;
+        }) }
 {
     let journal = Journal::new(
         alloc,

@@ -50,7 +50,8 @@ pub fn own_message(alloc: Global) -> Result<Ask, NoMemory> {
     own_request(alloc, b"MESSAGE", Directive::New, None)
 }
 
-/// An INVITE of the application's own to the first target, for which the table goes on from the request 1.
+/// An INVITE of the application's own to the first target, for which the table goes on from the
+/// request 1.
 pub fn own_invite(alloc: Global) -> Result<Ask, NoMemory> {
     own_request(alloc, b"INVITE", Directive::Continue, Some(ReqId(1)))
 }

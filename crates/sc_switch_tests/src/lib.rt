@@ -1,6 +1,6 @@
-//! Cases on the switch: turns that are brought twice or with another lease, servlets that fail, timers,
-//! proxies that try one target after another, full queues, epochs, and journals that are handed on in
-//! parts. Each is a row: orders, and the lines that are told of what comes of them.
+//! Cases on the switch: turns that are brought twice or with another lease, servlets that fail,
+//! timers, proxies that try one target after another, full queues, epochs, and journals that are
+//! handed on in parts. Each is a row: orders, and the lines that are told of what comes of them.
 #![tactic(auto)]
 
 #[cfg(test)]

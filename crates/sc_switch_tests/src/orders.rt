@@ -3,13 +3,14 @@
 use crate::letters::Letter;
 use sc_value::AppId;
 
-/// One thing that is done with the switch of a case. The leases that are out stand in the order in which
-/// they were lent.
+/// One thing that is done with the switch of a case. The leases that are out stand in the order in
+/// which they were lent.
 #[derive(Clone, Copy)]
 pub enum Order {
     /// This message comes from its place.
     In(Letter),
-    /// An INFO of Alice in the dialog of the INVITE comes, of this number of CSeq, with a branch of its own.
+    /// An INFO of Alice in the dialog of the INVITE comes, of this number of CSeq, with a branch of
+    /// its own.
     Info(u64),
     /// The INFOs come of the numbers from the first up to, and without, the second.
     Infos(u64, u64),
@@ -43,7 +44,8 @@ pub enum Order {
     Leave,
     /// What is sent is taken again.
     Take,
-    /// The numbers of the kept steps, of live sessions, of waiting events and of live leases are told.
+    /// The numbers of the kept steps, of live sessions, of waiting events and of live leases are
+    /// told.
     Count,
     /// The listing is told.
     List,

@@ -2,8 +2,8 @@
 
 use sc_terms::{End, Period};
 
-/// What the only servlet of a case does. Where nothing else is said, it makes no call at any event but the
-/// request that begins its application session.
+/// What the only servlet of a case does. Where nothing else is said, it makes no call at any event
+/// but the request that begins its application session.
 #[derive(Clone, Copy)]
 pub enum Plan {
     /// That of the kind `answer`.
@@ -54,7 +54,8 @@ pub enum Plan {
     Discards,
     /// It makes a request of its own, and neither sends nor discards it.
     Forgets,
-    /// It sends a request of its own and links both SipSessions; at a response it takes the link away.
+    /// It sends a request of its own and links both SipSessions; at a response it takes the link
+    /// away.
     Links,
     /// It sends an INVITE of its own, and cancels that.
     SendsAndCancels,
@@ -68,7 +69,8 @@ pub enum Plan {
     EndsSessionAndFaults,
 }
 
-/// A call on the numbers that a case has: request 1 with SipSession 1, and what the application adds.
+/// A call on the numbers that a case has: request 1 with SipSession 1, and what the application
+/// adds.
 #[derive(Clone, Copy)]
 pub enum Deed {
     /// No call.
@@ -124,8 +126,8 @@ pub enum Proxying {
     ToSecond,
 }
 
-/// What is done at an event, in order, and how the turn ends then. A refused call ends it as one that wanted
-/// memory, which a case then sees.
+/// What is done at an event, in order, and how the turn ends then. A refused call ends it as one
+/// that wanted memory, which a case then sees.
 #[derive(Clone, Copy)]
 pub struct Part {
     pub first: Deed,

@@ -9,8 +9,8 @@ use sc_terms::{AppEntry, Config, Dar, Within};
 use sc_value::{List, NoMemory, Text};
 use std::alloc::Global;
 
-// The only parameter of the first application is `given`. Each text stands in a function, whose value no
-// proof goes into.
+// The only parameter of the first application is `given`. Each text stands in a function, whose
+// value no proof goes into.
 fn settings_text() -> &'static [u8] {
     b"listen = \"127.0.0.1:5060\"\ndomain = \"home.test\"\nsalt = \"s1\"\n\n[[app]]\nname = \"a0\"\nkind = \"tried\"\nparams = [\"given\"]\n\n[[app]]\nname = \"a1\"\nkind = \"tried\"\n"
 }
@@ -50,8 +50,8 @@ fn names(alloc: Global) -> Result<List<Text>, NoMemory> {
     Ok(names)
 }
 
-/// The switch whose applications are of the kind `tried`, with this limit of steps. Settings that are
-/// refused are told as want of memory, which a case then sees.
+/// The switch whose applications are of the kind `tried`, with this limit of steps. Settings that
+/// are refused are told as want of memory, which a case then sees.
 pub fn switch_over(alloc: Global, steps: u64, apps: &Catalogue) -> Result<Switch, NoMemory> {
     let names = names(alloc)?;
     match config_of(alloc, steps, apps.names()) {
@@ -106,7 +106,8 @@ fn are_of(apps: &[AppEntry], kinds: usize) -> bool
 }
 
 fn table_of(alloc: Global, names: &List<Text>) -> Result<Dar, NoMemory>
-    ensures { IfOk result (λ dar. All (λ list. All (λ tuple. tuple.app < length names.now) list.tuples) dar.lists) }
+    ensures { IfOk result
+        (λ dar. All (λ list. All (λ tuple. tuple.app < length names.now) list.tuples) dar.lists) }
 {
     match sc_dar::read(alloc, table_text(), names) {
         Ok(dar) => Ok(dar),
@@ -126,7 +127,8 @@ fn numbers_in_range(config: &Config)
 fn switch_of(alloc: Global, config: Config, dar: Dar, apps: &Catalogue) -> Result<Switch, NoMemory>
     requires apps { length config.app ≤ 64 }
     requires kinds { All (λ app. app.kind < length apps.now.kinds) config.app }
-    requires table { All (λ list. All (λ tuple. tuple.app < length config.app) list.tuples) dar.lists }
+    requires table { All (λ list. All (λ tuple. tuple.app < length config.app) list.tuples)
+        dar.lists }
 {
     numbers_in_range(&config);
     Switch::new(alloc, config, dar, apps)

@@ -26,8 +26,8 @@ pub fn tell_place(place: Place, told: &mut Text) -> Result<(), NoMemory> {
     }
 }
 
-/// Puts of a response the code and the tag of its To, of a request the method and the branch of its first
-/// Via.
+/// Puts of a response the code and the tag of its To, of a request the method and the branch of its
+/// first Via.
 pub fn tell_message(message: &Message, told: &mut Text) -> Result<(), NoMemory> {
     match message {
         Message::Request(request) => tell_request(request.get(), told),

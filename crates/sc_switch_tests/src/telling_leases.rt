@@ -5,8 +5,8 @@ use sc_servlets::Lease;
 use sc_terms::{Event, SessionView, TimerView};
 use sc_value::{NoMemory, Shared, Text};
 
-/// Puts the line of a lease: its numbers and its event, then each SipSession, and each timer with the
-/// moment at which it is due.
+/// Puts the line of a lease: its numbers and its event, then each SipSession, and each timer with
+/// the moment at which it is due.
 pub fn tell_lease(lease: &Lease, told: &mut Text) -> Result<(), NoMemory> {
     tell_number(b"lease ", lease.number, told)?;
     tell_number(b" event ", lease.event_number, told)?;

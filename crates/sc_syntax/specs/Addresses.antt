@@ -34,7 +34,8 @@ in_brackets text = if begins 60 text then enclosed (drop 1 text) else None
 
 -- a quoted string of so many bytes, and a URI in its brackets
 unfoldable pub quoted_named : Bytes → ℕ → Option Named
-quoted_named text end = option_map (λ uri. (Some (take end text), uri)) (in_brackets (trimmed (drop end text)))
+quoted_named text end =
+    option_map (λ uri. (Some (take end text), uri)) (in_brackets (trimmed (drop end text)))
 
 -- none, or the text
 unfoldable pub unless_empty : Bytes → Option Bytes
@@ -42,7 +43,10 @@ unless_empty text = if length text == 0 then None else Some text
 
 -- tokens, or none, and what stands behind the opening bracket
 unfoldable pub token_named : Bytes → Bytes → Option Named
-token_named display rest = if list_all is_display_byte display then option_map (λ uri. (unless_empty display, uri)) (enclosed rest) else None
+token_named display rest =
+    if list_all is_display_byte display
+    then option_map (λ uri. (unless_empty display, uri)) (enclosed rest)
+    else None
 
 -- the first part between semicolons, without blanks round it: without an opening bracket it is a
 -- bare URI
@@ -54,7 +58,9 @@ named_in text =
 
 -- the address, where the URI is one
 unfoldable pub with_uri : List Param → Named → Option Address
-with_uri params named = option_map (λ uri. record { display = named.0; uri = uri; params = params }) (result_ok (uri_of named.1))
+with_uri params named =
+    option_map (λ uri. record { display = named.0; uri = uri; params = params })
+    (result_ok (uri_of named.1))
 
 -- the first part between semicolons, with these parameters
 unfoldable pub address_with : Bytes → List Param → Option Address
@@ -75,7 +81,8 @@ addresses_of text = all_read address_of (address_items text)
 
 -- an item of Contact: `*` alone, or an address
 unfoldable pub contact_of : Bytes → Option Contact
-contact_of text = if same_bytes (trimmed text) (42 ∷ []) then Some Star else option_map At (address_of text)
+contact_of text =
+    if same_bytes (trimmed text) (42 ∷ []) then Some Star else option_map At (address_of text)
 
 -- items with commas between
 unfoldable pub contacts_of : Bytes → Option (List Contact)

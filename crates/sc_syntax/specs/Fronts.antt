@@ -1,5 +1,5 @@
--- What the bytes of a stream begin with (RFC 3261 sections 7.5 and 18.3). A message has 65,535 bytes at
--- most, and its Content-Length gives its body; a missing one is 0.
+-- What the bytes of a stream begin with (RFC 3261 sections 7.5 and 18.3). A message has 65,535
+-- bytes at most, and its Content-Length gives its body; a missing one is 0.
 use Rattle.std.specs.Prelude.{ℕ, false, List, [], ◌∷◌, Option, Some, None, Result, Ok, Err, ◌||◌, ◌==◌, ◌+◌, nat_le, map, filter, slice_get, length, take, drop, unwrap_or, if◌then◌else◌}
 use Rattle.std.specs.List.{flat_map, filter_map}
 use Rattle.std.specs.Option.{option_map, option_map_or, option_and_then, option_zip}
@@ -36,12 +36,15 @@ use Rattle.sc_syntax.specs.Messages.{nothing_left, all_judged, message_in}
 unfoldable pub field_of : Bytes → Option Field
 field_of line =
     if is_token (trimmed_back (before 58 line))
-    then option_map (λ value. record { name = long_name (trimmed_back (before 58 line)); value = trimmed value }) (after 58 line)
+    then option_map
+    (λ value. record { name = long_name (trimmed_back (before 58 line)); value = trimmed value })
+    (after 58 line)
     else None
 
 -- the values of this name, in order
 unfoldable pub values_of : Bytes → List Field → List Bytes
-values_of name fields = map (λ field. field.value) (filter (λ field. same_name field.name name) fields)
+values_of name fields =
+    map (λ field. field.value) (filter (λ field. same_name field.name name) fields)
 
 -- the one item of a list
 unfoldable pub only : List Bytes → Option Bytes
@@ -59,7 +62,9 @@ with_branch vias = if option_map_or has_branch (slice_get vias 0) false then Som
 
 -- all Vias, where each is readable
 unfoldable pub vias_in : List Field → Option (List Via)
-vias_in fields = option_and_then (λ lists. with_branch (flat_map (λ vias. vias) lists)) (all_read (in_line vias_of) (values_of via_name fields))
+vias_in fields =
+    option_and_then (λ lists. with_branch (flat_map (λ vias. vias) lists))
+    (all_read (in_line vias_of) (values_of via_name fields))
 
 -- the Vias, From and To, Call-ID and CSeq
 abbrev pub Peers : Type 0
@@ -67,19 +72,28 @@ Peers = (List Via × (Address × Address)) × (Bytes × CSeq)
 
 -- the headers of an answer, made of these
 unfoldable pub answerable_with : Peers → Answerable
-answerable_with peers = record { via = peers.0.0; from = peers.0.1.0; to = peers.0.1.1; call_id = peers.1.0; cseq = peers.1.1 }
+answerable_with peers =
+    record {
+      via = peers.0.0;
+      from = peers.0.1.0;
+      to = peers.0.1.1;
+      call_id = peers.1.0;
+      cseq = peers.1.1;
+    }
 
 -- the five headers, where each is there, readable and not doubled
 unfoldable pub answerable_in : List Field → Option Answerable
 answerable_in fields =
     option_map answerable_with (option_zip
-    (option_zip (vias_in fields) (option_zip (once address_of from_name fields) (once address_of to_name fields)))
+    (option_zip (vias_in fields)
+    (option_zip (once address_of from_name fields) (once address_of to_name fields)))
     (option_zip (once Some call_id_name fields) (once cseq_of cseq_name fields)))
 
 -- of a request whose start line has two spaces
 unfoldable pub answerable_of : Bytes → Fault → Option Answerable
 answerable_of head fault =
-    if is_status_line (start_line head) || fault.kind == 1 then None else answerable_in (filter_map (λ line. field_of (joined line)) (header_lines head))
+    if is_status_line (start_line head) || fault.kind == 1 then None
+    else answerable_in (filter_map (λ line. field_of (joined line)) (header_lines head))
 
 -- ## The front
 
@@ -91,7 +105,9 @@ behind_breaks (b ∷ c ∷ bs) = if begins_break (b ∷ c ∷ bs) then behind_br
 
 -- the Content-Length of a head whose lines have no fault
 unfoldable pub body_len : Bytes → ℕ
-body_len head = option_map_or (λ left. unwrap_or left.singles.length 0) (result_ok (all_judged (length (start_line head) + 2) nothing_left (header_lines head))) 0
+body_len head =
+    option_map_or (λ left. unwrap_or left.singles.length 0)
+    (result_ok (all_judged (length (start_line head) + 2) nothing_left (header_lines head))) 0
 
 -- the front is no message: the place and kind of its fault, and the headers of an answer where
 -- there are some
@@ -107,15 +123,20 @@ whole head len (Err fault) = bad head fault
 unfoldable pub sized : Bytes → Bytes → ℕ → Front
 sized text head len =
     if nat_le len 65535
-    then (if nat_le len (length text) then whole head len (message_in head (drop (length head + 4) (take len text))) else Open)
+    then
+    (if nat_le len (length text)
+    then whole head len (message_in head (drop (length head + 4) (take len text)))
+    else Open)
     else Long
 
 -- a fault of the head comes before its body; only a body's length can't be one yet
 unfoldable pub headed : Bytes → Bytes → Result Message Fault → Front
 headed text head (Ok message) = sized text head (length head + 4 + body_len head)
-headed text head (Err fault) = if fault.kind == 12 then sized text head (length head + 4 + body_len head) else bad head fault
+headed text head (Err fault) =
+    if fault.kind == 12 then sized text head (length head + 4 + body_len head) else bad head fault
 
 -- the front of a text whose first bytes are no CR LF
 unfoldable pub front_of : Bytes → Front
 front_of text =
-    option_map_or (λ end. headed text (take end text) (message_in (take end text) [])) (end_of Empty (take 65535 text)) (if nat_le (length text) 65535 then Open else Long)
+    option_map_or (λ end. headed text (take end text) (message_in (take end text) []))
+    (end_of Empty (take 65535 text)) (if nat_le (length text) 65535 then Open else Long)

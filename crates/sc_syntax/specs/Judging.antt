@@ -1,6 +1,6 @@
 -- The header lines of a message (RFC 3261 sections 7.3 and 20): what each leaves, or which kind of
--- fault it has: 6 its name, 8 a header that stands twice, 9 its value, 11 too many values. Of several the
--- lowest counts.
+-- fault it has: 6 its name, 8 a header that stands twice, 9 its value, 11 too many values. Of
+-- several the lowest counts.
 use Rattle.std.specs.Prelude.{ℕ, Bool, false, List, [], ◌∷◌, ◌++◌, Option, Some, None, Result, Ok, Err, not, ◌||◌, ◌==◌, ◌-◌, nat_le, is_some, length, slice_get, if◌then◌else◌}
 use Rattle.std.specs.Option.{option_map_or}
 use Rattle.sc_tokens.specs.HeaderNames.{long_name, via_name, route_name, record_route_name, max_forwards_name, from_name, to_name, call_id_name, cseq_name, contact_name, content_length_name}
@@ -54,39 +54,54 @@ taken_once is_there take value = if is_there then Err 8 else taken_as take value
 
 -- the parameter `branch` is there, and isn't empty
 unfoldable pub has_branch : Via → Bool
-has_branch via = option_map_or (λ branch. not (length branch == 0)) (param_value branch_name via.params) false
+has_branch via =
+    option_map_or (λ branch. not (length branch == 0)) (param_value branch_name via.params) false
 
 -- the first Via of the message has its branch
 unfoldable pub begins_well : Left → List Via → Bool
-begins_well left vias = not (length left.lists.via == 0) || option_map_or has_branch (slice_get vias 0) false
+begins_well left vias =
+    not (length left.lists.via == 0) || option_map_or has_branch (slice_get vias 0) false
 
 -- the Vias of a line, behind those before; of the first one the branch is needed
 unfoldable pub with_vias : Left → List Via → Result Left ℕ
-with_vias left vias = if begins_well left vias then counted (length vias) (record left { lists = record left.lists { via = left.lists.via ++ vias } }) else Err 9
+with_vias left vias =
+    if begins_well left vias
+    then counted (length vias)
+    (record left { lists = record left.lists { via = left.lists.via ++ vias } })
+    else Err 9
 
 -- the Routes of a line, behind those before
 unfoldable pub with_routes : Left → List Address → Result Left ℕ
-with_routes left routes = counted (length routes) (record left { lists = record left.lists { route = left.lists.route ++ routes } })
+with_routes left routes =
+    counted (length routes)
+    (record left { lists = record left.lists { route = left.lists.route ++ routes } })
 
 -- the Record-Routes of a line, behind those before
 unfoldable pub with_record_routes : Left → List Address → Result Left ℕ
-with_record_routes left routes = counted (length routes) (record left { lists = record left.lists { record_route = left.lists.record_route ++ routes } })
+with_record_routes left routes =
+    counted (length routes)
+    (record left { lists = record left.lists { record_route = left.lists.record_route ++ routes } })
 
 -- the Contacts of a line, behind those before
 unfoldable pub with_contacts : Left → List Contact → Result Left ℕ
-with_contacts left contacts = counted (length contacts) (record left { lists = record left.lists { contact = left.lists.contact ++ contacts } })
+with_contacts left contacts =
+    counted (length contacts)
+    (record left { lists = record left.lists { contact = left.lists.contact ++ contacts } })
 
 -- the one From
 unfoldable pub with_from : Left → Address → Result Left ℕ
-with_from left address = counted 1 (record left { singles = record left.singles { from = Some address } })
+with_from left address =
+    counted 1 (record left { singles = record left.singles { from = Some address } })
 
 -- the one To
 unfoldable pub with_to : Left → Address → Result Left ℕ
-with_to left address = counted 1 (record left { singles = record left.singles { to = Some address } })
+with_to left address =
+    counted 1 (record left { singles = record left.singles { to = Some address } })
 
 -- the one Call-ID
 unfoldable pub with_call_id : Left → Bytes → Result Left ℕ
-with_call_id left text = counted 1 (record left { singles = record left.singles { call_id = Some text } })
+with_call_id left text =
+    counted 1 (record left { singles = record left.singles { call_id = Some text } })
 
 -- the one CSeq
 unfoldable pub with_cseq : Left → CSeq → Result Left ℕ
@@ -98,11 +113,17 @@ with_hops left hops = counted 1 (record left { singles = record left.singles { h
 
 -- the one Content-Length
 unfoldable pub with_length : Left → ℕ → Result Left ℕ
-with_length left len = counted 1 (record left { singles = record left.singles { length = Some len } })
+with_length left len =
+    counted 1 (record left { singles = record left.singles { length = Some len } })
 
 -- a header without structure, behind those before
 unfoldable pub with_field : Left → Bytes → Bytes → Result Left ℕ
-with_field left name value = counted 1 (record left { lists = record left.lists { others = left.lists.others ++ record { name = name; value = value } ∷ [] } })
+with_field left name value =
+    counted 1
+    (record left {
+      lists =
+          record left.lists { others = left.lists.others ++ record { name = name; value = value } ∷ [] };
+    })
 
 -- a value of one line, read so
 unfoldable pub in_line : {X : Type 0} → (Bytes → Option X) → Bytes → Option X
@@ -112,20 +133,31 @@ in_line read value = if is_one_line value then read value else None
 unfoldable pub taken : Left → Bytes → Header → Bytes → Result Left ℕ
 taken left name headers.Via value = taken_as (with_vias left) (in_line vias_of value)
 taken left name headers.Route value = taken_as (with_routes left) (in_line addresses_of value)
-taken left name headers.RecordRoute value = taken_as (with_record_routes left) (in_line addresses_of value)
+taken left name headers.RecordRoute value =
+    taken_as (with_record_routes left) (in_line addresses_of value)
 taken left name headers.Contact value = taken_as (with_contacts left) (in_line contacts_of value)
-taken left name headers.From value = taken_once (is_some left.singles.from) (with_from left) (in_line address_of value)
-taken left name headers.To value = taken_once (is_some left.singles.to) (with_to left) (in_line address_of value)
-taken left name headers.CallId value = taken_once (is_some left.singles.call_id) (with_call_id left) (in_line Some value)
-taken left name headers.CSeq value = taken_once (is_some left.singles.cseq) (with_cseq left) (in_line cseq_of value)
-taken left name headers.MaxForwards value = taken_once (is_some left.singles.hops) (with_hops left) (in_line hops_of value)
-taken left name headers.ContentLength value = taken_once (is_some left.singles.length) (with_length left) (in_line number_of value)
+taken left name headers.From value =
+    taken_once (is_some left.singles.from) (with_from left) (in_line address_of value)
+taken left name headers.To value =
+    taken_once (is_some left.singles.to) (with_to left) (in_line address_of value)
+taken left name headers.CallId value =
+    taken_once (is_some left.singles.call_id) (with_call_id left) (in_line Some value)
+taken left name headers.CSeq value =
+    taken_once (is_some left.singles.cseq) (with_cseq left) (in_line cseq_of value)
+taken left name headers.MaxForwards value =
+    taken_once (is_some left.singles.hops) (with_hops left) (in_line hops_of value)
+taken left name headers.ContentLength value =
+    taken_once (is_some left.singles.length) (with_length left) (in_line number_of value)
 taken left name headers.Other value = taken_as (with_field left name) (in_line Some value)
 
 -- a name, which may be compact, and what stands behind its colon
 unfoldable pub named : Left → Bytes → Bytes → Result Left ℕ
-named left name value = if is_token name then taken left (long_name name) (header_named (long_name name)) (trimmed value) else Err 6
+named left name value =
+    if is_token name
+    then taken left (long_name name) (header_named (long_name name)) (trimmed value)
+    else Err 6
 
 -- the text of a header line: the name, perhaps blanks, a colon and the value between blanks
 unfoldable pub judged : Left → Bytes → Result Left ℕ
-judged left line = option_map_or (named left (trimmed_back (before 58 line))) (after 58 line) (Err 6)
+judged left line =
+    option_map_or (named left (trimmed_back (before 58 line))) (after 58 line) (Err 6)

@@ -23,13 +23,16 @@ is_end Empty text = begins_break text && begins_break (drop 2 text)
 -- the place of the first such end
 unfoldable pub end_of : Ending → Bytes → Option ℕ
 end_of ending [] = None
-end_of ending (b ∷ bs) = if is_end ending (b ∷ bs) then Some 0 else option_map (λ n. 1 + n) (end_of ending bs)
+end_of ending (b ∷ bs) =
+    if is_end ending (b ∷ bs) then Some 0 else option_map (λ n. 1 + n) (end_of ending bs)
 
 -- the pieces between such ends: one more than there are ends
 unfoldable pub pieces_at : Ending → Bytes → List Bytes
 pieces_at ending [] = [] ∷ []
 pieces_at ending (b ∷ []) = (b ∷ []) ∷ []
-pieces_at ending (b ∷ c ∷ bs) = if is_end ending (b ∷ c ∷ bs) then [] ∷ pieces_at ending bs else onto_first b (pieces_at ending (c ∷ bs))
+pieces_at ending (b ∷ c ∷ bs) =
+    if is_end ending (b ∷ c ∷ bs) then [] ∷ pieces_at ending bs
+    else onto_first b (pieces_at ending (c ∷ bs))
 
 -- ## The head of a message: all before its empty line, without the CR LF of the last line
 

@@ -1,7 +1,8 @@
 -- Which message a text spells, or its first fault (RFC 3261 section 7). A fault has its place, in
--- bytes from 0, and its kind: those of StartLines.antt at 0, those of Judging.antt at the first byte of
--- their line; at the empty line 7 a missing From, To, Call-ID, CSeq or Via, 10 a CSeq of another method,
--- 12 a body of another length than Content-Length; and 1 at the end of a text without an empty line.
+-- bytes from 0, and its kind: those of StartLines.antt at 0, those of Judging.antt at the first
+-- byte of their line; at the empty line 7 a missing From, To, Call-ID, CSeq or Via, 10 a CSeq of
+-- another method, 12 a body of another length than Content-Length; and 1 at the end of a text
+-- without an empty line.
 use Rattle.std.specs.Prelude.{ℕ, Bool, List, [], ◌∷◌, Option, None, Some, Result, Ok, Err, not, true, ◌==◌, ◌+◌, length, take, drop, unwrap_or, if◌then◌else◌}
 use Rattle.std.specs.Option.{option_map_or, option_zip}
 use Rattle.sc_tokens.specs.Names.{same_bytes}
@@ -37,7 +38,8 @@ no_lists = record { via = []; route = []; record_route = []; contact = []; other
 
 -- no header yet that stands once
 unfoldable pub no_singles : Singles
-no_singles = record { from = None; to = None; call_id = None; cseq = None; hops = None; length = None }
+no_singles =
+    record { from = None; to = None; call_id = None; cseq = None; hops = None; length = None }
 
 -- no value yet, and room for 128
 unfoldable pub nothing_left : Left
@@ -46,7 +48,9 @@ nothing_left = record { room = 128; lists = no_lists; singles = no_singles }
 -- the lines one by one, of which the first begins at this place
 unfoldable pub all_judged : ℕ → Left → List Bytes → Result Left Fault
 all_judged at left [] = Ok left
-all_judged at left (line ∷ more) = then_read (placed at (judged left (joined line))) (λ next. all_judged (at + length line + 2) next more)
+all_judged at left (line ∷ more) =
+    then_read (placed at (judged left (joined line)))
+    (λ next. all_judged (at + length line + 2) next more)
 
 -- ## The message
 
@@ -56,7 +60,8 @@ Peers = (Address × Address) × (Bytes × CSeq)
 
 -- these four, where each is there
 unfoldable pub peers_of : Singles → Option Peers
-peers_of singles = option_zip (option_zip singles.from singles.to) (option_zip singles.call_id singles.cseq)
+peers_of singles =
+    option_zip (option_zip singles.from singles.to) (option_zip singles.call_id singles.cseq)
 
 -- the head of these lists and these four, with the body
 unfoldable pub head_of : Lists → Peers → Bytes → Head
@@ -75,8 +80,10 @@ head_of lists peers body = record {
 
 -- a request without Max-Forwards has 70 (RFC 3261 section 16.6); that of a response is dropped
 unfoldable pub message_with : Start → Option ℕ → Head → Message
-message_with (Request method uri) hops head = messages.Request (record { method = method; uri = uri; hops = unwrap_or hops 70; head = head })
-message_with (Status code reason) hops head = messages.Response (record { code = code; reason = reason; head = head })
+message_with (Request method uri) hops head =
+    messages.Request (record { method = method; uri = uri; hops = unwrap_or hops 70; head = head })
+message_with (Status code reason) hops head =
+    messages.Response (record { code = code; reason = reason; head = head })
 
 -- the method is the request's, where there is one (RFC 3261 section 8.1.1.5)
 unfoldable pub is_method_of : Start → Bytes → Bool
@@ -88,7 +95,8 @@ unfoldable pub fits : Option ℕ → Bytes → Bool
 fits len body = length body == unwrap_or len 0
 
 -- the message, where method and Content-Length agree
-unfoldable pub finished_with : Start → Lists → Option ℕ → Option ℕ → Bytes → Peers → Result Message ℕ
+unfoldable pub finished_with : Start → Lists → Option ℕ → Option ℕ → Bytes → Peers
+    → Result Message ℕ
 finished_with start lists hops len body peers =
     if not (is_method_of start peers.1.1.method) then Err 10
     else if not (fits len body) then Err 12
@@ -98,7 +106,8 @@ finished_with start lists hops len body peers =
 unfoldable pub finished : Start → Left → Bytes → Result Message ℕ
 finished start left body =
     if length left.lists.via == 0 then Err 7
-    else option_map_or (finished_with start left.lists left.singles.hops left.singles.length body) (peers_of left.singles) (Err 7)
+    else option_map_or (finished_with start left.lists left.singles.hops left.singles.length body)
+    (peers_of left.singles) (Err 7)
 
 -- ## The head alone
 
@@ -113,7 +122,9 @@ parts_in head =
 unfoldable pub lacking : HeadParts → Option ℕ
 lacking parts =
     if length parts.left.lists.via == 0 then Some 7
-    else option_map_or (λ peers. if is_method_of parts.start peers.1.1.method then None else Some 10) (peers_of parts.left.singles) (Some 7)
+    else option_map_or
+    (λ peers. if is_method_of parts.start peers.1.1.method then None else Some 10)
+    (peers_of parts.left.singles) (Some 7)
 
 -- ## The text
 
@@ -128,4 +139,5 @@ message_in head body =
 unfoldable pub message_of : Bytes → Result Message Fault
 message_of text =
     if begins_break text then Err (record { at = 0; kind = 1 })
-    else option_map_or (λ end. message_in (take end text) (drop (end + 4) text)) (end_of Empty text) (Err (record { at = length text; kind = 1 }))
+    else option_map_or (λ end. message_in (take end text) (drop (end + 4) text)) (end_of Empty text)
+    (Err (record { at = length text; kind = 1 }))

@@ -1,6 +1,7 @@
--- Header parameters: `name`, `name=value` or `name="a string"` (RFC 3261 section 25.1: generic-param).
--- Blanks may stand round a semicolon and not round `=`, where the RFC allows them. A value is kept as
--- written, a string with its quotes and escapes; it may be empty, which isn't the same as none.
+-- Header parameters: `name`, `name=value` or `name="a string"` (RFC 3261 section 25.1:
+-- generic-param). Blanks may stand round a semicolon and not round `=`, where the RFC allows them.
+-- A value is kept as written, a string with its quotes and escapes; it may be empty, which isn't
+-- the same as none.
 use Rattle.std.specs.Prelude.{true, List, Option, Some, None, ◌&&◌, if◌then◌else◌}
 use Rattle.std.specs.Option.{option_map_or}
 use Rattle.sc_tokens.specs.HeaderTokens.{is_param_text}
@@ -13,7 +14,10 @@ use Rattle.sc_syntax.specs.Scanning.{all_read}
 
 -- a parameter without blanks round it
 unfoldable pub param_in : Bytes → Option Param
-param_in text = if is_token (before 61 text) && option_map_or is_param_text (after 61 text) true then Some (record { name = before 61 text; value = after 61 text }) else None
+param_in text =
+    if is_token (before 61 text) && option_map_or is_param_text (after 61 text) true
+    then Some (record { name = before 61 text; value = after 61 text })
+    else None
 
 -- one part between semicolons
 unfoldable pub param_of : Bytes → Option Param

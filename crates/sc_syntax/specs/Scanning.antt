@@ -22,7 +22,8 @@ is_outside Escaped = false
 
 -- an address's front ends at a quote, a bracket, or any byte but a blank
 unfoldable pub past_front : ℕ → Scan
-past_front b = if b == 34 then Display else if b == 60 then Bracketed else if is_blank b then Front else Word
+past_front b =
+    if b == 34 then Display else if b == 60 then Bracketed else if is_blank b then Front else Word
 
 -- the URI's brackets begin, or the parameters
 unfoldable pub past_word : ℕ → Scan
@@ -30,7 +31,8 @@ past_word b = if b == 60 then Bracketed else if b == 59 then Params else Word
 
 -- in a string: a backslash takes the next byte with it, a quote closes
 unfoldable pub in_string : Scan → Scan → Scan → ℕ → Scan
-in_string inside slashed outside b = if b == 92 then slashed else if b == 34 then outside else inside
+in_string inside slashed outside b =
+    if b == 92 then slashed else if b == 34 then outside else inside
 
 -- the URI's brackets end
 unfoldable pub past_bracketed : ℕ → Scan
@@ -58,7 +60,9 @@ is_part_end at sign b = is_outside at && b == sign
 -- the parts between such separators: the scan stands here, and behind a separator where it restarts
 unfoldable pub parts : Scan → ℕ → Scan → Bytes → List Bytes
 parts restart sign at [] = [] ∷ []
-parts restart sign at (b ∷ bs) = if is_part_end at sign b then [] ∷ parts restart sign restart bs else onto_first b (parts restart sign (past at b) bs)
+parts restart sign at (b ∷ bs) =
+    if is_part_end at sign b then [] ∷ parts restart sign restart bs
+    else onto_first b (parts restart sign (past at b) bs)
 
 -- the items of a list over commas: of addresses, and of Vias
 abbrev pub address_items : Bytes → List Bytes

@@ -12,7 +12,8 @@ use Rattle.sc_tokens.specs.Blanks.{trimmed, first_word, behind_word}
 unfoldable pub cseq_in : Bytes → Option CSeq
 cseq_in text =
     if is_token (behind_word text)
-    then option_map (λ number. record { number = number; method = behind_word text }) (number_below (2 ^ 31) (first_word text))
+    then option_map (λ number. record { number = number; method = behind_word text })
+    (number_below (2 ^ 31) (first_word text))
     else None
 
 -- the same between blanks

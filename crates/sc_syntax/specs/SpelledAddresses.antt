@@ -1,5 +1,5 @@
--- Which texts spell an address (RFC 3261 sections 20.10 and 25.1): its written form, with blanks round
--- its parts, or the bare URI where that can be told from what follows it.
+-- Which texts spell an address (RFC 3261 sections 20.10 and 25.1): its written form, with blanks
+-- round its parts, or the bare URI where that can be told from what follows it.
 use Rattle.std.specs.Prelude.{◌≡◌, Bool, true, false, None, List, [], ◌∷◌, ◌++◌, ◌&&◌, ◌⊎◌, unwrap_or}
 use Rattle.sc_tokens.specs.HeaderTokens.{IsDisplay}
 use Rattle.sc_value.specs.declared.parts.Address.{Address}
@@ -13,16 +13,20 @@ use Rattle.sc_syntax.specs.SpelledParts.{IsBlanks, Padded, AreListed, AreParamsS
 -- the display, blanks or none, and the URI in its brackets
 abbrev pub IsNamedSpelled : Bytes → Address → Type 0
 IsNamedSpelled text address =
-    IsDisplay address.display × (gap uri : Bytes) × IsBlanks gap × IsUriSpelled uri address.uri × (text ≡ unwrap_or address.display [] ++ (gap ++ 60 ∷ (uri ++ 62 ∷ [])))
+    IsDisplay address.display × (gap uri : Bytes) × IsBlanks gap × IsUriSpelled uri address.uri
+    × (text ≡ unwrap_or address.display [] ++ (gap ++ 60 ∷ (uri ++ 62 ∷ [])))
 
 -- a URI without semicolon and, in a list, without comma
 abbrev pub IsBareSpelled : Bool → Bytes → Address → Type 0
-IsBareSpelled listed text address = (address.display ≡ None) × IsUriSpelled text address.uri × (has 59 text ≡ false) × ((listed && has 44 text) ≡ false)
+IsBareSpelled listed text address =
+    (address.display ≡ None) × IsUriSpelled text address.uri × (has 59 text ≡ false)
+    × ((listed && has 44 text) ≡ false)
 
 -- one of both, and the parameters
 abbrev pub IsAddressIn : Bool → Bytes → Address → Type 0
 IsAddressIn listed text address =
-    (inner first rest : Bytes) × (IsNamedSpelled inner address ⊎ IsBareSpelled listed inner address) × Padded inner first × AreParamsSpelled rest address.params × (text ≡ first ++ rest)
+    (inner first rest : Bytes) × (IsNamedSpelled inner address ⊎ IsBareSpelled listed inner address)
+    × Padded inner first × AreParamsSpelled rest address.params × (text ≡ first ++ rest)
 
 -- the address of From and To
 abbrev pub IsAddressSpelled : Bytes → Address → Type 0

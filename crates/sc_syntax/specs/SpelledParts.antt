@@ -14,17 +14,21 @@ IsBlanks text = list_all is_blank text ≡ true
 
 -- the inner text, with blanks or none at its ends
 abbrev pub Padded : Bytes → Bytes → Type 0
-Padded inner text = (front back : Bytes) × IsBlanks front × IsBlanks back × (text ≡ front ++ (inner ++ back))
+Padded inner text =
+    (front back : Bytes) × IsBlanks front × IsBlanks back × (text ≡ front ++ (inner ++ back))
 
 -- each item behind its sign
 unfoldable pub AreLed : {X : Type 0} → ℕ → (Bytes → X → Type 0) → Bytes → List X → Type 0
 AreLed sign Spells text [] = text ≡ []
-AreLed sign Spells text (x ∷ xs) = (item rest : Bytes) × Spells item x × AreLed sign Spells rest xs × (text ≡ sign ∷ (item ++ rest))
+AreLed sign Spells text (x ∷ xs) =
+    (item rest : Bytes) × Spells item x × AreLed sign Spells rest xs
+    × (text ≡ sign ∷ (item ++ rest))
 
 -- items with a sign between, one at least
 unfoldable pub AreListed : {X : Type 0} → ℕ → (Bytes → X → Type 0) → Bytes → List X → Type 0
 AreListed sign Spells text [] = ⊥
-AreListed sign Spells text (x ∷ xs) = (item rest : Bytes) × Spells item x × AreLed sign Spells rest xs × (text ≡ item ++ rest)
+AreListed sign Spells text (x ∷ xs) =
+    (item rest : Bytes) × Spells item x × AreLed sign Spells rest xs × (text ≡ item ++ rest)
 
 -- ## Header parameters
 

@@ -25,7 +25,8 @@ closed_by sign (Some text) = text ++ sign ∷ []
 -- no port, or a colon and the port's digits
 unfoldable pub IsPortSpelled : Bytes → Option ℕ → Type 0
 IsPortSpelled text None = text ≡ []
-IsPortSpelled text (Some port) = (digits : Bytes) × (port_of digits ≡ Some port) × (text ≡ 58 ∷ digits)
+IsPortSpelled text (Some port) =
+    (digits : Bytes) × (port_of digits ≡ Some port) × (text ≡ 58 ∷ digits)
 
 -- `;name` or `;name=value`
 unfoldable pub spelled_param : Param → Bytes
@@ -33,12 +34,14 @@ spelled_param param = 59 ∷ (param.name ++ led 61 param.value)
 
 -- the text behind the user, with this spelling of the port
 abbrev pub spelled_behind : SipUri → Bytes → Bytes
-spelled_behind uri port = uri.host ++ (port ++ (flat_map spelled_param uri.params ++ led 63 uri.headers))
+spelled_behind uri port =
+    uri.host ++ (port ++ (flat_map spelled_param uri.params ++ led 63 uri.headers))
 
 -- a `sip:` URI
 abbrev pub IsSipSpelled : Bytes → SipUri → Type 0
 IsSipSpelled text uri =
-    IsSipUri uri × (scheme port : Bytes) × (same_name scheme sip_scheme ≡ true) × IsPortSpelled port uri.port
+    IsSipUri uri × (scheme port : Bytes) × (same_name scheme sip_scheme ≡ true)
+    × IsPortSpelled port uri.port
     × (text ≡ scheme ++ 58 ∷ (closed_by 64 uri.user ++ spelled_behind uri port))
 
 -- the text spells the URI

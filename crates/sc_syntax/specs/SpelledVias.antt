@@ -11,13 +11,15 @@ use Rattle.sc_syntax.specs.SpelledParts.{IsBlanks, Padded, AreListed, AreParamsS
 -- transport, one blank or more, host and port
 abbrev pub IsHopSpelled : Bytes → Via → Type 0
 IsHopSpelled text via =
-    (is_token via.transport ≡ true) × (is_host via.host ≡ true) × (gap port : Bytes) × IsBlanks gap × ((length gap == 0) ≡ false) × IsPortSpelled port via.port
+    (is_token via.transport ≡ true) × (is_host via.host ≡ true) × (gap port : Bytes) × IsBlanks gap
+    × ((length gap == 0) ≡ false) × IsPortSpelled port via.port
     × (text ≡ via.transport ++ (gap ++ (via.host ++ port)))
 
 -- `SIP`, a slash, `2.0`, a slash, all this, and the parameters
 abbrev pub IsViaSpelled : Bytes → Via → Type 0
 IsViaSpelled text via =
-    (name version inner hop rest : Bytes) × Padded (codes "SIP") name × Padded (codes "2.0") version × IsHopSpelled inner via × Padded inner hop × AreParamsSpelled rest via.params
+    (name version inner hop rest : Bytes) × Padded (codes "SIP") name × Padded (codes "2.0") version
+    × IsHopSpelled inner via × Padded inner hop × AreParamsSpelled rest via.params
     × (text ≡ name ++ 47 ∷ (version ++ 47 ∷ (hop ++ rest)))
 
 -- Vias with commas between

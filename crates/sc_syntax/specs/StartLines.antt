@@ -1,5 +1,5 @@
--- Start lines (RFC 3261 sections 7.1 and 7.2), or which kind of fault one has: 1 the line, 2 the version, 3
--- the method, 4 the Request-URI, 5 the status code. Of several the lowest counts.
+-- Start lines (RFC 3261 sections 7.1 and 7.2), or which kind of fault one has: 1 the line, 2 the
+-- version, 3 the method, 4 the Request-URI, 5 the status code. Of several the lowest counts.
 use Rattle.std.specs.Prelude.{ℕ, Bool, Option, Some, None, Result, Ok, Err, not, ◌||◌, ◌==◌, nat_le, codes, length, take, if◌then◌else◌}
 use Rattle.std.specs.Option.{option_map_or, option_and_then}
 use Rattle.std.specs.Result.{result_ok}
@@ -26,7 +26,8 @@ request_in method uri version =
 
 -- the method, and what stands behind the first space
 unfoldable pub request_behind : Bytes → Bytes → Result Start ℕ
-request_behind method rest = option_map_or (request_in method (before 32 rest)) (after 32 rest) (Err 1)
+request_behind method rest =
+    option_map_or (request_in method (before 32 rest)) (after 32 rest) (Err 1)
 
 -- a request line, or the kind of its fault (RFC 3261 section 7.1)
 unfoldable pub request_of : Bytes → Result Start ℕ
@@ -38,7 +39,8 @@ at_least_100 code = if nat_le 100 code then Some code else None
 
 -- three digits, 100 to 699
 unfoldable pub code_of : Bytes → Option ℕ
-code_of text = if length text == 3 then option_and_then at_least_100 (number_below 700 text) else None
+code_of text =
+    if length text == 3 then option_and_then at_least_100 (number_below 700 text) else None
 
 -- version, code and reason, with one space between each: the reason is all the rest
 unfoldable pub status_in : Bytes → Bytes → Bytes → Result Start ℕ
@@ -49,7 +51,8 @@ status_in version code reason =
 
 -- the version, and what stands behind the first space
 unfoldable pub status_behind : Bytes → Bytes → Result Start ℕ
-status_behind version rest = option_map_or (status_in version (before 32 rest)) (after 32 rest) (Err 1)
+status_behind version rest =
+    option_map_or (status_in version (before 32 rest)) (after 32 rest) (Err 1)
 
 -- a status line, or the kind of its fault (RFC 3261 section 7.2)
 unfoldable pub status_of : Bytes → Result Start ℕ
@@ -65,4 +68,6 @@ is_broken line = has 13 line || has 10 line
 
 -- the start line, or the kind of its fault
 unfoldable pub start_of : Bytes → Result Start ℕ
-start_of line = if is_broken line then Err 1 else if is_status_line line then status_of line else request_of line
+start_of line =
+    if is_broken line then Err 1
+    else if is_status_line line then status_of line else request_of line

@@ -40,7 +40,8 @@ then_read (Err fault) next = Err fault
 -- nothing, or a colon and the port's digits
 unfoldable pub port_in : ℕ → Bytes → Result (Option ℕ) Fault
 port_in at [] = Ok None
-port_in at (sign ∷ digits) = option_map_or (λ port. Ok (Some port)) (port_of digits) (Err (port_fault at))
+port_in at (sign ∷ digits) =
+    option_map_or (λ port. Ok (Some port)) (port_of digits) (Err (port_fault at))
 
 -- the host may end before this text
 unfoldable pub is_port_start : Bytes → Bool
@@ -50,7 +51,8 @@ is_port_start text = length text == 0 || begins 58 text
 unfoldable pub sent_at : ℕ → Bytes → Result (Bytes × Option ℕ) Fault
 sent_at at text =
     if is_host (take (host_len text) text) && is_port_start (drop (host_len text) text)
-    then then_read (port_in (at + host_len text + 1) (drop (host_len text) text)) (λ port. Ok (take (host_len text) text, port))
+    then then_read (port_in (at + host_len text + 1) (drop (host_len text) text))
+    (λ port. Ok (take (host_len text) text, port))
     else Err (host_fault at)
 
 -- ## Parameters
@@ -58,12 +60,16 @@ sent_at at text =
 -- `name` or `name=value`, at this place
 unfoldable pub param_at : ℕ → Bytes → Result Param Fault
 param_at at text =
-    if is_param_name (before 61 text) && is_param_value (after 61 text) then Ok (record { name = before 61 text; value = after 61 text }) else Err (param_fault at)
+    if is_param_name (before 61 text) && is_param_value (after 61 text)
+    then Ok (record { name = before 61 text; value = after 61 text })
+    else Err (param_fault at)
 
 -- the parameters with semicolons between, of which the first stands at this place
 unfoldable pub params_in : ℕ → List Bytes → Result (List Param) Fault
 params_in at [] = Ok []
-params_in at (text ∷ more) = then_read (param_at at text) (λ param. then_read (params_in (at + length text + 1) more) (λ params. Ok (param ∷ params)))
+params_in at (text ∷ more) =
+    then_read (param_at at text)
+    (λ param. then_read (params_in (at + length text + 1) more) (λ params. Ok (param ∷ params)))
 
 -- none, or those after the first semicolon
 unfoldable pub params_at : ℕ → Option Bytes → Result (List Param) Fault
@@ -74,4 +80,5 @@ params_at at (Some text) = params_in at (pieces 59 text)
 
 -- none, or all after the question mark, perhaps nothing
 unfoldable pub headers_at : ℕ → Option Bytes → Result (Option Bytes) Fault
-headers_at at headers = if option_map_or is_open headers true then Ok headers else Err (param_fault at)
+headers_at at headers =
+    if option_map_or is_open headers true then Ok headers else Err (param_fault at)

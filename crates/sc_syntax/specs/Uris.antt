@@ -35,13 +35,16 @@ sip_behind at user text =
     then_read (sent_at at (sent_in text)) (λ sent.
     then_read (params_at (at + length (sent_in text) + 1) (params_text_in text)) (λ params.
     then_read (headers_at (at + length (before 63 text) + 1) (after 63 text)) (λ headers.
-    Ok (Sip (record { user = user; host = sent.0; port = sent.1; params = params; headers = headers })))))
+    Ok
+    (Sip
+    (record { user = user; host = sent.0; port = sent.1; params = params; headers = headers })))))
 
 -- what stands after the scheme's colon, at this place
 unfoldable pub sip_at : ℕ → Bytes → Result Uri Fault
 sip_at at text =
     if option_map_or is_open (user_in text) true
-    then sip_behind (at + (length text - length (behind_user text))) (user_in text) (behind_user text)
+    then sip_behind (at + (length text - length (behind_user text))) (user_in text)
+    (behind_user text)
     else Err (host_fault at)
 
 -- a URI of another scheme, as written
@@ -50,7 +53,8 @@ other_of text = if is_open text then Ok (Other text) else Err scheme_fault
 
 -- by the scheme
 unfoldable pub uri_behind : Bytes → Bytes → Bytes → Result Uri Fault
-uri_behind text scheme rest = if same_name scheme sip_scheme then sip_at (length scheme + 1) rest else other_of text
+uri_behind text scheme rest =
+    if same_name scheme sip_scheme then sip_at (length scheme + 1) rest else other_of text
 
 -- the URI, or the place and the kind of the first part at fault. There is a user only before the
 -- first @ of the whole text

@@ -1,6 +1,6 @@
 -- Vias: `SIP/2.0/transport host:port;params` (RFC 3261 sections 20.42 and 25.1). Blanks may stand
--- round the slashes, and one at least stands before the host; none stands round the port's colon, where
--- the RFC allows them.
+-- round the slashes, and one at least stands before the host; none stands round the port's colon,
+-- where the RFC allows them.
 use Rattle.std.specs.Prelude.{List, [], ◌∷◌, Option, None, codes, if◌then◌else◌}
 use Rattle.std.specs.Option.{option_map, option_and_then}
 use Rattle.std.specs.Result.{result_ok}
@@ -27,7 +27,10 @@ behind_version text = option_and_then (behind_slash (codes "2.0")) (behind_slash
 unfoldable pub hop_in : Bytes → List Param → Option Via
 hop_in text params =
     if is_token (first_word text)
-    then option_map (λ sent. record { transport = first_word text; host = sent.0; port = sent.1; params = params }) (result_ok (sent_at 0 (behind_word text)))
+    then option_map
+    (λ sent.
+    record { transport = first_word text; host = sent.0; port = sent.1; params = params })
+    (result_ok (sent_at 0 (behind_word text)))
     else None
 
 -- the first part between semicolons, with these parameters

@@ -1,7 +1,7 @@
 use sc_value::{Answerable, Message};
 
-/// What the bytes of a stream begin with, behind the line ends that stand before a message (RFC 3261
-/// sections 7.5 and 18.3). Places and lengths are in bytes from the message's first one.
+/// What the bytes of a stream begin with, behind the line ends that stand before a message (RFC
+/// 3261 sections 7.5 and 18.3). Places and lengths are in bytes from the message's first one.
 #[derive(Drop)]
 pub enum Front {
     /// A message that more bytes may end.

@@ -23,7 +23,9 @@ use sc_value::{AppId, CloneIn, List, NoMemory, Request, Shared, Text, sum};
 use std::alloc::Global;
 
 fn first_event(alloc: Global, noted: &Note, request: &Shared<Request>) -> Result<Queued, NoMemory>
-    ensures { IfOk result (λ e. e ≡ Queued.Initial noted.now.region noted.now.subscriber noted.now.popped request.now) }
+    ensures { IfOk result
+        (λ e.
+        e ≡ Queued.Initial noted.now.region noted.now.subscriber noted.now.popped request.now) }
 {
     let subscriber = noted.subscriber.clone_in(alloc)?;
     let popped = noted.popped.clone_in(alloc)?;
@@ -42,7 +44,14 @@ fn first_inbox(
     request: &Shared<Request>,
     number: u64,
 ) -> Result<List<Waiting>, NoMemory>
-    ensures { IfOk result (λ l. l ≡ record { number = number; event = Queued.Initial noted.now.region noted.now.subscriber noted.now.popped request.now } ∷ []) }
+    ensures { IfOk result
+        (λ l.
+        l
+        ≡ record {
+          number = number;
+          event = Queued.Initial noted.now.region noted.now.subscriber noted.now.popped
+              request.now;
+        } ∷ []) }
 {
     let event = first_event(alloc, noted, request)?;
     let mut inbox = List::new(alloc);
@@ -61,7 +70,8 @@ fn begun_live(
     request: &Shared<Request>,
     number: u64,
 ) -> Result<Live<Session>, NoMemory>
-    ensures { IfOk result (λ l. l ≡ begun_live as_session config.now epoch app now noted.now request.now number) }
+    ensures { IfOk result
+        (λ l. l ≡ begun_live as_session config.now epoch app now noted.now request.now number) }
 {
     let inbox = first_inbox(alloc, noted, request, number)?;
     let session = fresh(alloc, config, app, epoch, now, noted, request.get())?;
@@ -95,7 +105,8 @@ fn with_live(
     serial: u64,
     host: &mut Host<Session>,
 ) -> Result<(), NoMemory>
-    ensures { OnOk result (host.new ≡ record host.old { sessions = host.old.sessions ++ live ∷ []; last = serial }) }
+    ensures { OnOk result
+        (host.new ≡ record host.old { sessions = host.old.sessions ++ live ∷ []; last = serial }) }
 {
     let live = Shared::new(alloc, live)?;
     host.push_live(live, serial)
@@ -110,7 +121,9 @@ fn begun(
     request: &Shared<Request>,
     host: &mut Host<Session>,
 ) -> Result<Told, NoMemory>
-    ensures { IfOk result (λ t. begun as_session config.now coming noted.now request.now host.old ≡ taken_by host.new t) }
+    ensures { IfOk result
+        (λ t.
+        begun as_session config.now coming noted.now request.now host.old ≡ taken_by host.new t) }
 {
     let serial = sum(host.last(), 1)?;
     let app = AppId {
@@ -150,7 +163,10 @@ fn take_initial(
     request: &Shared<Request>,
     host: &mut Host<Session>,
 ) -> Result<Told, NoMemory>
-    ensures { IfOk result (λ t. take_initial as_session config.now coming noted.now request.now host.old ≡ taken_by host.new t) }
+    ensures { IfOk result
+        (λ t.
+        take_initial as_session config.now coming noted.now request.now host.old
+        ≡ taken_by host.new t) }
 {
     if 4096 <= host.live_count() {
         return refuse_full(alloc, config, coming.from, request.get(), coming.count);
@@ -190,7 +206,10 @@ pub fn take_begun(
     request: &Shared<Request>,
     host: &mut Host<Session>,
 ) -> Result<Told, NoMemory>
-    ensures { IfOk result (λ t. take_begun as_session config.now coming noted.now request.now host.old ≡ taken_by host.new t) }
+    ensures { IfOk result
+        (λ t.
+        take_begun as_session config.now coming noted.now request.now host.old
+        ≡ taken_by host.new t) }
 {
     let noted = match noted {
         Some(noted) => noted,

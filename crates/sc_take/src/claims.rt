@@ -33,7 +33,11 @@ fn tell_cancelled(
     count: u64,
     host: &mut Host<Session>,
 ) -> Result<Told, NoMemory>
-    ensures { IfOk result (λ t. (if has_final server.now then quiet host.old count else queue server.now.app.serial now (Queued.Cancelled server.now.event) count host.old) ≡ taken_by host.new t) }
+    ensures { IfOk result
+        (λ t.
+        (if has_final server.now then quiet host.old count
+        else queue server.now.app.serial now (Queued.Cancelled server.now.event) count host.old)
+        ≡ taken_by host.new t) }
 {
     if has_final(server) {
         return Ok(quiet(count));
@@ -62,7 +66,8 @@ pub fn cancelled(
     count: u64,
     host: &mut Host<Session>,
 ) -> Result<Told, NoMemory>
-    ensures { IfOk result (λ t. cancelled from now server.now request.now count host.old ≡ taken_by host.new t) }
+    ensures { IfOk result
+        (λ t. cancelled from now server.now request.now count host.old ≡ taken_by host.new t) }
 {
     let response = ok_response(alloc, server, request)?;
     let told = tell_cancelled(alloc, now, server, count, host)?;
@@ -71,7 +76,9 @@ pub fn cancelled(
 
 #[tactic(auto, unfolding(sc_hosts::specs::Taking::last_again, sc_hosts::specs::Taking::again_if, sc_hosts::specs::Inboxes::quiet))]
 fn last_again(alloc: Global, server: &Server, again: bool, count: u64) -> Result<Told, NoMemory>
-    ensures { IfOk result (λ t. (host : Host Session) → again_if again server.now (quiet host count) ≡ taken_by host t) }
+    ensures { IfOk result
+        (λ t.
+        (host : Host Session) → again_if again server.now (quiet host count) ≡ taken_by host t) }
 {
     if !again {
         return Ok(quiet(count));
@@ -119,7 +126,8 @@ pub fn cancelled_by(
     request: &Request,
     host: &Host<Session>,
 ) -> Result<Option<Shared<Server>>, NoMemory>
-    ensures { IfOk result (λ server. server ≡ find (is_cancelled_by from request.now) host.now.servers) }
+    ensures { IfOk result
+        (λ server. server ≡ find (is_cancelled_by from request.now) host.now.servers) }
 {
     copy_of(alloc, cancelled_server(alloc, from, request, host)?)
 }
@@ -131,7 +139,8 @@ pub fn acked_by(
     request: &Request,
     host: &Host<Session>,
 ) -> Result<Option<Shared<Server>>, NoMemory>
-    ensures { IfOk result (λ server. server ≡ find (is_acked_by from request.now) host.now.servers) }
+    ensures { IfOk result
+        (λ server. server ≡ find (is_acked_by from request.now) host.now.servers) }
 {
     copy_of(alloc, acked_server(alloc, from, request, host)?)
 }
@@ -143,7 +152,8 @@ pub fn repeated_by(
     request: &Request,
     host: &Host<Session>,
 ) -> Result<Option<Shared<Server>>, NoMemory>
-    ensures { IfOk result (λ server. server ≡ find (is_repeated_by from request.now) host.now.servers) }
+    ensures { IfOk result
+        (λ server. server ≡ find (is_repeated_by from request.now) host.now.servers) }
 {
     copy_of(alloc, repeated_server(alloc, from, request, host)?)
 }

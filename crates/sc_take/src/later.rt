@@ -24,7 +24,8 @@ fn queue_later(
     live: &Live<Session>,
     host: &mut Host<Session>,
 ) -> Result<Told, NoMemory>
-    ensures { IfOk result (λ t. queue_later config.now coming request.now live.now host.old ≡ taken_by host.new t) }
+    ensures { IfOk result
+        (λ t. queue_later config.now coming request.now live.now host.old ≡ taken_by host.new t) }
 {
     if is_full(live) {
         return refuse_full(alloc, config, coming.from, request.get(), coming.count);
@@ -57,7 +58,8 @@ fn later_by(
     live: Option<Shared<Live<Session>>>,
     host: &mut Host<Session>,
 ) -> Result<Told, NoMemory>
-    ensures { IfOk result (λ t. later_by config.now coming request.now live host.old ≡ taken_by host.new t) }
+    ensures { IfOk result
+        (λ t. later_by config.now coming request.now live host.old ≡ taken_by host.new t) }
 {
     match live {
         Some(live) => queue_later(alloc, config, coming, request, live.get(), host),
@@ -72,7 +74,11 @@ fn named_by(
     uri: Option<&Uri>,
     host: &Host<Session>,
 ) -> Result<Option<Shared<Live<Session>>>, NoMemory>
-    ensures { IfOk result (λ live. live ≡ option_and_then (λ uri. named_live epoch number uri host.now) (option_copied uri.entry)) }
+    ensures { IfOk result
+        (λ live.
+        live
+        ≡ option_and_then (λ uri. named_live epoch number uri host.now)
+        (option_copied uri.entry)) }
 {
     let uri = match uri {
         Some(uri) => uri,
@@ -93,7 +99,8 @@ pub fn take_later(
     request: &Shared<Request>,
     host: &mut Host<Session>,
 ) -> Result<Told, NoMemory>
-    ensures { IfOk result (λ t. take_later config.now coming request.now host.old ≡ taken_by host.new t) }
+    ensures { IfOk result
+        (λ t. take_later config.now coming request.now host.old ≡ taken_by host.new t) }
 {
     let uri = own_uri(alloc, config, request.get())?;
     let live = named_by(alloc, coming.epoch, coming.host, uri, host)?;

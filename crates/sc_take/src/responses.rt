@@ -28,7 +28,8 @@ fn told(
     count: u64,
     host: &mut Host<Session>,
 ) -> Result<Told, NoMemory>
-    ensures { IfOk result (λ t. told now client.now response.now count host.old ≡ taken_by host.new t) }
+    ensures { IfOk result
+        (λ t. told now client.now response.now count host.old ≡ taken_by host.new t) }
 {
     if is_cancel_client(client) || (response.code <= 199 && is_full_at(client.app.serial, host)) {
         return Ok(quiet(count));
@@ -51,7 +52,8 @@ fn told_by(
     count: u64,
     host: &mut Host<Session>,
 ) -> Result<Told, NoMemory>
-    ensures { IfOk result (λ t. told_by code now client.now response.now count host.old ≡ taken_by host.new t) }
+    ensures { IfOk result
+        (λ t. told_by code now client.now response.now count host.old ≡ taken_by host.new t) }
 {
     match code {
         Some(_) => told(alloc, now, client, response, count, host),
@@ -83,7 +85,11 @@ fn cancel_with(
     told: Told,
     host: &mut Host<Session>,
 ) -> Result<Told, NoMemory>
-    ensures { IfOk result (λ t. replying client.now.peer (Message.Request (cancel_of client.now.request)) (taken_by (with_client (cancelling now client.now) host.old) told) ≡ taken_by host.new t) }
+    ensures { IfOk result
+        (λ t.
+        replying client.now.peer (Message.Request (cancel_of client.now.request))
+        (taken_by (with_client (cancelling now client.now) host.old) told)
+        ≡ taken_by host.new t) }
 {
     let request = cancel_of(alloc, client.request.get())?;
     with_client(alloc, cancelling(alloc, now, client)?, host)?;
@@ -101,7 +107,10 @@ fn with_reply(
     told: Told,
     host: &mut Host<Session>,
 ) -> Result<Told, NoMemory>
-    ensures { IfOk result (λ t. with_reply out now client.now response.now (taken_by host.old told) ≡ taken_by host.new t) }
+    ensures { IfOk result
+        (λ t.
+        with_reply out now client.now response.now (taken_by host.old told)
+        ≡ taken_by host.new t) }
 {
     if out.ack {
         let request = ack_of(alloc, client.request.get(), response)?;
@@ -122,7 +131,8 @@ fn response_for(
     count: u64,
     host: &mut Host<Session>,
 ) -> Result<Told, NoMemory>
-    ensures { IfOk result (λ t. response_for now client.now response.now count host.old ≡ taken_by host.new t) }
+    ensures { IfOk result
+        (λ t. response_for now client.now response.now count host.old ≡ taken_by host.new t) }
 {
     let item = ClientItem::ResponseCame {
         code: response.code,
@@ -150,7 +160,8 @@ fn response_to(
     count: u64,
     host: &mut Host<Session>,
 ) -> Result<Told, NoMemory>
-    ensures { IfOk result (λ t. response_to now client response.now count host.old ≡ taken_by host.new t) }
+    ensures { IfOk result
+        (λ t. response_to now client response.now count host.old ≡ taken_by host.new t) }
 {
     match client {
         Some(client) => response_for(alloc, now, client.get(), response, count, host),
@@ -166,7 +177,8 @@ fn found_client(
     response: &Response,
     host: &Host<Session>,
 ) -> Result<Option<Shared<Client>>, NoMemory>
-    ensures { IfOk result (λ client. client ≡ client_for config.now.salt epoch from response.now host.now) }
+    ensures { IfOk result
+        (λ client. client ≡ client_for config.now.salt epoch from response.now host.now) }
 {
     match client_for(alloc, config.salt.as_bytes(), epoch, from, response, host)? {
         Some(client) => Ok(Some(client.clone_in(alloc)?)),
@@ -186,7 +198,10 @@ pub fn take_response(
     count: u64,
     host: &mut Host<Session>,
 ) -> Result<Told, NoMemory>
-    ensures { IfOk result (λ t. take_response config.now epoch from now response.now count host.old ≡ taken_by host.new t) }
+    ensures { IfOk result
+        (λ t.
+        take_response config.now epoch from now response.now count host.old
+        ≡ taken_by host.new t) }
 {
     let client = found_client(alloc, config, epoch, from, response, host)?;
     response_to(alloc, now, client, response, count, host)

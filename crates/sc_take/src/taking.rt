@@ -29,7 +29,10 @@ fn take_new(
     request: &Shared<Request>,
     host: &mut Host<Session>,
 ) -> Result<Told, NoMemory>
-    ensures { IfOk result (λ t. take_new as_session config.now coming noted.now request.now host.old ≡ taken_by host.new t) }
+    ensures { IfOk result
+        (λ t.
+        take_new as_session config.now coming noted.now request.now host.old
+        ≡ taken_by host.new t) }
 {
     if tag(&request.get().head.to).is_some() {
         return take_later(alloc, config, coming, request, host);
@@ -46,7 +49,10 @@ fn take_unclaimed(
     request: &Shared<Request>,
     host: &mut Host<Session>,
 ) -> Result<Told, NoMemory>
-    ensures { IfOk result (λ t. take_unclaimed as_session config.now coming noted.now request.now host.old ≡ taken_by host.new t) }
+    ensures { IfOk result
+        (λ t.
+        take_unclaimed as_session config.now coming noted.now request.now host.old
+        ≡ taken_by host.new t) }
 {
     if is_cancel(request.get()) {
         return refuse_unknown(alloc, config, coming.from, request.get(), coming.count);
@@ -63,7 +69,11 @@ fn take_cancel(
     request: &Shared<Request>,
     host: &mut Host<Session>,
 ) -> Result<Told, NoMemory>
-    ensures { IfOk result (λ t. take_claimed as_session config.now coming noted.now request.now (claim_by Cancels (find (is_cancelled_by coming.from request.now) host.old.servers) Unclaimed) host.old ≡ taken_by host.new t) }
+    ensures { IfOk result
+        (λ t.
+        take_claimed as_session config.now coming noted.now request.now
+        (claim_by Cancels (find (is_cancelled_by coming.from request.now) host.old.servers)
+        Unclaimed) host.old ≡ taken_by host.new t) }
 {
     match cancelled_by(alloc, coming.from, request.get(), host)? {
         Some(server) => cancelled(
@@ -88,7 +98,11 @@ fn take_ack(
     request: &Shared<Request>,
     host: &mut Host<Session>,
 ) -> Result<Told, NoMemory>
-    ensures { IfOk result (λ t. take_claimed as_session config.now coming noted.now request.now (claim_by Acks (find (is_acked_by coming.from request.now) host.old.servers) Unclaimed) host.old ≡ taken_by host.new t) }
+    ensures { IfOk result
+        (λ t.
+        take_claimed as_session config.now coming noted.now request.now
+        (claim_by Acks (find (is_acked_by coming.from request.now) host.old.servers)
+        Unclaimed) host.old ≡ taken_by host.new t) }
 {
     match acked_by(alloc, coming.from, request.get(), host)? {
         Some(server) => {
@@ -108,7 +122,11 @@ fn take_other(
     request: &Shared<Request>,
     host: &mut Host<Session>,
 ) -> Result<Told, NoMemory>
-    ensures { IfOk result (λ t. take_claimed as_session config.now coming noted.now request.now (claim_by Repeats (find (is_repeated_by coming.from request.now) host.old.servers) Unclaimed) host.old ≡ taken_by host.new t) }
+    ensures { IfOk result
+        (λ t.
+        take_claimed as_session config.now coming noted.now request.now
+        (claim_by Repeats (find (is_repeated_by coming.from request.now) host.old.servers)
+        Unclaimed) host.old ≡ taken_by host.new t) }
 {
     match repeated_by(alloc, coming.from, request.get(), host)? {
         Some(server) => repeated(alloc, server.get(), coming.count, host),
@@ -125,7 +143,10 @@ fn take_request(
     request: &Shared<Request>,
     host: &mut Host<Session>,
 ) -> Result<Told, NoMemory>
-    ensures { IfOk result (λ t. take_request as_session config.now coming noted.now request.now host.old ≡ taken_by host.new t) }
+    ensures { IfOk result
+        (λ t.
+        take_request as_session config.now coming noted.now request.now host.old
+        ≡ taken_by host.new t) }
 {
     if is_cancel(request.get()) {
         return take_cancel(alloc, config, coming, noted, request, host);
@@ -146,7 +167,9 @@ pub fn takes(
     message: &Message,
     host: &mut Host<Session>,
 ) -> Result<Told, NoMemory>
-    ensures { IfOk result (λ t. takes as_session config.now coming noted.now message.now host.old ≡ taken_by host.new t) }
+    ensures { IfOk result
+        (λ t.
+        takes as_session config.now coming noted.now message.now host.old ≡ taken_by host.new t) }
 {
     match message {
         Message::Request(request) => take_request(alloc, config, coming, noted, request, host),

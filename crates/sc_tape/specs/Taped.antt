@@ -26,14 +26,19 @@ status_after None status = status
 status_after (Some unrecorded.Failed) status = statuses.Write
 status_after (Some unrecorded.NoMemory) status = statuses.NoMemory
 
--- of what the sink took, where it tells that: it is the recording of the run whose notice was told this and whose journal has
--- this left: of the epochs that ended, and of the steps of the last one; or a part from its front where something failed
+-- of what the sink took, where it tells that: it is the recording of the run whose notice was told
+-- this and whose journal has this left: of the epochs that ended, and of the steps of the last one;
+-- or a part from its front where something failed
 unfoldable pub IsRecordingOf : Option Unrecorded → Option Bytes → Told → Option (Kept Step) → Type 0
 IsRecordingOf cause took told journal =
-    (ended : List Epoch) (handed : List Step) → TellsEpochs (Some []) told (record { ended = ended; handed = handed }) → IsRecorded cause took (ended_text ended ++ (steps_text handed ++ kept_text journal))
+    (ended : List Epoch) (handed : List Step)
+    → TellsEpochs (Some []) told (record { ended = ended; handed = handed })
+    → IsRecorded cause took (ended_text ended ++ (steps_text handed ++ kept_text journal))
 
--- there was a run as is served, whose notice was told all from the beginning, and the sink took its recording
-pub record IsTaped (serves : Told → Ran → Type 0) (status : Status) (took : Option Bytes) : Type 0 where
+-- there was a run as is served, whose notice was told all from the beginning, and the sink took its
+-- recording
+pub record IsTaped (serves : Told → Ran → Type 0) (status : Status)
+    (took : Option Bytes) : Type 0 where
   pub told : List (Noted (Kept Step))
   pub ran : Ran
   pub served : serves (Some told) ran

@@ -23,8 +23,8 @@ use std::thread::Threads;
 
 /// How a run ended that was recorded, and what it was given.
 pub struct Taped<N, K> {
-    /// How it ended: `Write` where the sink failed, `NoMemory` where there was no memory for the text of a step, else as
-    /// the run itself did.
+    /// How it ended: `Write` where the sink failed, `NoMemory` where there was no memory for the
+    /// text of a step, else as the run itself did.
     pub status: Status,
     /// The notice that was told all of it.
     pub notice: N,
@@ -32,11 +32,12 @@ pub struct Taped<N, K> {
     pub out: K,
 }
 
-/// Serves as [`serve`], and puts the recording of the run into a sink that has taken nothing yet: the steps of each epoch
-/// and the line of its end, as they are handed on, and at the end the steps that the journal has left. After the first
-/// failure nothing more is put, and the flag is set.
+/// Serves as [`serve`], and puts the recording of the run into a sink that has taken nothing yet:
+/// the steps of each epoch and the line of its end, as they are handed on, and at the end the steps
+/// that the journal has left. After the first failure nothing more is put, and the flag is set.
 ///
-/// The sink took the whole recording, but at `Write` and `NoMemory`, where it took a part from its front.
+/// The sink took the whole recording, but at `Write` and `NoMemory`, where it took a part from its
+/// front.
 pub fn serve_recorded<
     R: Threads + Wait + Sync,
     F: Shelf,
@@ -61,7 +62,18 @@ pub fn serve_recorded<
     apps: &Catalogue,
 ) -> Taped<N, K>
     requires { IsTold (K.took out) [] }
-    ensures taped { IsTaped (λ told ran. ServesWords (served_names (map string_bytes words.now)) apps.now.names (map (λ k. both_charters (stated (k.servlet.vtable, k.servlet.value)) (option_map (λ l. listens (l.vtable, l.value)) k.listener)) apps.now.kinds) (λ name. F.holds shelf.old name) (Rose (F.faults shelf.old) (F.faults shelf.new)) (E.state edge.old) (E.state edge.new) (Some []) told ((T.asked clock.old, T.comes clock.old), (O.asked orders.old, O.comes orders.old)) ((T.asked clock.new, T.comes clock.new), (O.asked orders.new, O.comes orders.new)) ran) result.status (K.took result.out) }
+    ensures taped { IsTaped
+        (λ told ran.
+        ServesWords (served_names (map string_bytes words.now)) apps.now.names
+        (map
+        (λ k.
+        both_charters (stated (k.servlet.vtable, k.servlet.value))
+        (option_map (λ l. listens (l.vtable, l.value)) k.listener)) apps.now.kinds)
+        (λ name. F.holds shelf.old name) (Rose (F.faults shelf.old) (F.faults shelf.new))
+        (E.state edge.old) (E.state edge.new) (Some []) told
+        ((T.asked clock.old, T.comes clock.old), (O.asked orders.old, O.comes orders.old))
+        ((T.asked clock.new, T.comes clock.new), (O.asked orders.new, O.comes orders.new)) ran)
+        result.status (K.took result.out) }
     ensures later { CountsOn (E.state edge.old) (E.state edge.new) }
 {
     let mut recorder = Recorder::new(alloc, notice, out, over);

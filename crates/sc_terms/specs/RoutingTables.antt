@@ -25,7 +25,9 @@ pub record IsMethodList (list : MethodList) : Type 0 where
 -- no method has a list before its own
 unfoldable pub AreMethodLists : List MethodList → List MethodList → Type 0
 AreMethodLists earlier [] = ⊤
-AreMethodLists earlier (list ∷ more) = IsMethodList list × (is_listed earlier list.method ≡ false) × AreMethodLists (earlier ++ list ∷ []) more
+AreMethodLists earlier (list ∷ more) =
+    IsMethodList list × (is_listed earlier list.method ≡ false)
+    × AreMethodLists (earlier ++ list ∷ []) more
 
 -- the rule of a table's type: each method stands once, with 1 to 64 tuples
 abbrev pub IsDar : DarValue → Type 0

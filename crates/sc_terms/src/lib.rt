@@ -1,6 +1,6 @@
 //! The plain types of turns, steps, scripts and settings: what a servlet is shown, what it calls,
-//! what the journal keeps, and what a configuration and a routing table say. No logic, but for numbers
-//! that keep their range.
+//! what the journal keeps, and what a configuration and a routing table say. No logic, but for
+//! numbers that keep their range.
 #![tactic(auto)]
 
 mod calls;

@@ -103,8 +103,8 @@ impl Port {
     }
 }
 
-/// After so many minutes a session expires, -1 to 10,080; for -1 and 0 it never does. A contract sees
-/// the minutes.
+/// After so many minutes a session expires, -1 to 10,080; for -1 and 0 it never does. A contract
+/// sees the minutes.
 #[derive(Clone, Copy)]
 pub struct Expires {
     minutes: i32,

@@ -30,7 +30,8 @@ pub struct Config {
     /// Whether a server writes what goes to an address on the open connection that came from there
     /// (RFC 5923's connection reuse, without TLS).
     pub reuse: bool,
-    /// The file to which a server writes the steps that it takes, 1 to 4,096 bytes; `None` for none.
+    /// The file to which a server writes the steps that it takes, 1 to 4,096 bytes; `None` for
+    /// none.
     pub recording: Option<Text>,
     /// The names that the container knows, in byte order.
     pub hosts: List<HostEntry>,

@@ -15,9 +15,12 @@ unfoldable pub host_due : ℕ → ℕ → Host Session → List Dated
 host_due past number host =
     flat_map client_dated (filter (λ client. is_before past (due_of_client client)) host.clients)
     ++ flat_map server_dated (filter (λ server. is_before past (due_of_server server)) host.servers)
-    ++ flat_map (live_dated as_session number) (filter (λ live. is_before past (least_due live.fired (entries_of live.session))) host.sessions)
+    ++ flat_map (live_dated as_session number)
+    (filter (λ live. is_before past (least_due live.fired (entries_of live.session)))
+    host.sessions)
 
 -- the same at these hosts, counted from this number
 unfoldable pub hosts_due : ℕ → ℕ → List (Host Session) → List Dated
 hosts_due past number [] = []
-hosts_due past number (host ∷ hosts) = host_due past number host ++ hosts_due past (number + 1) hosts
+hosts_due past number (host ∷ hosts) =
+    host_due past number host ++ hosts_due past (number + 1) hosts

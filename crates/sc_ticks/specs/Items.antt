@@ -17,8 +17,11 @@ item_of (items.Server server) = Of_server server
 
 -- an entry of a session, where it hasn't had its event
 unfoldable pub entry_dated : AppId → List Fired → SessionEntry → List Dated
-entry_dated app fired entry = if is_fired fired entry.due entry.number then [] else dated app entry.number (Of_session app entry.event) (Some entry.due)
+entry_dated app fired entry =
+    if is_fired fired entry.due entry.number then []
+    else dated app entry.number (Of_session app entry.event) (Some entry.due)
 
 -- the session with one entry more that has had its event
 unfoldable pub with_fired : ℕ → ℕ → Live Session → Live Session
-with_fired due number live = record live { fired = live.fired ++ record { due = due; number = number } ∷ [] }
+with_fired due number live =
+    record live { fired = live.fired ++ record { due = due; number = number } ∷ [] }

@@ -182,7 +182,8 @@ fn put_sessions(
     sessions: &[Shared<Live<Session>>],
     out: &mut List<Dated>,
 ) -> Result<(), NoMemory>
-    ensures { OnOk result (out.new ≡ out.old ++ flat_map (live_dated as_session host) sessions.now) }
+    ensures { OnOk result
+        (out.new ≡ out.old ++ flat_map (live_dated as_session host) sessions.now) }
 {
     for live in sessions {
         put_live(alloc, host, live.get(), out)?;

@@ -59,7 +59,8 @@ fn timer_entry(timer: &TimerView) -> Result<SessionEntry, NoMemory>
 }
 
 fn put_timers(timers: &[TimerView], out: &mut List<SessionEntry>) -> Result<(), NoMemory>
-    ensures { OnOk result (out.new ≡ out.old ++ flat_map (λ timer. timer_entry timer ∷ []) timers.now) }
+    ensures { OnOk result
+        (out.new ≡ out.old ++ flat_map (λ timer. timer_entry timer ∷ []) timers.now) }
 {
     for timer in timers {
         out.push(timer_entry(timer)?)?;
@@ -95,7 +96,9 @@ fn put_branches(branches: &[Branch], out: &mut List<SessionEntry>) -> Result<(),
 }
 
 fn put_proxies(proxies: &[Proxy], out: &mut List<SessionEntry>) -> Result<(), NoMemory>
-    ensures { OnOk result (out.new ≡ out.old ++ flat_map (λ proxy. flat_map branch_entry proxy.branches) proxies.now) }
+    ensures { OnOk result
+        (out.new
+        ≡ out.old ++ flat_map (λ proxy. flat_map branch_entry proxy.branches) proxies.now) }
 {
     for proxy in proxies {
         put_branches(proxy.branches.as_slice(), out)?;

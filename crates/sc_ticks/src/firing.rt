@@ -29,7 +29,8 @@ fn event_fires(
     event: &Queued,
     net: &mut Net<Session>,
 ) -> Result<(), NoMemory>
-    ensures { OnOk result (net.new ≡ queue_for app event.now (change_host app.host (mark_fired key) net.old)) }
+    ensures { OnOk result
+        (net.new ≡ queue_for app event.now (change_host app.host (mark_fired key) net.old)) }
 {
     let event = event.clone_in(alloc)?;
     mark_at(alloc, app.host, key, net)?;
@@ -44,7 +45,9 @@ fn client_fires(
     client: &Client,
     net: &mut Net<Session>,
 ) -> Result<(), NoMemory>
-    ensures { OnOk result (net.new ≡ passes config.now (ClientItem.MomentCame now) request_timeout net.old client.now) }
+    ensures { OnOk result
+        (net.new
+        ≡ passes config.now (ClientItem.MomentCame now) request_timeout net.old client.now) }
 {
     let item = ClientItem::MomentCame { moment: now };
     passes(alloc, config, item, b"Request Timeout", client, net)
@@ -78,7 +81,9 @@ fn all_fired(
     items: &BTreeMap<DueKey, Dated>,
     net: &mut Net<Session>,
 ) -> Result<(), NoMemory>
-    ensures { OnOk result (net.new ≡ fold (λ net d. fires config.now now net d.entry d.item) net.old (values items.now)) }
+    ensures { OnOk result
+        (net.new
+        ≡ fold (λ net d. fires config.now now net d.entry d.item) net.old (values items.now)) }
 {
     for dated in items.values() {
         fires(alloc, config, now, dated, net)?;

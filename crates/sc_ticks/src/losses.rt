@@ -61,7 +61,8 @@ fn keys_to(
     place: Place,
     clients: &[Shared<Client>],
 ) -> Result<List<DueKey>, NoMemory>
-    ensures { IfOk result (λ keys. keys ≡ map client_key (filter (λ client. goes_to place client.peer) clients.now)) }
+    ensures { IfOk result
+        (λ keys. keys ≡ map client_key (filter (λ client. goes_to place client.peer) clients.now)) }
 {
     let mut keys = List::new(alloc);
     for client in clients {
@@ -110,7 +111,8 @@ fn loses(
     client: &Client,
     net: &mut Net<Session>,
 ) -> Result<(), NoMemory>
-    ensures { OnOk result (net.new ≡ passes config.now ClientItem.PlaceLost unavailable net.old client.now) }
+    ensures { OnOk result
+        (net.new ≡ passes config.now ClientItem.PlaceLost unavailable net.old client.now) }
 {
     passes(
         alloc,
@@ -157,7 +159,8 @@ fn all_lost(
     keys: &BTreeSet<DueKey>,
     net: &mut Net<Session>,
 ) -> Result<(), NoMemory>
-    ensures { OnOk result (net.new ≡ fold (lost_at config.now kept.now.entries) net.old keys.now.keys) }
+    ensures { OnOk result
+        (net.new ≡ fold (lost_at config.now kept.now.entries) net.old keys.now.keys) }
 {
     for key in keys {
         lost_at(alloc, config, kept, *key, net)?;
@@ -172,7 +175,11 @@ fn lost_among(
     clients: &[Shared<Client>],
     net: &mut Net<Session>,
 ) -> Result<(), NoMemory>
-    ensures { OnOk result (net.new ≡ fold (lost_at config.now (by_key clients.now)) net.old (in_order (map client_key (filter (λ client. goes_to place client.peer) clients.now)))) }
+    ensures { OnOk result
+        (net.new
+        ≡ fold (lost_at config.now (by_key clients.now)) net.old
+        (in_order
+        (map client_key (filter (λ client. goes_to place client.peer) clients.now)))) }
 {
     let keys = keys_to(alloc, place, clients)?;
     let sorted = in_order(alloc, keys.as_slice())?;

@@ -27,7 +27,9 @@ fn telling(
     reason: &[u8],
     request: &Request,
 ) -> Result<Response, NoMemory>
-    ensures { IfOk result (λ r. r ≡ without_via (own_response (edge_tag config.now.salt) code reason.now request.now)) }
+    ensures { IfOk result
+        (λ r.
+        r ≡ without_via (own_response (edge_tag config.now.salt) code reason.now request.now)) }
 {
     let response = edge_response(alloc, config, code, reason, request)?;
     without_via(alloc, &response)
@@ -56,7 +58,11 @@ fn tell(
     code: u16,
     net: &mut Net<Session>,
 ) -> Result<(), NoMemory>
-    ensures { OnOk result (net.new ≡ queue_for client.now.app (Queued.Response client.now.branch (own_telling config.now code reason.now client.now)) net.old) }
+    ensures { OnOk result
+        (net.new
+        ≡ queue_for client.now.app
+        (Queued.Response client.now.branch (own_telling config.now code reason.now client.now))
+        net.old) }
 {
     let response = own_telling(alloc, config, code, reason, client)?;
     let branch = client.branch;

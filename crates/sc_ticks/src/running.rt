@@ -43,7 +43,8 @@ fn branch_runs(branch: &Branch, due: u64, number: u64) -> bool
 }
 
 fn branches_run(branches: &[Branch], due: u64, number: u64) -> bool
-    ensures { result ≡ list_any (λ branch. list_any (is_entry due number) (branch_entry branch)) branches.now }
+    ensures { result
+        ≡ list_any (λ branch. list_any (is_entry due number) (branch_entry branch)) branches.now }
 {
     branches
         .iter()
@@ -51,13 +52,23 @@ fn branches_run(branches: &[Branch], due: u64, number: u64) -> bool
 }
 
 fn proxies_run(proxies: &[Proxy], due: u64, number: u64) -> bool
-    ensures { result ≡ list_any (λ proxy. list_any (λ branch. list_any (is_entry due number) (branch_entry branch)) proxy.branches) proxies.now }
+    ensures { result
+        ≡ list_any
+        (λ proxy.
+        list_any (λ branch. list_any (is_entry due number) (branch_entry branch))
+        proxy.branches) proxies.now }
 {
     proxies.iter().any(|proxy| branches_run(proxy.branches.as_slice(), due, number))
 }
 
 fn parts_run(session: &Session, due: u64, number: u64) -> bool
-    ensures { result ≡ ((list_any (is_entry due number) (expiry_entry session.now.view.expires) || list_any (λ timer. is_entry due number (timer_entry timer)) session.now.view.timers) || list_any (λ proxy. list_any (λ branch. list_any (is_entry due number) (branch_entry branch)) proxy.branches) session.now.known.proxies) }
+    ensures { result
+        ≡ ((list_any (is_entry due number) (expiry_entry session.now.view.expires)
+        || list_any (λ timer. is_entry due number (timer_entry timer)) session.now.view.timers)
+        || list_any
+        (λ proxy.
+        list_any (λ branch. list_any (is_entry due number) (branch_entry branch))
+        proxy.branches) session.now.known.proxies) }
 {
     expiry_runs(session.view.expires, due, number)
         || timers_run(session.view.timers.as_slice(), due, number)
@@ -66,7 +77,8 @@ fn parts_run(session: &Session, due: u64, number: u64) -> bool
 
 /// Whether an entry of this due moment and number runs in the session.
 pub fn runs(session: &Session, due: u64, number: u64) -> bool
-    ensures { result ≡ list_any (λ entry. entry.due == due && entry.number == number) (entries_of session.now) }
+    ensures { result
+        ≡ list_any (λ entry. entry.due == due && entry.number == number) (entries_of session.now) }
 {
     parts_run(session, due, number)
 }

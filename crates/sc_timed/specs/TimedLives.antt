@@ -29,15 +29,23 @@ LeavesTimer n view made = timer_at (after_calls view made).view n ≡ timer_at v
 -- what they leave remembered of it is what this act of the SipSession does
 pub record IsActOf (n : ℕ) (view : View) (made : List CallRecord) (act : TimedAct) : Type 0 where
   pub of : side_of view act ≡ Some (record { 0 = n })
-  pub comes_to : timer_at (after_calls view made).view n ≡ timer_at (play_after (begun view) (calls_of view act)).view n
+  pub comes_to : timer_at (after_calls view made).view n
+      ≡ timer_at (play_after (begun view) (calls_of view act)).view n
 
--- the acts of the SipSession of this number that these turns of a history made, each turn one at most, the oldest act first
+-- the acts of the SipSession of this number that these turns of a history made, each turn one at
+-- most, the oldest act first
 unfoldable pub AreActs : Config → History → ℕ → List Turn → List TimedHappened → Type 0
 AreActs config history n [] acts = acts ≡ []
 AreActs config history n (turn ∷ earlier) acts =
-    (LeavesTimer n (shown_in config (session_after config history earlier) turn) turn.calls × AreActs config history n earlier acts)
+    (LeavesTimer n (shown_in config (session_after config history earlier) turn) turn.calls
+    × AreActs config history n earlier acts)
     ⊎ ((before : List TimedHappened) × (act : TimedAct)
-    × (acts ≡ before ++ record { play = begun (shown_in config (session_after config history earlier) turn); act = act } ∷ [])
+    × (acts
+    ≡ before
+    ++ record {
+      play = begun (shown_in config (session_after config history earlier) turn);
+      act = act;
+    } ∷ [])
     × IsActOf n (shown_in config (session_after config history earlier) turn) turn.calls act
     × AreActs config history n earlier before)
 
@@ -62,14 +70,17 @@ PlaysTimed view (Some event) made = (made ≡ played view (timed_script view eve
 unfoldable pub ArePlayed : Config → History → List Turn → Type 0
 ArePlayed config history [] = Unit {0}
 ArePlayed config history (turn ∷ earlier) =
-    PlaysTimed (shown_in config (session_after config history earlier) turn) (event_in config (session_after config history earlier) turn) turn.calls × ArePlayed config history earlier
+    PlaysTimed (shown_in config (session_after config history earlier) turn)
+    (event_in config (session_after config history earlier) turn) turn.calls
+    × ArePlayed config history earlier
 
 -- the numbers of the SipSessions that acts are of have 64 bits, in each turn of a history
 unfoldable pub HaveRoom : Config → History → List Turn → Type 0
 HaveRoom config history [] = Unit {0}
 HaveRoom config history (turn ∷ earlier) =
     ((told : Event) (act : TimedAct) (sess : SessId) → event_in config (session_after config history earlier) turn ≡ Some told
-    → act_of (shown_in config (session_after config history earlier) turn) told ≡ Some act → side_of (shown_in config (session_after config history earlier) turn) act ≡ Some sess
+    → act_of (shown_in config (session_after config history earlier) turn) told ≡ Some act
+    → side_of (shown_in config (session_after config history earlier) turn) act ≡ Some sess
     → sess.0 < 2 ^ 64)
     × HaveRoom config history earlier
 

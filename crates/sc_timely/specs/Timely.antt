@@ -13,15 +13,18 @@ use Rattle.sc_hosts.specs.Ticks.{Dated, live_dated, same_entry}
 unfoldable pub HadEvents : ℕ → List Fired → List SessionEntry → Type 0
 HadEvents now fired [] = Unit {0}
 HadEvents now fired (entry ∷ entries) =
-    (nat_le entry.due now ≡ true → is_fired fired entry.due entry.number ≡ true) × HadEvents now fired entries
+    (nat_le entry.due now ≡ true → is_fired fired entry.due entry.number ≡ true)
+    × HadEvents now fired entries
 
--- the session of this name lives on and is what it was, what had its event had it, whatever is due has had its event,
--- and so nothing of it is due any more
-pub record IsTaken {S : Type 0} (form : Form S) (now : ℕ) (app : AppId) (live : Live S) (found : Option (Live S)) : Type 0 where
+-- the session of this name lives on and is what it was, what had its event had it, whatever is due
+-- has had its event, and so nothing of it is due any more
+pub record IsTaken {S : Type 0} (form : Form S) (now : ℕ) (app : AppId) (live : Live S)
+    (found : Option (Live S)) : Type 0 where
   pub later : Live S
   pub found_is : found ≡ Some later
   pub same : later.session ≡ live.session
-  pub before : (due number : ℕ) → is_fired live.fired due number ≡ true → is_fired later.fired due number ≡ true
+  pub before : (due number : ℕ) → is_fired live.fired due number ≡ true
+      → is_fired later.fired due number ≡ true
   pub taken : HadEvents now later.fired (entries_of (form.read later.session))
   pub left : list_any (λ d. is_due now d.entry) (live_dated form app.host later) ≡ false
 

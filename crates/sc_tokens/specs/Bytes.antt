@@ -17,12 +17,14 @@ is_scheme_byte b = is_host_byte b || b == 43
 
 -- the byte is one of -_.!~*'()
 unfoldable pub is_mark : ℕ → Bool
-is_mark b = b == 45 || b == 95 || b == 46 || b == 33 || b == 126 || b == 42 || b == 39 || b == 40 || b == 41
+is_mark b =
+    b == 45 || b == 95 || b == 46 || b == 33 || b == 126 || b == 42 || b == 39 || b == 40 || b == 41
 
 -- the byte may stand in the name or the value of a URI's parameter beside letters, digits and
 -- marks: it is one of []/:&+$, or the % of an escape
 unfoldable pub is_param_sign : ℕ → Bool
-is_param_sign b = b == 91 || b == 93 || b == 47 || b == 58 || b == 38 || b == 43 || b == 36 || b == 37
+is_param_sign b =
+    b == 91 || b == 93 || b == 47 || b == 58 || b == 38 || b == 43 || b == 36 || b == 37
 
 -- the byte may stand in the name or the value of a URI's parameter
 unfoldable pub is_param_byte : ℕ → Bool

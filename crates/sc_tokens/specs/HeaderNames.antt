@@ -84,12 +84,14 @@ long_name (first ∷ second ∷ rest) = first ∷ second ∷ rest
 -- the name is that of a header which names the dialog or its peers
 unfoldable pub is_dialog_name : List ℕ → Bool
 is_dialog_name name =
-    same_name name from_name || same_name name to_name || same_name name call_id_name || same_name name cseq_name || same_name name contact_name
+    same_name name from_name || same_name name to_name || same_name name call_id_name
+    || same_name name cseq_name || same_name name contact_name
 
 -- the name is that of a header which carries the message
 unfoldable pub is_routing_name : List ℕ → Bool
 is_routing_name name =
-    same_name name via_name || same_name name route_name || same_name name record_route_name || same_name name max_forwards_name || same_name name content_length_name
+    same_name name via_name || same_name name route_name || same_name name record_route_name
+    || same_name name max_forwards_name || same_name name content_length_name
 
 -- the name, long or compact, is that of a header which the container sets itself
 unfoldable pub is_system_name : List ℕ → Bool

@@ -26,7 +26,8 @@ is_display_byte b = is_token_byte b || is_blank b
 
 -- one token or more with blanks between, and none at the ends
 abbrev pub IsWords : Bytes → Type 0
-IsWords text = ((length text == 0) ≡ false) × (list_all is_display_byte text ≡ true) × (trimmed text ≡ text)
+IsWords text =
+    ((length text == 0) ≡ false) × (list_all is_display_byte text ≡ true) × (trimmed text ≡ text)
 
 -- what a display is: a quoted string, or words
 unfoldable pub IsDisplay : Option Bytes → Type 0

@@ -34,7 +34,8 @@ is_group text = not (length text == 0) && nat_le (length text) 4 && list_all is_
 
 -- how many groups of 16 bits the piece is; an IPv4 address is two
 unfoldable pub groups_of : Bool → Bytes → Option ℕ
-groups_of ipv4 piece = if is_group piece then Some 1 else if ipv4 && is_ipv4 piece then Some 2 else None
+groups_of ipv4 piece =
+    if is_group piece then Some 1 else if ipv4 && is_ipv4 piece then Some 2 else None
 
 -- the sum of two counts, none where one is none
 unfoldable pub sum_of : Option ℕ → Option ℕ → Option ℕ
@@ -45,7 +46,8 @@ sum_of (Some m) n = option_map (λ k. m + k) n
 -- one is allowed
 unfoldable pub groups_in : Bool → List Bytes → Option ℕ
 groups_in ipv4 [] = Some 0
-groups_in ipv4 (piece ∷ more) = sum_of (groups_of (ipv4 && length more == 0) piece) (groups_in ipv4 more)
+groups_in ipv4 (piece ∷ more) =
+    sum_of (groups_of (ipv4 && length more == 0) piece) (groups_in ipv4 more)
 
 -- the groups of a text with colons between; the empty text has none
 unfoldable pub groups : Bool → Bytes → Option ℕ
@@ -70,7 +72,10 @@ is_full n = option_map_or (λ k. k == 8) n false
 
 -- an IPv6 address, with or without `::`
 unfoldable pub is_ipv6 : Bytes → Bool
-is_ipv6 text = option_map_or (λ gap. leaves_gap (sum_of (groups false (take gap text)) (groups true (drop (gap + 2) text)))) (gap_of text) (is_full (groups true text))
+is_ipv6 text =
+    option_map_or
+    (λ gap. leaves_gap (sum_of (groups false (take gap text)) (groups true (drop (gap + 2) text))))
+    (gap_of text) (is_full (groups true text))
 
 -- ## Hosts
 
@@ -86,6 +91,9 @@ is_literal_end text = is_none_left (after 93 text) && is_ipv6 (before 93 text)
 unfoldable pub is_host : Bytes → Bool
 is_host text = if begins 91 text then is_literal_end (drop 1 text) else is_host_name text
 
--- how many bytes of a host with its port are the host's: up to the closing bracket, or else the colon
+-- how many bytes of a host with its port are the host's: up to the closing bracket, or else the
+-- colon
 unfoldable pub host_len : Bytes → ℕ
-host_len text = if begins 91 text then min (position_or_len (λ b. b == 93) text + 1) (length text) else position_or_len (λ b. b == 58) text
+host_len text =
+    if begins 91 text then min (position_or_len (λ b. b == 93) text + 1) (length text)
+    else position_or_len (λ b. b == 58) text

@@ -18,7 +18,8 @@ number_in digits = fold with_digit 0 digits
 
 -- the number of the text where it is one and is below the limit
 unfoldable pub number_below : ℕ → Bytes → Option ℕ
-number_below limit text = if is_digits text && nat_lt (number_in text) limit then Some (number_in text) else None
+number_below limit text =
+    if is_digits text && nat_lt (number_in text) limit then Some (number_in text) else None
 
 -- a number that fits 64 bits
 abbrev pub number_of : Bytes → Option ℕ

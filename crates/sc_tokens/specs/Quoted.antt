@@ -14,7 +14,10 @@ token_end at text = at + position_or_len (λ b. not (is_token_byte b)) (drop at 
 unfoldable pub closing : Bytes → Option ℕ
 closing [] = None
 closing (b ∷ []) = if b == 34 then Some 1 else None
-closing (b ∷ c ∷ bs) = if b == 34 then Some 1 else if b == 92 then option_map (λ n. 2 + n) (closing bs) else option_map (λ n. 1 + n) (closing (c ∷ bs))
+closing (b ∷ c ∷ bs) =
+    if b == 34 then Some 1
+    else if b == 92 then option_map (λ n. 2 + n) (closing bs)
+    else option_map (λ n. 1 + n) (closing (c ∷ bs))
 
 -- a quote stands at this place
 unfoldable pub is_quote_at : ℕ → Bytes → Bool
@@ -22,4 +25,6 @@ is_quote_at at text = option_map_or (λ b. b == 34) (slice_get text at) false
 
 -- the place after the quoted string that begins here, where one does
 unfoldable pub quoted_end : ℕ → Bytes → Option ℕ
-quoted_end at text = if is_quote_at at text then option_map (λ n. at + 1 + n) (closing (drop (at + 1) text)) else None
+quoted_end at text =
+    if is_quote_at at text then option_map (λ n. at + 1 + n) (closing (drop (at + 1) text))
+    else None

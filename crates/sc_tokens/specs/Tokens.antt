@@ -7,7 +7,8 @@ use Rattle.std.specs.Char.{is_ascii_alphanumeric}
 -- the byte is a letter, a digit or one of -.!%*_+`'~
 unfoldable pub is_token_byte : ℕ → Bool
 is_token_byte b =
-    is_ascii_alphanumeric b || b == 45 || b == 46 || b == 33 || b == 37 || b == 42 || b == 95 || b == 43 || b == 96 || b == 39 || b == 126
+    is_ascii_alphanumeric b || b == 45 || b == 46 || b == 33 || b == 37 || b == 42 || b == 95
+    || b == 43 || b == 96 || b == 39 || b == 126
 
 -- one or more such bytes
 unfoldable pub is_token : List ℕ → Bool

@@ -17,7 +17,8 @@ is_param_value value = option_map_or (list_all is_param_byte) value true
 
 -- a letter, then letters, digits and +-.
 unfoldable pub is_scheme : Bytes → Bool
-is_scheme text = option_map_or is_ascii_alphabetic (slice_get text 0) false && list_all is_scheme_byte text
+is_scheme text =
+    option_map_or is_ascii_alphabetic (slice_get text 0) false && list_all is_scheme_byte text
 
 -- the one scheme whose URIs are read in structure; it compares without case
 unfoldable pub sip_scheme : Bytes
@@ -32,4 +33,5 @@ IsUser None (Some headers) = has 64 headers ≡ false
 -- a URI of another scheme
 abbrev pub IsOtherSpelled : Bytes → Bytes → Type 0
 IsOtherSpelled text other =
-    (text ≡ other) × (is_open text ≡ true) × (scheme rest : Bytes) × (is_scheme scheme ≡ true) × (same_name scheme sip_scheme ≡ false) × (text ≡ scheme ++ 58 ∷ rest)
+    (text ≡ other) × (is_open text ≡ true) × (scheme rest : Bytes) × (is_scheme scheme ≡ true)
+    × (same_name scheme sip_scheme ≡ false) × (text ≡ scheme ++ 58 ∷ rest)

@@ -1,6 +1,7 @@
-//! The command `trace`: a run of a script, or of a recording, as a ladder diagram. The run is that of `replay`, or that
-//! of `play`, by the same calls of the switch. What is drawn (`sc_ladder`) is outside of the promises: every function is proved to be
-//! safe and to end, and no clause says what the picture shows.
+//! The command `trace`: a run of a script, or of a recording, as a ladder diagram. The run is that
+//! of `replay`, or that of `play`, by the same calls of the switch. What is drawn (`sc_ladder`) is
+//! outside of the promises: every function is proved to be safe and to end, and no clause says what
+//! the picture shows.
 #![tactic(auto)]
 
 mod hearing;

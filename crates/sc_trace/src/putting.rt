@@ -61,7 +61,8 @@ fn put_rows<K: Sink>(
     Ok(())
 }
 
-/// The lines below the picture of so many steps: the sessions that live, and the last line of `replay`.
+/// The lines below the picture of so many steps: the sessions that live, and the last line of
+/// `replay`.
 pub fn closing_of(
     alloc: Global,
     steps: u64,

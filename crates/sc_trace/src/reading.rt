@@ -10,7 +10,8 @@ use std::alloc::Global;
 /// The most bytes of a script.
 const LONGEST: usize = 67_108_864;
 
-/// The lines of the script that the shelf holds under a name, or how the program ends, as of `replay`.
+/// The lines of the script that the shelf holds under a name, or how the program ends, as of
+/// `replay`.
 pub fn read_script<F: Shelf>(
     alloc: Global,
     name: &String,

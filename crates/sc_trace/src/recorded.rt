@@ -137,8 +137,8 @@ fn hear_next(
     }
 }
 
-/// The clock reaches a moment, which is told where it made something of itself. The turns that are made behind it are
-/// lent out before.
+/// The clock reaches a moment, which is told where it made something of itself. The turns that are
+/// made behind it are lent out before.
 fn go_on(alloc: Global, now: u64, player: &mut Player, story: &mut Story) -> Result<(), Untaken> {
     lend_early(alloc, player)?;
     let switch = &mut player.switch;

@@ -18,12 +18,13 @@ use sc_terms::{AppEntry, Line};
 use sc_value::{CloneIn, Discard, List, NoMemory, Text};
 use std::alloc::Global;
 
-/// Runs a script as `replay` does, or a recording as `play` does, and puts what happened as a ladder diagram in place of
-/// the records. The words are `trace CONFIG DAR SCRIPT`, or `trace --recording CONFIG DAR RECORDING`; with `--svg` behind
+/// Runs a script as `replay` does, or a recording as `play` does, and puts what happened as a
+/// ladder diagram in place of the records. The words are `trace CONFIG DAR SCRIPT`, or `trace
+/// --recording CONFIG DAR RECORDING`; with `--svg` behind
 /// `trace` the picture is a drawing. The status is that of `replay`, or of `play`, for the last three words: the same
-/// order of reading, the same refusals. Where the run ends before its last step, at `JournalFull` and where a recording
-/// is left (`Script` with kind 8), the picture is put without the last lines. Of the moments of a recording those are
-/// told at which something was due.
+/// order of reading, the same refusals. Where the run ends before its last step, at `JournalFull`
+/// and where a recording is left (`Script` with kind 8), the picture is put without the last lines.
+/// Of the moments of a recording those are told at which something was due.
 pub fn trace<F: Shelf, K: Sink>(
     alloc: Global,
     words: &[String],
@@ -105,7 +106,15 @@ fn trace_over<F: Shelf, K: Sink>(
     apps: &Catalogue,
     out: &mut K,
 ) -> Status
-    requires { IsSetup (record { config = settings.config; dar = settings.dar; kinds = map (λ k. both_charters (stated (k.servlet.vtable, k.servlet.value)) (option_map (λ l. listens (l.vtable, l.value)) k.listener)) apps.now.kinds }) }
+    requires { IsSetup
+        (record {
+          config = settings.config;
+          dar = settings.dar;
+          kinds = map
+              (λ k.
+              both_charters (stated (k.servlet.vtable, k.servlet.value))
+              (option_map (λ l. listens (l.vtable, l.value)) k.listener)) apps.now.kinds;
+        }) }
 {
     let names = names_of(alloc, settings.config.app.as_slice());
     let Settings { config, dar } = settings;

@@ -59,8 +59,8 @@ pub fn take_turn_of(
     }
 }
 
-/// Makes the turn of a lease and commits it: false where the catalogue hasn't the lease's kind, which no
-/// switch over that catalogue lends.
+/// Makes the turn of a lease and commits it: false where the catalogue hasn't the lease's kind,
+/// which no switch over that catalogue lends.
 pub fn bring(
     alloc: Global,
     apps: &Catalogue,

@@ -7,4 +7,5 @@ use Rattle.sc_hosts.specs.Transacting.{is_same_app, is_invite_client}
 
 -- an INVITE of this session that has had a provisional response
 abbrev pub is_ringing : AppId → Client → Bool
-is_ringing app client = is_same_app client.app app && is_invite_client client && has_provisional client.passed
+is_ringing app client =
+    is_same_app client.app app && is_invite_client client && has_provisional client.passed

@@ -33,7 +33,9 @@ pub fn out_of_client(client: &Client, item: ClientItem) -> ClientOut
 // The number under which the client transaction is found that the top Via's branch names.
 #[tactic(auto, using(crate::proofs::ClientUses::numbered))]
 fn answered_number(salt: &[u8], epoch: u32, via: &[Via]) -> u64
-    ensures { (app : AppId) (branch : ℕ) → option_map_or (λ via. same_bytes (branch_of via) (branch_text salt.now epoch app branch)) (top_via via.now) false ≡ true → result ≡ branch_number app branch }
+    ensures { (app : AppId) (branch : ℕ)
+        → option_map_or (λ via. same_bytes (branch_of via) (branch_text salt.now epoch app branch))
+        (top_via via.now) false ≡ true → result ≡ branch_number app branch }
 {
     match top_via(via) {
         Some(via) => text_number(counted_part(branch_of(via), salt, epoch)),
@@ -52,7 +54,9 @@ pub fn client_for<'a>(
     response: &Response,
     host: &'a Host<Session>,
 ) -> Result<Option<&'a Shared<Client>>, NoMemory>
-    ensures { IfOk result (λ found. option_copied found ≡ client_for salt.now epoch from response.now host.entry.now) }
+    ensures { IfOk result
+        (λ found.
+        option_copied found ≡ client_for salt.now epoch from response.now host.entry.now) }
 {
     let group = answered_number(salt, epoch, response.head.via.as_slice());
     let probe = Answered {
@@ -115,7 +119,9 @@ fn is_ringing(app: AppId, client: &Client) -> bool
 }
 
 fn ringing_in(alloc: Global, app: AppId, clients: &[Shared<Client>]) -> Result<List<u64>, NoMemory>
-    ensures { IfOk result (λ branches. branches ≡ map (λ client. client.branch) (filter (is_ringing app) clients.now)) }
+    ensures { IfOk result
+        (λ branches.
+        branches ≡ map (λ client. client.branch) (filter (is_ringing app) clients.now)) }
 {
     let mut branches = List::new(alloc);
     for client in clients {

@@ -22,7 +22,9 @@ fn is_named(named: Option<(AppId, u64)>, app: AppId, branch: u64) -> bool
 }
 
 fn is_branch_of(text: &[u8], salt: &[u8], epoch: u32, host: u32, serial: u64, branch: u64) -> bool
-    ensures { result ≡ same_bytes text.now (branch_text salt.now epoch (record { host = host; serial = serial }) branch) }
+    ensures { result
+        ≡ same_bytes text.now
+        (branch_text salt.now epoch (record { host = host; serial = serial }) branch) }
 {
     is_named(
         read_branch(text, salt, epoch),
@@ -63,7 +65,8 @@ fn mark_len(salt: &[u8], epoch: u32) -> usize
 /// What stands in a branch of this salt and epoch for the session and the number.
 #[tactic(auto, using(crate::proofs::BranchTexts::counted_then, crate::proofs::BranchTexts::counted_else))]
 pub fn counted_part<'a>(text: &'a [u8], salt: &[u8], epoch: u32) -> &'a [u8]
-    ensures { (app : AppId) (branch : ℕ) → text.now ≡ branch_text salt.now epoch app branch → result.now ≡ counted_text app branch }
+    ensures { (app : AppId) (branch : ℕ) → text.now ≡ branch_text salt.now epoch app branch
+        → result.now ≡ counted_text app branch }
 {
     let start = mark_len(salt, epoch) + 8;
     if start <= text.len() {

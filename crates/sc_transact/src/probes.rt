@@ -31,7 +31,9 @@ impl Probe<Client> for Answered<'_> {
 }
 
 fn is_top_branch(salt: &[u8], epoch: u32, app: AppId, branch: u64, via: &[Via]) -> bool
-    ensures { result ≡ option_map_or (λ via. same_bytes (branch_of via) (branch_text salt.now epoch app branch)) (top_via via.now) false }
+    ensures { result
+        ≡ option_map_or (λ via. same_bytes (branch_of via) (branch_text salt.now epoch app branch))
+        (top_via via.now) false }
 {
     match top_via(via) {
         Some(via) => is_branch_text(branch_of(via), salt, epoch, app, branch),

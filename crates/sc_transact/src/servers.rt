@@ -27,7 +27,9 @@ pub fn cancelled_server<'a>(
     request: &Request,
     host: &'a Host<Session>,
 ) -> Result<Option<&'a Shared<Server>>, NoMemory>
-    ensures { IfOk result (λ found. option_copied found ≡ find (is_cancelled_by from request.now) host.entry.now.servers) }
+    ensures { IfOk result
+        (λ found.
+        option_copied found ≡ find (is_cancelled_by from request.now) host.entry.now.servers) }
 {
     let group = via_number(request.head.via.as_slice());
     host.find_server(alloc, group, &Cancelled { from, request })
@@ -41,7 +43,9 @@ pub fn acked_server<'a>(
     request: &Request,
     host: &'a Host<Session>,
 ) -> Result<Option<&'a Shared<Server>>, NoMemory>
-    ensures { IfOk result (λ found. option_copied found ≡ find (is_acked_by from request.now) host.entry.now.servers) }
+    ensures { IfOk result
+        (λ found.
+        option_copied found ≡ find (is_acked_by from request.now) host.entry.now.servers) }
 {
     let group = via_number(request.head.via.as_slice());
     host.find_server(alloc, group, &Acked { from, request })
@@ -55,7 +59,9 @@ pub fn repeated_server<'a>(
     request: &Request,
     host: &'a Host<Session>,
 ) -> Result<Option<&'a Shared<Server>>, NoMemory>
-    ensures { IfOk result (λ found. option_copied found ≡ find (is_repeated_by from request.now) host.entry.now.servers) }
+    ensures { IfOk result
+        (λ found.
+        option_copied found ≡ find (is_repeated_by from request.now) host.entry.now.servers) }
 {
     let group = via_number(request.head.via.as_slice());
     host.find_server(alloc, group, &Repeated { from, request })

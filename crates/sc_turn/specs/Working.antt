@@ -27,9 +27,10 @@ pub record Working : Type 0 where
 unfoldable pub play_of : Working → Play
 play_of turn = after_calls turn.shown turn.calls
 
--- each listed call has the answer that is right; and unless memory was wanting, what is kept is what
--- the calls left
-pub record IsWorking (shown : View) (play : Play) (calls : List CallRecord) (starved : Bool) : Type 0 where
+-- each listed call has the answer that is right; and unless memory was wanting, what is kept is
+-- what the calls left
+pub record IsWorking (shown : View) (play : Play) (calls : List CallRecord)
+    (starved : Bool) : Type 0 where
   pub answered : IsAnswered shown calls
   pub play_is : starved ≡ false → play ≡ after_calls shown calls
 
@@ -43,7 +44,8 @@ after_made call turn = record turn { calls = turn.calls ++ record_of (play_of tu
 
 -- after a call that was refused: it is listed, unless the list is full
 unfoldable pub after_refused : Call → Working → Working
-after_refused call turn = if nat_le MOST_CALLS (play_of turn).listed then turn else after_made call turn
+after_refused call turn =
+    if nat_le MOST_CALLS (play_of turn).listed then turn else after_made call turn
 
 -- after a call that wanted memory
 unfoldable pub after_starved : Working → Working
@@ -52,15 +54,19 @@ after_starved turn = record turn { starved = true }
 -- a call was refused, or wanted memory
 unfoldable pub IsRefused : Call → Working → Refusal → Working → Type 0
 IsRefused call old refused new =
-    (new.starved ≡ false → (refusal (play_of old) call ≡ Some refused) × (new ≡ after_refused call old))
+    (new.starved ≡ false
+    → (refusal (play_of old) call ≡ Some refused) × (new ≡ after_refused call old))
     × (new.starved ≡ true → (refused ≡ NoMemory) × (new ≡ after_starved old))
 
 -- a call was accepted, and answered this
 unfoldable pub IsAccepted : Call → Working → CallAnswer → Working → Type 0
-IsAccepted call old answer new = (old.starved ≡ false) × (refusal (play_of old) call ≡ None) × (answer ≡ accepted (play_of old) call) × (new ≡ after_made call old)
+IsAccepted call old answer new =
+    (old.starved ≡ false) × (refusal (play_of old) call ≡ None)
+    × (answer ≡ accepted (play_of old) call) × (new ≡ after_made call old)
 
 -- what a call answered, and what it left of the turn
-unfoldable pub Answers : {X : Type 0} → (X → CallAnswer) → Call → Working → Result X Refusal → Working → Type 0
+unfoldable pub Answers : {X : Type 0} → (X → CallAnswer) → Call → Working → Result X Refusal
+    → Working → Type 0
 Answers make call old (Ok x) new = IsAccepted call old (make x) new
 Answers make call old (Err refused) new = IsRefused call old refused new
 

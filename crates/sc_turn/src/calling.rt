@@ -27,7 +27,10 @@ impl Turn {
     fn list(&mut self, call: Call) -> Result<CallAnswer, NoMemory>
         requires memory { self.old.starved ≡ false }
         requires room { (play_of self.old).listed < MOST_CALLS }
-        ensures ok { IfOk result (λ answer. (answer_of (play_of self.old) call ≡ answer) × (self.new ≡ after_made call self.old)) }
+        ensures ok { IfOk result
+            (λ answer.
+            (answer_of (play_of self.old) call ≡ answer)
+            × (self.new ≡ after_made call self.old)) }
         ensures err { OnErr result (self.new ≡ after_starved self.old) }
     {
         match list_call(self.alloc, &mut self.play, &mut self.calls.items, call) {
@@ -41,8 +44,8 @@ impl Turn {
 }
 
 impl Turn {
-    /// Makes a call. It is listed with its answer, and takes its effect where it is accepted; a call
-    /// beyond the 256th isn't listed. For want of memory the turn is over.
+    /// Makes a call. It is listed with its answer, and takes its effect where it is accepted; a
+    /// call beyond the 256th isn't listed. For want of memory the turn is over.
     #[tactic(auto, using(crate::proofs::Answering::made_fine, crate::proofs::Answering::made_number, crate::proofs::Answering::made_refused, crate::proofs::Answering::full_turn, crate::proofs::Answering::starved_turn, crate::proofs::Answering::starved_before))]
     pub(crate) fn make(&mut self, call: Call) -> Result<CallAnswer, Refusal>
         ensures { Answers (λ answer. answer) call self.old result self.new }

@@ -24,13 +24,14 @@ impl Turn {
     ///   field of that place.
     #[tactic(auto, unfolding(sc_hosts::specs::Effects::accepted, crate::specs::Working::Answers))]
     pub fn respond(&mut self, req: ReqId, answer: Answer) -> Result<(), Refusal>
-        ensures { Answers (λ _. CallAnswer.Fine) (Call.Respond req answer) self.old result self.new }
+        ensures { Answers (λ _. CallAnswer.Fine) (Call.Respond req answer) self.old result
+            self.new }
     {
         self.make_fine(Call::Respond { req, answer })
     }
 
-    /// Makes an initial request of one's own, in a SipSession of its own (JSR 289 section 10.1). Gives the
-    /// number of its draft.
+    /// Makes an initial request of one's own, in a SipSession of its own (JSR 289 section 10.1).
+    /// Gives the number of its draft.
     ///
     /// # Errors
     ///
@@ -42,12 +43,14 @@ impl Turn {
     /// - `BadText`: 0 for the method, 2 and more for the field of that place.
     #[tactic(auto, unfolding(sc_hosts::specs::Effects::accepted, crate::specs::Working::Answers))]
     pub fn create_request(&mut self, ask: Ask) -> Result<u32, Refusal>
-        ensures { Answers (λ n. CallAnswer.Number n) (Call.CreateRequest ask) self.old result self.new }
+        ensures { Answers (λ n. CallAnswer.Number n) (Call.CreateRequest ask) self.old result
+            self.new }
     {
         self.make_draft(Call::CreateRequest { ask })
     }
 
-    /// Makes a request in the dialog of a SipSession (RFC 3261 section 12.2). Gives the number of its draft.
+    /// Makes a request in the dialog of a SipSession (RFC 3261 section 12.2). Gives the number of
+    /// its draft.
     ///
     /// # Errors
     ///
@@ -57,13 +60,14 @@ impl Turn {
     /// - `BadText`: 0 for the method, 2 and more for the field of that place.
     #[tactic(auto, unfolding(sc_hosts::specs::Effects::accepted, crate::specs::Working::Answers))]
     pub fn create_in_dialog(&mut self, sess: SessId, ask: Inside) -> Result<u32, Refusal>
-        ensures { Answers (λ n. CallAnswer.Number n) (Call.CreateInDialog sess ask) self.old result self.new }
+        ensures { Answers (λ n. CallAnswer.Number n) (Call.CreateInDialog sess ask) self.old result
+            self.new }
     {
         self.make_draft(Call::CreateInDialog { sess, ask })
     }
 
-    /// Makes the request of a back-to-back agent's second leg, to this URI where one is given, and links
-    /// both legs (JSR 289 section 12.3). Gives the number of its draft.
+    /// Makes the request of a back-to-back agent's second leg, to this URI where one is given, and
+    /// links both legs (JSR 289 section 12.3). Gives the number of its draft.
     ///
     /// # Errors
     ///
@@ -77,7 +81,8 @@ impl Turn {
     /// - `Limit(64)`: the application session has as many SipSessions.
     #[tactic(auto, unfolding(sc_hosts::specs::Effects::accepted, crate::specs::Working::Answers))]
     pub fn b2b_create(&mut self, req: ReqId, uri: Option<Uri>) -> Result<u32, Refusal>
-        ensures { Answers (λ n. CallAnswer.Number n) (Call.B2bCreate req uri) self.old result self.new }
+        ensures { Answers (λ n. CallAnswer.Number n) (Call.B2bCreate req uri) self.old result
+            self.new }
     {
         self.make_draft(Call::B2bCreate { req, uri })
     }
@@ -95,7 +100,8 @@ impl Turn {
         directive: Directive,
         origin: Option<ReqId>,
     ) -> Result<(), Refusal>
-        ensures { Answers (λ _. CallAnswer.Fine) (Call.SetDirective draft directive origin) self.old result self.new }
+        ensures { Answers (λ _. CallAnswer.Fine) (Call.SetDirective draft directive origin) self.old
+            result self.new }
     {
         self.make_fine(Call::SetDirective {
             draft,
@@ -112,7 +118,8 @@ impl Turn {
     /// - `WrongState`: its dialog has ended.
     #[tactic(auto, unfolding(sc_hosts::specs::Effects::accepted, crate::specs::Working::Answers))]
     pub fn send(&mut self, draft: u32) -> Result<ReqId, Refusal>
-        ensures { Answers (λ req. CallAnswer.Number req.0) (Call.Send draft) self.old result self.new }
+        ensures { Answers (λ req. CallAnswer.Number req.0) (Call.Send draft) self.old result
+            self.new }
     {
         self.make_request(Call::Send { draft })
     }
@@ -156,8 +163,8 @@ impl Turn {
         self.make_fine(Call::Cancel { req })
     }
 
-    /// Proxies a received request to these targets (JSR 289 section 10.2). The options count where it wasn't
-    /// proxied before.
+    /// Proxies a received request to these targets (JSR 289 section 10.2). The options count where
+    /// it wasn't proxied before.
     ///
     /// # Errors
     ///
@@ -177,7 +184,8 @@ impl Turn {
         targets: List<Uri>,
         options: ProxyOptions,
     ) -> Result<(), Refusal>
-        ensures { Answers (λ _. CallAnswer.Fine) (Call.ProxyTo req targets options) self.old result self.new }
+        ensures { Answers (λ _. CallAnswer.Fine) (Call.ProxyTo req targets options) self.old result
+            self.new }
     {
         self.make_fine(Call::ProxyTo {
             req,
@@ -200,7 +208,8 @@ impl Turn {
         self.make_fine(Call::ProxyCancel { req })
     }
 
-    /// Answers the received request that began this SipSession, which is linked (JSR 289 section 12.3).
+    /// Answers the received request that began this SipSession, which is linked (JSR 289 section
+    /// 12.3).
     ///
     /// # Errors
     ///
@@ -209,7 +218,8 @@ impl Turn {
     /// - Those of [`respond`](Turn::respond); `NotYours` where no received request began it.
     #[tactic(auto, unfolding(sc_hosts::specs::Effects::accepted, crate::specs::Working::Answers))]
     pub fn b2b_respond(&mut self, sess: SessId, answer: Answer) -> Result<(), Refusal>
-        ensures { Answers (λ _. CallAnswer.Fine) (Call.B2bRespond sess answer) self.old result self.new }
+        ensures { Answers (λ _. CallAnswer.Fine) (Call.B2bRespond sess answer) self.old result
+            self.new }
     {
         self.make_fine(Call::B2bRespond { sess, answer })
     }
@@ -255,7 +265,8 @@ impl Turn {
         period: Period,
         info: Text,
     ) -> Result<TimerId, Refusal>
-        ensures { Answers (λ id. CallAnswer.Number id.0) (Call.StartTimer delay_ms period info) self.old result self.new }
+        ensures { Answers (λ id. CallAnswer.Number id.0) (Call.StartTimer delay_ms period info)
+            self.old result self.new }
     {
         self.make_timer(Call::StartTimer {
             delay_ms,
@@ -285,7 +296,8 @@ impl Turn {
     /// - `Limit(4096)`: the names and values would have more bytes.
     #[tactic(auto, unfolding(sc_hosts::specs::Effects::accepted, crate::specs::Working::Answers))]
     pub fn set_attribute(&mut self, name: Text, value: Text) -> Result<(), Refusal>
-        ensures { Answers (λ _. CallAnswer.Fine) (Call.SetAttribute name value) self.old result self.new }
+        ensures { Answers (λ _. CallAnswer.Fine) (Call.SetAttribute name value) self.old result
+            self.new }
     {
         self.make_fine(Call::SetAttribute { name, value })
     }
@@ -298,33 +310,36 @@ impl Turn {
     /// - `NotYours`: it isn't set.
     #[tactic(auto, unfolding(sc_hosts::specs::Effects::accepted, crate::specs::Working::Answers))]
     pub fn remove_attribute(&mut self, name: Text) -> Result<(), Refusal>
-        ensures { Answers (λ _. CallAnswer.Fine) (Call.RemoveAttribute name) self.old result self.new }
+        ensures { Answers (λ _. CallAnswer.Fine) (Call.RemoveAttribute name) self.old result
+            self.new }
     {
         self.make_fine(Call::RemoveAttribute { name })
     }
 
-    /// Lets the application session expire so many minutes after this turn, 0 or less for never (JSR 289
-    /// section 6.1.2.1).
+    /// Lets the application session expire so many minutes after this turn, 0 or less for never
+    /// (JSR 289 section 6.1.2.1).
     ///
     /// # Errors
     ///
     /// Those of every call.
     #[tactic(auto, unfolding(sc_hosts::specs::Effects::accepted, crate::specs::Working::Answers))]
     pub fn set_expires(&mut self, minutes: i32) -> Result<(), Refusal>
-        ensures { Answers (λ _. CallAnswer.Fine) (Call.SetExpires minutes) self.old result self.new }
+        ensures { Answers (λ _. CallAnswer.Fine) (Call.SetExpires minutes) self.old result
+            self.new }
     {
         self.make_fine(Call::SetExpires { minutes })
     }
 
-    /// Sets whether the application session or a SipSession goes away by itself once it is ready (JSR 289
-    /// section 6.1.2.2).
+    /// Sets whether the application session or a SipSession goes away by itself once it is ready
+    /// (JSR 289 section 6.1.2.2).
     ///
     /// # Errors
     ///
     /// Those of every call.
     #[tactic(auto, unfolding(sc_hosts::specs::Effects::accepted, crate::specs::Working::Answers))]
     pub fn set_ready_flag(&mut self, target: Target, flag: bool) -> Result<(), Refusal>
-        ensures { Answers (λ _. CallAnswer.Fine) (Call.SetReadyFlag target flag) self.old result self.new }
+        ensures { Answers (λ _. CallAnswer.Fine) (Call.SetReadyFlag target flag) self.old result
+            self.new }
     {
         self.make_fine(Call::SetReadyFlag { target, flag })
     }
@@ -336,7 +351,8 @@ impl Turn {
     /// Those of every call.
     #[tactic(auto, unfolding(sc_hosts::specs::Effects::accepted, crate::specs::Working::Answers))]
     pub fn invalidate_session(&mut self, sess: SessId) -> Result<(), Refusal>
-        ensures { Answers (λ _. CallAnswer.Fine) (Call.InvalidateSession sess) self.old result self.new }
+        ensures { Answers (λ _. CallAnswer.Fine) (Call.InvalidateSession sess) self.old result
+            self.new }
     {
         self.make_fine(Call::InvalidateSession { sess })
     }
@@ -348,7 +364,8 @@ impl Turn {
     /// Those of every call.
     #[tactic(auto, unfolding(sc_hosts::specs::Effects::accepted, crate::specs::Working::Answers))]
     pub fn invalidate_application(&mut self) -> Result<(), Refusal>
-        ensures { Answers (λ _. CallAnswer.Fine) (Call.InvalidateApplication) self.old result self.new }
+        ensures { Answers (λ _. CallAnswer.Fine) (Call.InvalidateApplication) self.old result
+            self.new }
     {
         self.make_fine(Call::InvalidateApplication)
     }

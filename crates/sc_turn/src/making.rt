@@ -32,7 +32,8 @@ pub fn list_call(
     call: Call,
 ) -> Result<CallAnswer, NoMemory>
     ensures play { OnOk result (play.new ≡ after_listed play.old call) }
-    ensures calls { OnOk result (calls.new.items ≡ calls.old.items ++ record_of play.old call ∷ []) }
+    ensures calls { OnOk result
+        (calls.new.items ≡ calls.old.items ++ record_of play.old call ∷ []) }
     ensures answer { IfOk result (λ answer. answer ≡ answer_of play.old call) }
     ensures same { OnErr result (calls.new.items ≡ calls.old.items) }
 {
@@ -54,7 +55,8 @@ fn put_call(
 ) -> Result<CallAnswer, NoMemory>
     requires { vec_len calls.old < vec_capacity calls.old }
     ensures play { OnOk result (play.new ≡ after_listed play.old call) }
-    ensures calls { OnOk result (calls.new.items ≡ calls.old.items ++ record_of play.old call ∷ []) }
+    ensures calls { OnOk result
+        (calls.new.items ≡ calls.old.items ++ record_of play.old call ∷ []) }
     ensures answer { IfOk result (λ answer. answer ≡ answer_of play.old call) }
     ensures same { OnErr result (calls.new.items ≡ calls.old.items) }
 {

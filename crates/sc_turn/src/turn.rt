@@ -9,8 +9,8 @@ use sc_value::{CloneIn, List, NoMemory, Shared};
 use std::alloc::Global;
 use std::marker::Model;
 
-/// A turn in the hands of a servlet or a listener. A contract sees the view that was shown, the calls
-/// with their answers, and whether a call wanted memory.
+/// A turn in the hands of a servlet or a listener. A contract sees the view that was shown, the
+/// calls with their answers, and whether a call wanted memory.
 ///
 /// Of every turn it is known that each listed call has the answer that is right there.
 #[derive(Drop)]
@@ -62,9 +62,9 @@ impl Turn {
         }
     }
 
-    /// What is left of the turn, which its servlet or listener ended so: the view that was shown, the
-    /// calls, each with the answer that is right, and the end. For want of memory the end is `Starved`, whatever the
-    /// servlet or listener said.
+    /// What is left of the turn, which its servlet or listener ended so: the view that was shown,
+    /// the calls, each with the answer that is right, and the end. For want of memory the end is
+    /// `Starved`, whatever the servlet or listener said.
     #[tactic(auto, unfolding(crate::specs::Working::end_of))]
     pub fn finish(self, end: End) -> Called
         ensures shown { result.shown ≡ self.shown }

@@ -79,8 +79,8 @@ fn contact_of(alloc: Global, name: &str) -> Result<List<Contact>, NoMemory> {
     Ok(contact)
 }
 
-// What stands in a row as the reason or the method, and as the name and the value of a field. `@` in place of the
-// name is a Contact, and nothing is no field.
+// What stands in a row as the reason or the method, and as the name and the value of a field. `@`
+// in place of the name is a Contact, and nothing is no field.
 fn content_of(alloc: Global, said: &str, name: &str, value: &str) -> Result<Content, NoMemory> {
     let fields = fields_of(alloc, name, value)?;
     let contact = contact_of(alloc, name)?;

@@ -1,5 +1,5 @@
-//! The calls of a row: the name of the call, and then its numbers and words. For want of memory one is refused as a
-//! call is.
+//! The calls of a row: the name of the call, and then its numbers and words. For want of memory one
+//! is refused as a call is.
 
 use crate::asking::{answer, ask, directive, inside, options, origin, targets};
 use crate::reading::{number, signed_number, small_number, text_of, word};
@@ -274,7 +274,8 @@ fn is_target_flagged(t: &Turn, row: &str) -> bool {
     }
 }
 
-/// Makes the call of a row, or looks at what it asks for: then the answer is a number. None where it names no call.
+/// Makes the call of a row, or looks at what it asks for: then the answer is a number. None where
+/// it names no call.
 pub fn make(t: &mut Turn, alloc: Global, row: &str) -> Option<CallAnswer> {
     let name = name_of(row)?;
     Some(match name {

@@ -1,4 +1,5 @@
-//! Cases on the calls of a turn: one for each refusal, and one of each call that no application makes.
+//! Cases on the calls of a turn: one for each refusal, and one of each call that no application
+//! makes.
 #![tactic(auto)]
 
 #[cfg(test)]

@@ -1,8 +1,8 @@
 //! Tables of calls, and how they are played on a turn.
 //!
-//! A row is a call and behind `=` what it answers: nothing where it is accepted and gives no number, the number that it
-//! gives, or the refusal. `54 times` is an answer too: the call is accepted so often. A row `each` is each of the
-//! calls. What stands behind `#` is a remark.
+//! A row is a call and behind `=` what it answers: nothing where it is accepted and gives no
+//! number, the number that it gives, or the refusal. `54 times` is an answer too: the call is
+//! accepted so often. A row `each` is each of the calls. What stands behind `#` is a remark.
 
 use crate::calling::make;
 use crate::reading::{cut, number, word};

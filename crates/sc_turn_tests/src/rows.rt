@@ -12,7 +12,8 @@ pub struct SessionRow {
     pub gone: bool,
 }
 
-/// A request; `answered` is 0 without a final response, and `unacked` is 0 where no 2xx waits for its ACK.
+/// A request; `answered` is 0 without a final response, and `unacked` is 0 where no 2xx waits for
+/// its ACK.
 #[derive(Clone, Copy)]
 pub struct RequestRow {
     pub id: u32,

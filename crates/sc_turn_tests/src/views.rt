@@ -1,10 +1,11 @@
 //! The view that the cases begin with, and turns over it.
 //!
-//! SipSession 1 has the INVITE 1, which came and has no answer. 2 is that of the INVITE 2 that was sent, whose
-//! 2xx waits for its ACK, and of the INFO 11. 3, of INVITE 3, is gone. 4 ended as its INVITE 4 was answered 486.
-//! 5 is proxied by INVITE 5 to two targets. 6, of the INVITE 6 that was sent, and 7, of INVITE 7, are linked; the
-//! INFO 8 and the ACK 10 came in 7. INVITE 9 of SipSession 8 has no hops left. 9 is proxied by INVITE 12, which has
-//! its final response. INVITE 13 of SipSession 10 was answered 180, and INVITE 14 of 11, which was sent, 486.
+//! SipSession 1 has the INVITE 1, which came and has no answer. 2 is that of the INVITE 2 that was
+//! sent, whose 2xx waits for its ACK, and of the INFO 11. 3, of INVITE 3, is gone. 4 ended as its
+//! INVITE 4 was answered 486. 5 is proxied by INVITE 5 to two targets. 6, of the INVITE 6 that was
+//! sent, and 7, of INVITE 7, are linked; the INFO 8 and the ACK 10 came in 7. INVITE 9 of
+//! SipSession 8 has no hops left. 9 is proxied by INVITE 12, which has its final response. INVITE
+//! 13 of SipSession 10 was answered 180, and INVITE 14 of 11, which was sent, 486.
 
 use crate::rows::{RequestRow, SessionRow, request_rows, session_rows};
 use sc_terms::{Period, RequestView, SessionView, TimerView, View};

@@ -17,7 +17,8 @@ pub record Client : Type 0 where
   pub asked : Bool
 
 -- it stands for a transaction, sent at a moment, that these items have passed
-pub record ClientStands (t : Client) (invite : Bool) (sent : ℕ) (passed : List ClientItem) : Type 0 where
+pub record ClientStands (t : Client) (invite : Bool) (sent : ℕ)
+    (passed : List ClientItem) : Type 0 where
   pub invite_is : t.invite ≡ invite
   pub state_is : t.state ≡ client_state invite sent passed
   pub due_is : t.due ≡ client_due invite sent passed
@@ -25,11 +26,15 @@ pub record ClientStands (t : Client) (invite : Bool) (sent : ℕ) (passed : List
 
 -- for every list that it stood for, it stands for that list with this item more
 abbrev pub ClientTakes : Client → Client → ClientItem → Type 0
-ClientTakes old new item = (invite : Bool) (sent : ℕ) (passed : List ClientItem) → ClientStands old invite sent passed → ClientStands new invite sent (item ∷ passed)
+ClientTakes old new item =
+    (invite : Bool) (sent : ℕ) (passed : List ClientItem) → ClientStands old invite sent passed
+    → ClientStands new invite sent (item ∷ passed)
 
 -- for every list that it stood for, this is what such a transaction does with the item
 abbrev pub ClientDoes : Client → ClientItem → ClientOut → Type 0
-ClientDoes old item out = (invite : Bool) (sent : ℕ) (passed : List ClientItem) → ClientStands old invite sent passed → out ≡ client_out invite sent passed item
+ClientDoes old item out =
+    (invite : Bool) (sent : ℕ) (passed : List ClientItem) → ClientStands old invite sent passed
+    → out ≡ client_out invite sent passed item
 
 -- what a server transaction holds: whether its request is an INVITE, its state, when the timer that
 -- runs is due, and whether an answer was given
@@ -48,4 +53,6 @@ pub record ServerStands (t : Server) (invite : Bool) (passed : List ServerItem) 
 
 -- for every list that it stood for, it stands for that list with this item more
 abbrev pub ServerTakes : Server → Server → ServerItem → Type 0
-ServerTakes old new item = (invite : Bool) (passed : List ServerItem) → ServerStands old invite passed → ServerStands new invite (item ∷ passed)
+ServerTakes old new item =
+    (invite : Bool) (passed : List ServerItem) → ServerStands old invite passed
+    → ServerStands new invite (item ∷ passed)

@@ -26,9 +26,11 @@ impl Model for ClientTxn {
 
     ghost Value = { Client };
 
-    ghost view = { λ t. record { invite = t.invite; state = t.state; due = t.due; asked = t.asked } };
+    ghost view = { λ t.
+        record { invite = t.invite; state = t.state; due = t.due; asked = t.asked } };
 
-    ghost inverse = { λ t. record { invite = t.invite; state = t.state; due = t.due; asked = t.asked } };
+    ghost inverse = { λ t.
+        record { invite = t.invite; state = t.state; due = t.due; asked = t.asked } };
 }
 
 impl ClientTxn {
@@ -85,8 +87,17 @@ impl ClientTxn {
     /// A final response where nothing has decided the transaction.
     fn decide(&mut self, code: u16, now: u64) -> ClientOut
         requires { now ≤ 2 ^ 63 }
-        ensures moved { self.new ≡ record self.old { state = decided_state self.old.invite code; due = decided_due self.old.invite code now } }
-        ensures does { result ≡ record { tell = Some code; ack = self.old.invite && is_failure code; cancel = false } }
+        ensures moved { self.new
+            ≡ record self.old {
+              state = decided_state self.old.invite code;
+              due = decided_due self.old.invite code now;
+            } }
+        ensures does { result
+            ≡ record {
+              tell = Some code;
+              ack = self.old.invite && is_failure code;
+              cancel = false;
+            } }
     {
         self.state = decided_state(self.invite, code);
         self.due = decided_due(self.invite, code, now);
@@ -100,8 +111,17 @@ impl ClientTxn {
     /// A provisional response where nothing has decided the transaction.
     fn proceed(&mut self, code: u16, now: u64) -> ClientOut
         requires { now ≤ 2 ^ 63 }
-        ensures moved { self.new ≡ record self.old { state = TxnState.Proceeding; due = provisional_due self.old.state self.old.due self.old.asked now } }
-        ensures does { result ≡ record { tell = (if code == 100 then None else Some code); ack = false; cancel = is_calling self.old.state && self.old.asked } }
+        ensures moved { self.new
+            ≡ record self.old {
+              state = TxnState.Proceeding;
+              due = provisional_due self.old.state self.old.due self.old.asked now;
+            } }
+        ensures does { result
+            ≡ record {
+              tell = (if code == 100 then None else Some code);
+              ack = false;
+              cancel = is_calling self.old.state && self.old.asked;
+            } }
     {
         let calling = is_calling(self.state);
         let cancel = calling && self.asked;
@@ -134,8 +154,14 @@ impl ClientTxn {
     /// Notes an asking: whether the CANCEL goes now.
     fn ask(&mut self, now: u64) -> bool
         requires { now ≤ 2 ^ 63 }
-        ensures moved { self.new ≡ record self.old { due = (if self.old.invite && is_proceeding self.old.state && not self.old.asked then Some (now + 32000) else self.old.due); asked = true } }
-        ensures sends { result ≡ (self.old.invite && is_proceeding self.old.state && not self.old.asked) }
+        ensures moved { self.new
+            ≡ record self.old {
+              due =
+                  (if self.old.invite && is_proceeding self.old.state && not self.old.asked then Some (now + 32000) else self.old.due);
+              asked = true;
+            } }
+        ensures sends { result
+            ≡ (self.old.invite && is_proceeding self.old.state && not self.old.asked) }
     {
         let cancel = self.cancels();
         if cancel {
@@ -152,8 +178,8 @@ impl ClientTxn {
         self.invite && is_proceeding(self.state) && !self.asked
     }
 
-    /// The clock reached this moment. Where the timer that runs is due the transaction ends, and 408
-    /// is told unless it was Accepted (RFC 3261 section 8.1.3.1).
+    /// The clock reached this moment. Where the timer that runs is due the transaction ends, and
+    /// 408 is told unless it was Accepted (RFC 3261 section 8.1.3.1).
     pub fn on_timer(&mut self, now: u64) -> ClientOut
         requires { now ≤ 2 ^ 63 }
         ensures stands { ClientTakes self.old self.new (ClientItem.MomentCame now) }
@@ -167,8 +193,8 @@ impl ClientTxn {
         if waited { told(408) } else { nothing() }
     }
 
-    /// The place that its request went to was lost. Before a final response this ends it, and 503 is
-    /// told (RFC 3261 section 8.1.3.1).
+    /// The place that its request went to was lost. Before a final response this ends it, and 503
+    /// is told (RFC 3261 section 8.1.3.1).
     pub fn on_lost(&mut self) -> ClientOut
         ensures stands { ClientTakes self.old self.new ClientItem.PlaceLost }
         ensures does { ClientDoes self.old ClientItem.PlaceLost result }
@@ -266,7 +292,8 @@ fn told_provisional(code: u16) -> Option<u16>
 /// A response where something has decided the transaction: a further 2xx is told in Accepted.
 #[tactic(auto, unfolding(sc_model::specs::Transactions::told_accepted))]
 fn further(state: TxnState, code: u16) -> ClientOut
-    ensures { (invite asked : Bool) (due : Option ℕ) (moment : ℕ) → is_undecided state ≡ false → result ≡ output invite state due asked (ClientItem.ResponseCame code moment) }
+    ensures { (invite asked : Bool) (due : Option ℕ) (moment : ℕ) → is_undecided state ≡ false
+        → result ≡ output invite state due asked (ClientItem.ResponseCame code moment) }
 {
     match state {
         TxnState::Accepted if is_success(code) => told(code),

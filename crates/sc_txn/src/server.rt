@@ -27,9 +27,11 @@ impl Model for ServerTxn {
 
     ghost Value = { Server };
 
-    ghost view = { λ t. record { invite = t.invite; state = t.state; due = t.due; answered = t.answered } };
+    ghost view = { λ t.
+        record { invite = t.invite; state = t.state; due = t.due; answered = t.answered } };
 
-    ghost inverse = { λ t. record { invite = t.invite; state = t.state; due = t.due; answered = t.answered } };
+    ghost inverse = { λ t.
+        record { invite = t.invite; state = t.state; due = t.due; answered = t.answered } };
 }
 
 impl ServerTxn {
@@ -114,7 +116,12 @@ impl ServerTxn {
     /// An answer where no final one was given.
     fn answer(&mut self, code: u16, now: u64)
         requires { now ≤ 2 ^ 63 }
-        ensures { self.new ≡ record self.old { state = answered_state self.old.invite code; due = answered_due self.old.invite code now; answered = true } }
+        ensures { self.new
+            ≡ record self.old {
+              state = answered_state self.old.invite code;
+              due = answered_due self.old.invite code now;
+              answered = true;
+            } }
     {
         self.state = answered_state(self.invite, code);
         self.due = answered_due(self.invite, code, now);

@@ -25,7 +25,8 @@ pub fn cut(text: &[u8], sign: u8) -> (&[u8], Option<&[u8]>)
     ensures front { result.0.now ≡ before sign text.now }
     ensures rest { option_copied result.1 ≡ after sign text.now }
     ensures within { length result.0.now ≤ length text.now }
-    ensures less { IfSome result.1 (λ rest. length result.0.now + length rest.now + 1 ≡ length text.now) }
+    ensures less { IfSome result.1
+        (λ rest. length result.0.now + length rest.now + 1 ≡ length text.now) }
 {
     let place = place_or_len(text, sign);
     if place == text.len() {

@@ -1,5 +1,5 @@
-//! The small pieces of a text: one byte, and parts that may be missing. For want of memory the text may
-//! hold a part of the piece.
+//! The small pieces of a text: one byte, and parts that may be missing. For want of memory the text
+//! may hold a part of the piece.
 
 ghost use Rattle.std.specs.Prelude.{◌≡◌, ◌++◌, [], ◌∷◌, OnOk};
 ghost use Rattle.sc_grammar.specs.Written.{ended_text, port_text, scheme, signed_text};

@@ -115,7 +115,8 @@ fn read_behind(
 // None, or all after the question mark, at this place.
 #[tactic(auto, unfolding(sc_syntax::specs::UriParts::headers_at))]
 fn judge_headers(headers: Option<&[u8]>, at: usize) -> Result<(), UriRefused>
-    ensures { IsReadAs (λ _. option_copied headers.entry) result (headers_at at (option_copied headers.entry)) }
+    ensures { IsReadAs (λ _. option_copied headers.entry) result
+        (headers_at at (option_copied headers.entry)) }
 {
     match headers {
         Some(headers) if !is_open(headers) => Err(UriRefused::Refused { at, kind: 4 }),
@@ -135,7 +136,17 @@ fn build(
     requires host { is_host host.now ≡ true }
     requires params { AreUriParams params }
     requires headers { option_map_or is_open (option_copied headers) true ≡ true }
-    ensures { IfOk result (λ uri. uri ≡ Sip (record { user = option_copied user.entry; host = host.now; port = port; params = params; headers = option_copied headers.entry })) }
+    ensures { IfOk result
+        (λ uri.
+        uri
+        ≡ Sip
+        (record {
+          user = option_copied user.entry;
+          host = host.now;
+          port = port;
+          params = params;
+          headers = option_copied headers.entry;
+        })) }
 {
     let user = copy_of(alloc, user)?;
     let host = Text::from_slice(alloc, host)?;

@@ -10,8 +10,8 @@ use crate::hosts::{host_len, is_host};
 use sc_ascii::read_port;
 
 /// A host with or without port, 0 to 65535, and no more (RFC 3261 section 25.1). The text's first
-/// byte stands at place `at`, in bytes, and the error is the place and the kind of the first part at
-/// fault, 2 the host or 3 the port.
+/// byte stands at place `at`, in bytes, and the error is the place and the kind of the first part
+/// at fault, 2 the host or 3 the port.
 #[tactic(auto, unfolding(sc_syntax::specs::UriParts::sent_at, sc_syntax::specs::UriParts::then_read))]
 pub fn read_sent(text: &[u8], at: usize) -> Result<(&[u8], Option<u16>), UriRefused>
     requires { at + length text.now ≤ 2 ^ 63 }

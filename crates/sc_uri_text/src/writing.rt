@@ -42,8 +42,8 @@ fn put_sip_uri(uri: &SipUri, out: &mut Text) -> Result<(), NoMemory>
     put_signed(b'?', &uri.headers, out)
 }
 
-/// Appends the parameters, each behind a semicolon (RFC 3261 section 25.1). For want of memory `out` may hold a
-/// part of them.
+/// Appends the parameters, each behind a semicolon (RFC 3261 section 25.1). For want of memory
+/// `out` may hold a part of them.
 #[tactic(auto, unfolding(sc_grammar::specs::Written::params_text))]
 pub fn put_params(params: &[Param], out: &mut Text) -> Result<(), NoMemory>
     ensures { OnOk result (out.new ≡ out.old ++ params_text params.now) }

@@ -1,5 +1,5 @@
--- What an answer takes from a request as contracts see it, and what it keeps (RFC 3261 sections 8.1.1.7
--- and 8.2.6.2).
+-- What an answer takes from a request as contracts see it, and what it keeps (RFC 3261 sections
+-- 8.1.1.7 and 8.2.6.2).
 use Rattle.std.specs.Prelude.{◌≡◌, ◌<◌, ℕ, List, [], ◌∷◌, Some, length}
 use Rattle.sc_value.specs.declared.parts.Address.{Address}
 use Rattle.sc_value.specs.declared.parts.CSeq.{CSeq}
@@ -16,7 +16,8 @@ pub record AnswerableValue : Type 0 where
 
 -- the Via names the transaction: it has a branch, which isn't empty
 abbrev pub HasBranch : Via → Type 0
-HasBranch via = (branch : List ℕ) × (param_value branch_name via.params ≡ Some branch) × (0 < length branch)
+HasBranch via =
+    (branch : List ℕ) × (param_value branch_name via.params ≡ Some branch) × (0 < length branch)
 
 -- there is a first Via, and it has its branch
 unfoldable pub BeginsWithBranch : List Via → Type 0

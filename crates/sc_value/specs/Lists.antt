@@ -4,7 +4,8 @@ use Rattle.std.specs.Prelude.{ℕ, zero, suc, List, [], ◌∷◌, Bool, if◌th
 -- the list with its first item that passes the test changed
 unfoldable pub change_first : {A : Type 0} → (A → Bool) → (A → A) → List A → List A
 change_first test change [] = []
-change_first test change (x ∷ xs) = if test x then change x ∷ xs else (x ∷ change_first test change xs)
+change_first test change (x ∷ xs) =
+    if test x then change x ∷ xs else (x ∷ change_first test change xs)
 
 -- the list without its first item that passes the test
 unfoldable pub remove_first : {A : Type 0} → (A → Bool) → List A → List A

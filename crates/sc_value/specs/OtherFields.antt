@@ -1,5 +1,5 @@
--- What a header without structure keeps (RFC 3261 sections 7.3.1 and 7.3.3): its name is long, a token, and
--- none of those that the container reads or sets itself.
+-- What a header without structure keeps (RFC 3261 sections 7.3.1 and 7.3.3): its name is long, a
+-- token, and none of those that the container reads or sets itself.
 use Rattle.std.specs.Prelude.{◌≡◌, true, false, List, [], ◌∷◌, ⊤}
 use Rattle.sc_tokens.specs.Tokens.{is_token, is_value}
 use Rattle.sc_tokens.specs.HeaderNames.{long_name, is_system_name}

@@ -17,7 +17,8 @@ AreUriParams (param ∷ params) = IsUriParam param × AreUriParams params
 
 -- a token as name; as value nothing, a run of token bytes and []: or a quoted string
 abbrev pub IsHeaderParam : Param → Type 0
-IsHeaderParam param = (is_token param.name ≡ true) × (option_map_or is_param_text param.value true ≡ true)
+IsHeaderParam param =
+    (is_token param.name ≡ true) × (option_map_or is_param_text param.value true ≡ true)
 
 -- and nothing of it ends the line that it stands in
 abbrev pub IsLineParam : Param → Type 0

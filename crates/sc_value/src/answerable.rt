@@ -7,8 +7,8 @@ use std::alloc::Global;
 use std::marker::Model;
 
 /// What an answer takes from a request (RFC 3261 section 8.2.6.2): its Vias, From, To, Call-ID and
-/// CSeq. There is a first Via, and it has a branch that isn't empty (RFC 3261 section 8.1.1.7), so the
-/// answer finds its transaction.
+/// CSeq. There is a first Via, and it has a branch that isn't empty (RFC 3261 section 8.1.1.7), so
+/// the answer finds its transaction.
 #[derive(Drop)]
 pub struct Answerable {
     pub via: List<Via>,
@@ -23,9 +23,12 @@ impl Model for Answerable {
 
     ghost Value = { AnswerableValue };
 
-    ghost view = { λ a. record { via = a.via; from = a.from; to = a.to; call_id = a.call_id; cseq = a.cseq } };
+    ghost view = { λ a.
+        record { via = a.via; from = a.from; to = a.to; call_id = a.call_id; cseq = a.cseq } };
 
-    ghost invariant = { λ a. IsAnswerable (record { via = a.via; from = a.from; to = a.to; call_id = a.call_id; cseq = a.cseq }) };
+    ghost invariant = { λ a.
+        IsAnswerable
+        (record { via = a.via; from = a.from; to = a.to; call_id = a.call_id; cseq = a.cseq }) };
 }
 
 impl Answerable {

@@ -45,7 +45,14 @@ impl CloneIn for Head {
 }
 
 fn routing_of(alloc: Global, head: &Head) -> Result<Routing, NoMemory>
-    ensures { IfOk result (λ r. r ≡ record { via = head.now.via; route = head.now.route; record_route = head.now.record_route }) }
+    ensures { IfOk result
+        (λ r.
+        r
+        ≡ record {
+          via = head.now.via;
+          route = head.now.route;
+          record_route = head.now.record_route;
+        }) }
 {
     let via = head.via.clone_in(alloc)?;
     let route = head.route.clone_in(alloc)?;
@@ -58,7 +65,15 @@ fn routing_of(alloc: Global, head: &Head) -> Result<Routing, NoMemory>
 }
 
 fn names_of(alloc: Global, head: &Head) -> Result<Names, NoMemory>
-    ensures { IfOk result (λ n. n ≡ record { from = head.now.from; to = head.now.to; call_id = head.now.call_id; cseq = head.now.cseq }) }
+    ensures { IfOk result
+        (λ n.
+        n
+        ≡ record {
+          from = head.now.from;
+          to = head.now.to;
+          call_id = head.now.call_id;
+          cseq = head.now.cseq;
+        }) }
 {
     let call_id = head.call_id.clone_in(alloc)?;
     let cseq = head.cseq.clone_in(alloc)?;
@@ -73,7 +88,14 @@ fn names_of(alloc: Global, head: &Head) -> Result<Names, NoMemory>
 }
 
 fn content_of(alloc: Global, head: &Head) -> Result<Content, NoMemory>
-    ensures { IfOk result (λ c. c ≡ record { contact = head.now.contact; others = head.now.others; body = head.now.body }) }
+    ensures { IfOk result
+        (λ c.
+        c
+        ≡ record {
+          contact = head.now.contact;
+          others = head.now.others;
+          body = head.now.body;
+        }) }
 {
     let body = head.body.clone_in(alloc)?;
     let contact = head.contact.clone_in(alloc)?;
@@ -86,7 +108,19 @@ fn content_of(alloc: Global, head: &Head) -> Result<Content, NoMemory>
 }
 
 fn head_of(routing: Routing, names: Names, content: Content) -> Head
-    ensures { result ≡ record { via = routing.via; route = routing.route; record_route = routing.record_route; from = names.from; to = names.to; call_id = names.call_id; cseq = names.cseq; contact = content.contact; others = content.others; body = content.body } }
+    ensures { result
+        ≡ record {
+          via = routing.via;
+          route = routing.route;
+          record_route = routing.record_route;
+          from = names.from;
+          to = names.to;
+          call_id = names.call_id;
+          cseq = names.cseq;
+          contact = content.contact;
+          others = content.others;
+          body = content.body;
+        } }
 {
     Head {
         via: routing.via,

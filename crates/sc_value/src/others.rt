@@ -77,12 +77,14 @@ impl Others {
         Ok(())
     }
 
-    /// Puts a copy of the header at this place of others at the end. `Err` for want of memory alone,
-    /// and nothing is changed then.
+    /// Puts a copy of the header at this place of others at the end. `Err` for want of memory
+    /// alone, and nothing is changed then.
     #[tactic(auto, using(crate::proofs::OtherLaws::other_at, crate::proofs::OtherLaws::is_at))]
     pub fn push_copy(&mut self, alloc: Global, others: &Others, at: usize) -> Result<(), NoMemory>
         requires { at < length others.now }
-        ensures ok { OnOk result ((field : Field) → slice_get others.now at ≡ Some field → self.new ≡ self.old ++ field ∷ []) }
+        ensures ok { OnOk result
+            ((field : Field) → slice_get others.now at ≡ Some field
+            → self.new ≡ self.old ++ field ∷ []) }
         ensures err { OnErr result (self.new ≡ self.old) }
     {
         others.known();

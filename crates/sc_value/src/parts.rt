@@ -31,9 +31,24 @@ impl Model for SipUri {
 
     ghost Value = { SipValue };
 
-    ghost view = { λ u. record { user = u.user; host = u.host; port = u.port; params = u.params; headers = u.headers } };
+    ghost view = { λ u.
+        record {
+          user = u.user;
+          host = u.host;
+          port = u.port;
+          params = u.params;
+          headers = u.headers;
+        } };
 
-    ghost invariant = { λ u. IsSip (record { user = u.user; host = u.host; port = u.port; params = u.params; headers = u.headers }) };
+    ghost invariant = { λ u.
+        IsSip
+        (record {
+          user = u.user;
+          host = u.host;
+          port = u.port;
+          params = u.params;
+          headers = u.headers;
+        }) };
 }
 
 /// A `sip:` URI in its parts, or a URI of another scheme as written.
@@ -59,7 +74,8 @@ impl Model for Address {
 
     ghost view = { λ a. record { display = a.display; uri = a.uri; params = a.params } };
 
-    ghost invariant = { λ a. IsAddress (record { display = a.display; uri = a.uri; params = a.params }) };
+    ghost invariant = { λ a.
+        IsAddress (record { display = a.display; uri = a.uri; params = a.params }) };
 }
 
 /// An item of a Contact header: `*` or an address.
@@ -83,9 +99,12 @@ impl Model for Via {
 
     ghost Value = { ViaValue };
 
-    ghost view = { λ v. record { transport = v.transport; host = v.host; port = v.port; params = v.params } };
+    ghost view = { λ v.
+        record { transport = v.transport; host = v.host; port = v.port; params = v.params } };
 
-    ghost invariant = { λ v. IsVia (record { transport = v.transport; host = v.host; port = v.port; params = v.params }) };
+    ghost invariant = { λ v.
+        IsVia
+        (record { transport = v.transport; host = v.host; port = v.port; params = v.params }) };
 }
 
 /// The sequence number of a request with its method (RFC 3261 section 20.16).

@@ -5,8 +5,8 @@ use crate::{CloneIn, NoMemory, Same};
 use std::alloc::Global;
 use std::marker::Model;
 
-/// A text of bytes, which need not be UTF-8. A contract sees its bytes. At most 22 bytes stand in the value
-/// itself, so that such a text and its copies take no memory.
+/// A text of bytes, which need not be UTF-8. A contract sees its bytes. At most 22 bytes stand in
+/// the value itself, so that such a text and its copies take no memory.
 #[derive(Drop)]
 pub struct Text {
     /// The bytes of a short text.

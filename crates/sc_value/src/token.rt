@@ -7,7 +7,8 @@ use crate::{CloneIn, NoMemory, Same, Text};
 use std::alloc::Global;
 use std::marker::Model;
 
-/// A token: a method, say. It has one or more letters, digits and bytes of ``-.!%*_+`'~``. A contract sees its bytes.
+/// A token: a method, say. It has one or more letters, digits and bytes of ``-.!%*_+`'~``. A
+/// contract sees its bytes.
 #[derive(Drop)]
 pub struct Token {
     text: Text,

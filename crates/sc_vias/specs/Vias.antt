@@ -15,14 +15,22 @@ use Rattle.sc_hosts.specs.Steps.{live_at, outcome_by, turn_of}
 use Rattle.sc_lasting.specs.Lasting.{All}
 use Rattle.sc_keyed.specs.Keyed.{IsOn}
 
--- the request of each client transaction of the net stands under the own Via of its session and branch
+-- the request of each client transaction of the net stands under the own Via of its session and
+-- branch
 unfoldable pub HaveOwnVias : {S : Type 0} → Config → Net S → Type 0
 HaveOwnVias {S = S} config net =
-    (number : ℕ) (host : Host S) → host_at number net ≡ Some host → All (λ (client : Client). IsOn config net.epoch client.app client.branch client.request) host.clients
+    (number : ℕ) (host : Host S) → host_at number net ≡ Some host
+    → All (λ (client : Client). IsOn config net.epoch client.app client.branch client.request)
+    host.clients
 
 -- the number that the session of a step's turn drew last; where the step is no turn it is 0
 unfoldable pub drawn_by : Setup → Net Session → Step → ℕ
 drawn_by setup net (steps.Turn app event now made end) =
-    option_map_or (λ live. option_map_or (λ waiting. (outcome_by as_session setup.config live.session (turn_of net app waiting now made end)).session.view.counter) (slice_get live.inbox 0) 0)
+    option_map_or
+    (λ live.
+    option_map_or
+    (λ waiting.
+    (outcome_by as_session setup.config live.session (turn_of net app waiting now made end)).session.view.counter)
+    (slice_get live.inbox 0) 0)
     (live_at app net) 0
 drawn_by setup net step = 0

@@ -23,7 +23,8 @@ unfoldable pub events_in : {S : Type 0} → AppId → Net S → List Waiting
 events_in app net = events_of (live_at app net)
 
 -- of a host
-pub record HostGrows {S : Type 0} (serial count : ℕ) (host : Host S) (later : ℕ) (changed : Host S) : Type 0 where
+pub record HostGrows {S : Type 0} (serial count : ℕ) (host : Host S) (later : ℕ)
+    (changed : Host S) : Type 0 where
   pub new : List Waiting
   pub waits : events_of (live_in serial changed) ≡ events_of (live_in serial host) ++ new
   pub known : host.last ≤ changed.last
@@ -33,7 +34,8 @@ pub record HostGrows {S : Type 0} (serial count : ℕ) (host : Host S) (later : 
 pub record NetGrows {S : Type 0} (app : AppId) (net changed : Net S) : Type 0 where
   pub new : List Waiting
   pub waits : events_in app changed ≡ events_in app net ++ new
-  pub known : KnownIn app.serial (host_at app.host net) → KnownIn app.serial (host_at app.host changed)
+  pub known : KnownIn app.serial (host_at app.host net)
+      → KnownIn app.serial (host_at app.host changed)
   pub gone : GoneIn app.serial (host_at app.host net) → GoneIn app.serial (host_at app.host changed)
 
 -- neither a turn nor the withdrawal of this session

@@ -50,8 +50,8 @@ Each Same [] (y ∷ ys) = ⊥
 Each Same (x ∷ xs) [] = ⊥
 Each Same (x ∷ xs) (y ∷ ys) = Same x y × Each Same xs ys
 
--- a state that a SipSession of this role can have after this one (JSR 289 section 6.2.1): it goes onward, but that a UAC's
--- begins again where its request failed
+-- a state that a SipSession of this role can have after this one (JSR 289 section 6.2.1): it goes
+-- onward, but that a UAC's begins again where its request failed
 unfoldable pub may_follow : Role → State → State → Bool
 may_follow role Initial next = true
 may_follow role Early Initial = is_uac role
@@ -90,8 +90,8 @@ pub record IsSameRequest (before after : RequestView) : Type 0 where
 pub record IsSameLeg (before after : Leg) : Type 0 where
   pub caller : after.caller ≡ before.caller
 
--- a proxied request has gone on: it has the targets that it had, and maybe more; where the search has ended it stays so; and
--- the final response that was forwarded first is that
+-- a proxied request has gone on: it has the targets that it had, and maybe more; where the search
+-- has ended it stays so; and the final response that was forwarded first is that
 pub record HasGoneOn (before after : Proxy) : Type 0 where
   pub more : List Uri
   pub tried : after.tried ≡ before.tried ++ more
@@ -107,7 +107,8 @@ pub record IsSameProxy (before after : Proxy) : Type 0 where
   pub options : after.options ≡ before.options
   pub on : HasGoneOn before after
 
--- the same, and where it has no options, as that of a later request, it gets no target if it had none
+-- the same, and where it has no options, as that of a later request, it gets no target if it had
+-- none
 pub record IsKeptProxy (before after : Proxy) : Type 0 where
   pub same : IsSameProxy before after
   pub bare : before.options ≡ None → before.targets ≡ [] → after.targets ≡ []
@@ -135,7 +136,8 @@ pub record IsShownAgain (known : Known) (request : RequestView) : Type 0 where
 -- each call of a list that is accepted at its place is one of these
 unfoldable pub AreDone : (Call → Type 0) → Play → List CallRecord → Type 0
 AreDone Does play [] = Unit {0}
-AreDone Does play (m ∷ made) = (refusal play m.call ≡ None → Does m.call) × AreDone Does (after_listed play m.call) made
+AreDone Does play (m ∷ made) =
+    (refusal play m.call ≡ None → Does m.call) × AreDone Does (after_listed play m.call) made
 
 -- ## The relations
 
@@ -146,30 +148,47 @@ with_legs (Some kept) known = record known { legs = known.legs ++ new_leg None �
 
 -- the request of a draft as it is kept once sent, under its number and branch
 abbrev pub sent_kept : View → Draft → Request → Kept
-sent_kept view draft request = record { id = record { 0 = view.next_request }; sess = draft.sess; way = Sent (view.counter + 1); request = request }
+sent_kept view draft request =
+    record {
+      id = record { 0 = view.next_request };
+      sess = draft.sess;
+      way = Sent (view.counter + 1);
+      request = request;
+    }
 
 -- the view once a draft is sent
 abbrev pub after_sent : View → Draft → View
-after_sent view draft = record view { requests = view.requests ++ sent_view view draft ∷ []; next_request = view.next_request + 1; counter = view.counter + 1 }
+after_sent view draft =
+    record view {
+      requests = view.requests ++ sent_view view draft ∷ [];
+      next_request = view.next_request + 1;
+      counter = view.counter + 1;
+    }
 
 -- what a relation has to keep: it is reflexive and transitive, and each change that this event and
 -- these calls can make is in it
-pub record SessionLaws (event : Queued) (Does : Call → Type 0) (Q : Session → Session → Type 0) : Type 0 where
+pub record SessionLaws (event : Queued) (Does : Call → Type 0)
+    (Q : Session → Session → Type 0) : Type 0 where
   pub same : (x : Session) → Q x x
   pub after : (x y z : Session) → Q x y → Q y z → Q x z
   -- moments, flags, timers, attributes, numbers
   pub dates : (x : Session) (now : ℕ) → Q x (record x { view = record x.view { now = now } })
-  pub expires : (x : Session) (due : Option ℕ) → Q x (record x { view = record x.view { expires = due } })
-  pub flags : (x : Session) (flag : Bool) → Q x (record x { view = record x.view { ready_flag = flag } })
+  pub expires : (x : Session) (due : Option ℕ)
+      → Q x (record x { view = record x.view { expires = due } })
+  pub flags : (x : Session) (flag : Bool)
+      → Q x (record x { view = record x.view { ready_flag = flag } })
   pub times : (x : Session) (timers : List TimerView) (next : ℕ)
       → Q x (record x { view = record x.view { timers = timers; next_timer = next } })
-  pub attributes : (x : Session) (fields : List Field) → Q x (record x { view = record x.view { attributes = fields } })
-  pub counts : (x : Session) → Q x (record x { view = record x.view { counter = x.view.counter + 1 } })
+  pub attributes : (x : Session) (fields : List Field)
+      → Q x (record x { view = record x.view { attributes = fields } })
+  pub counts : (x : Session)
+      → Q x (record x { view = record x.view { counter = x.view.counter + 1 } })
   pub numbers : (x : Session) → Q x (numbered x)
   -- what is there changes, and nothing is added
   pub moves : (x : Session) (sessions : List SessionView) → Each IsMoved x.view.sessions sessions
       → Q x (record x { view = record x.view { sessions = sessions } })
-  pub renews : (x : Session) (requests : List RequestView) → Each IsSameRequest x.view.requests requests
+  pub renews : (x : Session) (requests : List RequestView)
+      → Each IsSameRequest x.view.requests requests
       → Q x (record x { view = record x.view { requests = requests } })
   pub drops : (x : Session) (test : RequestView → Bool)
       → Q x (record x { view = record x.view { requests = filter test x.view.requests } })
@@ -180,37 +199,63 @@ pub record SessionLaws (event : Queued) (Does : Call → Type 0) (Q : Session �
   pub forgets : (x : Session) (test : Kept → Bool)
       → Q x (record x { known = record x.known { kept = filter test x.known.kept } })
   -- a SipSession goes, or its link
-  pub unlinks : (x : Session) (sess : SessId) → Does (calls.Unlink sess) → Q x (record x { view = unlinked sess x.view })
+  pub unlinks : (x : Session) (sess : SessId) → Does (calls.Unlink sess)
+      → Q x (record x { view = unlinked sess x.view })
   pub removes : (x : Session) (sess : SessId) → Q x (record x { view = removed sess x.view })
   -- a request comes, one is shown again, and one is sent
-  pub receives : (x : Session) (number : ℕ) (sess : SessId) (initial passed : Bool) (request : Request)
+  pub receives : (x : Session) (number : ℕ) (sess : SessId) (initial passed : Bool)
+      (request : Request)
       → Brings event x sess initial passed request
       → Q x (received x number sess initial passed request)
-  pub shows : (x : Session) (request : RequestView) → IsShownAgain x.known request → Q x (with_request_again request x)
+  pub shows : (x : Session) (request : RequestView) → IsShownAgain x.known request
+      → Q x (with_request_again request x)
   pub sends : (x : Session) (draft : Draft) (request : Request)
-      → Q x (record { view = after_sent x.view draft; known = record x.known { kept = x.known.kept ++ sent_kept x.view draft request ∷ [] } })
+      → Q x
+      (record {
+        view = after_sent x.view draft;
+        known = record x.known { kept = x.known.kept ++ sent_kept x.view draft request ∷ [] };
+      })
   pub sends_none : (x : Session) (draft : Draft) → Q x (record x { view = after_sent x.view draft })
   -- a SipSession begins
   pub begins : (x : Session)
-      → Q x (record { view = with_own_session x.view; known = record x.known { legs = x.known.legs ++ new_leg None ∷ [] } })
-  pub derives : (x : Session) (req : ReqId) (sess : SessId) (original : SessionView) (came : Option Request) (tag : Bytes)
+      → Q x
+      (record {
+        view = with_own_session x.view;
+        known = record x.known { legs = x.known.legs ++ new_leg None ∷ [] };
+      })
+  pub derives : (x : Session) (req : ReqId) (sess : SessId) (original : SessionView)
+      (came : Option Request) (tag : Bytes)
       → session_in x.view sess ≡ Some original
       → Q x (record {
-        view = record x.view { sessions = x.view.sessions ++ derived_session x.view original tag ∷ [] };
-        known = record x.known { legs = x.known.legs ++ derived_leg (leg_of x.known original.id) req came ∷ [] };
+        view =
+            record x.view { sessions = x.view.sessions ++ derived_session x.view original tag ∷ [] };
+        known =
+            record x.known { legs = x.known.legs ++ derived_leg (leg_of x.known original.id) req came ∷ [] };
       })
   -- accepted calls that look at more than one of these
-  pub begins_leg : (play : Play) (known : Known) (req : ReqId) (uri : Option Uri) (request : Option RequestView) (kept : Option Kept)
+  pub begins_leg : (play : Play) (known : Known) (req : ReqId) (uri : Option Uri)
+      (request : Option RequestView) (kept : Option Kept)
       → refusal play (calls.B2bCreate req uri) ≡ None → Does (calls.B2bCreate req uri)
       → request_in play.view req ≡ request → kept_of known req ≡ kept
-      → Q (record { view = play.view; known = known }) (record { view = (created_leg request play).view; known = with_legs kept known })
+      → Q (record { view = play.view; known = known })
+      (record { view = (created_leg request play).view; known = with_legs kept known })
   pub links : (play : Play) (known : Known) (a b : SessId) → refusal play (calls.Link a b) ≡ None
       → Does (calls.Link a b)
-      → Q (record { view = play.view; known = known }) (record { view = linked a b play.view; known = known })
-  pub turns : (play : Play) (known : Known) (req : ReqId) (uris : List Uri) (how : ProxyOptions) (request : Option RequestView)
+      → Q (record { view = play.view; known = known })
+      (record { view = linked a b play.view; known = known })
+  pub turns : (play : Play) (known : Known) (req : ReqId) (uris : List Uri) (how : ProxyOptions)
+      (request : Option RequestView)
       → refusal play (calls.ProxyTo req uris how) ≡ None → Does (calls.ProxyTo req uris how)
       → request_in play.view req ≡ request
-      → Q (record { view = play.view; known = known }) (record { view = proxied request (length uris) play.view; known = proxies req uris how known })
+      → Q (record { view = play.view; known = known })
+      (record {
+        view = proxied request (length uris) play.view;
+        known = proxies req uris how known;
+      })
   -- a later request is passed on
   pub passes : (x : Session) (req : ReqId) (kept : Kept) → kept_of x.known req ≡ Some kept
-      → Q x (record x { known = record x.known { proxies = x.known.proxies ++ sent_proxy kept (x.view.counter + 1) ∷ [] } })
+      → Q x
+      (record x {
+        known =
+            record x.known { proxies = x.known.proxies ++ sent_proxy kept (x.view.counter + 1) ∷ [] };
+      })

@@ -1,4 +1,5 @@
--- Relations of what was and what is, which every change that a step makes of a host, and of a net, keeps.
+-- Relations of what was and what is, which every change that a step makes of a host, and of a net,
+-- keeps.
 use Rattle.std.specs.Prelude.{◌≡◌, ℕ, ◌+◌, List, [], ◌∷◌, ◌++◌, Some}
 use Rattle.sc_value.specs.declared.message.Request.{Request}
 use Rattle.sc_value.specs.declared.message.Sent.{Sent}
@@ -23,25 +24,37 @@ unfoldable pub IsLate : Queued → Type 0
 IsLate (queued.Initial region subscriber popped request) = ⊥
 IsLate event = Unit {0}
 
--- at the host of this number at this moment: the count of events and the host before, and both after, where sessions begin in
--- such forms
-pub record HostLaws {S : Type 0} (Begins : Form S → Type 0) (number now : ℕ) (H : ℕ → Host S → ℕ → Host S → Type 0) : Type 0 where
+-- at the host of this number at this moment: the count of events and the host before, and both
+-- after, where sessions begin in such forms
+pub record HostLaws {S : Type 0} (Begins : Form S → Type 0) (number now : ℕ)
+    (H : ℕ → Host S → ℕ → Host S → Type 0) : Type 0 where
   pub same : (count : ℕ) (host : Host S) → H count host count host
   pub after : (c d e : ℕ) (x y z : Host S) → H c x d y → H d y e z → H c x e z
-  pub passes : (count : ℕ) (host : Host S) (clients : List Client) (servers : List Server) → H count host count (record host { clients = clients; servers = servers })
-  pub queues : (serial : ℕ) (event : Queued) → IsLate event → (count : ℕ) (host : Host S) → H count host (queue serial now event count host).count (queue serial now event count host).host
-  pub begins : (form : Form S) → Begins form → (config : Config) (epoch : ℕ) (noted : Note) (request : Request) (count : ℕ) (host : Host S)
+  pub passes : (count : ℕ) (host : Host S) (clients : List Client) (servers : List Server)
+      → H count host count (record host { clients = clients; servers = servers })
+  pub queues : (serial : ℕ) (event : Queued) → IsLate event → (count : ℕ) (host : Host S)
+      → H count host (queue serial now event count host).count
+      (queue serial now event count host).host
+  pub begins : (form : Form S) → Begins form
+      → (config : Config) (epoch : ℕ) (noted : Note) (request : Request) (count : ℕ) (host : Host S)
       → H count host (count + 1) (record host {
-        sessions = host.sessions ++ begun_live form config epoch (record { host = number; serial = host.last + 1 }) now noted request (count + 1) ∷ [];
+        sessions =
+            host.sessions
+            ++ begun_live form config epoch (record { host = number; serial = host.last + 1 }) now
+            noted request (count + 1) ∷ [];
         last = host.last + 1;
       })
-  pub marks : (entry : DueEntry) (count : ℕ) (host : Host S) → H count host count (mark_fired entry host)
+  pub marks : (entry : DueEntry) (count : ℕ) (host : Host S)
+      → H count host count (mark_fired entry host)
 
 -- of nets, where a host of it changes so
-pub record NetLaws {S : Type 0} (H : ℕ → ℕ → ℕ → Host S → ℕ → Host S → Type 0) (P : Net S → Net S → Type 0) : Type 0 where
+pub record NetLaws {S : Type 0} (H : ℕ → ℕ → ℕ → Host S → ℕ → Host S → Type 0)
+    (P : Net S → Net S → Type 0) : Type 0 where
   pub same : (net : Net S) → P net net
   pub after : (x y z : Net S) → P x y → P y z → P x z
-  pub posts : (net : Net S) (wire : List Entry) (sent : List Sent) → P net (record net { wire = wire; sent = sent })
+  pub posts : (net : Net S) (wire : List Entry) (sent : List Sent)
+      → P net (record net { wire = wire; sent = sent })
   pub ticks : (net : Net S) (now : ℕ) → P net (record net { moment = now })
-  pub places : (number count : ℕ) (host changed : Host S) (net : Net S) → host_at number net ≡ Some host → H number net.moment net.count host count changed
+  pub places : (number count : ℕ) (host changed : Host S) (net : Net S)
+      → host_at number net ≡ Some host → H number net.moment net.count host count changed
       → P net (record (change_host number (λ _. changed) net) { count = count })

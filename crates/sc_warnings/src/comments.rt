@@ -1,5 +1,5 @@
-//! Comments of a table's text that take the next line with them. A line that ends with a backslash is
-//! joined with the next one before all else, comments too.
+//! Comments of a table's text that take the next line with them. A line that ends with a backslash
+//! is joined with the next one before all else, comments too.
 
 use crate::lines::write_numbered;
 use sc_value::{NoMemory, Text};

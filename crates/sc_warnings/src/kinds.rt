@@ -1,5 +1,5 @@
-//! The parameters of an application, by its kind. Each kind reads them as its page in the configuration says;
-//! a kind that isn't built in has none here.
+//! The parameters of an application, by its kind. Each kind reads them as its page in the
+//! configuration says; a kind that isn't built in has none here.
 
 use crate::lines::{write_counts, write_line, write_quoted};
 use crate::targets::{is_uri, write_target};

@@ -1,6 +1,6 @@
-//! What a configuration and a routing table may have that is accepted and can't work, one line a warning.
-//! It is outside of the promises: every function is proved to be safe and to end, and no clause says
-//! which lines are written.
+//! What a configuration and a routing table may have that is accepted and can't work, one line a
+//! warning. It is outside of the promises: every function is proved to be safe and to end, and no
+//! clause says which lines are written.
 #![tactic(auto)]
 
 mod apps;

@@ -63,7 +63,8 @@ fn write_unsent(
     }
 }
 
-/// Whether a host is the container's own, or has an address: an IPv4 literal, `localhost`, or a name of `hosts`.
+/// Whether a host is the container's own, or has an address: an IPv4 literal, `localhost`, or a
+/// name of `hosts`.
 fn has_address(config: &Config, host: &[u8]) -> bool {
     same_name(host, config.domain.as_bytes())
         || same_name(host, b"localhost")

@@ -8,9 +8,9 @@ use sc_terms::{Config, Dar};
 use sc_value::{NoMemory, Text};
 use std::alloc::Global;
 
-/// Appends a line `warning: ..` for all that is accepted and can't work: in the configuration, in each of its
-/// applications, and in the routing table, whose text is `table`. `kinds` are the names of the kinds of
-/// applications, in the order by which the configuration numbers them.
+/// Appends a line `warning: ..` for all that is accepted and can't work: in the configuration, in
+/// each of its applications, and in the routing table, whose text is `table`. `kinds` are the names
+/// of the kinds of applications, in the order by which the configuration numbers them.
 pub fn write_warnings(
     alloc: Global,
     config: &Config,

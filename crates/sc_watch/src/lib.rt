@@ -1,5 +1,5 @@
-//! A watch on a server that runs: what lives is put there as the server tells it, and readers in other threads take it,
-//! never an older listing after a newer one.
+//! A watch on a server that runs: what lives is put there as the server tells it, and readers in
+//! other threads take it, never an older listing after a newer one.
 #![tactic(auto)]
 
 mod note;

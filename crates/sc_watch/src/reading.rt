@@ -11,7 +11,8 @@ use std::alloc::{AllocError, Global};
 use std::sync::{Arc, Wait};
 use std::thread;
 
-/// A reader of a watch. No listing that it gives is before one that it gave, nor before one whose note it learnt.
+/// A reader of a watch. No listing that it gives is before one that it gave, nor before one whose
+/// note it learnt.
 #[derive(Drop)]
 pub struct Reading {
     pub(crate) reader: Option<WatchReader>,
@@ -31,17 +32,21 @@ impl Reading {
         }
     }
 
-    /// The listing that is shown: one that was put, or the first one. It isn't before any that this reading gave,
-    /// nor before one whose note it learnt. It may wait for the writer.
+    /// The listing that is shown: one that was put, or the first one. It isn't before any that this
+    /// reading gave, nor before one whose note it learnt. It may wait for the writer.
     ///
     /// # Errors
     ///
     /// `NoMemory` where the listing has too many owners.
     pub fn read<R: Wait>(&mut self, rt: &R) -> Result<Arc<Listing, Global>, NoMemory>
-        ensures from { IfOk result (λ listing. IsFrom self.old.floor (note_of (arc_value listing))) }
+        ensures from { IfOk result
+            (λ listing. IsFrom self.old.floor (note_of (arc_value listing))) }
         ensures floor { IfOk result (λ listing. self.new.floor ≡ note_of (arc_value listing)) }
         ensures kept { OnErr result (self.new.floor ≡ self.old.floor) }
-        ensures put { IfOk result (λ listing. IsSomeAnd self.new.reader (λ reader. IsNewest (arc_value listing) (view reader.place))) }
+        ensures put { IfOk result
+            (λ listing.
+            IsSomeAnd self.new.reader
+            (λ reader. IsNewest (arc_value listing) (view reader.place))) }
     {
         for _ in rt.forever() {
             let Some(reader) = self.reader.take() else {

@@ -34,7 +34,8 @@ impl Absorb<Arc<Listing, Global>> for Shown {
     }
 }
 
-/// What a thread knows of the listings that were put. It stands in contracts alone: no value of it is made.
+/// What a thread knows of the listings that were put. It stands in contracts alone: no value of it
+/// is made.
 pub struct Knows {
     /// Those that were put until the one that it put or read last, the newest first.
     pub seen: LinkedList<Listing>,

@@ -55,7 +55,8 @@ impl Watch {
         }
     }
 
-    /// Puts a listing, which is shown from then on. It isn't before the one that was put last. It may wait for readers.
+    /// Puts a listing, which is shown from then on. It isn't before the one that was put last. It
+    /// may wait for readers.
     ///
     /// # Errors
     ///
@@ -63,7 +64,8 @@ impl Watch {
     pub fn put<R: Wait>(&mut self, rt: &R, listing: Listing) -> Result<(), NoMemory>
         requires { IsFrom self.old.last (note_of listing) }
         ensures ok { OnOk result (self.new.last ≡ note_of listing) }
-        ensures shown { OnOk result (IsSomeAnd self.new.writer (λ writer. IsNewest listing (view writer.desk.place))) }
+        ensures shown { OnOk result
+            (IsSomeAnd self.new.writer (λ writer. IsNewest listing (view writer.desk.place))) }
         ensures err { OnErr result (self.new.last ≡ self.old.last) }
     {
         let note = note_at(&listing);
@@ -161,10 +163,12 @@ fn show<R: Wait>(
     mut writer: WatchWriter,
     listing: Arc<Listing, Global>,
 ) -> (WatchWriter, Result<(), AllocError>)
-    requires { IsFrom (note_of (arc_value writer.desk.shown.value.listing)) (note_of (arc_value listing)) }
+    requires { IsFrom (note_of (arc_value writer.desk.shown.value.listing))
+        (note_of (arc_value listing)) }
     ensures ok { OnOk result.1 (arc_value result.0.desk.shown.value.listing ≡ arc_value listing) }
     ensures seen { OnOk result.1 (IsNewest (arc_value listing) (view result.0.desk.place)) }
-    ensures err { OnErr result.1 (arc_value result.0.desk.shown.value.listing ≡ arc_value writer.desk.shown.value.listing) }
+    ensures err { OnErr result.1
+        (arc_value result.0.desk.shown.value.listing ≡ arc_value writer.desk.shown.value.listing) }
 {
     if writer.append(listing).is_err() {
         return (writer, Err(AllocError));

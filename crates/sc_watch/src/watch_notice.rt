@@ -5,8 +5,8 @@ use crate::reading::{is_before, note_at};
 use sc_edge::{Listing, Notice};
 use std::sync::Wait;
 
-/// A notice that puts each listing into a watch. It leaves out one that finds no memory, and one that is before the
-/// last one that was put, and tells nothing.
+/// A notice that puts each listing into a watch. It leaves out one that finds no memory, and one
+/// that is before the last one that was put, and tells nothing.
 pub struct WatchNotice<'a, R: Wait> {
     rt: &'a R,
     watch: Watch,

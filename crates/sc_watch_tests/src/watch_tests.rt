@@ -61,7 +61,8 @@ fn put_all<R: Wait>(alloc: Global, notice: &mut WatchNotice<R>) {
     }
 }
 
-/// Reads until the last listing is shown: whether none had fewer steps than one that was read before it.
+/// Reads until the last listing is shown: whether none had fewer steps than one that was read
+/// before it.
 fn rises<R: Wait>(rt: &R, reading: Reading) -> bool {
     let mut reading = reading;
     let mut last = 0;

@@ -32,9 +32,10 @@ IsPrefix [] all = Unit {0}
 IsPrefix (app ∷ apps) [] = ⊥
 IsPrefix (app ∷ apps) (first ∷ all) = (app ≡ first) × IsPrefix apps all
 
--- the numbers in the names of application sessions have 64 bits: the epoch, the hosts, that of the session which sent the INVITE
--- of the way first, and as many as events were counted up to this net
-pub record AreSmallNames (setup : Setup) (epoch : ℕ) (net : Net Session) (piece : Piece) : Type 0 where
+-- the numbers in the names of application sessions have 64 bits: the epoch, the hosts, that of the
+-- session which sent the INVITE of the way first, and as many as events were counted up to this net
+pub record AreSmallNames (setup : Setup) (epoch : ℕ) (net : Net Session)
+    (piece : Piece) : Type 0 where
   pub within : epoch < 2 ^ 64
   pub hosts : length setup.config.app ≤ 2 ^ 64
   pub events : net.count < 2 ^ 64
@@ -43,19 +44,25 @@ pub record AreSmallNames (setup : Setup) (epoch : ℕ) (net : Net Session) (piec
 -- at this moment no request of this Call-ID would come to the session in the SipSession of a proxy
 unfoldable pub TakesNoProxy : Bytes → AppId → Moment → Type 0
 TakesNoProxy call_id app moment =
-    (live : Live Session) → live_at app moment.before ≡ Some live → (request : Request) → same_bytes request.head.call_id call_id ≡ true
-    → (sess : SessId) (found : SessionView) → session_for live.session request ≡ Some sess → session_in live.session.view sess ≡ Some found
+    (live : Live Session) → live_at app moment.before ≡ Some live → (request : Request)
+    → same_bytes request.head.call_id call_id ≡ true
+    → (sess : SessId) (found : SessionView) → session_for live.session request ≡ Some sess
+    → session_in live.session.view sess ≡ Some found
     → is_proxy found.role ≡ false
 
--- where the session that sent the INVITE of a way first also proxied the request that began it, it is a proxy in no dialog of that
--- INVITE's Call-ID: names can be guessed, so it might have begun with a request whose Call-ID is one that it draws later
+-- where the session that sent the INVITE of a way first also proxied the request that began it, it
+-- is a proxy in no dialog of that INVITE's Call-ID: names can be guessed, so it might have begun
+-- with a request whose Call-ID is one that it draws later
 abbrev pub IsApart : List Moment → Dialog → Piece → Type 0
 IsApart run dialog piece =
-    (app : AppId) → piece.caller ≡ Some app → is_some (proxied_with run app) ≡ true → All (TakesNoProxy dialog.call_id app) run
+    (app : AppId) → piece.caller ≡ Some app → is_some (proxied_with run app) ≡ true
+    → All (TakesNoProxy dialog.call_id app) run
 
--- the number that the session of each turn drew last, by the end of it, has 64 bits, so that each branch is another text
+-- the number that the session of each turn drew last, by the end of it, has 64 bits, so that each
+-- branch is another text
 abbrev pub AreSmallDraws : Setup → List Moment → Type 0
-AreSmallDraws setup run = All (λ (moment : Moment). drawn_by setup moment.before moment.step < 2 ^ 64) run
+AreSmallDraws setup run =
+    All (λ (moment : Moment). drawn_by setup moment.before moment.step < 2 ^ 64) run
 
 -- ## Who stays on the way
 
@@ -64,15 +71,16 @@ unfoldable pub IsAmong : AppId → List AppId → Type 0
 IsAmong app [] = ⊥
 IsAmong app (other ∷ apps) = (app ≡ other) ⊎ IsAmong app apps
 
--- it is a proxy of the way that record-routed the INVITE: the first of its calls that proxied and was accepted asked for that
--- (RFC 3261 section 16.6)
+-- it is a proxy of the way that record-routed the INVITE: the first of its calls that proxied and
+-- was accepted asked for that (RFC 3261 section 16.6)
 pub record HasRecorded (run : List Moment) (piece : Piece) (app : AppId) : Type 0 where
   pub among : IsAmong app piece.proxies
   pub how : ProxyOptions
   pub with : proxied_with run app ≡ Some how
   pub records : how.record_route ≡ true
 
--- a later request of the dialog may visit the session in this direction: it stands at the end, or record-routed the INVITE
+-- a later request of the dialog may visit the session in this direction: it stands at the end, or
+-- record-routed the INVITE
 unfoldable pub Stays : List Moment → Direction → Piece → AppId → Type 0
 Stays run direction piece app = (end_of direction piece ≡ Some app) ⊎ HasRecorded run piece app
 
@@ -85,18 +93,23 @@ pub record VisitsFirst (app : AppId) (more visited : List AppId) : Type 0 where
   pub begins : IsPrefix rest more
   pub whole : more ≡ [] → visited ≡ app ∷ []
 
--- such a request can come to none of those ahead, with the code and reason of the answer: none is ahead, or the first of them doesn't
--- live, or as many events wait for it as may
+-- such a request can come to none of those ahead, with the code and reason of the answer: none is
+-- ahead, or the first of them doesn't live, or as many events wait for it as may
 unfoldable pub StopsBefore : List AppId → Net Session → ℕ → Bytes → Type 0
 StopsBefore [] net code reason = (code ≡ 481) × (reason ≡ does_not_exist)
 StopsBefore (app ∷ more) net code reason =
     ((live_at app net ≡ None) × (code ≡ 481) × (reason ≡ does_not_exist))
-    ⊎ ((live : Live Session) × (live_at app net ≡ Some live) × (is_full live ≡ true) × (code ≡ 503) × (reason ≡ unavailable))
+    ⊎ ((live : Live Session) × (live_at app net ≡ Some live) × (is_full live ≡ true) × (code ≡ 503)
+    × (reason ≡ unavailable))
 
--- what becomes of such a request: it visits the first of those ahead and then a beginning of the others; or it can come to none of
--- them, and is answered at once, and nothing else happens
-unfoldable pub IsFollowed : Setup → List Moment → Direction → Piece → Occurrence → Place → SetOut → Type 0
+-- what becomes of such a request: it visits the first of those ahead and then a beginning of the
+-- others; or it can come to none of them, and is answered at once, and nothing else happens
+unfoldable pub IsFollowed : Setup → List Moment → Direction → Piece → Occurrence → Place → SetOut
+    → Type 0
 IsFollowed setup run direction piece occurrence place out =
-    ((app : AppId) × (more : List AppId) × (ahead run direction piece ≡ app ∷ more) × VisitsFirst app more (visits setup run occurrence))
+    ((app : AppId) × (more : List AppId) × (ahead run direction piece ≡ app ∷ more)
+    × VisitsFirst app more (visits setup run occurrence))
     ⊎ ((code : ℕ) × (reason : Bytes) × StopsBefore (ahead run direction piece) out.moment.before code reason
-    × (out.moment.after ≡ answered setup.config place code reason out.request (record out.moment.before { sent = [] })))
+    × (out.moment.after
+    ≡ answered setup.config place code reason out.request
+    (record out.moment.before { sent = [] })))

@@ -17,7 +17,12 @@ with_own_client client host = with_client client host
 
 -- the host after an answer of this event, as it is kept tidy
 unfoldable pub answered_host : ℕ → ℕ → Response → Host Session → Host Session
-answered_host event now response host = tidied (record host { servers = change_first (is_server event) (answered_server response.code now response) host.servers })
+answered_host event now response host =
+    tidied
+    (record host {
+      servers = change_first (is_server event) (answered_server response.code now response)
+          host.servers;
+    })
 
 -- ## A host that takes something
 
@@ -28,10 +33,14 @@ host_after taking host = (taking host).host
 -- what it tells; where there is no host, nothing
 unfoldable pub told_after : (Host Session → Taken Session) → ℕ → Option (Host Session) → Told
 told_after taking count None = record { reply = None; count = count }
-told_after taking count (Some host) = record { reply = (taking host).reply; count = (taking host).count }
+told_after taking count (Some host) =
+    record { reply = (taking host).reply; count = (taking host).count }
 
 -- the net after it
 unfoldable pub net_after : (Host Session → Taken Session) → ℕ → Net Session → Net Session
 net_after taking number net =
     put_reply number (told_after taking net.count (slice_get net.hosts number)).reply
-    (record net { hosts = change_nth number (host_after taking) net.hosts; count = (told_after taking net.count (slice_get net.hosts number)).count })
+    (record net {
+      hosts = change_nth number (host_after taking) net.hosts;
+      count = (told_after taking net.count (slice_get net.hosts number)).count;
+    })

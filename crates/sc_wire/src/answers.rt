@@ -62,7 +62,8 @@ fn answered_among(
     response: &Shared<Response>,
     hosts: &mut [Host<Session>],
 ) -> Result<(), NoMemory>
-    ensures { OnOk result (hosts.new ≡ change_nth number (answered_host event now response.now) hosts.old) }
+    ensures { OnOk result
+        (hosts.new ≡ change_nth number (answered_host event now response.now) hosts.old) }
 {
     let at = number as usize;
     if at < hosts.len() {
@@ -78,7 +79,8 @@ fn answered_at(
     response: &Shared<Response>,
     net: &mut Net<Session>,
 ) -> Result<(), NoMemory>
-    ensures { OnOk result (net.new ≡ change_host number (answered_host event net.old.moment response.now) net.old) }
+    ensures { OnOk result
+        (net.new ≡ change_host number (answered_host event net.old.moment response.now) net.old) }
 {
     answered_among(
         alloc,
@@ -164,7 +166,10 @@ pub fn respond(
     response: &Shared<Response>,
     net: &mut Net<Session>,
 ) -> Result<(), NoMemory>
-    ensures { OnOk result (net.new ≡ respond_by app.host event response.now (server_at event (host_at app.host net.old)) net.old) }
+    ensures { OnOk result
+        (net.new
+        ≡ respond_by app.host event response.now (server_at event (host_at app.host net.old))
+        net.old) }
 {
     let server = server_at(alloc, event, host_at(app.host, net))?;
     respond_by(alloc, app.host, event, response, server, net)

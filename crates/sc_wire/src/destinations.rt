@@ -56,7 +56,9 @@ fn is_localhost(host: &[u8]) -> bool
 }
 
 fn known_address(config: &Config, host: &[u8]) -> Option<[u8; 4]>
-    ensures { result ≡ (if same_name host.now localhost then Some (127 ∷ 0 ∷ 0 ∷ 1 ∷ []) else named_address config.now host.now) }
+    ensures { result
+        ≡ (if same_name host.now localhost then Some (127 ∷ 0 ∷ 0 ∷ 1 ∷ [])
+        else named_address config.now host.now) }
 {
     if is_localhost(host) {
         Some([127, 0, 0, 1])

@@ -120,7 +120,12 @@ fn ack_peer(
     request: &Request,
     net: &Net<Session>,
 ) -> Result<Peer, NoMemory>
-    ensures { IfOk result (λ peer. peer ≡ (if is_own config.now (next_uri request.now) then peer_of_host (named_host (next_uri request.now) net.now) else peer_of_place (destination config.now request.now))) }
+    ensures { IfOk result
+        (λ peer.
+        peer
+        ≡ (if is_own config.now (next_uri request.now)
+        then peer_of_host (named_host (next_uri request.now) net.now)
+        else peer_of_place (destination config.now request.now))) }
 {
     let uri = next_uri(request);
     if is_own(alloc, config, uri)? {

@@ -60,7 +60,8 @@ pub fn popped_route<'a>(
     config: &Config,
     request: &'a Request,
 ) -> Result<Option<&'a Address>, NoMemory>
-    ensures { IfOk result (λ route. option_copied route ≡ popped_route config.now request.entry.now) }
+    ensures { IfOk result
+        (λ route. option_copied route ≡ popped_route config.now request.entry.now) }
 {
     let route = match request.head.route.as_slice().first() {
         Some(route) => route,
@@ -193,7 +194,11 @@ fn named_position(alloc: Global, text: &[u8]) -> Result<Option<Position>, NoMemo
 }
 
 fn position_named(alloc: Global, text: Option<&Text>) -> Result<Position, NoMemory>
-    ensures { IfOk result (λ p. p ≡ option_map_or (λ position. position) (option_and_then named_position (option_copied text.entry)) at_beginning) }
+    ensures { IfOk result
+        (λ p.
+        p
+        ≡ option_map_or (λ position. position)
+        (option_and_then named_position (option_copied text.entry)) at_beginning) }
 {
     let text = match text {
         Some(text) => text,

@@ -27,7 +27,8 @@ fn own_answer(
     reason: &[u8],
     request: &Request,
 ) -> Result<Shared<Response>, NoMemory>
-    ensures { IfOk result (λ r. r ≡ own_response (edge_tag config.now.salt) code reason.now request.now) }
+    ensures { IfOk result
+        (λ r. r ≡ own_response (edge_tag config.now.salt) code reason.now request.now) }
 {
     Shared::new(alloc, edge_response(alloc, config, code, reason, request)?)
 }
@@ -40,7 +41,11 @@ fn own_telling(
     reason: &[u8],
     request: &Request,
 ) -> Result<Queued, NoMemory>
-    ensures { IfOk result (λ e. e ≡ Queued.Response branch (without_via (own_response (edge_tag config.now.salt) code reason.now request.now))) }
+    ensures { IfOk result
+        (λ e.
+        e
+        ≡ Queued.Response branch
+        (without_via (own_response (edge_tag config.now.salt) code reason.now request.now))) }
 {
     let response = own_answer(alloc, config, code, reason, request)?;
     let response = Shared::new(alloc, without_via(alloc, response.get())?)?;
@@ -59,7 +64,8 @@ fn tell_own(
     request: &Request,
     net: &mut Net<Session>,
 ) -> Result<(), NoMemory>
-    ensures { OnOk result (net.new ≡ tell_own config.now app branch code reason.now request.now net.old) }
+    ensures { OnOk result
+        (net.new ≡ tell_own config.now app branch code reason.now request.now net.old) }
 {
     let event = own_telling(alloc, config, branch, code, reason, request)?;
     queue_for(alloc, app, event, net)
@@ -74,7 +80,8 @@ pub fn tell_unknown(
     request: &Request,
     net: &mut Net<Session>,
 ) -> Result<(), NoMemory>
-    ensures { OnOk result (net.new ≡ tell_own config.now app branch 481 does_not_exist request.now net.old) }
+    ensures { OnOk result
+        (net.new ≡ tell_own config.now app branch 481 does_not_exist request.now net.old) }
 {
     tell_own(
         alloc,
@@ -97,7 +104,8 @@ fn tell_not_found(
     request: &Request,
     net: &mut Net<Session>,
 ) -> Result<(), NoMemory>
-    ensures { OnOk result (net.new ≡ tell_own config.now app branch 404 not_found request.now net.old) }
+    ensures { OnOk result
+        (net.new ≡ tell_own config.now app branch 404 not_found request.now net.old) }
 {
     tell_own(alloc, config, app, branch, 404, b"Not Found", request, net)
 }
@@ -111,7 +119,8 @@ fn tell_unavailable(
     request: &Request,
     net: &mut Net<Session>,
 ) -> Result<(), NoMemory>
-    ensures { OnOk result (net.new ≡ tell_own config.now app branch 503 unavailable request.now net.old) }
+    ensures { OnOk result
+        (net.new ≡ tell_own config.now app branch 503 unavailable request.now net.old) }
 {
     tell_own(
         alloc,
@@ -133,7 +142,17 @@ fn new_client(
     request: &Shared<Request>,
     sent: u64,
 ) -> Result<Client, NoMemory>
-    ensures { IfOk result (λ c. c ≡ record { app = app; branch = branch; peer = peer; request = request.now; sent = sent; passed = [] }) }
+    ensures { IfOk result
+        (λ c.
+        c
+        ≡ record {
+          app = app;
+          branch = branch;
+          peer = peer;
+          request = request.now;
+          sent = sent;
+          passed = [];
+        }) }
 {
     let request = request.clone_in(alloc)?;
     Ok(Client {
@@ -229,7 +248,8 @@ fn all_routes(
 }
 
 fn set_route(request: &mut Request, routes: List<Address>)
-    ensures { request.new ≡ record request.old { head = record request.old.head { route = routes } } }
+    ensures { request.new
+        ≡ record request.old { head = record request.old.head { route = routes } } }
 {
     request.head.route = routes;
 }

@@ -107,7 +107,8 @@ fn queue_host(
     host: &mut Host<Session>,
 ) -> Result<Told, NoMemory>
     ensures host { OnOk result (host.new ≡ host_after (queue serial now event count) host.old) }
-    ensures told { IfOk result (λ t. t ≡ told_after (queue serial now event count) count (Some host.old)) }
+    ensures told { IfOk result
+        (λ t. t ≡ told_after (queue serial now event count) count (Some host.old)) }
 {
     queue(alloc, serial, now, event, count, host)
 }
@@ -121,8 +122,12 @@ fn queue_in(
     count: u64,
     hosts: &mut [Host<Session>],
 ) -> Result<Told, NoMemory>
-    ensures hosts { OnOk result (hosts.new ≡ change_nth app.host (host_after (queue app.serial now event count)) hosts.old) }
-    ensures told { IfOk result (λ t. t ≡ told_after (queue app.serial now event count) count (slice_get hosts.old app.host)) }
+    ensures hosts { OnOk result
+        (hosts.new
+        ≡ change_nth app.host (host_after (queue app.serial now event count)) hosts.old) }
+    ensures told { IfOk result
+        (λ t.
+        t ≡ told_after (queue app.serial now event count) count (slice_get hosts.old app.host)) }
 {
     let at = app.host as usize;
     if at < hosts.len() {
@@ -138,7 +143,9 @@ fn queue_net(
     event: Queued,
     net: &mut Net<Session>,
 ) -> Result<(), NoMemory>
-    ensures { OnOk result (net.new ≡ net_after (queue app.serial net.old.moment event net.old.count) app.host net.old) }
+    ensures { OnOk result
+        (net.new
+        ≡ net_after (queue app.serial net.old.moment event net.old.count) app.host net.old) }
 {
     let told = queue_in(
         alloc,

@@ -23,15 +23,22 @@ is_whose (Some sess) other = same_session sess other
 
 -- 500 to a request that waits in these SipSessions
 unfoldable pub owed_by : Config → View → Known → Option SessId → RequestView → List Order
-owed_by config view known whose request = if is_whose whose request.sess && is_owed request then owed_answer config view known request else []
+owed_by config view known whose request =
+    if is_whose whose request.sess && is_owed request then owed_answer config view known request
+    else []
 
 -- the branch of an INVITE that was sent in them
 unfoldable pub kept_branches : Option SessId → Kept → List ℕ
-kept_branches whose kept = if is_whose whose kept.sess && same_bytes kept.request.method invite then branch_of kept.way else []
+kept_branches whose kept =
+    if is_whose whose kept.sess && same_bytes kept.request.method invite then branch_of kept.way
+    else []
 
 -- the branches of an INVITE that was proxied in them
 unfoldable pub proxy_branches : Option SessId → Proxy → List ℕ
-proxy_branches whose proxy = if is_whose whose proxy.sess && is_invite proxy then map (λ branch. branch.number) proxy.branches else []
+proxy_branches whose proxy =
+    if is_whose whose proxy.sess && is_invite proxy
+    then map (λ branch. branch.number) proxy.branches
+    else []
 
 -- a CANCEL on this branch, where it may go at once
 unfoldable pub cancel_now : ℕ → Order

@@ -21,7 +21,10 @@ use std::alloc::Global;
 
 #[tactic(auto, unfolding(sc_model::specs::BestResponses::server_error))]
 fn error_answer(alloc: Global) -> Result<Answer, NoMemory>
-    ensures { IfOk result (λ answer. answer ≡ record { code = 500; reason = server_error; fields = []; contact = []; body = [] }) }
+    ensures { IfOk result
+        (λ answer.
+        answer
+        ≡ record { code = 500; reason = server_error; fields = []; contact = []; body = [] }) }
 {
     let reason = Text::from_slice(alloc, b"Server Internal Error")?;
     Ok(Answer {
@@ -42,7 +45,8 @@ fn owed_answer(
     request: &RequestView,
     orders: &mut List<Order>,
 ) -> Result<(), NoMemory>
-    ensures { OnOk result (orders.new ≡ orders.old ++ owed_answer config.now view.entry.now known.now request.now) }
+    ensures { OnOk result
+        (orders.new ≡ orders.old ++ owed_answer config.now view.entry.now known.now request.now) }
 {
     let answer = error_answer(alloc)?;
     let kept = kept_of(known, request.id);
@@ -69,7 +73,8 @@ fn owed_by(
     request: &RequestView,
     orders: &mut List<Order>,
 ) -> Result<(), NoMemory>
-    ensures { OnOk result (orders.new ≡ orders.old ++ owed_by config.now view.entry.now known.now whose request.now) }
+    ensures { OnOk result
+        (orders.new ≡ orders.old ++ owed_by config.now view.entry.now known.now whose request.now) }
 {
     if is_whose(whose, request.sess) && is_owed(request) {
         return owed_answer(alloc, config, view, known, request, orders);
@@ -86,7 +91,10 @@ fn all_owed(
     requests: &[RequestView],
     orders: &mut List<Order>,
 ) -> Result<(), NoMemory>
-    ensures { OnOk result (orders.new ≡ orders.old ++ flat_map (owed_by config.now view.entry.now known.now whose) requests.now) }
+    ensures { OnOk result
+        (orders.new
+        ≡ orders.old
+        ++ flat_map (owed_by config.now view.entry.now known.now whose) requests.now) }
 {
     for request in requests {
         owed_by(alloc, config, view, known, whose, request, orders)?;
@@ -146,7 +154,8 @@ fn kept_branches(whose: Option<SessId>, kept: &Kept, numbers: &mut Vec<u64>) -> 
 }
 
 fn all_kept(whose: Option<SessId>, kept: &[Kept], numbers: &mut Vec<u64>) -> Result<(), NoMemory>
-    ensures { OnOk result (numbers.new.items ≡ numbers.old.items ++ flat_map (kept_branches whose) kept.now) }
+    ensures { OnOk result
+        (numbers.new.items ≡ numbers.old.items ++ flat_map (kept_branches whose) kept.now) }
 {
     for one in kept {
         kept_branches(whose, one, numbers)?;
@@ -155,7 +164,8 @@ fn all_kept(whose: Option<SessId>, kept: &[Kept], numbers: &mut Vec<u64>) -> Res
 }
 
 fn branch_numbers(branches: &[Branch], numbers: &mut Vec<u64>) -> Result<(), NoMemory>
-    ensures { OnOk result (numbers.new.items ≡ numbers.old.items ++ map (λ branch. branch.number) branches.now) }
+    ensures { OnOk result
+        (numbers.new.items ≡ numbers.old.items ++ map (λ branch. branch.number) branches.now) }
 {
     for branch in branches {
         numbers.push(branch.number)?;
@@ -169,7 +179,8 @@ fn proxy_branches(
     proxy: &Proxy,
     numbers: &mut Vec<u64>,
 ) -> Result<(), NoMemory>
-    ensures { OnOk result (numbers.new.items ≡ numbers.old.items ++ proxy_branches whose proxy.now) }
+    ensures { OnOk result
+        (numbers.new.items ≡ numbers.old.items ++ proxy_branches whose proxy.now) }
 {
     if is_whose(whose, proxy.sess) && is_invite(proxy) {
         return branch_numbers(proxy.branches.as_slice(), numbers);
@@ -182,7 +193,8 @@ fn all_proxies(
     proxies: &[Proxy],
     numbers: &mut Vec<u64>,
 ) -> Result<(), NoMemory>
-    ensures { OnOk result (numbers.new.items ≡ numbers.old.items ++ flat_map (proxy_branches whose) proxies.now) }
+    ensures { OnOk result
+        (numbers.new.items ≡ numbers.old.items ++ flat_map (proxy_branches whose) proxies.now) }
 {
     for proxy in proxies {
         proxy_branches(whose, proxy, numbers)?;
@@ -197,7 +209,8 @@ fn invite_branches(
     whose: Option<SessId>,
     known: &Known,
 ) -> Result<Vec<u64>, NoMemory>
-    ensures { IfOk result (λ numbers. numbers.items ≡ in_order (invite_branches (is_whose whose) known.now)) }
+    ensures { IfOk result
+        (λ numbers. numbers.items ≡ in_order (invite_branches (is_whose whose) known.now)) }
 {
     let mut numbers = Vec::new(alloc);
     all_kept(whose, known.kept.as_slice(), &mut numbers)?;
@@ -231,7 +244,8 @@ fn goodbyes(
     whose: Option<SessId>,
     orders: &mut List<Order>,
 ) -> Result<(), NoMemory>
-    ensures { OnOk result (orders.new ≡ orders.old ++ goodbyes config.now view.entry.now known.now (is_whose whose)) }
+    ensures { OnOk result
+        (orders.new ≡ orders.old ++ goodbyes config.now view.entry.now known.now (is_whose whose)) }
 {
     let branches = invite_branches(alloc, whose, known)?;
     let requests = view.requests.as_slice();
@@ -249,7 +263,11 @@ pub fn owed_all(
     known: &Known,
     orders: &mut List<Order>,
 ) -> Result<(), NoMemory>
-    ensures { OnOk result (orders.new ≡ orders.old ++ flat_map (owed_by config.now view.entry.now known.now None) view.entry.now.requests) }
+    ensures { OnOk result
+        (orders.new
+        ≡ orders.old
+        ++ flat_map (owed_by config.now view.entry.now known.now None)
+        view.entry.now.requests) }
 {
     let requests = view.requests.as_slice();
     all_owed(alloc, config, view, known, None, requests, orders)
@@ -259,7 +277,9 @@ pub fn owed_all(
 /// that was sent, in order of their branches.
 #[tactic(auto, unfolding(crate::specs::Goodbyes::is_whose))]
 pub fn cancels_all(alloc: Global, known: &Known, orders: &mut List<Order>) -> Result<(), NoMemory>
-    ensures { OnOk result (orders.new ≡ orders.old ++ map cancel_now (in_order (invite_branches (λ sess. true) known.now))) }
+    ensures { OnOk result
+        (orders.new
+        ≡ orders.old ++ map cancel_now (in_order (invite_branches (λ sess. true) known.now))) }
 {
     let branches = invite_branches(alloc, None, known)?;
     all_cancelled(branches.as_slice(), orders)
@@ -276,7 +296,9 @@ pub fn goodbyes_of(
     sess: SessId,
     orders: &mut List<Order>,
 ) -> Result<(), NoMemory>
-    ensures { OnOk result (orders.new ≡ orders.old ++ goodbyes config.now view.entry.now known.now (same_session sess)) }
+    ensures { OnOk result
+        (orders.new
+        ≡ orders.old ++ goodbyes config.now view.entry.now known.now (same_session sess)) }
 {
     goodbyes(alloc, config, view, known, Some(sess), orders)
 }

@@ -99,7 +99,9 @@ fn does_by(
     working: &mut Working,
     call: &Call,
 ) -> Result<(), NoMemory>
-    ensures { OnOk result (working.new ≡ does_by config.now working.old call.now (refusal working.old.play call.now)) }
+    ensures { OnOk result
+        (working.new
+        ≡ does_by config.now working.old call.now (refusal working.old.play call.now)) }
 {
     match refusal(&working.play, call) {
         Some(_) => Ok(()),

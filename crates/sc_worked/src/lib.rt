@@ -1,3 +1,3 @@
-//! Worked cases: what the definitions of hosts and their net say on whole runs, computed from the text
-//! of a script to the text of what is sent.
+//! Worked cases: what the definitions of hosts and their net say on whole runs, computed from the
+//! text of a script to the text of what is sent.
 #![tactic(auto)]

@@ -25,10 +25,10 @@ use std::thread::{self, Threads};
 /// So many orders wait at most until a server takes them.
 const ROOM: usize = 64;
 
-/// Serves the connections of the address that the settings name, and answers the lines of standard input beside it.
-/// Standard error has a line once it listens. Where the system's clock can't be read, or the address can't be
-/// listened at, the status is `Edge`. `threads` is the runtime as that by which a call may begin threads and wait
-/// for ever.
+/// Serves the connections of the address that the settings name, and answers the lines of standard
+/// input beside it. Standard error has a line once it listens. Where the system's clock can't be
+/// read, or the address can't be listened at, the status is `Edge`. `threads` is the runtime as
+/// that by which a call may begin threads and wait for ever.
 pub fn serve_connections<W: Threads + Wait + Copy + Send + Sync + 'static>(
     rt: &HostRuntime,
     threads: &W,
@@ -109,8 +109,8 @@ fn serve_told<
     }
 }
 
-/// Serves the connections of the address that the settings name, and records it where there is a file for that. The
-/// console begins once it listens.
+/// Serves the connections of the address that the settings name, and records it where there is a
+/// file for that. The console begins once it listens.
 fn serve_edge<
     W: Threads + Wait + Copy + Send + Sync + 'static,
     O: Orders,
@@ -204,8 +204,8 @@ fn tape<W: Threads + Wait + Sync, O: Orders, N: Notice<Journal<Step>>>(
     (status, notice)
 }
 
-/// Begins the thread of the console, which isn't waited for: it ends with standard input, or with the program. Where
-/// no thread can be made there is no console.
+/// Begins the thread of the console, which isn't waited for: it ends with standard input, or with
+/// the program. Where no thread can be made there is no console.
 fn begin_console<W: Threads + Wait + Copy + Send + 'static>(
     rt: &HostRuntime,
     threads: &W,
@@ -218,8 +218,8 @@ fn begin_console<W: Threads + Wait + Copy + Send + 'static>(
     }
 }
 
-/// Writes the line that says where the program listens, as far as there is room for it on standard error. Whether it
-/// listens.
+/// Writes the line that says where the program listens, as far as there is room for it on standard
+/// error. Whether it listens.
 fn tell_listening(rt: &HostRuntime, edge: &MioEdge<HostRuntime>) -> bool {
     if let Ok(at) = edge.local_address() {
         let ip = at.0;

@@ -65,7 +65,8 @@ fn write_cause(status: &Status, out: &mut Text) -> Result<(), NoMemory>
 
 #[tactic(auto, unfolding(crate::specs::Endings::config_word))]
 fn write_config(kind: u8, key: &Text, out: &mut Text) -> Result<(), NoMemory>
-    ensures { OnOk result (out.new ≡ out.old ++ (config_word ++ decimal kind ++ 32 ∷ [] ++ key.now)) }
+    ensures { OnOk result
+        (out.new ≡ out.old ++ (config_word ++ decimal kind ++ 32 ∷ [] ++ key.now)) }
 {
     out.append(b"config ")?;
     write_u64(u64::from(kind), out)?;
@@ -75,7 +76,8 @@ fn write_config(kind: u8, key: &Text, out: &mut Text) -> Result<(), NoMemory>
 
 #[tactic(auto, unfolding(crate::specs::Endings::dar_word))]
 fn write_dar(line: u64, kind: u8, out: &mut Text) -> Result<(), NoMemory>
-    ensures { OnOk result (out.new ≡ out.old ++ (dar_word ++ decimal line ++ 32 ∷ [] ++ decimal kind)) }
+    ensures { OnOk result
+        (out.new ≡ out.old ++ (dar_word ++ decimal line ++ 32 ∷ [] ++ decimal kind)) }
 {
     out.append(b"dar ")?;
     write_u64(line, out)?;
@@ -85,7 +87,8 @@ fn write_dar(line: u64, kind: u8, out: &mut Text) -> Result<(), NoMemory>
 
 #[tactic(auto, unfolding(crate::specs::Endings::script_word))]
 fn write_script(at: usize, kind: u8, out: &mut Text) -> Result<(), NoMemory>
-    ensures { OnOk result (out.new ≡ out.old ++ (script_word ++ decimal at ++ 32 ∷ [] ++ decimal kind)) }
+    ensures { OnOk result
+        (out.new ≡ out.old ++ (script_word ++ decimal at ++ 32 ∷ [] ++ decimal kind)) }
 {
     out.append(b"script ")?;
     write_u64(at as u64, out)?;

@@ -5,8 +5,8 @@ mod dar;
 mod script;
 mod status;
 
-/// What a number means of this topic, `config`, `dar`, `script` or `status`. None of another topic, and of a
-/// number that the topic hasn't.
+/// What a number means of this topic, `config`, `dar`, `script` or `status`. None of another topic,
+/// and of a number that the topic hasn't.
 pub fn explanation(topic: &str, number: &str) -> Option<&'static str> {
     match topic {
         "config" => text_of(&config::TEXTS, number),

@@ -27,8 +27,8 @@ pub enum Job {
     Run(Command),
 }
 
-/// Does a job over files, standard output and sockets with all kinds, each under the name by which a
-/// configuration asks for it. Words of another form are left to `replay`, which refuses them.
+/// Does a job over files, standard output and sockets with all kinds, each under the name by which
+/// a configuration asks for it. Words of another form are left to `replay`, which refuses them.
 pub fn run_with_kinds<W: Threads + Wait + Copy + Send + Sync + 'static>(
     rt: &HostRuntime,
     threads: &W,

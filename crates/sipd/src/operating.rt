@@ -7,7 +7,8 @@ use sc_value::{NoMemory, Text};
 use std::io::Read;
 use std::sync::Wait;
 
-/// Answers the lines of standard input until it ends, can't be read, or what is answered can't be written.
+/// Answers the lines of standard input until it ends, can't be read, or what is answered can't be
+/// written.
 pub fn operate<W: Wait>(rt: &HostRuntime, wait: &W, operator: &mut Operator) {
     let mut typed = Typed::new(rt.alloc());
     let mut bytes = [0u8; 256];

@@ -13,8 +13,8 @@ use std::{fs, str};
 /// A recording's file, up to the limit on its size.
 pub type RecordingFile = LimitedSink<WriteSink<File>>;
 
-/// The name of the file that the settings of `serve CONFIG DAR` ask to record to: None where they ask for none, and
-/// where they are refused or can't be read, which `serve` finds again.
+/// The name of the file that the settings of `serve CONFIG DAR` ask to record to: None where they
+/// ask for none, and where they are refused or can't be read, which `serve` finds again.
 pub fn recording_of(
     alloc: Global,
     words: &[String],
@@ -33,7 +33,8 @@ pub fn recording_of(
     }
 }
 
-/// The file of this name, without what it had, up to the limit on its size: None where it can't be written.
+/// The file of this name, without what it had, up to the limit on its size: None where it can't be
+/// written.
 pub fn begun(rt: &HostRuntime, name: &Text) -> Option<RecordingFile> {
     let name = str::from_utf8(name.as_bytes()).ok()?;
     let file = fs::create(rt, name).ok()?;

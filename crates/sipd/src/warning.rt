@@ -10,8 +10,9 @@ use std::alloc::Global;
 /// The most bytes of a configuration, and of a routing table.
 const LONGEST: usize = 65_536;
 
-/// Does what `check` does with the words behind `-v`, and where that ends at `Done`, puts the warnings. The
-/// words are `check -v CONFIG DAR`. Each text is read once. Where one can't be, `check` says how it ends.
+/// Does what `check` does with the words behind `-v`, and where that ends at `Done`, puts the
+/// warnings. The words are `check -v CONFIG DAR`. Each text is read once. Where one can't be,
+/// `check` says how it ends.
 pub fn check_and_warn<F: Shelf, K: Sink>(
     alloc: Global,
     words: &[String],
