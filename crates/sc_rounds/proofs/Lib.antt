@@ -1,4 +1,5 @@
 pub mod Fronts
+pub mod GivingUps
 pub mod Movings
 pub mod Listenings
 pub mod Overs

@@ -1,4 +1,5 @@
 pub mod Dues
+pub mod GivingUp
 pub mod Hearing
 pub mod Moving
 pub mod Polling

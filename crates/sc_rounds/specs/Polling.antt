@@ -1,5 +1,5 @@
 -- What a poll, and a put that failed, told of an edge.
-use Rattle.std.specs.Prelude.{◌≡◌, ℕ, List}
+use Rattle.std.specs.Prelude.{◌≡◌, ◌⊎◌, ℕ, List}
 use Rattle.sc_value.specs.declared.ids.Place.{Place}
 use Rattle.sc_edge.specs.Edges.{EdgeState}
 use Rattle.sc_edge.specs.EdgeCalls.{Answers, Ends}
@@ -17,3 +17,8 @@ pub record Polls (old new : EdgeState) (answer : Got) (room : List ℕ) : Type 0
 pub record Comes (old new : EdgeState) (came : Polled) : Type 0 where
   pub took : (place : Place) → new.took place ≡ old.took place
   pub notes : Notes old.polled new.polled came
+
+-- what is told to have come is as before, or one answer more
+unfoldable pub TellsOn : EdgeState → EdgeState → Type 0
+TellsOn old new =
+    (new.polled ≡ old.polled) ⊎ ((came : Polled) × Notes old.polled new.polled came)

@@ -1,6 +1,6 @@
 //! The steps that the bytes of an answer make (RFC 3261 section 18.3).
 
-ghost use Rattle.std.specs.Prelude.{◌≡◌, ◌<◌, [], length, true, false, Ok, IfOk, IfErr, OnOk, OnErr};
+ghost use Rattle.std.specs.Prelude.{◌≡◌, ◌<◌, ◌⊎◌, [], length, true, false, Ok, IfOk, IfErr, OnOk, OnErr};
 ghost use Rattle.sc_hosts.specs.Runs.{HasVia};
 ghost use Rattle.sc_tokens.specs.Bytes.{Bytes};
 ghost use Rattle.sc_edge.specs.Edges.{EdgeState};
@@ -8,6 +8,7 @@ ghost use Rattle.sc_runs.specs.Following.{IsKept};
 ghost use Rattle.sc_runs.specs.Hearing.{IsBad};
 ghost use Rattle.sc_courses.specs.Courses.{Beginning};
 ghost use Rattle.sc_rounds.specs.Dues.{HasDue};
+ghost use Rattle.sc_rounds.specs.GivingUp.{GaveUp};
 ghost use Rattle.sc_rounds.specs.Hearing.{BrokeOff, BrokeUpto};
 ghost use Rattle.sc_rounds.specs.Serving.{Ended, Serves, ServesMore, ServesOn, Stopped, Took};
 ghost use Rattle.sc_rounds.specs.Streaming.{bytes_of};
@@ -40,6 +41,9 @@ pub fn hear_all<N: Notice<Journal<Step>>>(
     ensures err { (from : Beginning) (edge : EdgeState) (text : Bytes)
         → ServesOn from edge (N.noted notice.old) core.old streams.old at text
         → OnErr result (Ended from edge (N.noted notice.new) core.new.switch) }
+    ensures gave { (from : Beginning) (edge : EdgeState) (text : Bytes)
+        → ServesOn from edge (N.noted notice.old) core.old streams.old at text
+        → broken.new ≡ true → (broken.old ≡ true) ⊎ GaveUp from.edge.polled edge.polled at }
     ensures due { IfErr result (λ cause. HasDue core.new.switch cause) }
 {
     while hear_one(core, streams, notice, at, broken)? {}
@@ -61,6 +65,9 @@ fn hear_one<N: Notice<Journal<Step>>>(
     ensures err { (from : Beginning) (edge : EdgeState) (text : Bytes)
         → ServesOn from edge (N.noted notice.old) core.old streams.old at text
         → OnErr result (Ended from edge (N.noted notice.new) core.new.switch) }
+    ensures gave { (from : Beginning) (edge : EdgeState) (text : Bytes)
+        → ServesOn from edge (N.noted notice.old) core.old streams.old at text
+        → broken.new ≡ true → (broken.old ≡ true) ⊎ GaveUp from.edge.polled edge.polled at }
     ensures due { IfErr result (λ cause. HasDue core.new.switch cause) }
     ensures less { result ≡ Ok true
         → length (bytes_of streams.new at) < length (bytes_of streams.old at) }

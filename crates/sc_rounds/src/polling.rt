@@ -1,10 +1,11 @@
 //! What comes from the edge.
 
-ghost use Rattle.std.specs.Prelude.{length, IfErr, OnOk, OnErr};
+ghost use Rattle.std.specs.Prelude.{◌≡◌, length, if◌then◌else◌, Ok, IfErr, OnOk, OnErr};
 ghost use Rattle.sc_tokens.specs.Bytes.{Bytes};
 ghost use Rattle.sc_edge.specs.Edges.{EdgeState, IsWithin};
 ghost use Rattle.sc_courses.specs.Courses.{Beginning};
 ghost use Rattle.sc_rounds.specs.Dues.{HasDue};
+ghost use Rattle.sc_rounds.specs.GivingUp.{GaveUp};
 ghost use Rattle.sc_rounds.specs.Polling.{Comes, Polls};
 ghost use Rattle.sc_rounds.specs.Serving.{Ended, Serves, ServesOn};
 
@@ -34,7 +35,8 @@ pub enum Came {
     Fault,
 }
 
-/// Takes the steps that an answer of the edge makes.
+/// Takes the steps that an answer of the edge makes. It comes to `Broken` only of a place that is given
+/// up.
 ///
 /// # Errors
 ///
@@ -53,6 +55,10 @@ pub fn take_got<N: Notice<Journal<Step>>>(
     ensures err { (from : Beginning) (old new : EdgeState)
         → Serves from old (N.noted notice.old) core.old streams.old → Polls old new got room.now
         → OnErr result (Ended from new (N.noted notice.new) core.new.switch) }
+    ensures gave { (from : Beginning) (old new : EdgeState)
+        → Serves from old (N.noted notice.old) core.old streams.old → Polls old new got room.now
+        → (place : Place) → result ≡ Ok (Came.Broken place)
+        → GaveUp from.edge.polled new.polled place }
     ensures due { IfErr result (λ cause. HasDue core.new.switch cause) }
 {
     match got {
@@ -78,6 +84,7 @@ fn take_end<N: Notice<Journal<Step>>>(
     ensures err { (from : Beginning) (old new : EdgeState)
         → Serves from old (N.noted notice.old) core.old streams.old → Comes old new (Polled.End at)
         → OnErr result (Ended from new (N.noted notice.new) core.new.switch) }
+    ensures none { (place : Place) → result ≡ Ok (Came.Broken place) → ⊥ }
     ensures due { IfErr result (λ cause. HasDue core.new.switch cause) }
 {
     match lose(core, streams, notice, at) {
@@ -101,6 +108,7 @@ fn take_failure<N: Notice<Journal<Step>>>(
         → Serves from old (N.noted notice.old) core.old streams.old
         → Comes old new (Polled.Failed at)
         → OnErr result (Ended from new (N.noted notice.new) core.new.switch) }
+    ensures none { (place : Place) → result ≡ Ok (Came.Broken place) → ⊥ }
     ensures due { IfErr result (λ cause. HasDue core.new.switch cause) }
 {
     match fail(core, streams, notice, at) {
@@ -147,6 +155,11 @@ fn take_bytes<N: Notice<Journal<Step>>>(
         → Serves from old (N.noted notice.old) core.old streams.old
         → Comes old new (Polled.Bytes at text.now)
         → OnErr result (Ended from new (N.noted notice.new) core.new.switch) }
+    ensures gave { (from : Beginning) (old new : EdgeState)
+        → Serves from old (N.noted notice.old) core.old streams.old
+        → Comes old new (Polled.Bytes at text.now)
+        → (place : Place) → result ≡ Ok (Came.Broken place)
+        → GaveUp from.edge.polled new.polled place }
     ensures due { IfErr result (λ cause. HasDue core.new.switch cause) }
 {
     match streams.feed(core.alloc, at, text) {
@@ -168,6 +181,10 @@ fn hear_bytes<N: Notice<Journal<Step>>>(
     ensures err { (from : Beginning) (edge : EdgeState) (text : Bytes)
         → ServesOn from edge (N.noted notice.old) core.old streams.old at text
         → OnErr result (Ended from edge (N.noted notice.new) core.new.switch) }
+    ensures gave { (from : Beginning) (edge : EdgeState) (text : Bytes)
+        → ServesOn from edge (N.noted notice.old) core.old streams.old at text
+        → (place : Place) → result ≡ Ok (Came.Broken place)
+        → GaveUp from.edge.polled edge.polled place }
     ensures due { IfErr result (λ cause. HasDue core.new.switch cause) }
 {
     let mut broken = false;
@@ -177,7 +194,9 @@ fn hear_bytes<N: Notice<Journal<Step>>>(
     }
 }
 
-fn came_of(at: Place, broken: bool) -> Came {
+fn came_of(at: Place, broken: bool) -> Came
+    ensures { result ≡ (if broken then Came.Broken at else Came.Bytes at) }
+{
     if broken {
         Came::Broken(at)
     } else {

@@ -1,10 +1,11 @@
 //! Putting what is left to the places.
 
-ghost use Rattle.std.specs.Prelude.{IfErr, OnOk, OnErr};
+ghost use Rattle.std.specs.Prelude.{◌≡◌, IfErr, OnOk, OnErr};
 ghost use Rattle.sc_edge.specs.Edges.{CountsOn};
 ghost use Rattle.sc_edge.specs.EdgeCalls.{IsNoPoll};
 ghost use Rattle.sc_courses.specs.Courses.{Beginning};
 ghost use Rattle.sc_rounds.specs.Dues.{HasDue};
+ghost use Rattle.sc_rounds.specs.Polling.{TellsOn};
 ghost use Rattle.sc_rounds.specs.Serving.{Ended, Serves};
 
 use crate::polling::fail;
@@ -48,6 +49,8 @@ pub fn put_place<E: Edge, N: Notice<Journal<Step>>>(
     ensures due { IfErr result (λ cause. HasDue core.new.switch cause) }
     ensures later { CountsOn (E.state edge.old) (E.state edge.new) }
     ensures polled { IsNoPoll (E.state edge.old) (E.state edge.new) }
+    ensures tells { TellsOn (E.state edge.old) (E.state edge.new) }
+    ensures closes { (E.state edge.new).closes ≡ (E.state edge.old).closes }
 {
     match core.outs.put(edge, place) {
         Put::Wrote(_) => Ok(Went::On),

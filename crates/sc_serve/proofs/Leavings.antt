@@ -37,9 +37,11 @@ use Rattle.sc_rounds.specs.Streaming.{bytes_in, bytes_of}
 use Rattle.sc_serve.specs.declared.server.Server.{Server}
 use Rattle.sc_serve.specs.declared.stop.Stop.{Stop}
 use Rattle.sc_serve.specs.declared.stop.Stop.TheVariants as stops
-use Rattle.sc_serve.specs.Running.{Blames, FinishesOn, GoesOn, HaltsOn, HasItems, IsDueAt, IsNew, IsServed, fresh, stopped}
+use Rattle.sc_serve.specs.Running.{Blames, FinishesOn, GoesOn, HaltedAfter, HaltsOn, HasItems, Holds, IsDueAt, IsNew, IsServed, fresh, stopped}
+use Rattle.sc_serve.specs.Closing.{Closes}
 use Rattle.sc_serve.specs.Polls.{PollsOften}
 use Rattle.sc_serve.specs.Served.{ComesAt, Leaves, last_epoch}
+use Rattle.sc_serve.proofs.Closings.{closes_begin, none_waits}
 use Rattle.sc_serve.proofs.Pollings.{often_none, often_of, part_of}
 
 last-is : (ran : Ran) (known : Known) (journal : Kept Step) → ran.epoch ≡ known.epoch → ran.began ≡ known.began → journal.items ≡ known.journal → last_epoch ran known.handed journal ≡ running known
@@ -100,8 +102,8 @@ leaves-of : (from : Beginning) (obeyed : List (Option Order)) (now : EdgeState) 
     → Ends (obeying from obeyed) now told known deeds → HearingPart from.edge.polled now.polled deeds
     → ran.epoch ≡ known.epoch → ran.began ≡ known.began → journal.items ≡ known.journal → IsLawful as_session known.setup known.epoch known.began (whole known) → ComesAt from.edge now deeds ran.status
     → (ran.status ≡ statuses.Done → ticks_taken deeds ≡ raised 0 from.moments) → (ran.status ≡ statuses.JournalFull → IsDue from.setup (running known) known.journal)
-    → (ran.status ≡ statuses.Done → TellsSuch from.told told (Shows from.setup known.handed (running known))) → (ran.status ≡ statuses.Done → HasToEnd from.setup (running known) → ⊥) → AreAlmostEven (answers from) → (ran.status ≡ statuses.Done → AreEven (answers from)) → PollsOften from.edge now (length from.orders) → Leaves from now told ran journal
-leaves-of from obeyed now told known ran journal deeds almost all ends heard epoch began items lawful comes ticked due shows over asked asked_all often = record {
+    → (ran.status ≡ statuses.Done → TellsSuch from.told told (Shows from.setup known.handed (running known))) → (ran.status ≡ statuses.Done → HasToEnd from.setup (running known) → ⊥) → AreAlmostEven (answers from) → (ran.status ≡ statuses.Done → AreEven (answers from)) → PollsOften from.edge now (length from.orders) → Closes from.edge now [] → Leaves from now told ran journal
+leaves-of from obeyed now told known ran journal deeds almost all ends heard epoch began items lawful comes ticked due shows over asked asked_all often closes = record {
   ended = ends.runs.course.ended;
   handed = known.handed;
   deeds = deeds;
@@ -126,6 +128,7 @@ leaves-of from obeyed now told known ran journal deeds almost all ends heard epo
   asked = asked;
   asked_all = asked_all;
   polled = often;
+  closes = closes;
   over = λ done. over-last from ran known journal epoch began items (over done);
 }
 
@@ -137,10 +140,10 @@ with-items (Some journal) items has = (journal, refl, has)
 -- where the run ended within a round
 pub served_cut : (from : Beginning) (obeyed : List (Option Order)) (now : EdgeState) (told : Told) (known : Known) (ran : Ran) → AreAlmost obeyed from.orders → Ended (obeying from obeyed) now told known → ran.epoch ≡ known.epoch → ran.began ≡ known.began → HasItems ran.journal known.journal
     → IsLawful as_session known.setup known.epoch known.began (whole known) → ((deeds : List Deed) → ComesAt from.edge now deeds ran.status)
-    → (ran.status ≡ statuses.Done → ⊥) → (known.setup ≡ from.setup → ran.status ≡ statuses.JournalFull → IsDue from.setup (running known) known.journal) → AreAlmostEven (answers from) → PollsOften from.edge now (length from.orders) → IsServed from now told ran
-served_cut from obeyed now told known ran almost ended epoch began has lawful comes undone due asked often =
+    → (ran.status ≡ statuses.Done → ⊥) → (known.setup ≡ from.setup → ran.status ≡ statuses.JournalFull → IsDue from.setup (running known) known.journal) → AreAlmostEven (answers from) → PollsOften from.edge now (length from.orders) → Closes from.edge now [] → IsServed from now told ran
+served_cut from obeyed now told known ran almost ended epoch began has lawful comes undone due asked often closes =
     let (journal, journal_is, items) = with-items ran.journal known.journal has in
-    record { journal = journal; journal_is = journal_is; leaves = leaves-of from obeyed now told known ran journal ended.deeds almost (λ done. absurd (undone done)) ended.ends ended.hearing epoch began items lawful (comes ended.deeds) (λ done. absurd (undone done)) (due ended.ends.runs.setup_is) (λ done. absurd (undone done)) (λ done. absurd (undone done)) asked (λ done. absurd (undone done)) often }
+    record { journal = journal; journal_is = journal_is; leaves = leaves-of from obeyed now told known ran journal ended.deeds almost (λ done. absurd (undone done)) ended.ends ended.hearing epoch began items lawful (comes ended.deeds) (λ done. absurd (undone done)) (due ended.ends.runs.setup_is) (λ done. absurd (undone done)) (λ done. absurd (undone done)) asked (λ done. absurd (undone done)) often closes }
 
 done-comes : (from : Beginning) (now : EdgeState) (deeds : List Deed) (status : Status) (core : Core) (streams : List Pending) → status ≡ statuses.Done → Hearing from.edge.polled now.polled deeds (bytes_of streams) → Puts from.edge now deeds core.outs []
     → ((place : Place) → left_at core.outs place ≡ []) → ComesAt from.edge now deeds status
@@ -157,15 +160,15 @@ starved-full : {P : Type 0} (status : Status) → status ≡ statuses.NoMemory �
 starved-full status starved full = cc
 
 -- where it was over
-pub served_done : (from : Beginning) (now : EdgeState) (told : Told) (core : Core) (streams : List Pending) (ran : Ran) → Serves from now told core streams → ((place : Place) → left_at core.outs place ≡ []) → core.unlisted ≡ 0 → (HasToEnd from.setup (running core.switch) → ⊥) → AreEven (answers from) → PollsOften from.edge now (length from.orders) → ran.status ≡ statuses.Done
+pub served_done : (from : Beginning) (now : EdgeState) (told : Told) (core : Core) (streams : List Pending) (ran : Ran) → Serves from now told core streams → ((place : Place) → left_at core.outs place ≡ []) → core.unlisted ≡ 0 → (HasToEnd from.setup (running core.switch) → ⊥) → AreEven (answers from) → PollsOften from.edge now (length from.orders) → Closes from.edge now [] → ran.status ≡ statuses.Done
     → ran.epoch ≡ core.switch.epoch → ran.began ≡ core.switch.began → HasItems ran.journal core.switch.journal → IsLawful as_session core.switch.setup core.switch.epoch core.switch.began (whole core.switch) → IsServed from now told ran
-served_done from now told core streams ran s none listed over asked often status epoch began has lawful =
+served_done from now told core streams ran s none listed over asked often closes status epoch began has lawful =
     let (journal, journal_is, items) = with-items ran.journal core.switch.journal has in
     record {
       journal = journal;
       journal_is = journal_is;
       leaves = leaves-of from from.orders now told core.switch ran journal s.deeds (inl refl) (λ done. refl) (record { runs = s.stands.runs; cut = cut_of from.edge now s.deeds core.outs [] s.stands.puts; ticked = ticked_part from.moments s.deeds (net_of core.switch).moment s.stands.ticked; counts = s.stands.reports.counts })
-          (hearing_part from.edge.polled now.polled s.deeds (bytes_of streams) s.hearing) epoch began items lawful (done-comes from now s.deeds ran.status core streams status s.hearing s.stands.puts none) (λ done. s.stands.ticked.ticks) (done-full ran.status status) (λ done. s.stands.reports.shows listed) (λ done. over) (even_almost (answers from) asked) (λ done. asked) often;
+          (hearing_part from.edge.polled now.polled s.deeds (bytes_of streams) s.hearing) epoch began items lawful (done-comes from now s.deeds ran.status core streams status s.hearing s.stands.puts none) (λ done. s.stands.ticked.ticks) (done-full ran.status status) (λ done. s.stands.reports.shows listed) (λ done. over) (even_almost (answers from) asked) (λ done. asked) often closes;
     }
 
 -- ## The beginning
@@ -206,6 +209,14 @@ begun setup told edge core streams switch outs handed unlisted as_set none = rec
   hearing = hearing_begin edge.polled (bytes_of streams) (none-kept streams none);
 }
 
+-- a server that took no step
+holds-begun : (old : Server) (told : Told) (edge : EdgeState) → old.core.switch ≡ fresh old.core.switch.setup → old.core.outs ≡ nothing → old.core.handed ≡ 0 → old.core.unlisted ≡ 0 → old.core.turning.epoch_steps ≡ old.core.switch.setup.config.epoch_steps → old.streams ≡ [] → old.broken ≡ []
+    → Holds (beginning old.core.switch.setup told edge) edge told old
+holds-begun old told edge switch outs handed unlisted as_set streams broken = record {
+  serves = begun old.core.switch.setup told edge old.core old.streams switch outs handed unlisted as_set streams;
+  closes = closes_begin edge old.broken broken;
+}
+
 none-lawful : (setup : Setup) → IsLawful as_session setup 0 0 []
 unfolding IsLawful IsLawfulFrom
 none-lawful setup = tt
@@ -233,7 +244,7 @@ never_started setup told edge ran status epoch began has =
       deeds = [];
       ends = record { runs = fresh-runs setup told edge; cut = cut_of edge edge [] nothing [] (puts_begin edge); ticked = ticked_part [] [] 0 ticked_begin; counts = (fresh-reports setup told edge).counts };
       hearing = hearing_part edge.polled edge.polled [] (bytes_of []) (hearing_begin edge.polled (bytes_of []) no-bytes);
-    }) epoch began has (none-lawful setup) (starved_comes edge edge ran.status status) (starved-done ran.status status) (λ same. starved-full ran.status status) (even_almost (answers (beginning setup told edge)) refl) (often_none edge)
+    }) epoch began has (none-lawful setup) (starved_comes edge edge ran.status status) (starved-done ran.status status) (λ same. starved-full ran.status status) (even_almost (answers (beginning setup told edge)) refl) (often_none edge) (closes_begin edge [] refl)
 
 -- ## A run from its beginning
 
@@ -242,24 +253,25 @@ abbrev pub IsServedOn : Setup → Told → EdgeState → EdgeState → Told → 
 IsServedOn setup told edge now told2 sources sources2 ran = (given : Given) × Asked sources sources2 given × IsServed (record { setup = setup; told = told; edge = edge; moments = given.moments; orders = given.orders }) now told2 ran
 
 -- the run was over
-pub done_served : (old new : Server) (e e1 : EdgeState) (t t1 : Told) (k k1 : Sources) (ran : Ran) → old.core.switch ≡ fresh old.core.switch.setup → old.core.outs ≡ nothing → old.core.handed ≡ 0 → old.core.unlisted ≡ 0 → old.core.turning.epoch_steps ≡ old.core.switch.setup.config.epoch_steps → old.streams ≡ [] → old.unpolled ≡ 0 → FinishesOn old new e e1 t t1 k k1 → ran.status ≡ statuses.Done
+pub done_served : (old new : Server) (e e1 : EdgeState) (t t1 : Told) (k k1 : Sources) (ran : Ran) → old.core.switch ≡ fresh old.core.switch.setup → old.core.outs ≡ nothing → old.core.handed ≡ 0 → old.core.unlisted ≡ 0 → old.core.turning.epoch_steps ≡ old.core.switch.setup.config.epoch_steps → old.streams ≡ [] → old.broken ≡ [] → old.unpolled ≡ 0 → FinishesOn old new e e1 t t1 k k1 → ran.status ≡ statuses.Done
     → ran.epoch ≡ new.core.switch.epoch → ran.began ≡ new.core.switch.began → HasItems ran.journal new.core.switch.journal → IsLawful as_session new.core.switch.setup new.core.switch.epoch new.core.switch.began (whole new.core.switch)
     → IsServedOn old.core.switch.setup t e e1 t1 k k1 ran
 unfolding FinishesOn GoesOn
-done_served old new e e1 t t1 k k1 ran switch outs handed unlisted as_set streams unpolled ((given, (even, polls), asked, goes), none, listed, over) status epoch began has lawful =
-    let s0 : Serves (beginning old.core.switch.setup t e) e t old.core old.streams = begun old.core.switch.setup t e old.core old.streams switch outs handed unlisted as_set streams in
-    let s : Serves (after (beginning old.core.switch.setup t e) given) e1 t1 new.core new.streams = goes (beginning old.core.switch.setup t e) s0 in
-    (given, asked, served_done (after (beginning old.core.switch.setup t e) given) e1 t1 new.core new.streams ran s none listed (over (beginning old.core.switch.setup t e) s0) even (often_of old e e1 (length given.orders) unpolled (part_of old new e e1 (length given.orders) polls)) status epoch began has lawful)
+done_served old new e e1 t t1 k k1 ran switch outs handed unlisted as_set streams broken unpolled ((given, (even, polls), asked, goes), none, listed, over) status epoch began has lawful =
+    let s0 : Holds (beginning old.core.switch.setup t e) e t old = holds-begun old t e switch outs handed unlisted as_set streams broken in
+    let s : Holds (after (beginning old.core.switch.setup t e) given) e1 t1 new = goes (beginning old.core.switch.setup t e) s0 in
+    (given, asked, served_done (after (beginning old.core.switch.setup t e) given) e1 t1 new.core new.streams ran s.serves none listed (over (beginning old.core.switch.setup t e) s0) even (often_of old e e1 (length given.orders) unpolled (part_of old new e e1 (length given.orders) polls)) (none_waits e e1 new.broken s.closes) status epoch began has lawful)
 
 -- the run couldn't go on
-pub halt_served : (old new : Server) (e e1 : EdgeState) (t t1 : Told) (k k1 : Sources) (ran : Ran) → old.core.switch ≡ fresh old.core.switch.setup → old.core.outs ≡ nothing → old.core.handed ≡ 0 → old.core.unlisted ≡ 0 → old.core.turning.epoch_steps ≡ old.core.switch.setup.config.epoch_steps → old.streams ≡ [] → old.unpolled ≡ 0 → HaltsOn old new e e1 t t1 k k1 → ((deeds : List Deed) → ComesAt e e1 deeds ran.status)
+pub halt_served : (old new : Server) (e e1 : EdgeState) (t t1 : Told) (k k1 : Sources) (ran : Ran) → old.core.switch ≡ fresh old.core.switch.setup → old.core.outs ≡ nothing → old.core.handed ≡ 0 → old.core.unlisted ≡ 0 → old.core.turning.epoch_steps ≡ old.core.switch.setup.config.epoch_steps → old.streams ≡ [] → old.broken ≡ [] → old.unpolled ≡ 0 → HaltsOn old new e e1 t t1 k k1 → ((deeds : List Deed) → ComesAt e e1 deeds ran.status)
     → (ran.status ≡ statuses.Done → ⊥) → (new.core.switch.setup ≡ old.core.switch.setup → ran.status ≡ statuses.JournalFull → IsDue old.core.switch.setup (running new.core.switch) new.core.switch.journal)
     → ran.epoch ≡ new.core.switch.epoch → ran.began ≡ new.core.switch.began → HasItems ran.journal new.core.switch.journal → IsLawful as_session new.core.switch.setup new.core.switch.epoch new.core.switch.began (whole new.core.switch)
     → IsServedOn old.core.switch.setup t e e1 t1 k k1 ran
 unfolding HaltsOn
-halt_served old new e e1 t t1 k k1 ran switch outs handed unlisted as_set streams unpolled (given, (even, polls), asked, halts) comes undone due epoch began has lawful =
-    let (obeyed, almost, ended) = halts (beginning old.core.switch.setup t e) (begun old.core.switch.setup t e old.core old.streams switch outs handed unlisted as_set streams) in
-    (given, asked, served_cut (after (beginning old.core.switch.setup t e) given) obeyed e1 t1 new.core.switch ran almost ended epoch began has lawful comes undone due even (often_of old e e1 (length given.orders) unpolled polls))
+halt_served old new e e1 t t1 k k1 ran switch outs handed unlisted as_set streams broken unpolled (given, (even, polls), asked, halts) comes undone due epoch began has lawful =
+    let halted : HaltedAfter (beginning old.core.switch.setup t e) given e1 t1 new.core.switch = halts (beginning old.core.switch.setup t e) (holds-begun old t e switch outs handed unlisted as_set streams broken) in
+    let (obeyed, almost, ended) = halted.ended in
+    (given, asked, served_cut (after (beginning old.core.switch.setup t e) given) obeyed e1 t1 new.core.switch ran almost ended epoch began has lawful comes undone due even (often_of old e e1 (length given.orders) unpolled polls) halted.closes)
 
 pub edge_comes : (first now : EdgeState) (status : Status) (cause : Stop) → status ≡ statuses.Edge → cause ≡ stops.Edge → Blames first now cause → (deeds : List Deed) → ComesAt first now deeds status
 unfolding ComesAt Blames
@@ -288,6 +300,6 @@ pub ran_served : {A : Type 0} (r : Result A Stop) (old new : Server) (e e1 : Edg
     → ran.epoch ≡ new.core.switch.epoch → ran.began ≡ new.core.switch.began → HasItems ran.journal new.core.switch.journal → IsLawful as_session new.core.switch.setup new.core.switch.epoch new.core.switch.began (whole new.core.switch)
     → IsServedOn old.core.switch.setup t e e1 t1 k k1 ran
 ran_served (Ok x) old new e e1 t t1 k k1 status ran is_new finishes halts blames right due done stop status_is epoch began has lawful =
-    done_served old new e e1 t t1 k k1 ran is_new.switch is_new.outs is_new.handed is_new.unlisted is_new.as_set is_new.streams is_new.unpolled finishes (status_is ∙ done) epoch began has lawful
+    done_served old new e e1 t t1 k k1 ran is_new.switch is_new.outs is_new.handed is_new.unlisted is_new.as_set is_new.streams is_new.broken is_new.unpolled finishes (status_is ∙ done) epoch began has lawful
 ran_served (Err cause) old new e e1 t t1 k k1 status ran is_new finishes halts blames right due done stop status_is epoch began has lawful =
-    halt_served old new e e1 t t1 k k1 ran is_new.switch is_new.outs is_new.handed is_new.unlisted is_new.as_set is_new.streams is_new.unpolled halts (stop_comes e e1 ran.status cause (status_is ∙ stop) blames) (stop-done ran.status cause (status_is ∙ stop)) (stop-due old.core.switch.setup new.core.switch ran.status cause (status_is ∙ stop) right due) epoch began has lawful
+    halt_served old new e e1 t t1 k k1 ran is_new.switch is_new.outs is_new.handed is_new.unlisted is_new.as_set is_new.streams is_new.broken is_new.unpolled halts (stop_comes e e1 ran.status cause (status_is ∙ stop) blames) (stop-done ran.status cause (status_is ∙ stop)) (stop-due old.core.switch.setup new.core.switch ran.status cause (status_is ∙ stop) right due) epoch began has lawful

@@ -1,3 +1,4 @@
+mod Closings
 mod Endings
 mod Leavings
 mod Names

@@ -1,7 +1,9 @@
 -- What the parts of a round do, one after the other.
-use Rattle.std.proofs.Common.{◌≡◌, ◌≤◌, ℕ, suc, Option, List, [], ◌++◌, append_assoc, refl, sym, ap, ◌∙◌, subst, inl, inr, arith}
+use Rattle.std.proofs.Common.{◌≡◌, ◌≤◌, ℕ, suc, Option, List, [], ◌∷◌, ◌++◌, append_assoc, refl, sym, ap, ◌∙◌, subst, inl, inr, arith}
 use Rattle.std.specs.Prelude.{◌⊎◌, Result, Ok, Err, IfErr, length}
 use Rattle.std.proofs.lemmas.List.{append-nil, length-append}
+use Rattle.std.proofs.lemmas.List.Elements.{All-append, All-nil}
+use Rattle.std.specs.List.{All}
 use Rattle.sc_value.specs.declared.ids.Place.{Place}
 use Rattle.sc_edge.specs.Edges.{CountsOn, EdgeState, Stands}
 use Rattle.sc_edge.specs.EdgeCalls.{Answers, Ends, PollBlames}
@@ -19,7 +21,11 @@ use Rattle.sc_rounds.specs.declared.stepping.Core.{Core}
 use Rattle.sc_rounds.specs.declared.streams.Pending.{Pending}
 use Rattle.sc_rounds.specs.Moving.{Breaks, BreaksBoth, EndedAfter, Moves, MovesBoth}
 use Rattle.sc_rounds.proofs.Movings.{ended_more}
-use Rattle.sc_rounds.specs.Polling.{Polls}
+use Rattle.sc_rounds.specs.Polling.{Polls, TellsOn}
+use Rattle.sc_rounds.specs.GivingUp.{GaveUp}
+use Rattle.sc_rounds.specs.declared.polling.Came.{Came}
+use Rattle.sc_rounds.specs.declared.polling.Came.TheVariants as came
+use Rattle.sc_rounds.proofs.GivingUps.{polls_on}
 use Rattle.sc_rounds.specs.Serving.{Ended, HasNoEnd, Serves}
 use Rattle.sc_rounds.specs.Streaming.{bytes_of}
 use Rattle.sc_switch.specs.Standing.{Known, net_of}
@@ -29,9 +35,10 @@ use Rattle.sc_rounds.specs.Dues.{HasDue}
 use Rattle.sc_serve.specs.declared.server.Server.{Server}
 use Rattle.sc_serve.specs.declared.stop.Stop.{Stop}
 use Rattle.sc_serve.specs.declared.stop.Stop.TheVariants as stops
-use Rattle.sc_serve.specs.Closing.{Rests}
+use Rattle.sc_serve.specs.Closing.{Closes, Rests, broken_of}
 use Rattle.sc_outs.specs.Owing.{Owing, left_at}
-use Rattle.sc_serve.specs.Running.{Blames, FinishesOn, Goes, GoesOn, Halts, HaltsOn, Hears, IsDueAt, IsOver, IsUnheard, PollsOn, PollsPart, Works, WorksPart}
+use Rattle.sc_serve.specs.Running.{Blames, FinishesOn, Goes, GoesOn, Halted, HaltedAfter, Halts, HaltsOn, Hears, Holds, IsDueAt, IsOver, IsUnheard, PollsOn, PollsPart, Works, WorksPart}
+use Rattle.sc_serve.proofs.Closings.{closes_on, none_waits, one_all, same_waits}
 use Rattle.sc_serve.proofs.Pollings.{heard_part, part_of, polls_kept, polls_none, polls_part, polls_round, polls_then}
 
 -- ## Counts of faults
@@ -80,24 +87,33 @@ ended-of from edge told core streams s = record {
   hearing = hearing_part from.edge.polled edge.polled s.deeds (bytes_of streams) s.hearing;
 }
 
+halted-of : (from : Beginning) (edge : EdgeState) (told : Told) (server : Server) → Holds from edge told server → Halted from edge told server.core.switch
+halted-of from edge told server s = record { ended = ended-of from edge told server.core server.streams s.serves; closes = none_waits from.edge edge server.broken s.closes }
+
 pub goes_halts : (a b : Server) (e e1 : EdgeState) (t t1 : Told) → Goes a b e e1 t t1 → Halts a b e e1 t t1
 unfolding Goes Halts
-goes_halts a b e e1 t t1 goes from s = ended-of from e1 t1 b.core b.streams (goes from s)
+goes_halts a b e e1 t t1 goes from s = halted-of from e1 t1 b (goes from s)
 
 -- only what isn't told of changed
-pub goes_kept : (a b : Server) (edge : EdgeState) (told : Told) → b.core ≡ a.core → b.streams ≡ a.streams → Goes a b edge edge told told
+pub goes_kept : (a b : Server) (edge : EdgeState) (told : Told) → b.core ≡ a.core → b.streams ≡ a.streams → b.broken ≡ a.broken → Goes a b edge edge told told
 unfolding Goes
-goes_kept a b edge told core streams from s = subst (λ (c : Core). Serves from edge told c b.streams) (sym core) (subst (λ (ps : List Pending). Serves from edge told a.core ps) (sym streams) s)
+goes_kept a b edge told core streams broken from s = record {
+  serves = subst (λ (c : Core). Serves from edge told c b.streams) (sym core) (subst (λ (ps : List Pending). Serves from edge told a.core ps) (sym streams) s.serves);
+  closes = same_waits from.edge edge a.broken b.broken broken s.closes;
+}
 
 -- ## Steps that aren't heard
 
-pub moves_goes : (a b : Server) (edge : EdgeState) (t t1 : Told) → b.streams ≡ a.streams → Moves a.core b.core t t1 → Goes a b edge edge t t1
+pub moves_goes : (a b : Server) (edge : EdgeState) (t t1 : Told) → b.streams ≡ a.streams → b.broken ≡ a.broken → Moves a.core b.core t t1 → Goes a b edge edge t t1
 unfolding Moves Goes
-moves_goes a b edge t t1 streams moves from s = moves from edge b.streams (subst (λ (ps : List Pending). Serves from edge t a.core ps) (sym streams) s)
+moves_goes a b edge t t1 streams broken moves from s = record {
+  serves = moves from edge b.streams (subst (λ (ps : List Pending). Serves from edge t a.core ps) (sym streams) s.serves);
+  closes = same_waits from.edge edge a.broken b.broken broken s.closes;
+}
 
 pub breaks_halts : (a b : Server) (edge : EdgeState) (t t1 : Told) → Breaks a.core b.core t t1 → Halts a b edge edge t t1
 unfolding Breaks Halts
-breaks_halts a b edge t t1 breaks from s = breaks from edge a.streams s
+breaks_halts a b edge t t1 breaks from s = record { ended = breaks from edge a.streams s.serves; closes = none_waits from.edge edge a.broken s.closes }
 
 -- ## A poll
 
@@ -110,12 +126,11 @@ fault_blames old new answer is blames = rw is at blames
 
 -- ## A close
 
-pub rests_goes : (a : Server) (old new : EdgeState) (told : Told) → Rests old new → Goes a a old new told told
-unfolding Goes
-rests_goes a old new told rests from s = record {
+serves-rests : (from : Beginning) (old new : EdgeState) (told : Told) (core : Core) (streams : List Pending) → Rests old new → Serves from old told core streams → Serves from new told core streams
+serves-rests from old new told core streams rests s = record {
   deeds = s.deeds;
-  stands = record { runs = s.stands.runs; left_is = s.stands.left_is; puts = puts_stand from.edge old new s.deeds a.core.outs [] rests.took s.stands.puts; ticked = s.stands.ticked; reports = s.stands.reports; as_set = s.stands.as_set };
-  hearing = subst (λ polled. Hearing from.edge.polled polled s.deeds (bytes_of a.streams)) (sym rests.polled) s.hearing;
+  stands = record { runs = s.stands.runs; left_is = s.stands.left_is; puts = puts_stand from.edge old new s.deeds core.outs [] rests.took s.stands.puts; ticked = s.stands.ticked; reports = s.stands.reports; as_set = s.stands.as_set };
+  hearing = subst (λ polled. Hearing from.edge.polled polled s.deeds (bytes_of streams)) (sym rests.polled) s.hearing;
 }
 
 pub rests_none : (edge : EdgeState) → Rests edge edge
@@ -159,60 +174,107 @@ full_due known cause most bytes is due = rw is at due
 
 -- ## As the code does it
 
+-- what is remembered of what came: the places that are to be closed
+abbrev Remembers : Server → Server → EdgeState → EdgeState → Told → Type 0
+Remembers a b e e1 t = (from : Beginning) → Serves from e t a.core a.streams → All (GaveUp from.edge.polled e1.polled) a.broken → All (GaveUp from.edge.polled e1.polled) b.broken
+
 pub poll_goes : (a b : Server) (e e1 : EdgeState) (t t1 : Told) (answer : Got) (room : List ℕ) → ((from : Beginning) (old new : EdgeState) → Serves from old t a.core a.streams → Polls old new answer room → Serves from new t1 b.core b.streams)
-    → Polls e e1 answer room → Goes a b e e1 t t1
+    → Polls e e1 answer room → e1.closes ≡ e.closes → b.broken ≡ a.broken → Goes a b e e1 t t1
 unfolding Goes
-poll_goes a b e e1 t t1 answer room took polls from s = took from e e1 s polls
+poll_goes a b e e1 t t1 answer room took polls closes broken from s = record {
+  serves = took from e e1 s.serves polls;
+  closes = same_waits from.edge e1 a.broken b.broken broken (closes_on from.edge e e1 a.broken (polls_on e e1 answer room polls) closes s.closes);
+}
 
 pub poll_halts : (a b : Server) (e e1 : EdgeState) (t t1 : Told) (answer : Got) (room : List ℕ) → ((from : Beginning) (old new : EdgeState) → Serves from old t a.core a.streams → Polls old new answer room → Ended from new t1 b.core.switch)
-    → Polls e e1 answer room → Halts a b e e1 t t1
+    → Polls e e1 answer room → e1.closes ≡ e.closes → Halts a b e e1 t t1
 unfolding Halts
-poll_halts a b e e1 t t1 answer room took polls from s = took from e e1 s polls
+poll_halts a b e e1 t t1 answer room took polls closes from s = record {
+  ended = took from e e1 s.serves polls;
+  closes = none_waits from.edge e1 a.broken (closes_on from.edge e e1 a.broken (polls_on e e1 answer room polls) closes s.closes);
+}
 
-pub put_goes : (a b : Server) (e e1 : EdgeState) (t t1 : Told) → ((from : Beginning) → Serves from e t a.core a.streams → Serves from e1 t1 b.core b.streams) → Goes a b e e1 t t1
-unfolding Goes
-put_goes a b e e1 t t1 goes from s = goes from s
-
-pub put_halts : (a b : Server) (e e1 : EdgeState) (t t1 : Told) → ((from : Beginning) → Serves from e t a.core a.streams → Ended from e1 t1 b.core.switch) → Halts a b e e1 t t1
+pub put_halts : (a b : Server) (e e1 : EdgeState) (t t1 : Told) → ((from : Beginning) → Serves from e t a.core a.streams → Ended from e1 t1 b.core.switch) → TellsOn e e1 → e1.closes ≡ e.closes → Halts a b e e1 t t1
 unfolding Halts
-put_halts a b e e1 t t1 halts from s = halts from s
+put_halts a b e e1 t t1 halts tells closes from s = record { ended = halts from s.serves; closes = none_waits from.edge e1 a.broken (closes_on from.edge e e1 a.broken tells closes s.closes) }
 
 -- and what the server remembers of it
 pub poll_then : (a b : Server) (e e1 : EdgeState) (t t1 : Told) (answer : Got) (room : List ℕ) (core : Core) (streams : List Pending)
-    → ((from : Beginning) (old new : EdgeState) → Serves from old t a.core a.streams → Polls old new answer room → Serves from new t1 core streams) → Polls e e1 answer room → b.core ≡ core → b.streams ≡ streams → Goes a b e e1 t t1
+    → ((from : Beginning) (old new : EdgeState) → Serves from old t a.core a.streams → Polls old new answer room → Serves from new t1 core streams) → Polls e e1 answer room → e1.closes ≡ e.closes → b.core ≡ core → b.streams ≡ streams → Remembers a b e e1 t → Goes a b e e1 t t1
 unfolding Goes
-poll_then a b e e1 t t1 answer room core streams took polls core_is streams_is from s = rw (core_is, streams_is) (took from e e1 s polls)
+poll_then a b e e1 t t1 answer room core streams took polls closes core_is streams_is remembers from s =
+    let on : Closes from.edge e1 a.broken = closes_on from.edge e e1 a.broken (polls_on e e1 answer room polls) closes s.closes in record {
+      serves = rw (core_is, streams_is) (took from e e1 s.serves polls);
+      closes = record { closed = on.closed; told = on.told; gave = on.gave; waits = remembers from s.serves on.waits };
+    }
 
-pub put_then : (a b : Server) (e e1 : EdgeState) (t t1 : Told) (core : Core) (streams : List Pending) → ((from : Beginning) → Serves from e t a.core a.streams → Serves from e1 t1 core streams) → b.core ≡ core → b.streams ≡ streams → Goes a b e e1 t t1
+-- nothing more is to be closed
+pub remembers_none : (a b : Server) (e e1 : EdgeState) (t : Told) → b.broken ≡ a.broken → Remembers a b e e1 t
+remembers_none a b e e1 t same from s all = subst (λ (places : List Place). All (GaveUp from.edge.polled e1.polled) places) (sym same) all
+
+all-broken : (P : Place → Type 0) (answer : Came) → ((place : Place) → answer ≡ came.Broken place → P place) → All P (broken_of answer)
+unfolding broken_of
+all-broken P came.Nothing gave = All-nil P
+all-broken P (came.Bytes place) gave = All-nil P
+all-broken P (came.Broken place) gave = one_all P place (gave place refl)
+all-broken P (came.End place) gave = All-nil P
+all-broken P came.Closed gave = All-nil P
+all-broken P came.Fault gave = All-nil P
+
+-- the place of which the answer says so is to be closed too
+pub remembers_came : {E : Type 0} (a b : Server) (e e1 : EdgeState) (t : Told) (got : Got) (room : List ℕ) (r : Result Came E) (answer : Came)
+    → ((from : Beginning) (old new : EdgeState) → Serves from old t a.core a.streams → Polls old new got room → (place : Place) → r ≡ Ok (came.Broken place) → GaveUp from.edge.polled new.polled place) → r ≡ Ok answer → Polls e e1 got room → b.broken ≡ a.broken ++ broken_of answer → Remembers a b e e1 t
+remembers_came a b e e1 t got room r answer gave is polls same from s all =
+    subst (λ (places : List Place). All (GaveUp from.edge.polled e1.polled) places) (sym same)
+    (All-append (GaveUp from.edge.polled e1.polled) a.broken (broken_of answer) all (all-broken (GaveUp from.edge.polled e1.polled) answer (λ place broke. gave from e e1 s polls place (is ∙ ap (λ (x : Came). Ok x) broke))))
+
+pub put_then : (a b : Server) (e e1 : EdgeState) (t t1 : Told) (core : Core) (streams : List Pending) → ((from : Beginning) → Serves from e t a.core a.streams → Serves from e1 t1 core streams) → TellsOn e e1 → e1.closes ≡ e.closes → b.core ≡ core → b.streams ≡ streams → b.broken ≡ a.broken
+    → Goes a b e e1 t t1
 unfolding Goes
-put_then a b e e1 t t1 core streams goes core_is streams_is from s = rw (core_is, streams_is) (goes from s)
+put_then a b e e1 t t1 core streams goes tells closes core_is streams_is broken from s = record {
+  serves = rw (core_is, streams_is) (goes from s.serves);
+  closes = same_waits from.edge e1 a.broken b.broken broken (closes_on from.edge e e1 a.broken tells closes s.closes);
+}
 
 -- places were closed behind it
-pub close_then : (a b c : Server) (e e1 e2 : EdgeState) (t t1 : Told) → Goes a b e e1 t t1 → Rests e1 e2 → c.core ≡ b.core → c.streams ≡ b.streams → Goes a c e e2 t t1
-close_then a b c e e1 e2 t t1 first rests core streams = goes_then a b c e e1 e2 t t1 t1 first (goes_then b b c e1 e2 e2 t1 t1 t1 (rests_goes b e1 e2 t1 rests) (goes_kept b c e2 t1 core streams))
+pub close_then : (a b c : Server) (e e1 e2 : EdgeState) (t t1 : Told) → Goes a b e e1 t t1 → Rests e1 e2 → c.core ≡ b.core → c.streams ≡ b.streams → ((first : EdgeState) → Closes first e1 b.broken → Closes first e2 c.broken) → Goes a c e e2 t t1
+unfolding Goes
+close_then a b c e e1 e2 t t1 first rests core streams closes from s =
+    let s1 : Holds from e1 t1 b = first from s in record {
+      serves = rw (core, streams) (serves-rests from e1 e2 t1 b.core b.streams rests s1.serves);
+      closes = closes from.edge s1.closes;
+    }
 
 pub rest_counts : (e e1 e2 : EdgeState) → e2 ≡ e1 → CountsOn e e1 → CountsOn e e2
 rest_counts e e1 e2 same counts = rw same counts
 
 -- ## Once the clock and the orders were asked
 
-pub moves_work : (a b : Server) (edge : EdgeState) (t t1 : Told) (k k1 : Sources) → b.streams ≡ a.streams → MovesBoth 1 1 a.core b.core t t1 k k1 → Works a b edge t t1 k k1
+pub moves_work : (a b : Server) (edge : EdgeState) (t t1 : Told) (k k1 : Sources) → b.streams ≡ a.streams → b.broken ≡ a.broken → MovesBoth 1 1 a.core b.core t t1 k k1 → Works a b edge t t1 k k1
 unfolding MovesBoth Works
-moves_work a b edge t t1 k k1 streams (given, are, asked, moves) = (given, are, asked, λ from s. moves from edge b.streams (subst (λ (ps : List Pending). Serves from edge t a.core ps) (sym streams) s))
+moves_work a b edge t t1 k k1 streams broken (given, are, asked, moves) = (
+  given,
+  are,
+  asked,
+  λ from s. record {
+    serves = moves from edge b.streams (subst (λ (ps : List Pending). Serves from edge t a.core ps) (sym streams) s.serves);
+    closes = same_waits from.edge edge a.broken b.broken broken s.closes;
+  },
+)
 
 pub breaks_work : (n : ℕ) (a b : Server) (edge : EdgeState) (t t1 : Told) (k k1 : Sources) → (1 ≡ n) ⊎ (1 ≡ suc n) → BreaksBoth 1 n a.core b.core t t1 k k1 → WorksPart a b edge t t1 k k1
 unfolding BreaksBoth WorksPart
-breaks_work n a b edge t t1 k k1 even (given, are, asked, breaks) = (given, are.orders_are, answers_almost 1 n given even are, asked, λ from s. breaks from edge a.streams s)
+breaks_work n a b edge t t1 k k1 even (given, are, asked, breaks) = (given, are.orders_are, answers_almost 1 n given even are, asked, λ from s. record { ended = breaks from edge a.streams s.serves; closes = none_waits from.edge edge a.broken s.closes })
 
-serves-none : (from : Beginning) (edge : EdgeState) (told : Told) (core : Core) (streams : List Pending) → Serves from edge told core streams → Serves (after from none_given) edge told core streams
-serves-none from edge told core streams s =
-    subst (λ (m : List ℕ). Serves (record from { moments = m; orders = from.orders ++ [] }) edge told core streams) (sym (append-nil from.moments))
-    (subst (λ (o : List (Option Order)). Serves (record from { orders = o }) edge told core streams) (sym (append-nil from.orders)) s)
+holds-none : (from : Beginning) (edge : EdgeState) (told : Told) (server : Server) → Holds from edge told server → Holds (after from none_given) edge told server
+holds-none from edge told server s =
+    subst (λ (m : List ℕ). Holds (record from { moments = m; orders = from.orders ++ [] }) edge told server) (sym (append-nil from.moments))
+    (subst (λ (o : List (Option Order)). Holds (record from { orders = o }) edge told server) (sym (append-nil from.orders)) s)
 
 -- nothing was asked and nothing was done
 pub goes_on_none : (a : Server) (e : EdgeState) (t : Told) (k : Sources) → GoesOn a a e e t t k k
 unfolding GoesOn
-goes_on_none a e t k = (none_given, (refl, polls_none a e), asked_none k, λ from s. serves-none from e t a.core a.streams s)
+goes_on_none a e t k = (none_given, (refl, polls_none a e), asked_none k, λ from s. holds-none from e t a s)
 
 ended-none : (from : Beginning) (edge : EdgeState) (told : Told) (known : Known) → Ended from edge told known → EndedAfter from none_given edge told known
 ended-none from edge told known s = (
@@ -222,10 +284,13 @@ ended-none from edge told known s = (
       (subst (λ (o : List (Option Order)). Ended (record from { orders = o }) edge told known) (sym (append-nil from.orders)) s),
 )
 
+halted-none : (from : Beginning) (edge : EdgeState) (told : Told) (known : Known) → Halted from edge told known → HaltedAfter from none_given edge told known
+halted-none from edge told known s = record { ended = ended-none from edge told known s.ended; closes = s.closes }
+
 -- the poll of a round ended the run
 pub heard_halts : (a b : Server) (e e1 : EdgeState) (t t1 : Told) (k : Sources) → Halts a b e e1 t t1 → e1.polls ≡ one_more e.polls → HaltsOn a b e e1 t t1 k k
 unfolding Halts HaltsOn
-heard_halts a b e e1 t t1 k halts polled = (none_given, (even_almost none_given refl, heard_part a e e1 polled), asked_none k, λ from s. ended-none from e1 t1 b.core.switch (halts from s))
+heard_halts a b e e1 t t1 k halts polled = (none_given, (even_almost none_given refl, heard_part a e e1 polled), asked_none k, λ from s. halted-none from e1 t1 b.core.switch (halts from s))
 
 -- orders and the clock were asked behind it
 pub work_goes : (a b c : Server) (e e1 : EdgeState) (t t1 t2 : Told) (k k1 : Sources) → Goes a b e e1 t t1 → Hears a b e e1 → Works b c e1 t1 t2 k k1 → c.unpolled ≡ b.unpolled → GoesOn a c e e1 t t2 k k1
@@ -244,10 +309,13 @@ unfolding Goes GoesOn
 goes_on_goes a b c e e1 e2 t t1 t2 k k1 (given, (even, polls), asked, first) later unheard =
     (given, (even, polls_kept a b c e e1 e2 (length given.orders) polls unheard), asked, λ from s. later (after from given) (first from s))
 
+halted-behind : (from : Beginning) (given : Given) (edge : EdgeState) (told : Told) (known : Known) → Halted (after from given) edge told known → HaltedAfter from given edge told known
+halted-behind from given edge told known s = record { ended = (given.orders, inl refl, s.ended); closes = s.closes }
+
 pub goes_on_halts : (a b c : Server) (e e1 e2 : EdgeState) (t t1 t2 : Told) (k k1 : Sources) → GoesOn a b e e1 t t1 k k1 → Halts b c e1 e2 t1 t2 → IsUnheard b c e1 e2 → HaltsOn a c e e2 t t2 k k1
 unfolding Halts GoesOn HaltsOn
 goes_on_halts a b c e e1 e2 t t1 t2 k k1 (given, (even, polls), asked, first) later unheard =
-    (given, (even_almost given even, part_of a c e e2 (length given.orders) (polls_kept a b c e e1 e2 (length given.orders) polls unheard)), asked, λ from s. (given.orders, inl refl, later (after from given) (first from s)))
+    (given, (even_almost given even, part_of a c e e2 (length given.orders) (polls_kept a b c e e1 e2 (length given.orders) polls unheard)), asked, λ from s. halted-behind from given e2 t2 c.core.switch (later (after from given) (first from s)))
 
 -- one round after the other
 pub goes_on_then : (a b c : Server) (e e1 e2 : EdgeState) (t t1 t2 : Told) (k k1 k2 : Sources) → GoesOn a b e e1 t t1 k k1 → GoesOn b c e1 e2 t1 t2 k1 k2 → GoesOn a c e e2 t t2 k k2
@@ -257,10 +325,13 @@ goes_on_then a b c e e1 e2 t t1 t2 k k1 k2 (xs, (even, polls), asked, first) (ys
   (even_then xs ys even even2, subst (λ (n : ℕ). PollsOn a c e e2 n) (sym (length-append xs.orders ys.orders)) (polls_then a b c e e1 e2 (length xs.orders) (length ys.orders) polls polls2)),
   asked_then k k1 k2 xs ys asked asked2,
   λ from s.
-      subst (λ (m : List ℕ). Serves (record from { moments = m; orders = from.orders ++ (xs.orders ++ ys.orders) }) e2 t2 c.core c.streams) (append_assoc from.moments xs.moments ys.moments)
-      (subst (λ (o : List (Option Order)). Serves (record from { moments = (from.moments ++ xs.moments) ++ ys.moments; orders = o }) e2 t2 c.core c.streams) (append_assoc from.orders xs.orders ys.orders)
+      subst (λ (m : List ℕ). Holds (record from { moments = m; orders = from.orders ++ (xs.orders ++ ys.orders) }) e2 t2 c) (append_assoc from.moments xs.moments ys.moments)
+      (subst (λ (o : List (Option Order)). Holds (record from { moments = (from.moments ++ xs.moments) ++ ys.moments; orders = o }) e2 t2 c) (append_assoc from.orders xs.orders ys.orders)
       (later (after from xs) (first from s))),
 )
+
+halted-more : (from : Beginning) (xs ys : Given) (edge : EdgeState) (told : Told) (known : Known) → HaltedAfter (after from xs) ys edge told known → HaltedAfter from (given_then xs ys) edge told known
+halted-more from xs ys edge told known s = record { ended = ended_more from xs ys edge told known s.ended; closes = s.closes }
 
 pub halts_on_then : (a b c : Server) (e e1 e2 : EdgeState) (t t1 t2 : Told) (k k1 k2 : Sources) → GoesOn a b e e1 t t1 k k1 → HaltsOn b c e1 e2 t1 t2 k1 k2 → HaltsOn a c e e2 t t2 k k2
 unfolding GoesOn HaltsOn
@@ -268,13 +339,13 @@ halts_on_then a b c e e1 e2 t t1 t2 k k1 k2 (xs, (even, polls), asked, first) (y
   given_then xs ys,
   (almost_then xs ys even even2, subst (λ (n : ℕ). PollsPart a e e2 n) (sym (length-append xs.orders ys.orders)) (polls_part a b e e1 e2 (length xs.orders) (length ys.orders) polls polls2)),
   asked_then k k1 k2 xs ys asked asked2,
-  λ from s. ended_more from xs ys e2 t2 c.core.switch (later (after from xs) (first from s)),
+  λ from s. halted-more from xs ys e2 t2 c.core.switch (later (after from xs) (first from s)),
 )
 
 -- it ends where it began
 pub same_halts_on : (a : Server) (e : EdgeState) (t : Told) (k : Sources) → HaltsOn a a e e t t k k
 unfolding HaltsOn
-same_halts_on a e t k = (none_given, (even_almost none_given refl, part_of a a e e 0 (polls_none a e)), asked_none k, λ from s. ended-none from e t a.core.switch (ended-of from e t a.core a.streams s))
+same_halts_on a e t k = (none_given, (even_almost none_given refl, part_of a a e e 0 (polls_none a e)), asked_none k, λ from s. halted-none from e t a.core.switch (halted-of from e t a s))
 
 -- a rest changes nothing
 pub rest_goes_on : (a b : Server) (e e1 e2 : EdgeState) (t t1 : Told) (k k1 : Sources) → e2 ≡ e1 → GoesOn a b e e1 t t1 k k1 → GoesOn a b e e2 t t1 k k1
@@ -283,15 +354,15 @@ rest_goes_on a b e e1 e2 t t1 k k1 same goes = rw same goes
 over-goes : (a b c : Server) (e e1 : EdgeState) (t t1 : Told) (k k1 : Sources) → GoesOn a b e e1 t t1 k k1 → HasNoEnd b.core t1 c.core.switch → IsOver a c e t
 unfolding GoesOn HasNoEnd
 over-goes a b c e e1 t t1 k k1 (given, (even, polls), asked, goes) over from s ends =
-    let s1 : Serves (after from given) e1 t1 b.core b.streams = goes from s in
-    over (after from given) e1 s1.deeds s1.stands ends
+    let s1 : Holds (after from given) e1 t1 b = goes from s in
+    over (after from given) e1 s1.serves.deeds s1.serves.stands ends
 
 -- the run is over, once the epoch was ended where that was due
-pub over_on : (a b c : Server) (e e1 : EdgeState) (t t1 t2 : Told) (k k1 : Sources) → GoesOn a b e e1 t t1 k k1 → c.streams ≡ b.streams → c.unpolled ≡ b.unpolled → Moves b.core c.core t1 t2 → c.core.outs ≡ b.core.outs → ((place : Place) → left_at b.core.outs place ≡ [])
+pub over_on : (a b c : Server) (e e1 : EdgeState) (t t1 t2 : Told) (k k1 : Sources) → GoesOn a b e e1 t t1 k k1 → c.streams ≡ b.streams → c.broken ≡ b.broken → c.unpolled ≡ b.unpolled → Moves b.core c.core t1 t2 → c.core.outs ≡ b.core.outs → ((place : Place) → left_at b.core.outs place ≡ [])
     → c.core.unlisted ≡ b.core.unlisted → b.core.unlisted ≡ 0 → HasNoEnd b.core t1 c.core.switch → FinishesOn a c e e1 t t2 k k1
 unfolding FinishesOn
-over_on a b c e e1 t t1 t2 k k1 goes streams unpolled moves outs none unlisted listed over = (
-  goes_on_goes a b c e e1 e1 t t1 t2 k k1 goes (moves_goes b c e1 t1 t2 streams moves) (record { unpolled = unpolled; polls = refl }),
+over_on a b c e e1 t t1 t2 k k1 goes streams broken unpolled moves outs none unlisted listed over = (
+  goes_on_goes a b c e e1 e1 t t1 t2 k k1 goes (moves_goes b c e1 t1 t2 streams broken moves) (record { unpolled = unpolled; polls = refl }),
   (λ place. ap (λ (o : Owing). left_at o place) outs ∙ none place),
   unlisted ∙ listed,
   over-goes a b c e e1 t t1 k k1 goes over,

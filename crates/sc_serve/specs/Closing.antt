@@ -1,10 +1,38 @@
--- A close takes nothing, tells nothing of what came and is no poll.
-use Rattle.std.specs.Prelude.{◌≡◌}
+-- What a close does, and which places a server closes (RFC 3261 section 18.3).
+use Rattle.std.specs.Prelude.{◌≡◌, ◌⊎◌, Option, None, Some, List, [], ◌∷◌, ◌++◌, map}
+use Rattle.std.specs.List.{All}
 use Rattle.sc_value.specs.declared.ids.Place.{Place}
 use Rattle.sc_edge.specs.Edges.{EdgeState}
+use Rattle.sc_edge.specs.declared.edge.Closing.{Closing}
+use Rattle.sc_rounds.specs.GivingUp.{GaveUp}
+use Rattle.sc_rounds.specs.declared.polling.Came.{Came}
+use Rattle.sc_rounds.specs.declared.polling.Came.TheVariants as came
 
 -- no place took anything, nothing is told to have come, and nothing was polled
 pub record Rests (old new : EdgeState) : Type 0 where
   pub took : (place : Place) → new.took place ≡ old.took place
   pub polled : new.polled ≡ old.polled
   pub polls : new.polls ≡ old.polls
+
+-- an edge told that it closed these places, one after the other, or it doesn't tell its closes
+unfoldable pub ClosedSo : Option (List Closing) → Option (List Closing) → List Place → Type 0
+ClosedSo None now places = now ≡ None
+ClosedSo (Some old) now places =
+    ((closings : List Closing) × (now ≡ Some (old ++ closings))
+    × (map (λ closing. closing.place) closings ≡ places)) ⊎ (now ≡ None)
+
+-- only places were closed that were given up, and so are these, which are to be closed
+pub record Closes (first now : EdgeState) (waiting : List Place) : Type 0 where
+  pub closed : List Place
+  pub told : ClosedSo first.closes now.closes closed
+  pub gave : All (GaveUp first.polled now.polled) closed
+  pub waits : All (GaveUp first.polled now.polled) waiting
+
+-- the place that is to be closed, of what came
+unfoldable pub broken_of : Came → List Place
+broken_of came.Nothing = []
+broken_of (came.Bytes place) = []
+broken_of (came.Broken place) = place ∷ []
+broken_of (came.End place) = []
+broken_of came.Closed = []
+broken_of came.Fault = []

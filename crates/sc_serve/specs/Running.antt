@@ -21,20 +21,35 @@ use Rattle.sc_serve.specs.declared.stop.Stop.{Stop}
 use Rattle.sc_serve.specs.declared.stop.Stop.TheVariants as stops
 use Rattle.sc_rounds.specs.Moving.{EndedAfter}
 use Rattle.sc_rounds.specs.Serving.{Ended, Serves, running}
+use Rattle.sc_serve.specs.Closing.{Closes}
 use Rattle.sc_serve.specs.Polls.{counted_on}
 use Rattle.sc_serve.specs.Served.{Leaves}
+
+-- it stands between two rounds, and closed only places that were given up
+pub record Holds (from : Beginning) (edge : EdgeState) (told : Told) (server : Server) : Type 0 where
+  pub serves : Serves from edge told server.core server.streams
+  pub closes : Closes from.edge edge server.broken
+
+-- the run ended, and it closed only such places
+pub record Halted (from : Beginning) (edge : EdgeState) (told : Told) (known : Known) : Type 0 where
+  pub ended : Ended from edge told known
+  pub closes : Closes from.edge edge []
+
+-- the same, once the clock and the orders answered so
+pub record HaltedAfter (from : Beginning) (given : Given) (edge : EdgeState) (told : Told)
+    (known : Known) : Type 0 where
+  pub ended : EndedAfter from given edge told known
+  pub closes : Closes from.edge edge []
 
 -- it stands between two rounds as before
 unfoldable pub Goes : Server → Server → EdgeState → EdgeState → Told → Told → Type 0
 Goes old new edge edge2 told told2 =
-    (from : Beginning) → Serves from edge told old.core old.streams
-    → Serves from edge2 told2 new.core new.streams
+    (from : Beginning) → Holds from edge told old → Holds from edge2 told2 new
 
 -- the run ended
 unfoldable pub Halts : Server → Server → EdgeState → EdgeState → Told → Told → Type 0
 Halts old new edge edge2 told told2 =
-    (from : Beginning) → Serves from edge told old.core old.streams
-    → Ended from edge2 told2 new.core.switch
+    (from : Beginning) → Holds from edge told old → Halted from edge2 told2 new.core.switch
 
 -- a fault of the listener was counted where the cause is one
 unfoldable pub Blames : EdgeState → EdgeState → Stop → Type 0
@@ -84,15 +99,14 @@ pub record PollsPart (old : Server) (edge edge2 : EdgeState) (rounds : ℕ) : Ty
 unfoldable pub Works : Server → Server → EdgeState → Told → Told → Sources → Sources → Type 0
 Works old new edge told told2 sources sources2 =
     (given : Given) × AreAnswers 1 1 given × Asked sources sources2 given
-    × ((from : Beginning) → Serves from edge told old.core old.streams
-    → Serves (after from given) edge told2 new.core new.streams)
+    × ((from : Beginning) → Holds from edge told old → Holds (after from given) edge told2 new)
 
 -- the run ended, where orders were asked for
 unfoldable pub WorksPart : Server → Server → EdgeState → Told → Told → Sources → Sources → Type 0
 WorksPart old new edge told told2 sources sources2 =
     (given : Given) × (length given.orders ≡ 1) × AreAlmostEven given × Asked sources sources2 given
-    × ((from : Beginning) → Serves from edge told old.core old.streams
-    → EndedAfter from given edge told2 new.core.switch)
+    × ((from : Beginning) → Holds from edge told old
+    → HaltedAfter from given edge told2 new.core.switch)
 
 -- it stands between two rounds as before, and in each round both were asked once, and the edge was
 -- polled once at most
@@ -101,8 +115,7 @@ unfoldable pub GoesOn : Server → Server → EdgeState → EdgeState → Told �
 GoesOn old new edge edge2 told told2 sources sources2 =
     (given : Given) × (AreEven given × PollsOn old new edge edge2 (length given.orders))
     × Asked sources sources2 given
-    × ((from : Beginning) → Serves from edge told old.core old.streams
-    → Serves (after from given) edge2 told2 new.core new.streams)
+    × ((from : Beginning) → Holds from edge told old → Holds (after from given) edge2 told2 new)
 
 -- the run ended, where it had obeyed the orders, but maybe for the last one
 unfoldable pub HaltsOn : Server → Server → EdgeState → EdgeState → Told → Told → Sources → Sources
@@ -110,14 +123,13 @@ unfoldable pub HaltsOn : Server → Server → EdgeState → EdgeState → Told 
 HaltsOn old new edge edge2 told told2 sources sources2 =
     (given : Given) × (AreAlmostEven given × PollsPart old edge edge2 (length given.orders))
     × Asked sources sources2 given
-    × ((from : Beginning) → Serves from edge told old.core old.streams
-    → EndedAfter from given edge2 told2 new.core.switch)
+    × ((from : Beginning) → Holds from edge told old
+    → HaltedAfter from given edge2 told2 new.core.switch)
 
 -- where it stood so, the epoch that runs now hasn't to end
 abbrev pub IsOver : Server → Server → EdgeState → Told → Type 0
 IsOver old new edge told =
-    (from : Beginning) → Serves from edge told old.core old.streams
-    → HasToEnd from.setup (running new.core.switch) → ⊥
+    (from : Beginning) → Holds from edge told old → HasToEnd from.setup (running new.core.switch) → ⊥
 
 -- it stands behind its last round, with nothing left to be put, the notice was told what lived
 -- behind the last step, and the epoch hasn't to end
@@ -150,6 +162,7 @@ pub record IsNew (server : Server) : Type 0 where
   pub handed : server.core.handed ≡ 0
   pub unlisted : server.core.unlisted ≡ 0
   pub streams : server.streams ≡ []
+  pub broken : server.broken ≡ []
   pub unpolled : server.unpolled ≡ 0
 
 -- the status of a run that couldn't go on

@@ -2,8 +2,8 @@
 
 ghost use Rattle.std.specs.Prelude.{◌≡◌};
 ghost use Rattle.sc_value.specs.declared.ids.Place.{Place};
-ghost use Rattle.sc_edge.specs.Edges.{CountsOn};
-ghost use Rattle.sc_serve.specs.Closing.{Rests};
+ghost use Rattle.sc_edge.specs.Edges.{CountsOn, EdgeState};
+ghost use Rattle.sc_serve.specs.Closing.{Closes, Rests};
 
 use crate::watch::Watch;
 use sc_edge::Edge;
@@ -14,6 +14,8 @@ use sc_value::{List, Place};
 pub fn close_broken<E: Edge>(edge: &mut E, broken: &mut List<Place>, outs: &Outs, watch: &mut Watch)
     ensures rests { Rests (E.state edge.old) (E.state edge.new) }
     ensures later { CountsOn (E.state edge.old) (E.state edge.new) }
+    ensures closes { (first : EdgeState) → Closes first (E.state edge.old) broken.old
+        → Closes first (E.state edge.new) broken.new }
 {
     for back in 0..broken.len() {
         close_at(edge, broken, outs, watch, back);
@@ -30,6 +32,8 @@ fn close_at<E: Edge>(
 )
     ensures rests { Rests (E.state edge.old) (E.state edge.new) }
     ensures later { CountsOn (E.state edge.old) (E.state edge.new) }
+    ensures closes { (first : EdgeState) → Closes first (E.state edge.old) broken.old
+        → Closes first (E.state edge.new) broken.new }
 {
     if back >= broken.len() {
         return;

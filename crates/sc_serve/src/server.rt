@@ -1,6 +1,7 @@
-ghost use Rattle.std.specs.Prelude.{◌≡◌, ◌≤◌, ◌+◌, [], true, false};
+ghost use Rattle.std.specs.Prelude.{◌≡◌, ◌≤◌, ◌+◌, ◌++◌, [], true, false, OnErr, OnOk};
 ghost use Rattle.sc_value.specs.declared.ids.Place.{Place};
 ghost use Rattle.sc_outs.specs.Owing.{left_at};
+ghost use Rattle.sc_serve.specs.Closing.{broken_of};
 
 use crate::watch::Watch;
 use sc_rounds::{Came, Core, Streams, Went};
@@ -40,6 +41,7 @@ impl Server {
     pub fn new(alloc: Global, core: Core, stop_after: u64) -> Server
         ensures core { result.core ≡ core }
         ensures streams { result.streams ≡ [] }
+        ensures broken { result.broken ≡ [] }
         ensures unpolled { result.unpolled ≡ 0 }
     {
         Server {
@@ -59,6 +61,7 @@ impl Server {
     pub fn takes_more(&mut self) -> bool
         ensures core { self.new.core ≡ self.old.core }
         ensures streams { self.new.streams ≡ self.old.streams }
+        ensures broken { self.new.broken ≡ self.old.broken }
         ensures more { result ≡ true → self.new.unpolled ≡ 0 }
         ensures none { result ≡ false → self.new.unpolled ≡ self.old.unpolled + 1 }
         ensures few { result ≡ false → self.new.unpolled ≤ 15 }
@@ -85,6 +88,8 @@ impl Server {
     pub fn note(&mut self, came: Came) -> Result<bool, NoMemory>
         ensures core { self.new.core ≡ self.old.core }
         ensures streams { self.new.streams ≡ self.old.streams }
+        ensures broken { OnOk result (self.new.broken ≡ self.old.broken ++ broken_of came) }
+        ensures same { OnErr result (self.new.broken ≡ self.old.broken) }
         ensures unpolled { self.new.unpolled ≡ self.old.unpolled }
     {
         match came {
@@ -116,6 +121,7 @@ impl Server {
     pub fn note_put(&mut self, place: Place, went: Went) -> Result<bool, NoMemory>
         ensures core { self.new.core ≡ self.old.core }
         ensures streams { self.new.streams ≡ self.old.streams }
+        ensures broken { self.new.broken ≡ self.old.broken }
         ensures unpolled { self.new.unpolled ≡ self.old.unpolled }
     {
         match went {

@@ -1,6 +1,8 @@
 use Rattle.sc_rounds.specs.Serving.{ServesMore}
 use Rattle.sc_rounds.proofs.Refusals.{memory_due}
 use Rattle.sc_rounds.proofs.Listenings.{bad_err, bad_on, long_err, long_on, message_err, message_on, on_ended, on_open, some_via}
+use Rattle.std.proofs.Common.{inl, inr}
+use Rattle.sc_rounds.proofs.GivingUps.{gave_bad, gave_long}
 use Rattle.sc_rounds.proofs.hearing.hear_one.Goals as goal
 
 pub take_message-requires : goal.take_message-requires
@@ -39,3 +41,18 @@ returns-in-NoMemory-clause-err g c from edge text s = on_ended from edge (g.N.No
 
 pub returns-in-NoMemory-clause-due : goal.returns-in-NoMemory-clause-due
 returns-in-NoMemory-clause-due g c = memory_due _
+
+pub returns-in-Message-clause-gave : goal.returns-in-Message-clause-gave
+returns-in-Message-clause-gave g c from edge text s is = inl is
+
+pub returns-in-NotYet-clause-gave : goal.returns-in-NotYet-clause-gave
+returns-in-NotYet-clause-gave g c from edge text s is = inl is
+
+pub returns-in-Bad-clause-gave : goal.returns-in-Bad-clause-gave
+returns-in-Bad-clause-gave g c from edge text s is = inr (gave_bad from edge (g.N.Notice.noted c.args.notice.now) _ _ _ text _ c.in-Bad.bad _ c.in-Bad.is c.next.ensures.hears s)
+
+pub returns-in-Long-clause-gave : goal.returns-in-Long-clause-gave
+returns-in-Long-clause-gave g c from edge text s is = inr (gave_long from edge (g.N.Notice.noted c.args.notice.now) _ _ _ text _ _ c.in-Long.is c.next.ensures.hears s)
+
+pub returns-in-NoMemory-clause-gave : goal.returns-in-NoMemory-clause-gave
+returns-in-NoMemory-clause-gave g c from edge text s is = inl is

@@ -16,3 +16,10 @@ returns-in-Err-clause-err g c from old new s comes = comes_ended from old new (g
 
 pub returns-in-Err-clause-due : goal.returns-in-Err-clause-due
 returns-in-Err-clause-due g c = memory_due _
+
+pub returns-in-Ok-clause-gave : goal.returns-in-Ok-clause-gave
+returns-in-Ok-clause-gave g c from old new s comes =
+    c.hear_bytes.ensures.gave from new c.args.text.now (on_start from old new (g.N.Notice.noted c.args.notice.now) _ _ _ _ _ comes c.in-Ok.ensures s)
+
+pub returns-in-Err-clause-gave : goal.returns-in-Err-clause-gave
+returns-in-Err-clause-gave g c from old new s comes place e = cc

@@ -11,3 +11,9 @@ returns-in-Ok-clause-ok g c from old new s comes =
 pub returns-in-Err-clause-err : goal.returns-in-Err-clause-err
 returns-in-Err-clause-err g c from old new s comes =
     ended_lost from old new (g.N.Notice.noted c.args.notice.now) (g.N.Notice.noted c.lose.new.notice) _ c.lose.new.core _ (answers.End c.args.at) c.args.at false comes (ends_so c.args.at) c.in-Err.ensures.err s
+
+pub returns-in-Ok-clause-none : goal.returns-in-Ok-clause-none
+returns-in-Ok-clause-none g c place e = cc
+
+pub returns-in-Err-clause-none : goal.returns-in-Err-clause-none
+returns-in-Err-clause-none g c place e = cc

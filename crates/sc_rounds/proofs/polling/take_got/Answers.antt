@@ -29,3 +29,21 @@ returns-in-NotYet-clause-ok g c from old new s polls = serves_not_yet from old n
 
 pub returns-in-Fault-clause-ok : goal.returns-in-Fault-clause-ok
 returns-in-Fault-clause-ok g c from old new s polls = serves_fault from old new (g.N.Notice.noted c.args.notice.now) _ _ _ _ c.in-Fault.is s polls
+
+pub returns-in-Bytes-clause-gave : goal.returns-in-Bytes-clause-gave
+returns-in-Bytes-clause-gave g c from old new s polls = c.take_bytes.ensures.gave from old new s (comes_of old new _ (got.Bytes c.in-Bytes.place c.in-Bytes.count) _ c.in-Bytes.is refl polls)
+
+pub returns-in-End-clause-gave : goal.returns-in-End-clause-gave
+returns-in-End-clause-gave g c from old new s polls place e = absurd (c.take_end.ensures.none place e)
+
+pub returns-in-Failed-clause-gave : goal.returns-in-Failed-clause-gave
+returns-in-Failed-clause-gave g c from old new s polls place e = absurd (c.take_failure.ensures.none place e)
+
+pub returns-in-Closed-clause-gave : goal.returns-in-Closed-clause-gave
+returns-in-Closed-clause-gave g c from old new s polls place e = cc
+
+pub returns-in-NotYet-clause-gave : goal.returns-in-NotYet-clause-gave
+returns-in-NotYet-clause-gave g c from old new s polls place e = cc
+
+pub returns-in-Fault-clause-gave : goal.returns-in-Fault-clause-gave
+returns-in-Fault-clause-gave g c from old new s polls place e = cc

@@ -4,10 +4,10 @@ use Rattle.sc_serve.proofs.Roundings.{breaks_work, moves_work, no_blames}
 use Rattle.sc_serve.proofs.rounds.step_once.Goals as goal
 
 pub returns-then-ordered-clause-ok : goal.returns-then-ordered-clause-ok
-returns-then-ordered-clause-ok g c edge = moves_work _ _ edge _ _ _ _ refl (both_then 1 0 0 1 _ _ _ _ _ _ _ _ _ (ordered_both _ _ _ _ _ _ _ c.in-Ok.ensures.ok) (both_then 0 0 1 0 _ _ _ _ _ _ _ _ _ (timed_both _ _ _ _ _ _ _ c.in-Ok-take_moment.ensures.ok) (moves_both _ _ _ _ _ c.in-Ok-work_once.ensures.ok)))
+returns-then-ordered-clause-ok g c edge = moves_work _ _ edge _ _ _ _ refl refl (both_then 1 0 0 1 _ _ _ _ _ _ _ _ _ (ordered_both _ _ _ _ _ _ _ c.in-Ok.ensures.ok) (both_then 0 0 1 0 _ _ _ _ _ _ _ _ _ (timed_both _ _ _ _ _ _ _ c.in-Ok-take_moment.ensures.ok) (moves_both _ _ _ _ _ c.in-Ok-work_once.ensures.ok)))
 
 pub returns-else-ordered-clause-ok : goal.returns-else-ordered-clause-ok
-returns-else-ordered-clause-ok g c edge = moves_work _ _ edge _ _ _ _ refl (both_then 1 0 0 1 _ _ _ _ _ _ _ _ _ (ordered_both _ _ _ _ _ _ _ c.in-Ok.ensures.ok) (both_then 0 0 1 0 _ _ _ _ _ _ _ _ _ (timed_both _ _ _ _ _ _ _ c.in-Ok-take_moment.ensures.ok) (moves_both _ _ _ _ _ c.in-Ok-work_once.ensures.ok)))
+returns-else-ordered-clause-ok g c edge = moves_work _ _ edge _ _ _ _ refl refl (both_then 1 0 0 1 _ _ _ _ _ _ _ _ _ (ordered_both _ _ _ _ _ _ _ c.in-Ok.ensures.ok) (both_then 0 0 1 0 _ _ _ _ _ _ _ _ _ (timed_both _ _ _ _ _ _ _ c.in-Ok-take_moment.ensures.ok) (moves_both _ _ _ _ _ c.in-Ok-work_once.ensures.ok)))
 
 pub returns-in-Err-work_once-clause-err : goal.returns-in-Err-work_once-clause-err
 returns-in-Err-work_once-clause-err g c edge = breaks_work 1 _ _ edge _ _ _ _ (inl refl) (both_breaks 1 0 1 0 _ _ _ _ _ _ _ _ _ (both_then 1 0 0 1 _ _ _ _ _ _ _ _ _ (ordered_both _ _ _ _ _ _ _ c.in-Ok.ensures.ok) (timed_both _ _ _ _ _ _ _ c.in-Ok-take_moment.ensures.ok)) (breaks_both _ _ _ _ _ c.in-Err-work_once.ensures.err))

@@ -1,0 +1,7 @@
+use Rattle.sc_rounds.proofs.polling.take_failure.Goals as goal
+
+pub returns-in-Ok-clause-none : goal.returns-in-Ok-clause-none
+returns-in-Ok-clause-none g c place e = cc
+
+pub returns-in-Err-clause-none : goal.returns-in-Err-clause-none
+returns-in-Err-clause-none g c place e = cc
