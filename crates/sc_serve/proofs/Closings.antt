@@ -1,9 +1,9 @@
 -- The places that a server closes, as it goes on.
-use Rattle.std.proofs.Common.{◌≡◌, ◌≢◌, ◌<◌, ◌+◌, ℕ, zero, suc, Bool, true, false, eqb, Option, None, Some, List, [], ◌∷◌, ◌++◌, append_assoc, refl, sym, ap, ◌∙◌, subst, inl, inr, arith}
+use Rattle.std.proofs.Common.{◌≡◌, ◌<◌, ◌+◌, ◌-◌, ℕ, zero, suc, Option, None, Some, List, [], ◌∷◌, ◌++◌, append_assoc, refl, sym, ap, ◌∙◌, subst, inl, inr, arith, get_or, set, ⊎_elim}
 use Rattle.std.specs.Prelude.{◌⊎◌, length, map, slice_index_or}
-use Rattle.std.specs.List.{All}
-use Rattle.std.proofs.lemmas.Bool.{eqb-false, eqb-true}
-use Rattle.std.proofs.lemmas.List.{append-nil, map-append}
+use Rattle.std.specs.List.{All, swap_remove}
+use Rattle.std.proofs.lemmas.Bool.{cases_eq}
+use Rattle.std.proofs.lemmas.List.{append-nil, get_or-set_other, get_or-set_same, get_or-take, length-set, length-take, map-append}
 use Rattle.std.proofs.lemmas.List.Elements.{All-append, All-nil}
 use Rattle.sc_value.specs.declared.ids.Place.{Place}
 use Rattle.sc_edge.specs.Edges.{EdgeState}
@@ -16,7 +16,7 @@ use Rattle.sc_serve.specs.Closing.{ClosedSo, Closes}
 
 pub one_all : {X : Type 0} (P : X → Type 0) (x : X) → P x → All P (x ∷ [])
 one_all P x holds zero d below = holds
-one_all P x holds (suc k) d below = cc
+one_all P x holds (suc k) d below = absurd (omega (arith, below))
 
 all-as : {X : Type 0} (P Q : X → Type 0) (xs : List X) → ((x : X) → P x → Q x) → All P xs → All Q xs
 all-as P Q xs f all k d below = f (slice_index_or xs k d) (all k d below)
@@ -80,10 +80,20 @@ closes_one first old new waiting left closing polled notes gave fewer s = record
 }
 
 -- the last takes the place of the one that goes
-pub all_swapped : {X : Type 0} (P : X → Type 0) (old new : List X) (at : ℕ) → at < length old → length new + 1 ≡ length old
-    → (((d : X) → at + 1 < length old → slice_index_or new at d ≡ slice_index_or old (length old - 1) d) × ((k : ℕ) (d : X) → k ≢ at → k + 1 < length old → slice_index_or new k d ≡ slice_index_or old k d)) → All P old → All P new
-all_swapped P old new at inside shorter (here, others) all k d below = by (eqb k at) refl
-  where
-    by : (b : Bool) → eqb k at ≡ b → P (slice_index_or new k d)
-    by true e = subst (λ (i : ℕ). P (slice_index_or new i d)) (sym (eqb-true k at e)) (subst P (sym (here d (let x : k ≡ at = eqb-true k at e in omega arith))) (all (length old - 1) d (omega arith)))
-    by false e = subst P (sym (others k d (eqb-false k at e) (omega arith))) (all k d (omega arith))
+all-swapped : {X : Type 0} (P : X → Type 0) (old : List X) (at : ℕ) (e : X) → at < length old → All P old → All P (swap_remove old at e)
+all-swapped {X} P old at e inside all k d below =
+    let last : X = get_or old (length old - 1) e in
+    let fits : k < length old - 1 = omega (arith, length-take (length old - 1) (set old at last), length-set old at last, below) in
+    subst P (sym (get_or-take (length old - 1) (set old at last) k d fits))
+    (⊎_elim (λ (same : k ≡ at). subst (λ (i : ℕ). P (get_or (set old at last) i d)) (sym same) (subst P (sym (get_or-set_same old at last d inside)) (all (length old - 1) e (omega (arith, inside)))))
+    (λ (other : k ≡ at → ⊥). subst P (sym (get_or-set_other old at k last d other)) (all k d (omega (arith, fits)))) (cases_eq k at))
+
+-- as the code does it: the place so far from the last one goes
+pub closes_last : (first old new : EdgeState) (waiting seen inner left : List Place) (closing : Closing) (len n back at : ℕ) (d e : Place) → new.polled ≡ old.polled → Notes old.closes new.closes closing → seen ≡ waiting → inner ≡ waiting → len ≡ length waiting → n ≡ length waiting → back < n
+    → at ≡ len - 1 - back → closing.place ≡ slice_index_or seen at d → left ≡ swap_remove inner at e → Closes first old waiting → Closes first new left
+closes_last first old new waiting seen inner left closing len n back at d e polled notes seen_is inner_is len_is n_is inside at_is place_is left_is s =
+    let below : at < length waiting = omega (arith, len_is, n_is, inside, at_is) in
+    closes_one first old new waiting left closing polled notes
+    (subst (GaveUp first.polled old.polled) (sym place_is) (subst (λ (places : List Place). GaveUp first.polled old.polled (slice_index_or places at d)) (sym seen_is) (s.waits at d below)))
+    (λ all. subst (λ (places : List Place). All (GaveUp first.polled old.polled) places) (sym left_is)
+    (subst (λ (places : List Place). All (GaveUp first.polled old.polled) (swap_remove places at e)) (sym inner_is) (all-swapped (GaveUp first.polled old.polled) waiting at e below all))) s

@@ -2,7 +2,7 @@
 use Rattle.std.proofs.Common.{◌≡◌, ◌≤◌, ℕ, suc, Option, List, [], ◌∷◌, ◌++◌, append_assoc, refl, sym, ap, ◌∙◌, subst, inl, inr, arith}
 use Rattle.std.specs.Prelude.{◌⊎◌, Result, Ok, Err, IfErr, length}
 use Rattle.std.proofs.lemmas.List.{append-nil, length-append}
-use Rattle.std.proofs.lemmas.List.Elements.{All-append, All-nil}
+use Rattle.std.proofs.lemmas.List.Elements.{All-append}
 use Rattle.std.specs.List.{All}
 use Rattle.sc_value.specs.declared.ids.Place.{Place}
 use Rattle.sc_edge.specs.Edges.{CountsOn, EdgeState, Stands}
@@ -11,7 +11,7 @@ use Rattle.sc_edge.specs.Faults.{Rose_after, one_more}
 use Rattle.sc_edge.specs.declared.edge.Got.{Got}
 use Rattle.sc_edge.specs.declared.edge.Got.TheVariants as got
 use Rattle.sc_outs.proofs.Laws.{cut_of, puts_stand}
-use Rattle.sc_courses.specs.Asking.{Sources, given_then, none_given}
+use Rattle.sc_courses.specs.Asking.{Given, Sources, given_then, none_given}
 use Rattle.sc_courses.proofs.AskingLaws.{almost_then, answers_almost, answers_even, even_almost, even_then, asked_none, asked_then, ticked_part}
 use Rattle.sc_edge.specs.declared.orders.Order.{Order}
 use Rattle.sc_courses.specs.Courses.{Beginning, Told, after}
@@ -35,7 +35,7 @@ use Rattle.sc_rounds.specs.Dues.{HasDue}
 use Rattle.sc_serve.specs.declared.server.Server.{Server}
 use Rattle.sc_serve.specs.declared.stop.Stop.{Stop}
 use Rattle.sc_serve.specs.declared.stop.Stop.TheVariants as stops
-use Rattle.sc_serve.specs.Closing.{Closes, Rests, broken_of}
+use Rattle.sc_serve.specs.Closing.{Adds, Closes, Rests}
 use Rattle.sc_outs.specs.Owing.{Owing, left_at}
 use Rattle.sc_serve.specs.Running.{Blames, FinishesOn, Goes, GoesOn, Halted, HaltedAfter, Halts, HaltsOn, Hears, Holds, IsDueAt, IsOver, IsUnheard, PollsOn, PollsPart, Works, WorksPart}
 use Rattle.sc_serve.proofs.Closings.{closes_on, none_waits, one_all, same_waits}
@@ -175,7 +175,7 @@ full_due known cause most bytes is due = rw is at due
 -- ## As the code does it
 
 -- what is remembered of what came: the places that are to be closed
-abbrev Remembers : Server → Server → EdgeState → EdgeState → Told → Type 0
+pub Remembers : Server → Server → EdgeState → EdgeState → Told → Type 0
 Remembers a b e e1 t = (from : Beginning) → Serves from e t a.core a.streams → All (GaveUp from.edge.polled e1.polled) a.broken → All (GaveUp from.edge.polled e1.polled) b.broken
 
 pub poll_goes : (a b : Server) (e e1 : EdgeState) (t t1 : Told) (answer : Got) (room : List ℕ) → ((from : Beginning) (old new : EdgeState) → Serves from old t a.core a.streams → Polls old new answer room → Serves from new t1 b.core b.streams)
@@ -201,7 +201,7 @@ put_halts a b e e1 t t1 halts tells closes from s = record { ended = halts from 
 -- and what the server remembers of it
 pub poll_then : (a b : Server) (e e1 : EdgeState) (t t1 : Told) (answer : Got) (room : List ℕ) (core : Core) (streams : List Pending)
     → ((from : Beginning) (old new : EdgeState) → Serves from old t a.core a.streams → Polls old new answer room → Serves from new t1 core streams) → Polls e e1 answer room → e1.closes ≡ e.closes → b.core ≡ core → b.streams ≡ streams → Remembers a b e e1 t → Goes a b e e1 t t1
-unfolding Goes
+unfolding Goes Remembers
 poll_then a b e e1 t t1 answer room core streams took polls closes core_is streams_is remembers from s =
     let on : Closes from.edge e1 a.broken = closes_on from.edge e e1 a.broken (polls_on e e1 answer room polls) closes s.closes in record {
       serves = rw (core_is, streams_is) (took from e e1 s.serves polls);
@@ -210,23 +210,24 @@ poll_then a b e e1 t t1 answer room core streams took polls closes core_is strea
 
 -- nothing more is to be closed
 pub remembers_none : (a b : Server) (e e1 : EdgeState) (t : Told) → b.broken ≡ a.broken → Remembers a b e e1 t
+unfolding Remembers
 remembers_none a b e e1 t same from s all = subst (λ (places : List Place). All (GaveUp from.edge.polled e1.polled) places) (sym same) all
 
-all-broken : (P : Place → Type 0) (answer : Came) → ((place : Place) → answer ≡ came.Broken place → P place) → All P (broken_of answer)
-unfolding broken_of
-all-broken P came.Nothing gave = All-nil P
-all-broken P (came.Bytes place) gave = All-nil P
-all-broken P (came.Broken place) gave = one_all P place (gave place refl)
-all-broken P (came.End place) gave = All-nil P
-all-broken P came.Closed gave = All-nil P
-all-broken P came.Fault gave = All-nil P
+all-added : (P : Place → Type 0) (answer : Came) (old new : List Place) → Adds answer old new → ((place : Place) → answer ≡ came.Broken place → P place) → All P old → All P new
+unfolding Adds
+all-added P came.Nothing old new adds gave all = subst (λ (places : List Place). All P places) (sym adds) all
+all-added P (came.Bytes place) old new adds gave all = subst (λ (places : List Place). All P places) (sym adds) all
+all-added P (came.Broken place) old new adds gave all = subst (λ (places : List Place). All P places) (sym adds) (All-append P old (place ∷ []) all (one_all P place (gave place refl)))
+all-added P (came.End place) old new adds gave all = subst (λ (places : List Place). All P places) (sym adds) all
+all-added P came.Closed old new adds gave all = subst (λ (places : List Place). All P places) (sym adds) all
+all-added P came.Fault old new adds gave all = subst (λ (places : List Place). All P places) (sym adds) all
 
 -- the place of which the answer says so is to be closed too
 pub remembers_came : {E : Type 0} (a b : Server) (e e1 : EdgeState) (t : Told) (got : Got) (room : List ℕ) (r : Result Came E) (answer : Came)
-    → ((from : Beginning) (old new : EdgeState) → Serves from old t a.core a.streams → Polls old new got room → (place : Place) → r ≡ Ok (came.Broken place) → GaveUp from.edge.polled new.polled place) → r ≡ Ok answer → Polls e e1 got room → b.broken ≡ a.broken ++ broken_of answer → Remembers a b e e1 t
-remembers_came a b e e1 t got room r answer gave is polls same from s all =
-    subst (λ (places : List Place). All (GaveUp from.edge.polled e1.polled) places) (sym same)
-    (All-append (GaveUp from.edge.polled e1.polled) a.broken (broken_of answer) all (all-broken (GaveUp from.edge.polled e1.polled) answer (λ place broke. gave from e e1 s polls place (is ∙ ap (λ (x : Came). Ok x) broke))))
+    → ((from : Beginning) (old new : EdgeState) → Serves from old t a.core a.streams → Polls old new got room → (place : Place) → r ≡ Ok (came.Broken place) → GaveUp from.edge.polled new.polled place) → r ≡ Ok answer → Polls e e1 got room → Adds answer a.broken b.broken → Remembers a b e e1 t
+unfolding Remembers
+remembers_came a b e e1 t got room r answer gave is polls adds from s all =
+    all-added (GaveUp from.edge.polled e1.polled) answer a.broken b.broken adds (λ place broke. gave from e e1 s polls place (is ∙ ap (λ (x : Came). Ok x) broke)) all
 
 pub put_then : (a b : Server) (e e1 : EdgeState) (t t1 : Told) (core : Core) (streams : List Pending) → ((from : Beginning) → Serves from e t a.core a.streams → Serves from e1 t1 core streams) → TellsOn e e1 → e1.closes ≡ e.closes → b.core ≡ core → b.streams ≡ streams → b.broken ≡ a.broken
     → Goes a b e e1 t t1

@@ -28,11 +28,11 @@ pub record Closes (first now : EdgeState) (waiting : List Place) : Type 0 where
   pub gave : All (GaveUp first.polled now.polled) closed
   pub waits : All (GaveUp first.polled now.polled) waiting
 
--- the place that is to be closed, of what came
-unfoldable pub broken_of : Came → List Place
-broken_of came.Nothing = []
-broken_of (came.Bytes place) = []
-broken_of (came.Broken place) = place ∷ []
-broken_of (came.End place) = []
-broken_of came.Closed = []
-broken_of came.Fault = []
+-- a place that gave what is no message is to be closed too, and of other answers none
+unfoldable pub Adds : Came → List Place → List Place → Type 0
+Adds came.Nothing old new = new ≡ old
+Adds (came.Bytes place) old new = new ≡ old
+Adds (came.Broken place) old new = new ≡ old ++ place ∷ []
+Adds (came.End place) old new = new ≡ old
+Adds came.Closed old new = new ≡ old
+Adds came.Fault old new = new ≡ old

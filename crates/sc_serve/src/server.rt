@@ -1,7 +1,7 @@
-ghost use Rattle.std.specs.Prelude.{◌≡◌, ◌≤◌, ◌+◌, ◌++◌, [], true, false, OnErr, OnOk};
+ghost use Rattle.std.specs.Prelude.{◌≡◌, ◌≤◌, ◌+◌, [], true, false, OnErr, OnOk};
 ghost use Rattle.sc_value.specs.declared.ids.Place.{Place};
 ghost use Rattle.sc_outs.specs.Owing.{left_at};
-ghost use Rattle.sc_serve.specs.Closing.{broken_of};
+ghost use Rattle.sc_serve.specs.Closing.{Adds};
 
 use crate::watch::Watch;
 use sc_rounds::{Came, Core, Streams, Went};
@@ -85,10 +85,11 @@ impl Server {
     }
 
     /// Remembers what came: whether anything did.
+    #[tactic(auto, unfolding(crate::specs::Closing::Adds))]
     pub fn note(&mut self, came: Came) -> Result<bool, NoMemory>
         ensures core { self.new.core ≡ self.old.core }
         ensures streams { self.new.streams ≡ self.old.streams }
-        ensures broken { OnOk result (self.new.broken ≡ self.old.broken ++ broken_of came) }
+        ensures broken { OnOk result (Adds came self.old.broken self.new.broken) }
         ensures same { OnErr result (self.new.broken ≡ self.old.broken) }
         ensures unpolled { self.new.unpolled ≡ self.old.unpolled }
     {

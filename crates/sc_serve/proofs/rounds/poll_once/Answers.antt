@@ -1,3 +1,4 @@
+use Rattle.std.proofs.Common.{refl}
 use Rattle.sc_serve.proofs.Roundings.{edge_due, fault_blames, goes_halts, memory_blames, memory_due, no_blames, poll_goes, poll_halts, poll_then, polls_of, remembers_came, remembers_none}
 use Rattle.sc_serve.proofs.rounds.poll_once.Goals as goal
 
