@@ -1,5 +1,5 @@
 -- Steps that aren't heard leave what was heard as it is.
-use Rattle.std.proofs.Common.{◌≡◌, ◌≤◌, ◌+◌, ℕ, Bool, true, false, Option, None, Some, List, [], ◌∷◌, ◌++◌, refl, sym, ap, ◌∙◌, subst, append_assoc, inl, inr}
+use Rattle.std.proofs.Common.{◌≡◌, ◌≤◌, ◌+◌, ℕ, Bool, true, false, Option, Some, List, [], ◌∷◌, ◌++◌, refl, sym, ap, ◌∙◌, subst, append_assoc, inl, inr}
 use Rattle.std.specs.Prelude.{◌⊎◌, Result, Ok, Err, OnOk, OnErr, IfOk}
 use Rattle.std.proofs.lemmas.List.{append-nil}
 use Rattle.sc_value.specs.declared.ids.AppId.{AppId}
@@ -15,7 +15,7 @@ use Rattle.sc_switch.specs.declared.refused.StepRefused.{StepRefused}
 use Rattle.sc_switch.specs.Standing.{Known, net_of, step_of}
 use Rattle.sc_outs.specs.Deeds.{Deed}
 use Rattle.sc_outs.proofs.Laws.{cut_of}
-use Rattle.sc_courses.specs.Asking.{Answered, Asked, Given, Source, Sources, given_then, none_given}
+use Rattle.sc_courses.specs.Asking.{Answered, Given, Source, Sources, given_then, none_given}
 use Rattle.sc_courses.proofs.AskingLaws.{answered_none, answers_none, answers_then, asked_none, asked_then, ticked_part}
 use Rattle.sc_courses.specs.Courses.{Beginning, Told, after, ordered}
 use Rattle.sc_courses.specs.Marks.{Hearing, is_heard}

@@ -1,4 +1,4 @@
-use Rattle.std.proofs.Common.{◌≡◌, Option, None, Some, arith}
+use Rattle.std.proofs.Common.{None, Some, arith}
 use Rattle.std.proofs.lemmas.Bool.Decides.{nat_tests}
 use Rattle.sc_courses.proofs.AskingLaws.{answered_one}
 use Rattle.sc_rounds.proofs.Movings.{unordered_moves, withdraw_err, withdraw_ok}
