@@ -1,3 +1,9 @@
 pub mod Stays
 pub mod Kept
 pub mod Ends
+pub mod Clean
+pub mod Delivered
+pub mod Turning
+pub mod OneHop
+pub mod Whole
+pub mod Sent

@@ -3,4 +3,7 @@
 
 mod laws;
 
-pub use laws::later_requests_are_passed_on;
+pub use laws::{
+    later_requests_are_passed_on, later_requests_go_all_the_way, later_requests_go_to_the_next,
+    sent_requests_come_to_the_first,
+};

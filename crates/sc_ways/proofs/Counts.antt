@@ -49,7 +49,7 @@ under a b c p q = omega (arith, p, q)
 -- ## Of a host
 
 -- the count doesn't fall, and the last serial is within it where it was
-abbrev Keeps : {S : Type 0} → ℕ → Host S → ℕ → Host S → Type 0
+abbrev pub Keeps : {S : Type 0} → ℕ → Host S → ℕ → Host S → Type 0
 Keeps count host later changed = (count ≤ later) × (host.last ≤ count → changed.last ≤ later)
 
 least : (n : ℕ) → n ≤ n
@@ -78,10 +78,10 @@ module _ {S : Type 0} where
   unfolding mark_fired
   marked entry host = refl
 
-  abbrev H : ℕ → ℕ → ℕ → Host S → ℕ → Host S → Type 0
+  abbrev pub H : ℕ → ℕ → ℕ → Host S → ℕ → Host S → Type 0
   H number now count host later changed = Keeps count host later changed
 
-  hosts : (number now : ℕ) → HostLaws {S = S} (λ form. Unit {0}) number now (H number now)
+  pub hosts : (number now : ℕ) → HostLaws {S = S} (λ form. Unit {0}) number now (H number now)
   hosts number now = record {
     same = λ count host. (least count, λ under. under);
     after = λ c d e x y z p q. (over c d e p.0 q.0, λ under. q.1 (p.1 under));
@@ -117,7 +117,7 @@ module _ {S : Type 0} where
   placed-by number count host changed net at keeps within n h false here is =
       over h.last net.count count (within n h (sym (slice_get-other net.hosts number n (λ (x : Host S). changed) (differ n number here)) ∙ is)) keeps.0
 
-  joined : (x y z : Net S) → Rises x y → Rises y z → Rises x z
+  pub joined : (x y z : Net S) → Rises x y → Rises y z → Rises x z
   joined x y z p q = record { count = over x.count y.count z.count p.count q.count; within = λ within. q.within (p.within within) }
 
   still : (net changed : Net S) → changed.count ≡ net.count → changed.hosts ≡ net.hosts → Rises net changed
@@ -126,7 +126,7 @@ module _ {S : Type 0} where
     within = λ within number host at. rw count (within number host (sym (ap (λ (hosts : List (Host S)). slice_get hosts number) all) ∙ at));
   }
 
-  nets : NetLaws {S = S} H Rises
+  pub nets : NetLaws {S = S} H Rises
   nets = record {
     same = λ net. still net net refl refl;
     after = λ x y z p q. joined x y z p q;
@@ -135,7 +135,7 @@ module _ {S : Type 0} where
     places = λ number count host changed net at keeps. record { count = keeps.0; within = λ within n h is. placed-by number count host changed net at keeps within n h (n == number) refl is };
   }
 
-  same-last : (number : ℕ) (change : Host S → Host S) (net : Net S) → ((host : Host S) → (change host).last ≡ host.last) → Rises net (change_host number change net)
+  pub same-last : (number : ℕ) (change : Host S → Host S) (net : Net S) → ((host : Host S) → (change host).last ≡ host.last) → Rises net (change_host number change net)
   same-last number change net same = change_host-walks H Rises hosts nets number change net (λ host. (least net.count, λ under. rw (same host) under))
 
   -- ## Of a step
@@ -149,7 +149,7 @@ module _ {S : Type 0} where
     unfolding invalidated
     invalidated-rises app session inbox net = joined net _ _ (obeyed-walks H Rises hosts nets setup app _ net) (without-rises app _)
 
-    closed_turn-rises : (app : AppId) (done : Outcome) (ends : Bool) (net : Net S) → Rises net (closed_turn setup app done ends net)
+    pub closed_turn-rises : (app : AppId) (done : Outcome) (ends : Bool) (net : Net S) → Rises net (closed_turn setup app done ends net)
     unfolding closed_turn
     closed_turn-rises app done true net = invalidated-rises app done.session _ net
     closed_turn-rises app done false net = with_ready-walks H Rises hosts nets app done _ net

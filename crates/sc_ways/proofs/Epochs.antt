@@ -20,13 +20,13 @@ use Rattle.sc_walks.proofs.WalkNets.{delivered-walks, obeyed-walks}
 use Rattle.sc_walks.proofs.WalkSteps.{arrived-walks, bad_by-walks, lost-walks, ticked-walks, with_ready-walks}
 
 module _ {S : Type 0} (form : Form S) (setup : Setup) where
-  abbrev H : ℕ → ℕ → ℕ → Host S → ℕ → Host S → Type 0
+  abbrev pub H : ℕ → ℕ → ℕ → Host S → ℕ → Host S → Type 0
   H number now count host later changed = Unit {0}
 
-  abbrev P : Net S → Net S → Type 0
+  abbrev pub P : Net S → Net S → Type 0
   P net changed = changed.epoch ≡ net.epoch
 
-  hosts : (number now : ℕ) → HostLaws {S = S} (λ form. Unit {0}) number now (H number now)
+  pub hosts : (number now : ℕ) → HostLaws {S = S} (λ form. Unit {0}) number now (H number now)
   hosts number now = record {
     same = λ count host. tt;
     after = λ c d e x y z p q. tt;
@@ -36,7 +36,7 @@ module _ {S : Type 0} (form : Form S) (setup : Setup) where
     marks = λ entry count host. tt;
   }
 
-  nets : NetLaws {S = S} H P
+  pub nets : NetLaws {S = S} H P
   nets = record {
     same = λ net. refl;
     after = λ x y z p q. q ∙ p;
@@ -49,7 +49,7 @@ module _ {S : Type 0} (form : Form S) (setup : Setup) where
   unfolding invalidated without_live
   invalidated-epoch app session inbox net = obeyed-walks H P hosts nets setup app _ net
 
-  closed_turn-epoch : (app : AppId) (done : Outcome) (ends : Bool) (net : Net S) → P net (closed_turn setup app done ends net)
+  pub closed_turn-epoch : (app : AppId) (done : Outcome) (ends : Bool) (net : Net S) → P net (closed_turn setup app done ends net)
   unfolding closed_turn
   closed_turn-epoch app done true net = invalidated-epoch app done.session _ net
   closed_turn-epoch app done false net = with_ready-walks H P hosts nets app done _ net

@@ -58,7 +58,7 @@ in-left x [] ys there = absurd there
 in-left x (y ∷ xs) ys (inl is) = inl is
 in-left x (y ∷ xs) ys (inr later) = inr (in-left x xs ys later)
 
-in-right : {A : Type 0} (x : A) (xs ys : List A) → IsIn x ys → IsIn x (xs ++ ys)
+pub in-right : {A : Type 0} (x : A) (xs ys : List A) → IsIn x ys → IsIn x (xs ++ ys)
 unfolding IsIn
 in-right x [] ys there = there
 in-right x (y ∷ xs) ys there = inr (in-right x xs ys there)
@@ -68,19 +68,19 @@ unfolding IsIn
 in-last x [] = inl refl
 in-last x (y ∷ xs) = inr (in-last x xs)
 
-in-map : {A B : Type 0} (f : A → B) (x : A) (xs : List A) → IsIn x xs → IsIn (f x) (map f xs)
+pub in-map : {A B : Type 0} (f : A → B) (x : A) (xs : List A) → IsIn x xs → IsIn (f x) (map f xs)
 unfolding IsIn
 in-map f x [] there = absurd there
 in-map f x (y ∷ xs) (inl is) = inl (ap f is)
 in-map f x (y ∷ xs) (inr later) = inr (in-map f x xs later)
 
-in-flat : {A B : Type 0} (f : A → List B) (x : A) (b : B) (xs : List A) → IsIn x xs → IsIn b (f x) → IsIn b (flat_map f xs)
+pub in-flat : {A B : Type 0} (f : A → List B) (x : A) (b : B) (xs : List A) → IsIn x xs → IsIn b (f x) → IsIn b (flat_map f xs)
 unfolding IsIn
 in-flat f x b [] there given = absurd there
 in-flat f x b (y ∷ xs) (inl is) given = in-left b (f y) (flat_map f xs) (subst (λ z. IsIn b (f z)) is given)
 in-flat f x b (y ∷ xs) (inr later) given = in-right b (f y) (flat_map f xs) (in-flat f x b xs later given)
 
-in-filter : {A : Type 0} (test : A → Bool) (x : A) (xs : List A) → test x ≡ true → IsIn x xs → IsIn x (filter test xs)
+pub in-filter : {A : Type 0} (test : A → Bool) (x : A) (xs : List A) → test x ≡ true → IsIn x xs → IsIn x (filter test xs)
 unfolding IsIn
 in-filter test x [] is there = absurd there
 in-filter {A = A} test x (y ∷ xs) is (inl same) = first (test y) (subst (λ z. test z ≡ true) same is) refl
@@ -94,7 +94,7 @@ in-filter {A = A} test x (y ∷ xs) is (inr later) = by (test y) (in-filter test
     by true there = inr there
     by false there = there
 
-found-some : {A : Type 0} (test : A → Bool) (x : A) (xs : List A) → IsIn x xs → test x ≡ true → find test xs ≡ None → ⊥
+pub found-some : {A : Type 0} (test : A → Bool) (x : A) (xs : List A) → IsIn x xs → test x ≡ true → find test xs ≡ None → ⊥
 unfolding IsIn
 found-some test x [] there is none = there
 found-some {A = A} test x (y ∷ xs) (inl same) is none = by (test y) (subst (λ z. test z ≡ true) same is) refl none
@@ -127,7 +127,7 @@ via-self : (via : Via) → same_via via via ≡ true
 unfolding same_via same_name
 via-self via = three _ _ _ (same-self (branch_of via)) (same-self (map to_ascii_lowercase via.host)) (same-digit (port_of via))
 
-vias-self : (vias : List Via) → same_vias vias vias ≡ true
+pub vias-self : (vias : List Via) → same_vias vias vias ≡ true
 unfolding same_vias
 vias-self [] = refl
 vias-self (via ∷ vias) = rw (via-self via) (vias-self vias)
@@ -152,7 +152,7 @@ live-in (first ∷ hosts) number zero n host live at is lives =
 live-in (first ∷ hosts) number (suc place) n host live at is lives =
     in-right (record { host = n; serial = live.serial }) _ (live_from (number + 1) hosts) (live-in hosts (number + 1) place n host live at (next-host n number place is) lives)
 
-some-live : (app : AppId) (found : Option (Host Session)) (net : Net Session) (live : Live Session) → host_at app.host net ≡ found → live_of app found ≡ Some live → IsIn app (live_from 0 net.hosts)
+pub some-live : (app : AppId) (found : Option (Host Session)) (net : Net Session) (live : Live Session) → host_at app.host net ≡ found → live_of app found ≡ Some live → IsIn app (live_from 0 net.hosts)
 some-live app None net live at is = cc
 some-live app (Some host) net live at is =
     subst (λ (n : ℕ). IsIn (record { host = app.host; serial = n }) (live_from 0 net.hosts)) (serial-is app.serial host.sessions live is)
@@ -257,7 +257,7 @@ visits-some got (moment ∷ later) none = by (is_turn_of got moment.step) _ _ no
     by true xs ys none rest = cc
     by false xs ys none rest = rest none
 
-none-found : (found : Option Got) (later : List Moment) → visits_from found later ≡ [] → found ≡ None
+pub none-found : (found : Option Got) (later : List Moment) → visits_from found later ≡ [] → found ≡ None
 none-found None later none = refl
 none-found (Some got) later none = absurd (visits-some got later none)
 
@@ -285,7 +285,7 @@ came-by setup moment (Some order) place out is sender =
     inside : (host : ℕ) → ◌≡◌ {A = Peer} (peers.Inside host) (peers.Outside place) → ⊥
     inside host is = cc
 
-first-visited : (app : AppId) (more visited : List AppId) → IsPrefix visited (app ∷ more) → (visited ≡ [] → ⊥) → VisitsFirst app more visited
+pub first-visited : (app : AppId) (more visited : List AppId) → IsPrefix visited (app ∷ more) → (visited ≡ [] → ⊥) → VisitsFirst app more visited
 unfolding IsPrefix
 first-visited app more [] starts some = absurd (some refl)
 first-visited app more (first ∷ rest) starts some = record {

@@ -93,7 +93,7 @@ answered-end setup run dialog piece app callee made =
 
 -- ## Branches
 
-ready-all : (setup : Setup) (epoch : ℕ) (run : List Moment) → All (IsFine setup epoch) run → All (λ (moment : Moment). Hold setup.config epoch Is64 moment.before) run
+pub ready-all : (setup : Setup) (epoch : ℕ) (run : List Moment) → All (IsFine setup epoch) run → All (λ (moment : Moment). Hold setup.config epoch Is64 moment.before) run
     → All (λ (moment : Moment). AllKeyed as_session NoTurn 0 0 moment.before) run → AreSmallDraws setup run → All (IsReadyAt setup epoch) run
 unfolding All
 ready-all setup epoch [] fine kept keyed drawn = tt

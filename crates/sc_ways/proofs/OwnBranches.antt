@@ -315,7 +315,7 @@ pub record IsReadyAt (setup : Setup) (epoch : ℕ) (moment : Moment) : Type 0 wh
   pub ready : IsReady setup epoch moment.before
   pub drawn : Is64 (drawn_by setup moment.before moment.step)
 
-out-own : (setup : Setup) (epoch : ℕ) (moment : Moment) (order : ℕ) (out : SetOut) → epoch < 2 ^ 64 → IsReadyAt setup epoch moment → set_out_by setup moment moment.step (Some order) ≡ Some out
+pub out-own : (setup : Setup) (epoch : ℕ) (moment : Moment) (order : ℕ) (out : SetOut) → epoch < 2 ^ 64 → IsReadyAt setup epoch moment → set_out_by setup moment moment.step (Some order) ≡ Some out
     → IsOnOwnBranch setup out order
 out-own setup epoch moment order out small at by =
     let from = session-by setup moment moment.step order out by in
