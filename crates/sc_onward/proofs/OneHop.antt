@@ -1,5 +1,5 @@
 -- One hop: where nothing stops a later request in the turn of its session, the next session of its way gets it in that step.
-use Rattle.std.proofs.Common.{◌≡◌, ◌<◌, inl, ℕ, ◌+◌, ◌++◌, ◌^◌, true, false, Option, None, Some, List, [], ◌∷◌, refl, sym, ap, subst, ◌∙◌, arith}
+use Rattle.std.proofs.Common.{◌≡◌, ◌<◌, inl, ℕ, ◌++◌, ◌^◌, true, false, Option, None, Some, List, [], ◌∷◌, refl, sym, ap, subst, ◌∙◌, arith}
 use Rattle.std.proofs.lemmas.Bool.Decides.{nat_tests}
 use Rattle.std.specs.Prelude.{drop, is_some, length, map, nat_lt, option_and_then, option_map, slice_get}
 use Rattle.std.specs.List.{find, flat_map}
