@@ -30,8 +30,8 @@ use Rattle.sc_proxied.specs.ProxyLists.{Forwarded, ProxyEvent, Rested, Started, 
 use Rattle.sc_proxied.proofs.Lists.{NumbersApart, append-none, number-itself, other-way}
 use Rattle.sc_walked.specs.SessionWalks.{Each}
 use Rattle.sc_lasting.specs.Lasting.{All}
-use Rattle.sc_proxying.specs.Proxying.{IsOfEnd}
-use Rattle.sc_proxying.proofs.Runs.{IsRun, IsStep, after-options, after-req, run-higher, run-lower, run-up, up-same, up-then}
+use Rattle.sc_proxying.specs.Proxying.{IsOfEnd, chosen_codes, code_of, forwarded_codes, forwards_of, passed_codes, starts_at}
+use Rattle.sc_proxying.proofs.Runs.{IsRun, IsStep, after-append, after-options, after-req, run-higher, run-lower, run-up, up-same, up-then}
 use Rattle.sc_proxying.proofs.Places.{AreSingle, IsFree, changed-there, found-there, free-append, is_at, none-other, numbers_of}
 
 -- ## One proxied request, at its place
@@ -86,31 +86,43 @@ started-targets : (proxy : Proxy) (number now : ℕ) (events : List ProxyEvent) 
 unfolding proxy_after happens
 started-targets proxy number now events = refl
 
-abbrev starts-at : ℕ → List ℕ → List ProxyEvent
-starts-at now numbers = map (λ number. Started number now) numbers
-
-record HaveStarted (done rest : List Proxy) (proxy : Proxy) (low now : ℕ) (w : Working) : Type 0 where
+record HaveStarted (done rest : List Proxy) (proxy : Proxy) (low now count : ℕ) (w : Working) : Type 0 where
   numbers : List ℕ
-  here : IsAt done rest proxy low (starts-at now numbers) w
+  count_is : length numbers ≡ count
+  here : IsAt done rest proxy low (starts_at now numbers) w
   now_is : w.play.view.now ≡ now
 
 some-more : (n : ℕ) → 0 < suc n
 some-more n = omega arith
 
+none-more : (n : ℕ) → n ≡ n + 0
+none-more n = omega arith
+
+one-more : (n m : ℕ) → suc n + m ≡ n + suc m
+one-more n m = omega arith
+
 all-started : (uris : List Uri) (config : Config) (done rest : List Proxy) (proxy : Proxy) (low now : ℕ) (numbers : List ℕ) (more : List Uri) (w : Working)
-    → IsFree proxy.req.0 done → w.play.view.now ≡ now → (proxy_after proxy (starts-at now numbers)).targets ≡ uris ++ more
-    → IsAt done rest proxy low (starts-at now numbers) w → HaveStarted done rest proxy low now (fold (started config proxy) w uris)
-all-started [] config done rest proxy low now numbers more w free is targets here = record { numbers = numbers; here = here; now_is = is }
+    → IsFree proxy.req.0 done → w.play.view.now ≡ now → (proxy_after proxy (starts_at now numbers)).targets ≡ uris ++ more
+    → IsAt done rest proxy low (starts_at now numbers) w → HaveStarted done rest proxy low now (length numbers + length uris) (fold (started config proxy) w uris)
+all-started [] config done rest proxy low now numbers more w free is targets here =
+    record { numbers = numbers; count_is = none-more (length numbers); here = here; now_is = is }
 all-started (uri ∷ uris) config done rest proxy low now numbers more w free is targets here =
-    all-started uris config done rest proxy low now (next_branch w ∷ numbers) more (started config proxy w uri) free (next-now is) (next-targets targets)
-    (subst (λ (n : ℕ). IsAt done rest proxy low (Started (next_branch w) n ∷ starts-at now numbers) (started config proxy w uri)) is
-    (started-at config done rest proxy low (starts-at now numbers) uri w free (subst (λ (us : List Uri). 0 < length us) (sym targets) (some-more (length (uris ++ more)))) here))
+    subst (λ (count : ℕ). HaveStarted done rest proxy low now count (fold (started config proxy) (started config proxy w uri) uris)) (one-more (length numbers) (length uris))
+    (all-started uris config done rest proxy low now (next_branch w ∷ numbers) more (started config proxy w uri) free (next-now is) (next-targets targets)
+    (subst (λ (n : ℕ). IsAt done rest proxy low (Started (next_branch w) n ∷ starts_at now numbers) (started config proxy w uri)) is
+    (started-at config done rest proxy low (starts_at now numbers) uri w free (subst (λ (us : List Uri). 0 < length us) (sym targets) (some-more (length (uris ++ more)))) here)))
   where
     next-now : w.play.view.now ≡ now → (started config proxy w uri).play.view.now ≡ now
     next-now is = started-now config proxy w uri ∙ is
 
-    next-targets : (proxy_after proxy (starts-at now numbers)).targets ≡ uri ∷ (uris ++ more) → (proxy_after proxy (Started (next_branch w) now ∷ starts-at now numbers)).targets ≡ uris ++ more
-    next-targets targets = started-targets proxy (next_branch w) now (starts-at now numbers) ∙ ap (λ (us : List Uri). drop 1 us) targets
+    next-targets : (proxy_after proxy (starts_at now numbers)).targets ≡ uri ∷ (uris ++ more) → (proxy_after proxy (Started (next_branch w) now ∷ starts_at now numbers)).targets ≡ uris ++ more
+    next-targets targets = started-targets proxy (next_branch w) now (starts_at now numbers) ∙ ap (λ (us : List Uri). drop 1 us) targets
+
+-- what waits to be forwarded waits still
+starts-passing : (now : ℕ) (numbers : List ℕ) (proxy : Proxy) → (proxy_after proxy (starts_at now numbers)).passing ≡ proxy.passing
+unfolding proxy_after happens
+starts-passing now [] proxy = refl
+starts-passing now (number ∷ numbers) proxy = starts-passing now numbers proxy
 
 -- those that are started now are the first that wait
 record IsFirstPart (uris all : List Uri) : Type 0 where
@@ -172,9 +184,8 @@ unfolding forwards
 forwards-known q sess response w = refl
 
 module _ (config : Config) (done rest : List Proxy) (proxy : Proxy) (free : IsFree proxy.req.0 done) (low now : ℕ) where
-  record HaveForwarded (base : List ProxyEvent) (w : Working) : Type 0 where
-    codes : List ℕ
-    here : IsAt done rest proxy low (map (λ code. Forwarded code) codes ++ base) w
+  record HaveForwarded (codes : List ℕ) (base : List ProxyEvent) (w : Working) : Type 0 where
+    here : IsAt done rest proxy low (forwards_of codes ++ base) w
     now_is : w.play.view.now ≡ now
 
   forwards-at : (q : Proxy) (sess : SessId) (response : Response) (events : List ProxyEvent) (w : Working) → q.req ≡ proxy.req → IsAt done rest proxy low events w
@@ -185,62 +196,72 @@ module _ (config : Config) (done rest : List Proxy) (proxy : Proxy) (free : IsFr
     run = (w.play.view.counter, here.run, subst (λ (n : ℕ). w.play.view.counter ≤ n) (sym (forwards-counter q sess response w)) (up-same w.play.view.counter));
   }
 
-  forwards-more : (q : Proxy) (sess : SessId) (response : Response) (base : List ProxyEvent) (w : Working) → q.req ≡ proxy.req → HaveForwarded base w
-      → HaveForwarded base (forwards q sess response w)
-  forwards-more q sess response base w same have = record {
-    codes = response.code ∷ have.codes;
-    here = forwards-at q sess response (map (λ code. Forwarded code) have.codes ++ base) w same have.here;
+  forwards-more : (q : Proxy) (sess : SessId) (response : Response) (codes : List ℕ) (base : List ProxyEvent) (w : Working) → q.req ≡ proxy.req → HaveForwarded codes base w
+      → HaveForwarded (response.code ∷ codes) base (forwards q sess response w)
+  forwards-more q sess response codes base w same have = record {
+    here = forwards-at q sess response (forwards_of codes ++ base) w same have.here;
     now_is = forwards-now q sess response w ∙ have.now_is;
   }
 
-  if-forwarded : (base : List ProxyEvent) (b : Bool) (x y : Working) → HaveForwarded base x → HaveForwarded base y → HaveForwarded base (cond b x y)
-  if-forwarded base true x y p q = p
-  if-forwarded base false x y p q = q
+  if-forwarded : (new codes : List ℕ) (base : List ProxyEvent) (b : Bool) (x y : Working) → HaveForwarded (new ++ codes) base x → HaveForwarded codes base y
+      → HaveForwarded (cond b new [] ++ codes) base (cond b x y)
+  if-forwarded new codes base true x y p q = p
+  if-forwarded new codes base false x y p q = q
 
-  passes-more : (q : Proxy) (passing : Option Passing) (base : List ProxyEvent) (w : Working) → q.req ≡ proxy.req → HaveForwarded base w
-      → HaveForwarded base (passes q passing w)
-  unfolding passes
-  passes-more q None base w same have = have
-  passes-more q (Some passing) base w same have =
-      if-forwarded base (can_pass q passing.response) (forwards q passing.sess passing.response w) w (forwards-more q passing.sess passing.response base w same have) have
+  passes-more : (q : Proxy) (passing : Option Passing) (codes : List ℕ) (base : List ProxyEvent) (w : Working) → q.req ≡ proxy.req → HaveForwarded codes base w
+      → HaveForwarded (passed_codes q passing ++ codes) base (passes q passing w)
+  unfolding passes passed_codes
+  passes-more q None codes base w same have = have
+  passes-more q (Some passing) codes base w same have =
+      if-forwarded (passing.response.code ∷ []) codes base (can_pass q passing.response) (forwards q passing.sess passing.response w) w
+      (forwards-more q passing.sess passing.response codes base w same have) have
 
-  best-more : (q : Proxy) (response : Option Response) (base : List ProxyEvent) (w : Working) → q.req ≡ proxy.req → HaveForwarded base w
-      → HaveForwarded base (forwards_best q response w)
-  unfolding forwards_best
-  best-more q None base w same have = have
-  best-more q (Some response) base w same have = forwards-more q q.sess response base w same have
+  best-more : (q : Proxy) (response : Option Response) (codes : List ℕ) (base : List ProxyEvent) (w : Working) → q.req ≡ proxy.req → HaveForwarded codes base w
+      → HaveForwarded (code_of response ++ codes) base (forwards_best q response w)
+  unfolding forwards_best code_of
+  best-more q None codes base w same have = have
+  best-more q (Some response) codes base w same have = forwards-more q q.sess response codes base w same have
 
-  chooses-more : (q : Proxy) (base : List ProxyEvent) (w : Working) → q.req ≡ proxy.req → HaveForwarded base w → HaveForwarded base (chooses q w)
-  unfolding chooses
-  chooses-more q base w same have =
-      if-forwarded base (can_choose q) (forwards_best q (best_response q.candidates) w) w (best-more q (best_response q.candidates) base w same have) have
+  chooses-more : (q : Proxy) (codes : List ℕ) (base : List ProxyEvent) (w : Working) → q.req ≡ proxy.req → HaveForwarded codes base w
+      → HaveForwarded (chosen_codes q ++ codes) base (chooses q w)
+  unfolding chooses chosen_codes
+  chooses-more q codes base w same have =
+      if-forwarded (code_of (best_response q.candidates)) codes base (can_choose q) (forwards_best q (best_response q.candidates) w) w
+      (best-more q (best_response q.candidates) codes base w same have) have
 
-  closes-more : (q : Proxy) (base : List ProxyEvent) (w : Working) → HaveForwarded base w → HaveForwarded base (closes q w)
+  if-here : (codes : List ℕ) (base : List ProxyEvent) (b : Bool) (x y : Working) → HaveForwarded codes base x → HaveForwarded codes base y → HaveForwarded codes base (cond b x y)
+  if-here codes base true x y p q = p
+  if-here codes base false x y p q = q
+
+  closes-more : (q : Proxy) (codes : List ℕ) (base : List ProxyEvent) (w : Working) → HaveForwarded codes base w → HaveForwarded codes base (closes q w)
   unfolding closes
-  closes-more q base w have =
-      if-forwarded base (is_exhausted q && is_some q.options) (in_view (record w.play.view { sessions = map (closed_session w.known q.req q.sess) w.play.view.sessions }) w) w
-      (record { codes = have.codes; here = record { at = have.here.at; run = have.here.run }; now_is = have.now_is }) have
+  closes-more q codes base w have =
+      if-here codes base (is_exhausted q && is_some q.options) (in_view (record w.play.view { sessions = map (closed_session w.known q.req q.sess) w.play.view.sessions }) w) w
+      (record { here = record { at = have.here.at; run = have.here.run }; now_is = have.now_is }) have
 
-  cancels-more : (q : Proxy) (base : List ProxyEvent) (w : Working) → HaveForwarded base w → HaveForwarded base (sends_cancels q w)
+  cancels-more : (q : Proxy) (codes : List ℕ) (base : List ProxyEvent) (w : Working) → HaveForwarded codes base w → HaveForwarded codes base (sends_cancels q w)
   unfolding sends_cancels
-  cancels-more q base w have = record { codes = have.codes; here = record { at = have.here.at; run = have.here.run }; now_is = have.now_is }
+  cancels-more q codes base w have = record { here = record { at = have.here.at; run = have.here.run }; now_is = have.now_is }
 
   -- as it is now
-  now-req : (events : List ProxyEvent) (w : Working) → IsAt done rest proxy low events w → (proxy_now proxy w).req ≡ proxy.req
+  now-is : (events : List ProxyEvent) (w : Working) → IsAt done rest proxy low events w → proxy_now proxy w ≡ proxy_after proxy events
   unfolding proxy_now proxy_of
-  now-req events w here = found (proxy_of w.known proxy.req) (ap (find (is_at proxy.req)) here.at ∙ found-there proxy.req done (proxy_after proxy events) rest free (number-is (proxy_after proxy events) (after-req events proxy))) ∙ after-req events proxy
+  now-is events w here = found (proxy_of w.known proxy.req) (ap (find (is_at proxy.req)) here.at ∙ found-there proxy.req done (proxy_after proxy events) rest free (number-is (proxy_after proxy events) (after-req events proxy)))
     where
       number-is : (p : Proxy) → p.req ≡ proxy.req → (p.req.0 == proxy.req.0) ≡ true
       number-is p is = rw is (number-itself proxy.req.0)
 
-      found : (f : Option Proxy) → f ≡ Some (proxy_after proxy events) → (unwrap_or f proxy).req ≡ (proxy_after proxy events).req
+      found : (f : Option Proxy) → f ≡ Some (proxy_after proxy events) → unwrap_or f proxy ≡ proxy_after proxy events
       found f is = rw is refl
+
+  now-req : (events : List ProxyEvent) (w : Working) → IsAt done rest proxy low events w → (proxy_now proxy w).req ≡ proxy.req
+  now-req events w here = ap (λ (p : Proxy). p.req) (now-is events w here) ∙ after-req events proxy
 
   -- what it does
   record HasActed (w : Working) : Type 0 where
     ended : List ProxyEvent
     here : IsAt done rest proxy low ended w
-    of_end : IsOfEnd now ended
+    of_end : IsOfEnd now proxy ended
     now_is : w.play.view.now ≡ now
 
   rests-at : (events : List ProxyEvent) (w : Working) → IsAt done rest proxy low events w
@@ -251,31 +272,46 @@ module _ (config : Config) (done rest : List Proxy) (proxy : Proxy) (free : IsFr
     run = (w.play.view.counter, here.run, up-same w.play.view.counter);
   }
 
-  ends-as : (codes numbers : List ℕ) → IsOfEnd now (Rested ∷ (map (λ code. Forwarded code) codes ++ starts-at now numbers))
+  -- the codes are those that follow from what it was
+  codes-are : (base : List ProxyEvent) (waits : Option Passing) (one two : Proxy) → waits ≡ (proxy_after proxy base).passing → one ≡ proxy_after proxy base
+      → two ≡ proxy_after proxy (forwards_of (passed_codes one waits) ++ base)
+      → chosen_codes two ++ passed_codes one waits ≡ forwarded_codes (proxy_after proxy base)
+  unfolding forwarded_codes
+  codes-are base waits one two same first second =
+      rw (second, after-append (forwards_of (passed_codes one waits)) base proxy, first, same) refl
+
+  ends-as : (numbers codes : List ℕ) → length numbers ≡ length (starting proxy) → codes ≡ forwarded_codes (proxy_after proxy (starts_at now numbers))
+      → IsOfEnd now proxy (Rested ∷ (forwards_of codes ++ starts_at now numbers))
   unfolding IsOfEnd
-  ends-as codes numbers = inr (codes, numbers, refl)
+  ends-as numbers codes count is = inr (numbers, count, ap (λ (cs : List ℕ). Rested ∷ (forwards_of cs ++ starts_at now numbers)) is)
 
   acted-at : (w : Working) → w.play.view.now ≡ now → IsAt done rest proxy low [] w → HasActed (acted config proxy w)
   unfolding acted proxy_after
   acted-at w is start =
       let first = starting-first proxy in
       let begun : Working = fold (started config proxy) w (starting proxy) in
-      let one : HaveStarted done rest proxy low now begun = all-started (starting proxy) config done rest proxy low now [] first.more w free is first.is start in
-      let base : List ProxyEvent = starts-at now one.numbers in
-      let two : HaveForwarded base begun = record { codes = []; here = one.here; now_is = one.now_is } in
+      let one : HaveStarted done rest proxy low now (0 + length (starting proxy)) begun = all-started (starting proxy) config done rest proxy low now [] first.more w free is first.is start in
+      let base : List ProxyEvent = starts_at now one.numbers in
+      let waits : List ℕ = passed_codes (proxy_now proxy begun) proxy.passing in
       let passed : Working = passes (proxy_now proxy begun) proxy.passing begun in
-      let three : HaveForwarded base passed = passes-more (proxy_now proxy begun) proxy.passing base begun (now-req base begun one.here) two in
+      let two : HaveForwarded (waits ++ []) base passed =
+      passes-more (proxy_now proxy begun) proxy.passing [] base begun (now-req base begun one.here) (record { here = one.here; now_is = one.now_is }) in
+      let three : HaveForwarded waits base passed = subst (λ (codes : List ℕ). HaveForwarded codes base passed) (append-none waits) two in
+      let codes : List ℕ = chosen_codes (proxy_now proxy passed) ++ waits in
       let chosen : Working = chooses (proxy_now proxy passed) passed in
-      let four : HaveForwarded base chosen = chooses-more (proxy_now proxy passed) base passed (now-req (map (λ code. Forwarded code) three.codes ++ base) passed three.here) three in
+      let four : HaveForwarded codes base chosen = chooses-more (proxy_now proxy passed) waits base passed (now-req (forwards_of waits ++ base) passed three.here) three in
       let closed : Working = closes (proxy_now proxy chosen) (sends_cancels proxy chosen) in
-      let five : HaveForwarded base closed = closes-more (proxy_now proxy chosen) base (sends_cancels proxy chosen) (cancels-more proxy base chosen four) in
-      let events : List ProxyEvent = map (λ code. Forwarded code) five.codes ++ base in
+      let five : HaveForwarded codes base closed = closes-more (proxy_now proxy chosen) codes base (sends_cancels proxy chosen) (cancels-more proxy codes base chosen four) in
       record {
-        ended = Rested ∷ events;
-        here = rests-at events closed five.here;
-        of_end = ends-as five.codes one.numbers;
+        ended = Rested ∷ (forwards_of codes ++ base);
+        here = rests-at (forwards_of codes ++ base) closed five.here;
+        of_end = ends-as one.numbers codes (one.count_is ∙ none-first (length (starting proxy)))
+            (codes-are base proxy.passing (proxy_now proxy begun) (proxy_now proxy passed) (sym (starts-passing now one.numbers proxy)) (now-is base begun one.here) (now-is (forwards_of waits ++ base) passed three.here));
         now_is = five.now_is;
       }
+    where
+      none-first : (n : ℕ) → 0 + n ≡ n
+      none-first n = omega arith
 
   if-acted : (b : Bool) (x y : Working) → HasActed x → HasActed y → HasActed (cond b x y)
   if-acted true x y p q = p
@@ -293,7 +329,7 @@ pub record Ends (low high now : ℕ) (before after : Proxy) : Type 0 where
   pub ended : List ProxyEvent
   pub is : after ≡ proxy_after before ended
   pub run : IsRun low before ended high
-  pub of_end : IsOfEnd now ended
+  pub of_end : IsOfEnd now before ended
 
 pub record HaveEnded (low now : ℕ) (done rest : List Proxy) (from : ℕ) (w : Working) : Type 0 where
   pub after : List Proxy

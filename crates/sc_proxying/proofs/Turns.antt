@@ -35,7 +35,7 @@ use Rattle.sc_walked.proofs.WalkShown.{prepared-walks}
 use Rattle.sc_lasting.specs.Lasting.{All}
 use Rattle.sc_lasting.proofs.Parts.{each-weaker, removed-only}
 use Rattle.sc_remembered.proofs.Shown.{shown-now}
-use Rattle.sc_proxying.specs.Proxying.{IsBegun, IsOfEvent, IsOfTurn, IsPassed, as_begun, given_of}
+use Rattle.sc_proxying.specs.Proxying.{IsBegun, IsOfEnd, IsOfEvent, IsOfTurn, IsPassed, as_begun, given_of}
 use Rattle.sc_proxying.proofs.Runs.{IsRun, IsStep, after-append, after-begun, after-req, run-higher, run-then, up-same, up-then}
 use Rattle.sc_proxying.proofs.Places.{AreSingle, Grows, IsFree, each-grows, grows-append, grows-both, grows-then, grows-weaker, numbers_of, other-free, same-numbers, single-more}
 use Rattle.sc_proxying.proofs.Came.{Comes, event-comes}
@@ -167,7 +167,7 @@ module _ (config : Config) (turn : Turn) (x : Session) where
         is = ends.is ∙ ap (λ (s : Proxy). proxy_after s ends.ended) middle.is ∙ sym (after-append ends.ended first p);
         run = run-then x.view.counter acting.play.view.counter high p ends.ended first (run-higher x.view.counter x.view.counter acting.play.view.counter p first rising.up (middle.run x.view.counter))
             (subst (λ (s : Proxy). IsRun acting.play.view.counter s ends.ended high) middle.is ends.run);
-        told = record { came = middle.came; ended = ends.ended; own_is = refl; of_event = middle.of; of_end = ends.of_end };
+        told = record { came = middle.came; ended = ends.ended; own_is = refl; of_event = middle.of; of_end = subst (λ (s : Proxy). IsOfEnd turn.now s ends.ended) middle.is ends.of_end };
       }
 
   new-ends : (high : ℕ) (q r : Proxy) → HasBegun (begun shown.view) turn.calls q → Ends acting.play.view.counter high turn.now q r → NewTurn config turn x high r
@@ -178,7 +178,7 @@ module _ (config : Config) (turn : Turn) (x : Session) where
         run = run-then x.view.counter acting.play.view.counter high (as_begun q) ends.ended new.given
             (run-higher x.view.counter x.view.counter acting.play.view.counter (as_begun q) new.given rising.up (new.run x.view.counter))
             (subst (λ (s : Proxy). IsRun acting.play.view.counter s ends.ended high) new.is ends.run);
-        told = inl (record { given = new.given; ended = ends.ended; own_is = refl; of_calls = new.by; of_end = ends.of_end });
+        told = inl (record { given = new.given; ended = ends.ended; own_is = refl; of_calls = new.by; of_end = subst (λ (s : Proxy). IsOfEnd turn.now s ends.ended) new.is ends.of_end });
       })
 
   abbrev acted : Working

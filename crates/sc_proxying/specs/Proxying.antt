@@ -1,6 +1,6 @@
 -- What the list of a proxied request holds: what the turns of its session told of it, from the one
 -- that began to proxy it on (JSR 289 section 10, RFC 3261 section 16).
-use Rattle.std.specs.Prelude.{◌≡◌, ◌⊎◌, ℕ, List, [], ◌∷◌, ◌++◌, Bool, true, false, None, Some, is_none, if◌then◌else◌, map}
+use Rattle.std.specs.Prelude.{◌≡◌, ◌⊎◌, ℕ, List, [], ◌∷◌, ◌++◌, Bool, true, false, Option, None, Some, is_none, if◌then◌else◌, length, map}
 use Rattle.std.specs.List.{find}
 use Rattle.std.specs.Option.{option_map_or}
 use Rattle.sc_value.specs.declared.ids.AppId.{AppId}
@@ -12,6 +12,7 @@ use Rattle.sc_terms.specs.declared.calls.Call.TheVariants as calls
 use Rattle.sc_terms.specs.declared.calls.CallRecord.{CallRecord}
 use Rattle.sc_terms.specs.declared.settings.Config.{Config}
 use Rattle.sc_parts.specs.declared.setup.Setup.{Setup}
+use Rattle.sc_state.specs.declared.proxy.Passing.{Passing}
 use Rattle.sc_state.specs.declared.proxy.Proxy.{Proxy}
 use Rattle.sc_state.specs.declared.queue.Queued.{Queued}
 use Rattle.sc_state.specs.declared.queue.Queued.TheVariants as queued
@@ -20,7 +21,8 @@ use Rattle.sc_state.specs.declared.session.Invited.{Invited}
 use Rattle.sc_state.specs.declared.session.Known.{Known}
 use Rattle.sc_state.specs.declared.session.Session.{Session}
 use Rattle.sc_state.specs.declared.working.Play.{Play}
-use Rattle.sc_hosts.specs.Branches.{has_branch, new_proxy}
+use Rattle.sc_model.specs.BestResponses.{best_response}
+use Rattle.sc_hosts.specs.Branches.{can_choose, can_pass, has_branch, new_proxy, starting}
 use Rattle.sc_hosts.specs.Effects.{after_listed, begun}
 use Rattle.sc_hosts.specs.Histories.{History, session_after, session_of}
 use Rattle.sc_hosts.specs.Looking.{same_request}
@@ -104,14 +106,48 @@ shown_play config session turn =
 
 -- ## What follows as a turn ends
 
--- targets get their branches at this moment, then responses are forwarded, and the request rests;
--- nothing follows where the application ended its SipSession
-unfoldable pub IsOfEnd : ℕ → List ProxyEvent → Type 0
-IsOfEnd now ended =
-    (ended ≡ []) ⊎ ((codes : List ℕ) × (numbers : List ℕ)
+-- branches of these numbers are started at this moment, the newest first
+abbrev pub starts_at : ℕ → List ℕ → List ProxyEvent
+starts_at now numbers = map (λ number. Started number now) numbers
+
+-- responses of these codes are forwarded, the newest first
+abbrev pub forwards_of : List ℕ → List ProxyEvent
+forwards_of codes = map (λ code. Forwarded code) codes
+
+-- the code of a response that waits to be forwarded as it came, where it can go still (RFC 3261
+-- section 16.7, step 5)
+unfoldable pub passed_codes : Proxy → Option Passing → List ℕ
+passed_codes proxy None = []
+passed_codes proxy (Some passing) =
+    if can_pass proxy passing.response then passing.response.code ∷ [] else []
+
+-- the code of a response, if there is one
+unfoldable pub code_of : Option Response → List ℕ
+code_of None = []
+code_of (Some response) = response.code ∷ []
+
+-- the code of the best response, once it can go (RFC 3261 section 16.7, step 6)
+unfoldable pub chosen_codes : Proxy → List ℕ
+chosen_codes proxy =
+    if can_choose proxy then code_of (best_response proxy.candidates) else []
+
+-- what the request forwards once its targets have their branches, the newest first: what waited,
+-- and then the best response
+unfoldable pub forwarded_codes : Proxy → List ℕ
+forwarded_codes proxy =
+    chosen_codes (proxy_after proxy (forwards_of (passed_codes proxy proxy.passing)))
+    ++ passed_codes proxy proxy.passing
+
+-- the targets that are to be started get their branches at this moment, then the responses that can
+-- go are forwarded, and the request rests; nothing follows where the application ended its
+-- SipSession
+unfoldable pub IsOfEnd : ℕ → Proxy → List ProxyEvent → Type 0
+IsOfEnd now proxy ended =
+    (ended ≡ []) ⊎ ((numbers : List ℕ) × (length numbers ≡ length (starting proxy))
     × (ended
     ≡ Rested
-    ∷ (map (λ code. Forwarded code) codes ++ map (λ number. Started number now) numbers)))
+    ∷ (forwards_of (forwarded_codes (proxy_after proxy (starts_at now numbers)))
+    ++ starts_at now numbers)))
 
 -- ## A turn, and a life
 
@@ -124,7 +160,10 @@ pub record IsOfTurn (config : Config) (session : Session) (turn : Turn) (proxy :
   pub own_is : own
       ≡ ended ++ (given_of proxy.req (shown_play config session turn) turn.calls ++ came)
   pub of_event : IsOfEvent session.known turn.now proxy turn.waiting.event came
-  pub of_end : IsOfEnd turn.now ended
+  pub of_end : IsOfEnd turn.now
+      (proxy_after proxy
+      (given_of proxy.req (shown_play config session turn) turn.calls ++ came))
+      ended
 
 -- a call of the turn began to proxy it
 pub record IsBegun (config : Config) (session : Session) (turn : Turn) (first : Proxy)
@@ -133,7 +172,7 @@ pub record IsBegun (config : Config) (session : Session) (turn : Turn) (first : 
   pub ended : List ProxyEvent
   pub own_is : own ≡ ended ++ given
   pub of_calls : BeginsIn first (shown_play config session turn) turn.calls given
-  pub of_end : IsOfEnd turn.now ended
+  pub of_end : IsOfEnd turn.now (proxy_after first given) ended
 
 -- the event of the turn is this request, a later one, which was passed on
 unfoldable pub IsPassed : Queued → Proxy → List ProxyEvent → Type 0

@@ -17,9 +17,10 @@ ghost use Rattle.sc_proxying.specs.Proxying.{HasItsList, HasLists, HaveLists};
 /// session told of it, one after the other, from the one that began to proxy it: of the event of a
 /// turn at most one thing, a response on one of its branches, a CANCEL for it, or that the time of
 /// a branch was up; then all that the accepted calls of the turn said of it, in their order, the
-/// targets that they named and that they stopped it; then the branches that were started, the
-/// responses that were forwarded, and that it rested, or nothing, where the application had ended
-/// its SipSession. Each branch that was started is a new one and took a target that waited, or is
+/// targets that they named and that they stopped it; then what followed from what it was by then,
+/// exactly: each target that was to be started got its branch, what waited was forwarded where it
+/// could go, then the best response once that could, and it rested; or nothing, where the
+/// application had ended its SipSession. Each branch that was started is a new one and took a target that waited, or is
 /// the one on which a later request was passed on. So it is in every history; and of a live session
 /// after a lawful journal it is so of the turns that the journal tells of it, for each form in
 /// which sessions are kept. The contract is the law, and the call does nothing.
