@@ -54,7 +54,7 @@ success-adds : (p : Proxy) (response : Response) → is_success response.code �
 unfolding added_targets
 success-adds p response is = rw (not-three response.code (right-true (is_final response.code) (nat_lt response.code 300) is)) refl
 
-global-adds : (p : Proxy) (response : Response) → is_global response.code ≡ true → added_targets p response ≡ []
+pub global-adds : (p : Proxy) (response : Response) → is_global response.code ≡ true → added_targets p response ≡ []
 unfolding added_targets
 global-adds p response is = rw (not-four response.code is, and-false (nat_le 300 response.code)) refl
 
@@ -64,7 +64,7 @@ cancelled-open : (c : Bool) (b : Branch) → is_open (cond c (record b { cancell
 cancelled-open true b = refl
 cancelled-open false b = refl
 
-open-same : (bs : List Branch) → list_any is_open (map cancelled_branch bs) ≡ list_any is_open bs
+pub open-same : (bs : List Branch) → list_any is_open (map cancelled_branch bs) ≡ list_any is_open bs
 unfolding cancelled_branch
 open-same [] = refl
 open-same (b ∷ bs) = rw (cancelled-open (is_open b) b, open-same bs) refl
@@ -189,16 +189,21 @@ module _ (n : ℕ) (sess : SessId) (response : Response) (p : Proxy) where
   unfolding has_answer passing_on
   waits is = rw is (or-true _)
 
-  answer-by : (s g : Bool) → is_success response.code ≡ s → ends_last n response p ≡ true
+  answer-by : (s g : Bool) → is_success response.code ≡ s → (length (added_targets p response) == 0) ≡ true
       → has_answer (cond s (passing_on sess response (stopped t)) (cond g (stopped t) t)) ≡ true
   unfolding stopped with_targets
-  answer-by true g is ends = waits is
-  answer-by false true is ends = has-candidate (stopped t) (is-candidate is (last-adds ends))
-  answer-by false false is ends = has-candidate t (is-candidate is (last-adds ends))
+  answer-by true g is none = waits is
+  answer-by false true is none = has-candidate (stopped t) (is-candidate is none)
+  answer-by false false is none = has-candidate t (is-candidate is none)
 
   pub ended-answers : ends_last n response p ≡ true → has_answer (ended_by n sess response p) ≡ true
   unfolding ended_by
-  ended-answers ends = answer-by (is_success response.code) (is_global response.code) refl ends
+  ended-answers ends = answer-by (is_success response.code) (is_global response.code) refl (last-adds ends)
+
+  -- where it adds no target, it is there to be forwarded
+  pub ended-unadded : (length (added_targets p response) == 0) ≡ true → has_answer (ended_by n sess response p) ≡ true
+  unfolding ended_by
+  ended-unadded none = answer-by (is_success response.code) (is_global response.code) refl none
 
 -- ## A response
 

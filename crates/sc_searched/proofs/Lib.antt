@@ -1,1 +1,5 @@
-mod Ends
+pub mod Ends
+pub mod Best
+pub mod Going
+pub mod Resting
+pub mod Answering

@@ -1,9 +1,21 @@
-ghost use Rattle.std.specs.Prelude.{◌≡◌, ◌&&◌, ℕ, true, false, not};
+ghost use Rattle.std.specs.Prelude.{◌≡◌, ◌&&◌, ℕ, List, Some, true, false, not};
+ghost use Rattle.sc_value.specs.declared.ids.AppId.{AppId};
 ghost use Rattle.sc_value.specs.declared.ids.SessId.{SessId};
 ghost use Rattle.sc_value.specs.declared.message.Response.{Response};
+ghost use Rattle.sc_terms.specs.declared.settings.Config.{Config};
+ghost use Rattle.sc_terms.specs.declared.steps.Step.{Step};
+ghost use Rattle.sc_parts.specs.declared.setup.Setup.{Setup};
+ghost use Rattle.sc_state.specs.declared.host.Live.{Live};
 ghost use Rattle.sc_state.specs.declared.proxy.Proxy.{Proxy};
+ghost use Rattle.sc_state.specs.declared.session.Session.{Session};
 ghost use Rattle.sc_model.specs.SessionStates.{is_final};
 ghost use Rattle.sc_hosts.specs.Branches.{ended_by, ends_last, has_open, heard, is_exhausted, stopped};
+ghost use Rattle.sc_hosts.specs.Histories.{History, as_history, as_session, session_of};
+ghost use Rattle.sc_hosts.specs.Runs.{IsLawful, chained};
+ghost use Rattle.sc_hosts.specs.Steps.{live_at};
+ghost use Rattle.sc_lasting.specs.Lasting.{All};
+ghost use Rattle.sc_lived.specs.Lived.{told};
+ghost use Rattle.sc_searched.specs.Endings.{HasAnswers, HasItsAnswer, HaveAnswers};
 ghost use Rattle.sc_searched.specs.Searches.{has_answer, is_open_in};
 
 /// The first final response of an open branch ends the search of a proxied request exactly where it
@@ -35,4 +47,28 @@ pub fn searches_end_with_a_response()
     ensures stopped { (proxy : Proxy)
         → is_exhausted (stopped proxy) ≡ (proxy.heard_final && not (has_open proxy)) }
     ensures stopped_answered { (proxy : Proxy) → has_answer (stopped proxy) ≡ has_answer proxy }
+{}
+
+/// Wherever a turn leaves a proxied request at rest with its search over, so that branches were
+/// started, each has its final response and no target waits, a final response was forwarded by
+/// then, in that turn or before. One case has none: the application was told of a redirect that was
+/// followed, and stopped the search in that same turn, so that the new targets were dropped
+/// (`was_dropped`); it can proxy the request to further targets then, or end its SipSession. So it
+/// is of each request that an application session proxies, a later one that it passes on too, by
+/// the list of all that happened to it (`HasItsList`): in every history, and of a live session after
+/// a lawful journal, for each form in which sessions are kept. The contract is the law, and the call
+/// does nothing.
+pub fn ended_searches_are_answered()
+    ensures life { (config : Config) (history : History)
+        → All (HasItsAnswer config history history.turns)
+        (session_of config history).known.proxies }
+    ensures history { (setup : Setup) (epoch began : ℕ) (journal : List Step) (app : AppId)
+        (live : Live History) → IsLawful (as_history setup.config) setup epoch began journal
+        → live_at app (chained (as_history setup.config) setup epoch began journal) ≡ Some live
+        → HaveAnswers setup app (told app journal) live.session
+        (session_of setup.config live.session) live.inbox }
+    ensures session { (setup : Setup) (epoch began : ℕ) (journal : List Step) (app : AppId)
+        (live : Live Session) → IsLawful as_session setup epoch began journal
+        → live_at app (chained as_session setup epoch began journal) ≡ Some live
+        → HasAnswers setup app (told app journal) live.session live.inbox }
 {}

@@ -3,4 +3,4 @@
 
 mod laws;
 
-pub use laws::searches_end_with_a_response;
+pub use laws::{ended_searches_are_answered, searches_end_with_a_response};
