@@ -31,12 +31,13 @@ use Rattle.sc_lasting.proofs.Parts.{all-found}
 use Rattle.sc_promised.specs.Reliable.{Act, Fresh, Late, Offers, Pending, Pracks, Remembered, play_after, remembered_at, remembered_of, script_of}
 use Rattle.sc_promised.proofs.Endings.{strict-fits, waits}
 use Rattle.sc_remembered.specs.Acts.{shown_in}
-use Rattle.sc_remembered.specs.Early.{AreEarly, IsOneAct, IsUnknown, MakesActs, PlaysEarly, act_of, invite_of}
+use Rattle.sc_remembered.specs.Early.{AreEarly, IsOneAct, IsUnknown, MakesActs, act_of, invite_of}
 use Rattle.sc_remembered.proofs.Chains.{left-same, same-remembered, shown-same}
 use Rattle.sc_remembered.proofs.EarlyTurns.{early-acts}
 use Rattle.sc_remembered.proofs.Lives.{early-made, script-left}
 use Rattle.sc_remembered.proofs.Others.{act-others}
-use Rattle.sc_early.specs.EarlyLives.{ArePlayed, AreUnknown, AreWhole, HasRoom, event_in}
+use Rattle.sc_remembered.specs.Played.{ArePlayed, PlaysScript, event_in}
+use Rattle.sc_early.specs.EarlyLives.{AreUnknown, AreWhole, HasRoom}
 use Rattle.sc_early.proofs.Rising.{numbers-after, shown-numbered, shown-up, turn-up, up-then}
 use Rattle.sc_early.proofs.ToldFirst.{IsNext, told-next}
 
@@ -153,9 +154,9 @@ module _ (view : View) (n : ℕ) (room : view.next_request ≤ 2 ^ 64) (next : v
   none-leaves made none = ap (λ (ms : List CallRecord). remembered_at (after_calls view ms).view n) none ∙ begun-same view n ∙ clear
 
   calls-leave : (event : Option Event) (made : List CallRecord) → ((told : Event) → event ≡ Some told → IsUnknown view told)
-      → ((told : Event) (act : Act) → event ≡ Some told → act_of view told ≡ Some act → IsDrawn view act) → PlaysEarly view event made
+      → ((told : Event) (act : Act) → event ≡ Some told → act_of view told ≡ Some act → IsDrawn view act) → PlaysScript early_script view event made
       → remembered_at (after_calls view made).view n ≡ Fresh
-  unfolding PlaysEarly
+  unfolding PlaysScript
   calls-leave None made unknown drawn none = none-leaves made none
   calls-leave (Some told) made unknown drawn (inl is) =
       script-left n view made (early_script view told) is ∙ one-leaves told (λ act makes. drawn told act refl makes) (early-acts view told (unknown told refl))
@@ -197,7 +198,7 @@ module _ (config : Config) (x : Session) (turn : Turn) (clear : IsClear x) (numb
   pub turn-unknown : (told : Event) → event_in config x turn ≡ Some told → IsUnknown view told
   turn-unknown told is = unknown-by x view told (λ n. shown-same config x turn n) clear view-room (told-next config x turn told is)
 
-  pub turn-clear : PlaysEarly view (event_in config x turn) turn.calls → IsClear (after_turn config turn x)
+  pub turn-clear : PlaysScript early_script view (event_in config x turn) turn.calls → IsClear (after_turn config turn x)
   turn-clear plays n next small =
       let shown = up-then view.next_request (after_turn config turn x).view.next_request n (turn-up config x turn) next in
       left-same config x turn n
@@ -214,7 +215,7 @@ first-clear : (config : Config) (history : History) → IsClear (session_after c
 unfolding session_after fresh first_view attribute remembered_of
 first-clear config history n next small = refl
 
-all-clear : (turns : List Turn) (config : Config) (history : History) → ArePlayed config history turns → HasRoom (session_after config history turns) → HasClear config history turns
+all-clear : (turns : List Turn) (config : Config) (history : History) → ArePlayed early_script config history turns → HasRoom (session_after config history turns) → HasClear config history turns
 unfolding ArePlayed AreUnknown session_after
 all-clear [] config history played room = record { clear = first-clear config history; unknown = tt }
 all-clear (turn ∷ earlier) config history played room =
@@ -227,13 +228,13 @@ all-clear (turn ∷ earlier) config history played room =
       unknown = (turn-unknown config x turn before.clear numbered room, before.unknown);
     }
 
-pub histories-unknown : (config : Config) (history : History) → ArePlayed config history history.turns → HasRoom (session_of config history) → AreUnknown config history history.turns
+pub histories-unknown : (config : Config) (history : History) → ArePlayed early_script config history history.turns → HasRoom (session_of config history) → AreUnknown config history history.turns
 unfolding session_of
 histories-unknown config history played room = (all-clear history.turns config history played room).unknown
 
 -- ## Acts
 
-pub are-early : (turns : List Turn) (config : Config) (history : History) → ArePlayed config history turns → AreUnknown config history turns → AreWhole config history turns
+pub are-early : (turns : List Turn) (config : Config) (history : History) → ArePlayed early_script config history turns → AreUnknown config history turns → AreWhole config history turns
     → HasRoom (session_after config history turns) → AreEarly config history turns
 unfolding ArePlayed AreUnknown AreWhole AreEarly session_after
 are-early [] config history played unknown whole room = tt
@@ -249,7 +250,7 @@ are-early (turn ∷ earlier) config history played unknown whole room =
       are-early earlier config history played.1 unknown.1 whole.1 (up-then x.view.next_request (shown_in config x turn).next_request (2 ^ 64) (shown-up config x turn) shown),
     )
 
-pub played-make-acts : (config : Config) (history : History) (n : ℕ) → n < 2 ^ 64 → HasRoom (session_of config history) → ArePlayed config history history.turns
+pub played-make-acts : (config : Config) (history : History) (n : ℕ) → n < 2 ^ 64 → HasRoom (session_of config history) → ArePlayed early_script config history history.turns
     → AreWhole config history history.turns → MakesActs config history n history.turns
 unfolding session_of
 played-make-acts config history n small room played whole =

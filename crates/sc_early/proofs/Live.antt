@@ -1,6 +1,6 @@
 -- Live sessions of the kind that gives provisional responses reliably.
-use Rattle.std.proofs.Common.{◌≡◌, ◌<◌, inl, inr, ℕ, ◌++◌, Bool, true, false, Option, None, Some, List, [], ◌∷◌, refl, sym, ap, subst, ◌∙◌, arith}
-use Rattle.std.proofs.Math.Logic.{∥∥₁_map, ∥∥₁_map₂}
+use Rattle.std.proofs.Common.{◌≡◌, ◌<◌, ℕ, ◌++◌, Bool, true, false, Option, None, Some, List, [], ◌∷◌, refl, sym, ap, subst, ◌∙◌, arith}
+use Rattle.std.proofs.Math.Logic.{∥∥₁_map}
 use Rattle.std.specs.Prelude.{◌^◌, ◌&&◌, codes, cond, option_and_then, option_map}
 use Rattle.std.specs.List.{find}
 use Rattle.sc_tokens.specs.Names.{same_bytes}
@@ -10,8 +10,6 @@ use Rattle.sc_value.specs.declared.ids.Region.{Region}
 use Rattle.sc_value.specs.declared.ids.ReqId.{ReqId}
 use Rattle.sc_value.specs.declared.message.Request.{Request}
 use Rattle.sc_value.specs.declared.parts.Address.{Address}
-use Rattle.sc_terms.specs.declared.calls.CallRecord.{CallRecord}
-use Rattle.sc_terms.specs.declared.calls.End.{End}
 use Rattle.sc_terms.specs.declared.charters.Charter.TheVariants as charters
 use Rattle.sc_terms.specs.declared.events.Event.{Event}
 use Rattle.sc_terms.specs.declared.events.Event.TheVariants as events
@@ -25,32 +23,32 @@ use Rattle.sc_state.specs.declared.queue.Queued.{Queued}
 use Rattle.sc_state.specs.declared.queue.Queued.TheVariants as queued
 use Rattle.sc_state.specs.declared.queue.Waiting.{Waiting}
 use Rattle.sc_state.specs.declared.session.Session.{Session}
-use Rattle.sc_state.specs.declared.working.Prepared.{Prepared}
 use Rattle.sc_model.specs.SessionStates.{invite}
-use Rattle.sc_hosts.specs.Bringing.{Allowed, Called, IsSilent, Plays, is_listened, servlet_script}
+use Rattle.sc_hosts.specs.Bringing.{servlet_script}
 use Rattle.sc_hosts.specs.Effects.{begun}
 use Rattle.sc_hosts.specs.HelperParts.{lists_option, strict_number}
 use Rattle.sc_hosts.specs.Histories.{History, as_history, as_session, session_after, session_of}
 use Rattle.sc_hosts.specs.Legs.{FIRST_SESSION, first_view, fresh}
-use Rattle.sc_hosts.specs.Offers.{after_word, is_invite_of, rel_option, session_progress}
+use Rattle.sc_hosts.specs.Offers.{after_word, early_script, is_invite_of, rel_option, session_progress}
 use Rattle.sc_hosts.specs.Preparing.{prepared, prepared_for}
 use Rattle.sc_hosts.specs.PreparingRequests.{next_id, received, showing}
-use Rattle.sc_hosts.specs.Runs.{AllowedBy, IsLawful, chained}
+use Rattle.sc_hosts.specs.Runs.{IsLawful, chained}
 use Rattle.sc_hosts.specs.Scripting.{attribute}
 use Rattle.sc_hosts.specs.Sessions.{Turn}
 use Rattle.sc_hosts.specs.Steps.{live_at}
 use Rattle.sc_hosts.specs.Words.{prack}
 use Rattle.sc_walks.specs.Walks.{IsLate}
-use Rattle.sc_lived.specs.Lived.{AreLate, AreOfOne, AreTaken, Begins, HasLived, IsLived, MayTake, Told, told, turned_events}
-use Rattle.sc_lived.proofs.Accepted.{read-after}
+use Rattle.sc_lived.specs.Lived.{AreLate, AreOfOne, Begins, HasLived, IsLived, Told, told, turned_events}
 use Rattle.sc_lived.proofs.Sayings.{has-lived, session-lived}
 use Rattle.sc_promised.specs.Reliable.{Act, IsSound, Late, Offers, Pracks, remembered_of}
 use Rattle.sc_promised.proofs.Traces.{offers-counted}
 use Rattle.sc_remembered.specs.Acts.{shown_in}
 use Rattle.sc_remembered.proofs.Shown.{shown-kept}
-use Rattle.sc_remembered.specs.Early.{IsUnknown, MakesActs, PlaysEarly, act_of}
+use Rattle.sc_remembered.specs.Early.{IsUnknown, MakesActs, act_of}
+use Rattle.sc_remembered.specs.Played.{event_in}
+use Rattle.sc_remembered.proofs.Played.{life-plays}
 use Rattle.sc_remembered.proofs.Chains.{acts-are-traces}
-use Rattle.sc_early.specs.EarlyLives.{ArePlayed, AreUnknown, AreWhole, HasActs, HasRoom, HasUnknown, IsEarly, event_in}
+use Rattle.sc_early.specs.EarlyLives.{AreUnknown, AreWhole, HasActs, HasRoom, HasUnknown, IsEarly}
 use Rattle.sc_early.proofs.Clear.{played-make-acts}
 use Rattle.sc_early.proofs.FirstOffer.{first-sound}
 use Rattle.sc_early.proofs.ToldFirst.{NotFirst, later-told}
@@ -229,42 +227,9 @@ unknown-life (turn ∷ before ∷ earlier) config history inbox one =
 
 -- ## What the application might do
 
-listened-plays : (view : View) (event : Event) (listened : Bool) (made : List CallRecord) (end : End) → Called charters.Early None view event listened made end → PlaysEarly view (Some event) made
-unfolding Called Plays servlet_script IsSilent PlaysEarly
-listened-plays view event false made end called = inl called.1.0
-listened-plays view event true made end called = inr called.0
-
-shown-plays : (view : View) (event : Option Event) (made : List CallRecord) (end : End) → Allowed charters.Early None view event made end → PlaysEarly view event made
-unfolding Allowed IsSilent PlaysEarly
-shown-plays view None made end allowed = allowed.0
-shown-plays view (Some event) made end allowed = listened-plays view event (is_listened event) made end allowed.1
-
-allowed-plays : (shown : Prepared) (made : List CallRecord) (end : End) → AllowedBy (Some (charters.Early, None)) shown made end → PlaysEarly shown.view shown.event made
-unfolding AllowedBy
-allowed-plays shown made end allowed = shown-plays shown.view shown.event made end allowed
-
-turn-plays : (setup : Setup) (app : AppId) (history : History) (earlier : List Turn) (turn : Turn) → IsEarly setup app → MayTake setup app (record history { turns = earlier }) turn
-    → ∥ PlaysEarly (shown_in setup.config (session_after setup.config history earlier) turn) (event_in setup.config (session_after setup.config history earlier) turn) turn.calls ∥₁
-turn-plays setup app history earlier turn early may =
-    subst (λ (x : Session). ∥ PlaysEarly (shown_in setup.config x turn) (event_in setup.config x turn) turn.calls ∥₁) (read-after setup.config history earlier)
-    (∥∥₁_map may (λ allowed. allowed-plays (prepared setup.config turn.ringing (session_of setup.config (record history { turns = earlier })) turn.waiting turn.now) turn.calls turn.end
-    (subst (λ charters. AllowedBy charters (prepared setup.config turn.ringing (session_of setup.config (record history { turns = earlier })) turn.waiting turn.now) turn.calls turn.end) early allowed)))
-
-nothing-played : (config : Config) (history : History) → ArePlayed config history []
-unfolding ArePlayed
-nothing-played config history = tt
-
-more-played : (config : Config) (history : History) (turn : Turn) (earlier : List Turn)
-    → PlaysEarly (shown_in config (session_after config history earlier) turn) (event_in config (session_after config history earlier) turn) turn.calls → ArePlayed config history earlier
-    → ArePlayed config history (turn ∷ earlier)
-unfolding ArePlayed
-more-played config history turn earlier plays played = (plays, played)
-
-life-plays : (turns : List Turn) (setup : Setup) (app : AppId) (history : History) → IsEarly setup app → AreTaken setup app history turns → ∥ ArePlayed setup.config history turns ∥₁
-unfolding AreTaken
-life-plays [] setup app history early taken = ∣ nothing-played setup.config history ∣₁
-life-plays (turn ∷ earlier) setup app history early taken =
-    ∥∥₁_map₂ (turn-plays setup app history earlier turn early taken.0) (life-plays earlier setup app history early taken.1) (λ plays played. more-played setup.config history turn earlier plays played)
+early-scripted : (view : View) (event : Event) → servlet_script charters.Early view event ≡ Some (early_script view event)
+unfolding servlet_script
+early-scripted view event = refl
 
 -- ## The laws
 
@@ -276,7 +241,7 @@ acts-of config history n made =
 lived-acts : (setup : Setup) (app : AppId) (given : List Told) (history : History) (inbox : List Waiting) (n : ℕ) → IsEarly setup app → n < 2 ^ 64 → history.request.head.cseq.number < 2 ^ 64
     → HasRoom (session_of setup.config history) → IsLived setup app given history inbox → ∥ HasActs setup.config history n ∥₁
 lived-acts setup app given history inbox n early small number room lived =
-    ∥∥₁_map (life-plays history.turns setup app history early lived.taken)
+    ∥∥₁_map (life-plays charters.Early early_script early-scripted history.turns setup app history early lived.taken)
     (λ played. acts-of setup.config history n (played-make-acts setup.config history n small room played (whole-life history.turns setup.config history inbox lived.events_are number)))
 
 pub live-unknown : (setup : Setup) (epoch began : ℕ) (journal : List Step) (app : AppId) (live : Live History)

@@ -33,7 +33,7 @@ use Rattle.sc_hosts.specs.PreparingResponses.{accepts_invite, branch_placed, hea
 use Rattle.sc_hosts.specs.Sessions.{Turn}
 use Rattle.sc_walks.specs.Walks.{IsLate}
 use Rattle.sc_remembered.specs.Acts.{shown_in}
-use Rattle.sc_early.specs.EarlyLives.{event_in}
+use Rattle.sc_remembered.specs.Played.{event_in}
 
 -- it isn't told as the request that begins a session
 unfoldable pub NotFirst : Event → Type 0

@@ -1,6 +1,6 @@
 -- Sessions of the kind that gives provisional responses reliably, over their whole lives (RFC
 -- 3262).
-use Rattle.std.specs.Prelude.{◌≡◌, ◌≤◌, ◌^◌, ℕ, List, [], ◌∷◌, Option, None, Some}
+use Rattle.std.specs.Prelude.{◌≡◌, ◌≤◌, ◌^◌, ℕ, List, [], ◌∷◌, None, Some}
 use Rattle.std.specs.List.{filter_map}
 use Rattle.sc_value.specs.declared.ids.AppId.{AppId}
 use Rattle.sc_terms.specs.declared.charters.Charter.TheVariants as charters
@@ -12,26 +12,14 @@ use Rattle.sc_state.specs.declared.session.Session.{Session}
 use Rattle.sc_model.specs.Settings.{charters_of}
 use Rattle.sc_hosts.specs.Effects.{begun}
 use Rattle.sc_hosts.specs.Histories.{History, session_after}
-use Rattle.sc_hosts.specs.Preparing.{prepared}
 use Rattle.sc_hosts.specs.Sessions.{Turn}
 use Rattle.sc_lived.specs.Lived.{HasLived, Told}
 use Rattle.sc_promised.specs.Reliable.{Act, CountFrom, Fresh, Happened, IsSound, IsTrace, offered}
 use Rattle.sc_remembered.specs.Acts.{AreActs, shown_in}
-use Rattle.sc_remembered.specs.Early.{IsUnknown, PlaysEarly, act_of}
-
--- the event that a turn shows, none where nobody is called
-abbrev pub event_in : Config → Session → Turn → Option Event
-event_in config session turn = (prepared config turn.ringing session turn.waiting turn.now).event
+use Rattle.sc_remembered.specs.Early.{IsUnknown, act_of}
+use Rattle.sc_remembered.specs.Played.{event_in}
 
 -- ## Each turn of a history
-
--- its calls are those of the script of the kind, or none where nobody was called
-unfoldable pub ArePlayed : Config → History → List Turn → Type 0
-ArePlayed config history [] = Unit {0}
-ArePlayed config history (turn ∷ earlier) =
-    PlaysEarly (shown_in config (session_after config history earlier) turn)
-    (event_in config (session_after config history earlier) turn) turn.calls
-    × ArePlayed config history earlier
 
 -- nothing is remembered of an INVITE that comes
 unfoldable pub AreUnknown : Config → History → List Turn → Type 0

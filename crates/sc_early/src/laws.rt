@@ -6,18 +6,20 @@ ghost use Rattle.sc_parts.specs.declared.setup.Setup.{Setup};
 ghost use Rattle.sc_state.specs.declared.host.Live.{Live};
 ghost use Rattle.sc_state.specs.declared.session.Session.{Session};
 ghost use Rattle.sc_hosts.specs.Histories.{History, as_history, as_session, session_of};
+ghost use Rattle.sc_hosts.specs.Offers.{early_script};
 ghost use Rattle.sc_hosts.specs.Runs.{IsLawful, chained};
 ghost use Rattle.sc_hosts.specs.Steps.{live_at};
 ghost use Rattle.sc_lived.specs.Lived.{HasLived, told};
 ghost use Rattle.sc_remembered.specs.Early.{MakesActs};
-ghost use Rattle.sc_early.specs.EarlyLives.{ArePlayed, AreUnknown, AreWhole, HasActs, HasRoom, HasUnknown, IsEarly};
+ghost use Rattle.sc_remembered.specs.Played.{ArePlayed};
+ghost use Rattle.sc_early.specs.EarlyLives.{AreUnknown, AreWhole, HasActs, HasRoom, HasUnknown, IsEarly};
 
 /// In every history of a session of the kind that gives provisional responses reliably nothing is
 /// remembered of an INVITE that comes: no attribute stands for a number that wasn't drawn. Premised
 /// are that the calls of each turn are those of the kind's script, or none where nobody is called,
 /// and that numbers of requests have 64 bits. The contract is the law, and the call does nothing.
 pub fn nothing_is_remembered_early()
-    ensures { (config : Config) (history : History) → ArePlayed config history history.turns
+    ensures { (config : Config) (history : History) → ArePlayed early_script config history history.turns
         → HasRoom (session_of config history) → AreUnknown config history history.turns }
 {}
 
@@ -26,7 +28,7 @@ pub fn nothing_is_remembered_early()
 /// law, and the call does nothing.
 pub fn played_lives_make_acts()
     ensures { (config : Config) (history : History) (n : ℕ) → n < 2 ^ 64
-        → HasRoom (session_of config history) → ArePlayed config history history.turns
+        → HasRoom (session_of config history) → ArePlayed early_script config history history.turns
         → AreWhole config history history.turns → MakesActs config history n history.turns }
 {}
 

@@ -5,3 +5,4 @@ pub mod Chains
 pub mod EarlyTurns
 pub mod Others
 pub mod Lives
+pub mod Played

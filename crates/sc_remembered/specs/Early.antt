@@ -13,12 +13,12 @@ use Rattle.sc_hosts.specs.Effects.{begun}
 use Rattle.sc_hosts.specs.HelperParts.{lists_option, strict_number}
 use Rattle.sc_hosts.specs.Histories.{History, session_after}
 use Rattle.sc_hosts.specs.Offers.{after_word, early_script, is_invite_of, rel_option, session_progress}
-use Rattle.sc_hosts.specs.Preparing.{prepared}
-use Rattle.sc_hosts.specs.Scripting.{Script, played}
+use Rattle.sc_hosts.specs.Scripting.{Script}
 use Rattle.sc_hosts.specs.Sessions.{Turn}
 use Rattle.sc_hosts.specs.Words.{prack}
 use Rattle.sc_promised.specs.Reliable.{Act, Fresh, Happened, IsSound, Late, Offers, Pracks, play_after, remembered_at, script_of}
 use Rattle.sc_remembered.specs.Acts.{AreActs, shown_in}
+use Rattle.sc_remembered.specs.Played.{PlaysScript, event_in}
 
 -- the act that an event makes of such an application: an offer of an INVITE whose sender supports
 -- it, what follows a PRACK for the INVITE that began its SipSession, or what follows the timer of
@@ -59,15 +59,10 @@ invite_of (Offers req request code reason body) = req.0
 invite_of (Pracks invited req request) = invited.0
 invite_of (Late invited id) = invited.0
 
--- the calls are those of the script of the event that is shown, or none where nobody was called
-unfoldable pub PlaysEarly : View → Option Event → List CallRecord → Type 0
-PlaysEarly view None made = made ≡ []
-PlaysEarly view (Some event) made = (made ≡ played view (early_script view event)) ⊎ (made ≡ [])
-
 -- what is premised of such a turn: an INVITE that comes is one of which nothing is remembered yet,
 -- the number of one that an act is of has 64 bits, and no offer is refused behind its response
 pub record IsEarlyTurn (view : View) (event : Option Event) (made : List CallRecord) : Type 0 where
-  pub plays : PlaysEarly view event made
+  pub plays : PlaysScript early_script view event made
   pub unknown : (told : Event) → event ≡ Some told → IsUnknown view told
   pub sound : (told : Event) (act : Act) → event ≡ Some told → act_of view told ≡ Some act
       → (invite_of act < 2 ^ 64) × IsSound (begun view) act
@@ -77,8 +72,7 @@ unfoldable pub AreEarly : Config → History → List Turn → Type 0
 AreEarly config history [] = Unit {0}
 AreEarly config history (turn ∷ earlier) =
     IsEarlyTurn (shown_in config (session_after config history earlier) turn)
-    (prepared config turn.ringing (session_after config history earlier) turn.waiting turn.now).event
-    turn.calls
+    (event_in config (session_after config history earlier) turn) turn.calls
     × AreEarly config history earlier
 
 -- the turns of a history make such a list of acts of the INVITE

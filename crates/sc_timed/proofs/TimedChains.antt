@@ -18,11 +18,12 @@ use Rattle.sc_hosts.specs.Sessions.{Turn}
 use Rattle.sc_lasting.proofs.Began.{same-number}
 use Rattle.sc_promised.specs.Reliable.{play_after}
 use Rattle.sc_remembered.specs.Acts.{shown_in}
+use Rattle.sc_remembered.specs.Played.{ArePlayed, PlaysScript, event_in}
 use Rattle.sc_remembered.proofs.Ended.{outcome-kept}
 use Rattle.sc_remembered.proofs.EarlyTurns.{played-is}
 use Rattle.sc_remembered.proofs.Shown.{shown-kept}
 use Rattle.sc_timed.specs.TimedActs.{IsChain, IsOneAct, TimedAct, TimedHappened, act_of, after, calls_of, side_of, timer_at}
-use Rattle.sc_timed.specs.TimedLives.{AreActs, ArePlayed, HasActs, HaveRoom, IsActOf, LeavesTimer, PlaysTimed, event_in}
+use Rattle.sc_timed.specs.TimedLives.{AreActs, HasActs, HaveRoom, IsActOf, LeavesTimer}
 use Rattle.sc_timed.proofs.OtherTimers.{acts-leave, none-leave}
 use Rattle.sc_timed.proofs.TimedTurns.{timed-acts}
 
@@ -144,8 +145,8 @@ module _ (n : ℕ) (view : View) (made : List CallRecord) (told : Event) (is : m
   script-made (inr act) = act-made act.0 act.1 act.2 (side_of view act.0) refl
 
 turn-made : (n : ℕ) (view : View) (event : Option Event) (made : List CallRecord) → n < 2 ^ 64
-    → ((told : Event) (act : TimedAct) (sess : SessId) → event ≡ Some told → act_of view told ≡ Some act → side_of view act ≡ Some sess → sess.0 < 2 ^ 64) → PlaysTimed view event made → Made n view made
-unfolding PlaysTimed
+    → ((told : Event) (act : TimedAct) (sess : SessId) → event ≡ Some told → act_of view told ≡ Some act → side_of view act ≡ Some sess → sess.0 < 2 ^ 64) → PlaysScript timed_script view event made → Made n view made
+unfolding PlaysScript
 turn-made n view None made small room none = silent-made n view made none
 turn-made n view (Some told) made small room (inl is) = script-made n view made told is small (λ act sess makes side. room told act sess refl makes side) (timed-acts view told)
 turn-made n view (Some told) made small room (inr none) = silent-made n view made none
@@ -165,7 +166,7 @@ next-made config history n turn earlier (inr one) made = record {
   are = inr (made.acts, one.0, refl, one.1, made.are);
 }
 
-all-made : (turns : List Turn) (config : Config) (history : History) (n : ℕ) → n < 2 ^ 64 → ArePlayed config history turns → HaveRoom config history turns → MakesActs config history n turns
+all-made : (turns : List Turn) (config : Config) (history : History) (n : ℕ) → n < 2 ^ 64 → ArePlayed timed_script config history turns → HaveRoom config history turns → MakesActs config history n turns
 unfolding ArePlayed HaveRoom AreActs
 all-made [] config history n small played room = record { acts = []; are = refl }
 all-made (turn ∷ earlier) config history n small played room =
@@ -173,7 +174,7 @@ all-made (turn ∷ earlier) config history n small played room =
     (turn-made n (shown_in config (session_after config history earlier) turn) (event_in config (session_after config history earlier) turn) turn.calls small room.0 played.0)
     (all-made earlier config history n small played.1 room.1)
 
-pub played-acts : (config : Config) (history : History) (n : ℕ) → n < 2 ^ 64 → ArePlayed config history history.turns → HaveRoom config history history.turns → HasActs config history n history.turns
+pub played-acts : (config : Config) (history : History) (n : ℕ) → n < 2 ^ 64 → ArePlayed timed_script config history history.turns → HaveRoom config history history.turns → HasActs config history n history.turns
 played-acts config history n small played room =
     let made : MakesActs config history n history.turns = all-made history.turns config history n small played room in
     record { acts = made.acts; are = made.are; chain = acts-are-chains config history n made.acts made.are }

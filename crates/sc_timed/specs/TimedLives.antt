@@ -1,5 +1,5 @@
 -- Sessions with session timers, over their whole lives (RFC 4028).
-use Rattle.std.specs.Prelude.{◌≡◌, ◌⊎◌, ◌<◌, ◌^◌, ℕ, List, [], ◌∷◌, ◌++◌, Option, None, Some}
+use Rattle.std.specs.Prelude.{◌≡◌, ◌⊎◌, ◌<◌, ◌^◌, ℕ, List, [], ◌∷◌, ◌++◌, None, Some}
 use Rattle.sc_value.specs.declared.ids.AppId.{AppId}
 use Rattle.sc_value.specs.declared.ids.SessId.{SessId}
 use Rattle.sc_terms.specs.declared.calls.CallRecord.{CallRecord}
@@ -8,16 +8,13 @@ use Rattle.sc_terms.specs.declared.events.Event.{Event}
 use Rattle.sc_terms.specs.declared.settings.Config.{Config}
 use Rattle.sc_terms.specs.declared.views.View.{View}
 use Rattle.sc_parts.specs.declared.setup.Setup.{Setup}
-use Rattle.sc_state.specs.declared.session.Session.{Session}
 use Rattle.sc_model.specs.Settings.{charters_of}
 use Rattle.sc_hosts.specs.Effects.{after_calls, begun}
 use Rattle.sc_hosts.specs.Histories.{History, session_after}
-use Rattle.sc_hosts.specs.Preparing.{prepared}
-use Rattle.sc_hosts.specs.Scripting.{played}
-use Rattle.sc_hosts.specs.SessionTimers.{timed_script}
 use Rattle.sc_hosts.specs.Sessions.{Turn}
 use Rattle.sc_promised.specs.Reliable.{play_after}
 use Rattle.sc_remembered.specs.Acts.{shown_in}
+use Rattle.sc_remembered.specs.Played.{event_in}
 use Rattle.sc_timed.specs.TimedActs.{IsChain, TimedAct, TimedHappened, act_of, calls_of, side_of, timer_at}
 
 -- ## The acts of a history
@@ -56,23 +53,6 @@ pub record HasActs (config : Config) (history : History) (n : ℕ) (turns : List
   pub chain : IsChain n None acts
 
 -- ## What is premised
-
--- the event that a turn shows, none where nobody is called
-abbrev pub event_in : Config → Session → Turn → Option Event
-event_in config session turn = (prepared config turn.ringing session turn.waiting turn.now).event
-
--- the calls are those of the script of the event that is shown, or none where nobody was called
-unfoldable pub PlaysTimed : View → Option Event → List CallRecord → Type 0
-PlaysTimed view None made = made ≡ []
-PlaysTimed view (Some event) made = (made ≡ played view (timed_script view event)) ⊎ (made ≡ [])
-
--- it is so in each turn of a history
-unfoldable pub ArePlayed : Config → History → List Turn → Type 0
-ArePlayed config history [] = Unit {0}
-ArePlayed config history (turn ∷ earlier) =
-    PlaysTimed (shown_in config (session_after config history earlier) turn)
-    (event_in config (session_after config history earlier) turn) turn.calls
-    × ArePlayed config history earlier
 
 -- the numbers of the SipSessions that acts are of have 64 bits, in each turn of a history
 unfoldable pub HaveRoom : Config → History → List Turn → Type 0

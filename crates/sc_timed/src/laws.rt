@@ -18,8 +18,9 @@ ghost use Rattle.sc_hosts.specs.SessionTimers.{On, Timed, granted, least_interva
 ghost use Rattle.sc_hosts.specs.Steps.{live_at};
 ghost use Rattle.sc_lived.specs.Lived.{HasLived, told};
 ghost use Rattle.sc_promised.specs.Refreshing.{IsAccepted, IsBegun};
+ghost use Rattle.sc_remembered.specs.Played.{ArePlayed};
 ghost use Rattle.sc_timed.specs.TimedActs.{Grants, IsChain, IsOneAct, Refreshes, TimedHappened, after, calls_of};
-ghost use Rattle.sc_timed.specs.TimedLives.{AreActs, ArePlayed, HasActs, HaveRoom, IsTimed};
+ghost use Rattle.sc_timed.specs.TimedLives.{AreActs, HasActs, HaveRoom, IsTimed};
 
 /// Whatever event an application that keeps session timers is told of, its script is that of one
 /// act of one SipSession, the answer to an INVITE or UPDATE with what is granted, the answer to a
@@ -43,7 +44,7 @@ pub fn timed_acts_are_chained()
 /// SipSessions have 64 bits. The contract is the law, and the call does nothing.
 pub fn timed_lives_make_acts()
     ensures { (config : Config) (history : History) (n : ℕ) → n < 2 ^ 64
-        → ArePlayed config history history.turns → HaveRoom config history history.turns
+        → ArePlayed timed_script config history history.turns → HaveRoom config history history.turns
         → HasActs config history n history.turns }
 {}
 
