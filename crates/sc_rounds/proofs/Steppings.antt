@@ -43,7 +43,6 @@ use Rattle.sc_courses.proofs.OrderingLaws.{is_for_gone, is_for_later}
 use Rattle.sc_rounds.specs.Stepping.{IsLong, Ordered, StoppedAt, Unordered, order_at}
 use Rattle.sc_rounds.specs.declared.stepping.Core.{Core}
 use Rattle.sc_rounds.specs.declared.stepping.Turning.{Turning}
-
 use Rattle.sc_courses.proofs.AskingLaws.{ticked_early, ticked_part}
 use Rattle.sc_courses.specs.Reports.{Reports}
 use Rattle.sc_courses.proofs.ReportLaws.{counts_step, reports_listed, reports_part, reports_step, reports_turned, untold}
