@@ -6,3 +6,4 @@ mod Sent
 mod SentCalls
 mod SentEnds
 mod SentTurns
+mod KeptAsCame

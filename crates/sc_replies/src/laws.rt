@@ -5,12 +5,13 @@ ghost use Rattle.sc_terms.specs.declared.settings.Config.{Config};
 ghost use Rattle.sc_parts.specs.declared.setup.Setup.{Setup};
 ghost use Rattle.sc_state.specs.declared.host.Live.{Live};
 ghost use Rattle.sc_state.specs.declared.session.Session.{Session};
-ghost use Rattle.sc_hosts.specs.Histories.{History, as_history, as_session};
+ghost use Rattle.sc_hosts.specs.Histories.{History, as_history, as_session, session_of};
 ghost use Rattle.sc_hosts.specs.Runs.{IsLawful, chained};
 ghost use Rattle.sc_hosts.specs.Sessions.{Turn};
 ghost use Rattle.sc_hosts.specs.Steps.{live_at};
 ghost use Rattle.sc_lived.specs.Lived.{told};
 ghost use Rattle.sc_answered.specs.Happened.{at_moment, happened_by};
+ghost use Rattle.sc_replies.specs.Came.{AreAsTheyCame, HasKept, HaveKept, came_of};
 ghost use Rattle.sc_replies.specs.Replies.{GaveAll, HasGivenAll, came, gave};
 
 /// What a turn tells of its SipSessions is what it gave, and before it what came with its event, a
@@ -38,4 +39,24 @@ pub fn live_answers_are_given()
         (live : Live Session) → IsLawful as_session setup epoch began journal
         → live_at app (chained as_session setup epoch began journal) ≡ Some live
         → HasGivenAll setup app (told app journal) live.session live.inbox }
+{}
+
+/// A request that an application session keeps as one that came under the number of an event, by
+/// which its answers go, is the one that this event brought to it, and an INVITE that can be
+/// cancelled under such a number is of a request that this event brought. So it is in every
+/// history; and of a live session after a lawful journal it is so of the turns that the journal
+/// tells of it, for each form in which sessions are kept. The contract is the law, and the call
+/// does nothing.
+pub fn requests_are_kept_as_they_came()
+    ensures life { (config : Config) (history : History)
+        → AreAsTheyCame (came_of config history history.turns) (session_of config history).known }
+    ensures history { (setup : Setup) (epoch began : ℕ) (journal : List Step) (app : AppId)
+        (live : Live History) → IsLawful (as_history setup.config) setup epoch began journal
+        → live_at app (chained (as_history setup.config) setup epoch began journal) ≡ Some live
+        → HaveKept setup app (told app journal) live.session (session_of setup.config live.session)
+        live.inbox }
+    ensures session { (setup : Setup) (epoch began : ℕ) (journal : List Step) (app : AppId)
+        (live : Live Session) → IsLawful as_session setup epoch began journal
+        → live_at app (chained as_session setup epoch began journal) ≡ Some live
+        → HasKept setup app (told app journal) live.session live.inbox }
 {}

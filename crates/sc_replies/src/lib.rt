@@ -3,4 +3,4 @@
 
 mod laws;
 
-pub use laws::{answers_are_given, live_answers_are_given};
+pub use laws::{answers_are_given, live_answers_are_given, requests_are_kept_as_they_came};
