@@ -3,3 +3,4 @@ pub mod Best
 pub mod Going
 pub mod Resting
 pub mod Answering
+pub mod Exhausted

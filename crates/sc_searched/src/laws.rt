@@ -1,7 +1,10 @@
-ghost use Rattle.std.specs.Prelude.{◌≡◌, ◌&&◌, ℕ, List, Some, true, false, not};
+ghost use Rattle.std.specs.Prelude.{◌≡◌, ◌&&◌, ℕ, List, Option, Some, true, false, not};
 ghost use Rattle.sc_value.specs.declared.ids.AppId.{AppId};
+ghost use Rattle.sc_value.specs.declared.ids.ReqId.{ReqId};
 ghost use Rattle.sc_value.specs.declared.ids.SessId.{SessId};
+ghost use Rattle.sc_value.specs.declared.message.Request.{Request};
 ghost use Rattle.sc_value.specs.declared.message.Response.{Response};
+ghost use Rattle.sc_terms.specs.declared.calls.ProxyOptions.{ProxyOptions};
 ghost use Rattle.sc_terms.specs.declared.settings.Config.{Config};
 ghost use Rattle.sc_terms.specs.declared.steps.Step.{Step};
 ghost use Rattle.sc_parts.specs.declared.setup.Setup.{Setup};
@@ -9,13 +12,14 @@ ghost use Rattle.sc_state.specs.declared.host.Live.{Live};
 ghost use Rattle.sc_state.specs.declared.proxy.Proxy.{Proxy};
 ghost use Rattle.sc_state.specs.declared.session.Session.{Session};
 ghost use Rattle.sc_model.specs.SessionStates.{is_final};
-ghost use Rattle.sc_hosts.specs.Branches.{ended_by, ends_last, has_open, heard, is_exhausted, stopped};
+ghost use Rattle.sc_hosts.specs.Branches.{ended_by, ends_last, has_open, heard, is_exhausted, new_proxy, stopped};
 ghost use Rattle.sc_hosts.specs.Histories.{History, as_history, as_session, session_of};
 ghost use Rattle.sc_hosts.specs.Runs.{IsLawful, chained};
 ghost use Rattle.sc_hosts.specs.Steps.{live_at};
 ghost use Rattle.sc_lasting.specs.Lasting.{All};
 ghost use Rattle.sc_lived.specs.Lived.{told};
-ghost use Rattle.sc_searched.specs.Endings.{HasAnswers, HasItsAnswer, HaveAnswers};
+ghost use Rattle.sc_proxied.specs.ProxyLists.{IsHad, ProxyEvent, proxy_after};
+ghost use Rattle.sc_searched.specs.Endings.{HasAnswers, HasItsAnswer, HaveAnswers, is_over};
 ghost use Rattle.sc_searched.specs.Searches.{has_answer, is_open_in};
 
 /// The first final response of an open branch ends the search of a proxied request exactly where it
@@ -56,8 +60,9 @@ pub fn searches_end_with_a_response()
 /// (`was_dropped`); it can proxy the request to further targets then, or end its SipSession. So it
 /// is of each request that an application session proxies, a later one that it passes on too, by
 /// the list of all that happened to it (`HasItsList`): in every history, and of a live session after
-/// a lawful journal, for each form in which sessions are kept. The contract is the law, and the call
-/// does nothing.
+/// a lawful journal, for each form in which sessions are kept. Where hosts find the search exhausted
+/// (`is_exhausted`), which ends its SipSessions, it is over by its list. The contract is the law,
+/// and the call does nothing.
 pub fn ended_searches_are_answered()
     ensures life { (config : Config) (history : History)
         → All (HasItsAnswer config history history.turns)
@@ -71,4 +76,9 @@ pub fn ended_searches_are_answered()
         (live : Live Session) → IsLawful as_session setup epoch began journal
         → live_at app (chained as_session setup epoch began journal) ≡ Some live
         → HasAnswers setup app (told app journal) live.session live.inbox }
+    ensures exhausted { (req : ReqId) (sess : SessId) (event : ℕ) (request : Request)
+        (how : Option ProxyOptions) (events : List ProxyEvent)
+        → IsHad (new_proxy req sess event request how) events
+        → is_exhausted (proxy_after (new_proxy req sess event request how) events) ≡ true
+        → is_over (new_proxy req sess event request how) events ≡ true }
 {}

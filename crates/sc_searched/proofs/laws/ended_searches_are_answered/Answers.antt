@@ -4,6 +4,7 @@ use Rattle.sc_lasting.specs.Lasting.{All}
 use Rattle.sc_lived.proofs.Sayings.{has-lived, session-lived}
 use Rattle.sc_searched.specs.Endings.{HasItsAnswer}
 use Rattle.sc_searched.proofs.Answering.{all-answered}
+use Rattle.sc_searched.proofs.Exhausted.{exhausted-over}
 use Rattle.sc_searched.proofs.laws.ended_searches_are_answered.Goals as goal
 
 pub returns-clause-life : goal.returns-clause-life
@@ -23,3 +24,6 @@ returns-clause-session c = λ setup epoch began journal app live lawful is.
         answers = subst (λ (session : Session). All (HasItsAnswer setup.config has.history has.history.turns) session.known.proxies) (sym has.is) (all-answered setup.config has.history);
       };
     }
+
+pub returns-clause-exhausted : goal.returns-clause-exhausted
+returns-clause-exhausted c = exhausted-over
