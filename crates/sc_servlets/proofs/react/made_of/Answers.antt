@@ -5,4 +5,4 @@ pub returns-in-None-clause-brought : goal.returns-in-None-clause-brought
 returns-in-None-clause-brought g c = let e = c.nobody.ensures in nobody_brought _ _ _ _ _ _ c.in-None.is e.charter e.listener e.calls e.end
 
 pub returns-else-is_listened-clause-brought : goal.returns-else-is_listened-clause-brought
-returns-else-is_listened-clause-brought g c = rw c.in-Some.is (by_servlet _ _ _ _ _ _ c.servlet_charter.ensures c.call_servlet.ensures.allowed)
+returns-else-is_listened-clause-brought g c = rw c.in-Some.is (by_servlet _ _ _ _ _ _ c.servlet_charter.ensures (rw c.get-event.ensures at c.call_servlet.ensures.allowed))
