@@ -3,6 +3,7 @@ pub mod Firsts
 pub mod FoundLaws
 pub mod Items
 pub mod LedLaws
+pub mod Plays
 pub mod Shorts
 pub mod Steps
 pub mod Tails

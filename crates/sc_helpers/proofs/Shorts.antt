@@ -1,6 +1,8 @@
 -- The calls of a helper as those of a script that is short, and that a refusal ends.
-use Rattle.std.proofs.Common.{◌≡◌, ◌≤◌, ◌<◌, ℕ, ◌+◌, zero, suc, Bool, true, false, if◌then◌else◌, Option, None, Some, Result, Ok, Err, OnOk, inl, inr, refl, subst, arith}
+use Rattle.std.proofs.Common.{◌≡◌, ◌≤◌, ◌<◌, ℕ, ◌+◌, zero, suc, Bool, true, false, if◌then◌else◌, Option, None, Some, List, Result, Ok, Err, OnOk, inl, inr, refl, subst, arith}
+use Rattle.sc_value.specs.declared.ids.SessId.{SessId}
 use Rattle.sc_value.specs.declared.ids.TimerId.{TimerId}
+use Rattle.sc_value.specs.declared.parts.Field.{Field}
 use Rattle.sc_value.specs.declared.no_memory.NoMemory as no
 use Rattle.sc_terms.specs.declared.calls.Call.{Call}
 use Rattle.sc_terms.specs.declared.calls.CallAnswer.{CallAnswer}
@@ -8,13 +10,14 @@ use Rattle.sc_terms.specs.declared.calls.CallAnswer.TheVariants as answers
 use Rattle.sc_terms.specs.declared.calls.Refusal.{Refusal}
 use Rattle.sc_terms.specs.declared.calls.Refusal.TheVariants.{NoMemory}
 use Rattle.sc_hosts.specs.Effects.{accepted}
-use Rattle.sc_hosts.specs.HelperParts.{accepted_then}
+use Rattle.sc_grammar.specs.Written.{Bytes}
+use Rattle.sc_hosts.specs.HelperParts.{accepted_then, send_in}
 use Rattle.sc_hosts.specs.RefusalParts.{MOST_CALLS}
 use Rattle.sc_hosts.specs.Scripting.{Script, Done, Make, is_refused, only, where_some, with_number}
 use Rattle.sc_turn.specs.Working.{Working, play_of, after_made, IsAccepted, IsRefused}
 use Rattle.sc_apps.specs.Scripted.{IsMade, IsPlayed, IsTold}
 use Rattle.sc_apps.proofs.Playing.{accepted_listed, accepted_made, played_done, played_make, refused_made}
-use Rattle.sc_helpers.specs.Leading.{cancel_some}
+use Rattle.sc_helpers.specs.Leading.{cancel_some, remove_if}
 use Rattle.sc_helpers.specs.Stopping.{GoesThrough, Goes, IsFirstRefused, IsHeard, StopsAfter}
 use Rattle.sc_helpers.specs.declared.stopping.Stopped.{Stopped}
 
@@ -24,10 +27,14 @@ Short Done n = Unit {0}
 Short (Make call next) zero = ⊥
 Short (Make call next) (suc n) = ((refused : Refusal) → next (answers.Refused refused) ≡ Done) × ((answer : CallAnswer) → Short (next answer) n)
 
-short_if : (b : Bool) (script : Script) (n : ℕ) → Short script n → Short (if b then Done else script) n
+pub short_if : (b : Bool) (script : Script) (n : ℕ) → Short script n → Short (if b then Done else script) n
 unfolding Short
 short_if true script n short = tt
 short_if false script n short = short
+
+pub short_either : (b : Bool) (one other : Script) (n : ℕ) → Short one n → Short other n → Short (if b then one else other) n
+short_either true one other n first second = first
+short_either false one other n first second = second
 
 pub short_then : (call : Call) (script : Script) (n : ℕ) → Short script n → Short (accepted_then call script) (suc n)
 unfolding Short accepted_then is_refused
@@ -47,7 +54,7 @@ pub short_number : (call : Call) (next : ℕ → Script) (n : ℕ) → ((k : ℕ
 unfolding Short with_number
 short_number call next n each = (λ refused. refl, short_by next n each)
 
-short_more : (script : Script) (n : ℕ) → Short script n → Short script (suc n)
+pub short_more : (script : Script) (n : ℕ) → Short script n → Short script (suc n)
 unfolding Short
 short_more Done n short = tt
 short_more (Make call next) zero short = absurd short
@@ -57,6 +64,15 @@ pub short_cancel : (id : Option TimerId) (script : Script) (n : ℕ) → Short s
 unfolding cancel_some
 short_cancel None script n short = short_more script n short
 short_cancel (Some id) script n short = short_then _ script n short
+
+pub short_remove : (set : Bool) (name : Bytes) (script : Script) (n : ℕ) → Short script n → Short (remove_if set name script) (suc n)
+unfolding remove_if
+short_remove false name script n short = short_more script n short
+short_remove true name script n short = short_then _ script n short
+
+pub short_send : (sess : SessId) (method : Bytes) (fields : List Field) (body : Bytes) (script : Script) (n : ℕ) → Short script n → Short (send_in sess method fields body script) (suc (suc n))
+unfolding send_in
+short_send sess method fields body script n short = short_number _ _ (suc n) (λ draft. short_then _ script n short)
 
 pub short_where : {A : Type 0} (o : Option A) (next : A → Script) (n : ℕ) → ((a : A) → Short (next a) n) → Short (where_some o next) n
 unfolding where_some Short

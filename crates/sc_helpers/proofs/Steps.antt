@@ -1,6 +1,8 @@
 -- One call of a helper, and what follows it.
-use Rattle.std.proofs.Common.{◌≡◌, ℕ, ◌+◌, zero, suc, Bool, true, false, if◌then◌else◌, Option, None, Some, Result, Ok, Err, IfOk, inl, inr, refl, subst, arith}
+use Rattle.std.proofs.Common.{◌≡◌, ℕ, ◌+◌, zero, suc, Bool, true, false, if◌then◌else◌, Option, None, Some, Result, Ok, Err, List, IfOk, inl, inr, refl, subst, arith}
+use Rattle.sc_value.specs.declared.ids.SessId.{SessId}
 use Rattle.sc_value.specs.declared.ids.TimerId.{TimerId}
+use Rattle.sc_value.specs.declared.parts.Field.{Field}
 use Rattle.sc_terms.specs.declared.calls.Call.{Call}
 use Rattle.sc_terms.specs.declared.calls.Call.TheVariants as calls
 use Rattle.sc_terms.specs.declared.calls.CallAnswer.{CallAnswer}
@@ -8,11 +10,12 @@ use Rattle.sc_terms.specs.declared.calls.CallAnswer.TheVariants as answers
 use Rattle.sc_terms.specs.declared.calls.Refusal.{Refusal}
 use Rattle.sc_terms.specs.declared.calls.Refusal.TheVariants.{NoMemory}
 use Rattle.sc_hosts.specs.Scripting.{Script, Done, Make, is_refused, only, with_number}
-use Rattle.sc_hosts.specs.HelperParts.{accepted_then}
+use Rattle.sc_grammar.specs.Written.{Bytes}
+use Rattle.sc_hosts.specs.HelperParts.{accepted_then, send_in}
 use Rattle.sc_turn.specs.Working.{Working, after_made, Answers, IsAccepted, IsRefused}
 use Rattle.sc_apps.proofs.Playing as playing
-use Rattle.sc_helpers.specs.Leading.{cancel_some}
-use Rattle.sc_helpers.specs.Stopping.{GoesThrough, IsFirstRefused, StopsAfter, Goes, Leads, Gives, IsCarried, IsCounted}
+use Rattle.sc_helpers.specs.Leading.{cancel_some, remove_if}
+use Rattle.sc_helpers.specs.Stopping.{GoesThrough, IsFirstRefused, StopsAfter, Goes, Leads, Gives, IsCarried, IsCounted, IsDone}
 use Rattle.sc_helpers.specs.declared.stopping.Stopped.{Stopped}
 
 -- ## A call that was accepted, and one that wasn't
@@ -55,9 +58,14 @@ led_accepted : (call : Call) (before : ℕ) (old mid : Working) → IsAccepted c
 unfolding Leads accepted_then is_refused
 led_accepted call before old mid is = λ script result last rest. went_on call _ before old mid last answers.Fine result is rest
 
-led_refused : (call : Call) (before : ℕ) (old mid : Working) (stop : Stopped) → stop.made ≡ before → IsRefused call old stop.refusal mid → Leads (accepted_then call) before old (Err stop) mid
+pub led_refused : (call : Call) (before : ℕ) (old mid : Working) (stop : Stopped) → stop.made ≡ before → IsRefused call old stop.refusal mid → Leads (accepted_then call) before old (Err stop) mid
 unfolding Leads accepted_then
 led_refused call before old mid stop count is = λ script. turned_off call _ before old mid stop count is
+
+-- a call that gives a number may be made for its effect alone
+pub led_number : (call : Call) (before n : ℕ) (old mid : Working) → IsAccepted call old (answers.Number n) mid → Leads (accepted_then call) before old (Ok (before + 1)) mid
+unfolding Leads accepted_then is_refused
+led_number call before n old mid is = λ script result last rest. went_on call _ before old mid last (answers.Number n) result is rest
 
 pub led_called : (call : Call) (before : ℕ) (old mid : Working) (told : Result (Unit {0}) Refusal) (out : Result ℕ Stopped) → Answers {X = Unit {0}} (λ x. answers.Fine) call old told mid → IsCounted before told out
     → Leads (accepted_then call) before old out mid
@@ -101,6 +109,49 @@ pub led_cancelled : (id : TimerId) (before : ℕ) (old mid : Working) (out : Res
 unfolding Leads cancel_some
 led_cancelled id before old mid (Ok after) led = led
 led_cancelled id before old mid (Err stop) led = led
+
+pub led_unset : (name : Bytes) (before : ℕ) (turn : Working) → Leads (remove_if false name) before turn (Ok before) turn
+unfolding Leads remove_if
+led_unset name before turn = λ script result last rest. rest
+
+pub led_removed : (name : Bytes) (before : ℕ) (old mid : Working) (out : Result ℕ Stopped) → Leads (accepted_then (calls.RemoveAttribute name)) before old out mid → Leads (remove_if true name) before old out mid
+unfolding Leads remove_if
+led_removed name before old mid (Ok after) led = led
+led_removed name before old mid (Err stop) led = led
+
+-- ## A request in a dialog
+
+pub sent_both : (sess : SessId) (method : Bytes) (fields : List Field) (body : Bytes) (before draft : ℕ) (old mid new : Working) (out : Result ℕ Stopped)
+    → Gives (calls.CreateInDialog sess (record { method = method; fields = fields; body = body })) before old (Ok draft) mid → Leads (accepted_then (calls.Send draft)) (before + 1) mid out new → Leads (send_in sess method fields body) before old out new
+unfolding Leads Gives send_in
+sent_both sess method fields body before draft old mid new (Ok after) given led = λ script result last rest. given (λ d. accepted_then (calls.Send d) script) result last (led script result last rest)
+sent_both sess method fields body before draft old mid new (Err stop) given led = λ script. given (λ d. accepted_then (calls.Send d) script) (Err stop) new (led script)
+
+pub sent_none : (sess : SessId) (method : Bytes) (fields : List Field) (body : Bytes) (before : ℕ) (old new : Working) (stop : Stopped)
+    → Gives (calls.CreateInDialog sess (record { method = method; fields = fields; body = body })) before old (Err stop) new → Leads (send_in sess method fields body) before old (Err stop) new
+unfolding Leads Gives send_in
+sent_none sess method fields body before old new stop given = λ script. given (λ d. accepted_then (calls.Send d) script)
+
+pub sent_on : (sess : SessId) (method : Bytes) (fields : List Field) (body : Bytes) (script : Script) (before after : ℕ) (old mid new : Working) (result : Result (Unit {0}) Stopped)
+    → Leads (send_in sess method fields body) before old (Ok after) mid → Goes after script mid result new → Goes before (send_in sess method fields body script) old result new
+unfolding Leads
+sent_on sess method fields body script before after old mid new result led rest = led script result new rest
+
+pub sent_off : (sess : SessId) (method : Bytes) (fields : List Field) (body : Bytes) (script : Script) (before : ℕ) (old new : Working) (stop : Stopped)
+    → Leads (send_in sess method fields body) before old (Err stop) new → Goes before (send_in sess method fields body script) old (Err stop) new
+unfolding Leads
+sent_off sess method fields body script before old new stop led = led script
+
+-- ## One beginning after another
+
+pub both_led : (first second : Script → Script) (before middle : ℕ) (old mid new : Working) (out : Result ℕ Stopped) → Leads first before old (Ok middle) mid → Leads second middle mid out new → Leads (λ script. first (second script)) before old out new
+unfolding Leads
+both_led first second before middle old mid new (Ok after) led more = λ script result last rest. led (second script) result last (more script result last rest)
+both_led first second before middle old mid new (Err stop) led more = λ script. led (second script) (Err stop) new (more script)
+
+pub none_led : (first second : Script → Script) (before : ℕ) (old new : Working) (stop : Stopped) → Leads first before old (Err stop) new → Leads (λ script. first (second script)) before old (Err stop) new
+unfolding Leads
+none_led first second before old new stop led = λ script. led (second script)
 
 -- ## What follows
 
@@ -163,3 +214,17 @@ goes_carried script given answer old new x is through = (is, through)
 pub goes_stopped : {X : Type 0} (script : Script) (answer : X) (old new : Working) (stop : Stopped) → Goes 0 script old (Err stop) new → IsCarried script answer old (Err stop) new
 unfolding Goes IsCarried
 goes_stopped script answer old new stop (made, count, stops) = subst (λ (k : ℕ). StopsAfter k script old stop.refusal new) (omega (arith, count)) stops
+
+pub goes_is_done : (script : Script) (old new : Working) (result : Result (Unit {0}) Stopped) → Goes 0 script old result new → IsDone script old result new
+unfolding Goes IsDone
+goes_is_done script old new (Ok x) through = through
+goes_is_done script old new (Err stop) (made, count, stops) = subst (λ (k : ℕ). StopsAfter k script old stop.refusal new) (omega (arith, count)) stops
+
+-- memory was wanting before the first call
+pub wanting_done : (script : Script) (old : Working) (stop : Stopped) → stop ≡ record { refusal = NoMemory; made = 0 } → IsDone script old (Err stop) old
+unfolding IsDone StopsAfter
+wanting_done script old stop is = rw is (inl (refl, refl))
+
+pub wanting_carried : {X : Type 0} (script : Script) (answer : X) (old : Working) (stop : Stopped) → stop ≡ record { refusal = NoMemory; made = 0 } → IsCarried script answer old (Err stop) old
+unfolding IsCarried StopsAfter
+wanting_carried script answer old stop is = rw is (inl (refl, refl))

@@ -34,7 +34,12 @@ StopsAfter (suc made) (Make call next) old refused new =
     IsAccepted call old (accepted (play_of old) call) (after_made call old)
     × StopsAfter made (next (accepted (play_of old) call)) (after_made call old) refused new
 
--- the calls of the script went through and this was answered, or they stopped
+-- the calls of the script went through, or they stopped
+unfoldable pub IsDone : Script → Working → Result (Unit {0}) Stopped → Working → Type 0
+IsDone script old (Ok x) new = GoesThrough script old new
+IsDone script old (Err stop) new = StopsAfter stop.made script old stop.refusal new
+
+-- the same where something is answered once they went through
 unfoldable pub IsCarried : {X : Type 0} → Script → X → Working → Result X Stopped → Working → Type 0
 IsCarried script answer old (Ok given) new = (given ≡ answer) × GoesThrough script old new
 IsCarried script answer old (Err stop) new = StopsAfter stop.made script old stop.refusal new

@@ -91,7 +91,8 @@ fn send(t: &mut Turn, draft: u64) -> Result<bool, NoMemory>
     Ok(!is_refused(answer))
 }
 
-fn inside_of(
+/// What a request in a dialog is asked with.
+pub fn inside_of(
     alloc: Global,
     method: &[u8],
     fields: List<Field>,

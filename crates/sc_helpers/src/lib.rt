@@ -5,19 +5,23 @@
 mod answering;
 mod fields;
 mod going;
+mod laws;
 mod making;
 mod numbers;
 mod pieces;
 mod running;
+mod sending;
 mod stepping;
 mod stopping;
 
 pub use answering::{answer_first, answer_only, reply_first, try_answer, try_reply};
 pub use fields::{field_of, lists_option};
 pub use going::{cancel_some, remove_if, send_in, set_attribute};
+pub use laws::accepted_calls_are_played;
 pub use making::{field, number_field, numbered, one, two};
 pub use numbers::{leading_number, strict_number};
 pub use pieces::{cut, number_after, session_after, three_pieces};
 pub use running::{has_attribute, timer_named};
+pub use sending::{try_remove_attribute, try_remove_if, try_send_in};
 pub use stepping::{try_cancel_some, try_respond, try_set_attribute, try_start_timer};
-pub use stopping::{Stopped, heard, wanting};
+pub use stopping::{Stopped, counted, heard, wanting};

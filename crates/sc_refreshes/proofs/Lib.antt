@@ -1,3 +1,5 @@
 pub mod Refreshers
+pub mod TimedCalls
 pub mod TimedLaws
 pub mod TimedLed
+pub mod TimedPlays

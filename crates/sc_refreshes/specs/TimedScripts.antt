@@ -1,10 +1,13 @@
 -- The scripts of session timers, by what an application read before its first call (RFC 4028).
-use Rattle.std.specs.Prelude.{ℕ, Bool, Option, None, Some, is_some, option_and_then}
+use Rattle.std.specs.Prelude.{ℕ, ◌==◌, ◌&&◌, [], not, Bool, true, Option, None, Some, is_some, option_and_then, if◌then◌else◌}
 use Rattle.sc_value.specs.declared.ids.SessId.{SessId}
 use Rattle.sc_value.specs.declared.ids.TimerId.{TimerId}
 use Rattle.sc_terms.specs.declared.views.View.{View}
 use Rattle.sc_terms.specs.declared.views.Period.TheVariants.{Once}
 use Rattle.sc_terms.specs.declared.calls.Call.TheVariants as calls
+use Rattle.sc_model.specs.SessionStates.{bye}
+use Rattle.sc_model.specs.Transactions.{is_success, is_failure}
+use Rattle.sc_hosts.specs.HelperParts.{send_in}
 use Rattle.sc_hosts.specs.Scripting.{Script, Done, Make, attribute, only, with_number}
 use Rattle.sc_hosts.specs.SessionTimers.{Granted, Off, Too_small, On, Timed, deadline, timed_name, timed_of, timed_text}
 use Rattle.sc_helpers.specs.Leading.{cancel_some, remove_if, timer_named}
@@ -38,3 +41,13 @@ unfoldable pub begun_by : Stop → SessId → Granted → Script
 begun_by stop sess Off = stopped stop Done
 begun_by stop sess Too_small = stopped stop Done
 begun_by stop sess (On n me) = stopped stop (started sess n me)
+
+-- a refresh of the own side was answered: a success begins the timer anew, a failure ends the
+-- session by a BYE
+unfoldable pub refreshed_by : Stop → SessId → ℕ → Timed → Script
+refreshed_by stop sess code timed =
+    if not (timed.me && timed.timer == 0) then Done
+    else (if is_success code then stopped stop (started sess timed.seconds true)
+    else
+    (if is_failure code then send_in sess bye [] [] (only (calls.RemoveAttribute (timed_name sess)))
+    else Done))

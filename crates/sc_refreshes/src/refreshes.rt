@@ -1,6 +1,6 @@
 //! The application that keeps sessions alive by timers.
 
-ghost use Rattle.std.specs.Prelude.{◌≡◌, ◌≤◌, ◌<◌, ◌+◌, [], false, option_and_then, if◌then◌else◌, IfSome, OnOk};
+ghost use Rattle.std.specs.Prelude.{◌≡◌, ◌<◌, ◌+◌, [], false, option_and_then, if◌then◌else◌, OnOk};
 ghost use Rattle.sc_tokens.specs.Names.{same_bytes};
 ghost use Rattle.sc_terms.specs.declared.charters.Charter.{Charter};
 ghost use Rattle.sc_model.specs.Dialogs.{update};
@@ -8,22 +8,23 @@ ghost use Rattle.sc_model.specs.SessionStates.{bye, invite};
 ghost use Rattle.sc_hosts.specs.Charters.{reply_ok};
 ghost use Rattle.sc_hosts.specs.RefusalParts.{MOST_CALLS};
 ghost use Rattle.sc_hosts.specs.Scripting.{Done, attribute, only, reply, then_make, where_some};
-ghost use Rattle.sc_hosts.specs.SessionTimers.{grant, is_granting, refreshed, stop_then, timed_name, timed_of, timed_script};
+ghost use Rattle.sc_hosts.specs.SessionTimers.{grant, is_granting, refresh_by, refreshed, stop_then, timed_name, timed_of, timed_script};
 ghost use Rattle.sc_hosts.specs.Words.{ok};
 ghost use Rattle.sc_turn.specs.Working.{play_of};
 ghost use Rattle.sc_apps.specs.Scripted.{IsPlayed};
+ghost use Rattle.sc_refreshes.specs.Refreshing.{fired_of, timer_at};
 ghost use Rattle.sc_refreshes.specs.TimedScripts.{stopped};
 
 use crate::granting::grant;
-use crate::refreshing::{refreshed, time_out};
-use crate::stopping::{Stop, stop_of, stop_only, timed_in};
-use crate::timed_texts::Refresh;
+use crate::refreshing::{answered, fire};
+use crate::stopping::{Stop, play_stop, stop_of};
 use sc_apps::{ended, memory_of, reply_200, reply_first_200, reply_ok, shown};
+use sc_helpers::heard;
 use sc_methods::{is_bye, is_invite};
 use sc_servlets::SipServlet;
 use sc_terms::{Charter, End, Event};
 use sc_turn::Turn;
-use sc_value::{NoMemory, ReqId, Request, Response, SessId};
+use sc_value::{NoMemory, ReqId, Request, Response, SessId, TimerId};
 
 /// Answers INVITEs and UPDATEs 200 `OK`, with the session interval that their Session-Expires asks
 /// for (RFC 4028 section 9), up to 4,000,000 seconds. An interval below the first parameter, 90 to
@@ -48,7 +49,7 @@ impl SipServlet for Refreshes {
     }
 }
 
-#[tactic(auto, unfolding(sc_hosts::specs::SessionTimers::timed_script), using(sc_apps::proofs::Playing::played_done))]
+#[tactic(auto, unfolding(sc_hosts::specs::SessionTimers::timed_script, crate::specs::Refreshing::fired_of), using(sc_apps::proofs::Playing::played_done))]
 fn handle(t: &mut Turn, e: &Event) -> Result<(), NoMemory>
     requires calls { t.old.calls ≡ [] }
     requires memory { t.old.starved ≡ false }
@@ -143,10 +144,10 @@ fn answer_and_stop(t: &mut Turn, req: ReqId, what: &Stop) -> Result<(), NoMemory
         (IsPlayed (then_make (reply req 200 ok) (stopped what.now Done)) t.old t.new) }
 {
     reply_first_200(t, req)?;
-    stop_only(t, what)
+    play_stop(t, what)
 }
 
-#[tactic(auto, using(sc_apps::proofs::Playing::played_done))]
+#[tactic(auto, unfolding(crate::specs::Refreshing::timer_at), using(sc_apps::proofs::Playing::played_done))]
 fn take_response(t: &mut Turn, sess: SessId, response: &Response) -> Result<(), NoMemory>
     requires calls { t.old.calls ≡ [] }
     requires memory { t.old.starved ≡ false }
@@ -161,26 +162,34 @@ fn take_response(t: &mut Turn, sess: SessId, response: &Response) -> Result<(), 
     if !is_update(response.head.cseq.method.as_bytes()) {
         return Ok(());
     }
-    let timed = timed_in(memory_of(t), shown(t), sess)?;
-    refreshed_some(t, sess, response.code, timed)
+    take_answer(t, sess, response.code)
 }
 
-#[tactic(auto, unfolding(sc_hosts::specs::Scripting::where_some), using(sc_apps::proofs::Playing::played_done))]
-fn refreshed_some(
-    t: &mut Turn,
-    sess: SessId,
-    code: u16,
-    timed: Option<Refresh>,
-) -> Result<(), NoMemory>
+#[tactic(auto, using(crate::proofs::TimedPlays::answered_played, crate::proofs::TimedPlays::answered_heard))]
+fn take_answer(t: &mut Turn, sess: SessId, code: u16) -> Result<(), NoMemory>
     requires calls { t.old.calls ≡ [] }
     requires memory { t.old.starved ≡ false }
-    requires interval { IfSome timed (λ timed. timed.seconds ≤ 4000000) }
     ensures same { t.new.shown ≡ t.old.shown }
     ensures played { OnOk result
-        (IsPlayed (where_some timed (refreshed t.old.shown sess code)) t.old t.new) }
+        (IsPlayed (where_some (timer_at t.old.shown sess) (refreshed t.old.shown sess code)) t.old
+        t.new) }
 {
-    match timed {
-        Some(timed) => refreshed(t, sess, code, &timed),
-        None => Ok(()),
+    match answered(t, sess, code) {
+        Ok(_) => Ok(()),
+        Err(stop) => heard(stop),
+    }
+}
+
+#[tactic(auto, using(crate::proofs::TimedPlays::fired_played, crate::proofs::TimedPlays::fired_heard))]
+fn time_out(t: &mut Turn, id: TimerId) -> Result<(), NoMemory>
+    requires calls { t.old.calls ≡ [] }
+    requires memory { t.old.starved ≡ false }
+    ensures same { t.new.shown ≡ t.old.shown }
+    ensures played { OnOk result
+        (IsPlayed (where_some (fired_of t.old.shown id) refresh_by) t.old t.new) }
+{
+    match fire(t, id) {
+        Ok(_) => Ok(()),
+        Err(stop) => heard(stop),
     }
 }

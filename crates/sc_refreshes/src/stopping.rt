@@ -1,4 +1,4 @@
-//! The session timer of a SipSession, read before the first call of a turn, and its end.
+//! The session timer of a SipSession, read before a helper's first call, and its end.
 
 ghost use Rattle.std.specs.Prelude.{◌≡◌, ◌≤◌, ◌+◌, ◌<◌, IfOk, IfSome, OnOk, option_and_then};
 ghost use Rattle.sc_hosts.specs.RefusalParts.{MOST_CALLS};
@@ -6,12 +6,12 @@ ghost use Rattle.sc_hosts.specs.Scripting.{Done, attribute};
 ghost use Rattle.sc_hosts.specs.SessionTimers.{timed_name, timed_of};
 ghost use Rattle.sc_turn.specs.Working.{play_of};
 ghost use Rattle.sc_apps.specs.Scripted.{IsPlayed};
-ghost use Rattle.sc_helpers.specs.Leading.{IsLed};
+ghost use Rattle.sc_helpers.specs.Stopping.{Goes, Leads};
 ghost use Rattle.sc_refreshes.specs.TimedScripts.{stop_of, stopped, timer_of_timed};
 
 use crate::timed_texts::{Refresh, timed_name, timed_of};
 use sc_apps::attribute;
-use sc_helpers::{cancel_some, has_attribute, remove_if, timer_named};
+use sc_helpers::{Stopped, has_attribute, heard, timer_named, try_cancel_some, try_remove_if};
 use sc_terms::View;
 use sc_turn::Turn;
 use sc_value::{NoMemory, SessId, Text, TimerId};
@@ -69,27 +69,41 @@ pub fn stop_of(alloc: Global, view: &View, sess: SessId) -> Result<Stop, NoMemor
     Ok(Stop { name, set, running })
 }
 
-/// Ends the timer and takes the attribute away. Tells whether the script goes on.
+/// Ends the timer and takes the attribute away, behind so many accepted calls.
 #[tactic(auto, using(crate::proofs::TimedLed::stopped_both, crate::proofs::TimedLed::stopped_none))]
-pub fn stop_timer(t: &mut Turn, what: &Stop) -> Result<bool, NoMemory>
-    requires { (play_of t.old).listed + 1 < MOST_CALLS }
-    ensures same { t.new.shown ≡ t.old.shown }
-    ensures led { IfOk result (λ on. IsLed (stopped what.now) on t.old t.new) }
-    ensures listed { OnOk result ((play_of t.new).listed ≤ (play_of t.old).listed + 2) }
+pub fn stop_timer(turn: &mut Turn, made: u8, what: &Stop) -> Result<u8, Stopped>
+    requires few { made < 90 }
+    ensures same { turn.new.shown ≡ turn.old.shown }
+    ensures led { Leads (stopped what.now) made turn.old result turn.new }
+    ensures count { IfOk result (λ after. after ≤ made + 2) }
 {
-    if !cancel_some(t, what.running)? {
-        return Ok(false);
+    match try_cancel_some(turn, made, what.running) {
+        Ok(made) => try_remove_if(turn, made, what.set, what.name.as_bytes()),
+        Err(stop) => Err(stop),
     }
-    remove_if(t, what.set, what.name.as_bytes())
 }
 
 /// Ends the timer and takes the attribute away, and makes no other call.
-#[tactic(auto, using(crate::proofs::TimedLed::stopped_last))]
-pub fn stop_only(t: &mut Turn, what: &Stop) -> Result<(), NoMemory>
+#[tactic(auto, using(crate::proofs::TimedLed::stopped_on, crate::proofs::TimedLed::stopped_off, sc_helpers::proofs::Steps::goes_done))]
+pub fn stop_only(turn: &mut Turn, what: &Stop) -> Result<(), Stopped>
+    ensures same { turn.new.shown ≡ turn.old.shown }
+    ensures goes { Goes 0 (stopped what.now Done) turn.old result turn.new }
+{
+    match stop_timer(turn, 0, what) {
+        Ok(_) => Ok(()),
+        Err(stop) => Err(stop),
+    }
+}
+
+/// Does the same as the last calls of a servlet.
+#[tactic(auto, using(crate::proofs::TimedPlays::stop_played, crate::proofs::TimedPlays::stop_heard))]
+pub fn play_stop(t: &mut Turn, what: &Stop) -> Result<(), NoMemory>
     requires { (play_of t.old).listed + 1 < MOST_CALLS }
     ensures same { t.new.shown ≡ t.old.shown }
     ensures played { OnOk result (IsPlayed (stopped what.now Done) t.old t.new) }
 {
-    stop_timer(t, what)?;
-    Ok(())
+    match stop_only(t, what) {
+        Ok(()) => Ok(()),
+        Err(stop) => heard(stop),
+    }
 }

@@ -1,14 +1,15 @@
 //! How session timers begin (RFC 4028 sections 7 to 10).
 
-ghost use Rattle.std.specs.Prelude.{◌≡◌, ◌≤◌, ◌+◌, ◌<◌, [], true, false, IfOk, OnOk};
+ghost use Rattle.std.specs.Prelude.{◌≡◌, ◌≤◌, ◌+◌, ◌<◌, [], false, IfOk, OnOk};
 ghost use Rattle.sc_terms.specs.declared.views.Period.TheVariants.{Once};
 ghost use Rattle.sc_hosts.specs.HelperParts.{accepted_then, answer_with};
 ghost use Rattle.sc_hosts.specs.RefusalParts.{MOST_CALLS};
-ghost use Rattle.sc_hosts.specs.Scripting.{only, with_number};
-ghost use Rattle.sc_hosts.specs.SessionTimers.{begin_timed, granted_fields, timed_name, timed_text, On};
+ghost use Rattle.sc_hosts.specs.Scripting.{only};
+ghost use Rattle.sc_hosts.specs.SessionTimers.{begin_timed, granted_fields, timed_name, timed_text};
 ghost use Rattle.sc_hosts.specs.Words.{ok};
 ghost use Rattle.sc_turn.specs.Working.{play_of};
 ghost use Rattle.sc_apps.specs.Scripted.{IsPlayed};
+ghost use Rattle.sc_helpers.specs.Stopping.{Gives, Goes, Leads};
 ghost use Rattle.sc_refreshes.specs.Intervals.{granted_of, IsGrantable};
 ghost use Rattle.sc_refreshes.specs.TimedScripts.{begun_by, started, stopped};
 
@@ -16,11 +17,12 @@ use crate::expiries::{deadline, granted_fields};
 use crate::intervals::Interval;
 use crate::stopping::{Stop, stop_of, stop_only, stop_timer};
 use crate::timed_texts::{timed_name, timed_text};
-use sc_apps::{memory_of, shown, start_timer};
-use sc_helpers::answer_first;
-use sc_terms::{Call, CallAnswer, Period};
+use sc_apps::{memory_of, shown};
+use sc_helpers::{Stopped, answer_first, heard, try_set_attribute, try_start_timer, wanting};
+use sc_terms::Call;
 use sc_turn::Turn;
-use sc_value::{NoMemory, ReqId, SessId};
+use sc_value::{NoMemory, ReqId, SessId, Text};
+use std::alloc::Global;
 
 /// Answers a request 200 `OK` with its interval, and begins the timer of its SipSession.
 #[tactic(auto, using(sc_apps::proofs::Playing::begun_room, crate::proofs::TimedLaws::played_begin))]
@@ -58,96 +60,140 @@ fn accept_with(
     if !answer_first(t, req, 200, b"OK", fields)? {
         return Ok(());
     }
-    begin_by(t, sess, interval, what)
+    play_begin(t, sess, interval, what)
 }
 
-#[tactic(auto, unfolding(crate::specs::TimedScripts::begun_by, crate::specs::Intervals::granted_of, crate::specs::Intervals::IsGrantable))]
-fn begin_by(t: &mut Turn, sess: SessId, interval: Interval, what: &Stop) -> Result<(), NoMemory>
+#[tactic(auto, using(crate::proofs::TimedPlays::begin_played, crate::proofs::TimedPlays::begin_heard))]
+fn play_begin(t: &mut Turn, sess: SessId, interval: Interval, what: &Stop) -> Result<(), NoMemory>
     requires room { (play_of t.old).listed + 3 < MOST_CALLS }
     requires interval { IsGrantable interval }
     ensures same { t.new.shown ≡ t.old.shown }
     ensures played { OnOk result
         (IsPlayed (begun_by what.now sess (granted_of interval)) t.old t.new) }
 {
+    match begin_by(t, sess, interval, what) {
+        Ok(()) => Ok(()),
+        Err(stop) => heard(stop),
+    }
+}
+
+/// Begins a session timer, as granted, once the old one is stopped.
+#[tactic(auto, unfolding(crate::specs::TimedScripts::begun_by, crate::specs::Intervals::granted_of, crate::specs::Intervals::IsGrantable))]
+pub fn begin_by(
+    turn: &mut Turn,
+    sess: SessId,
+    interval: Interval,
+    what: &Stop,
+) -> Result<(), Stopped>
+    requires interval { IsGrantable interval }
+    ensures same { turn.new.shown ≡ turn.old.shown }
+    ensures goes { Goes 0 (begun_by what.now sess (granted_of interval)) turn.old result turn.new }
+{
     match interval {
-        Interval::Off => stop_only(t, what),
-        Interval::TooSmall => stop_only(t, what),
-        Interval::On(seconds, me) => restart(t, sess, seconds, me, what),
+        Interval::Off => stop_only(turn, what),
+        Interval::TooSmall => stop_only(turn, what),
+        Interval::On(seconds, me) => restart(turn, sess, seconds, me, what),
     }
 }
 
-/// Begins the timer of a session that the application has refreshed.
-#[tactic(auto, unfolding(crate::specs::TimedScripts::begun_by), using(sc_apps::proofs::Playing::begun_room, crate::proofs::TimedLaws::played_again))]
-pub fn begin_again(t: &mut Turn, sess: SessId, seconds: u32) -> Result<(), NoMemory>
-    requires calls { t.old.calls ≡ [] }
-    requires memory { t.old.starved ≡ false }
-    requires interval { seconds ≤ 4000000 }
-    ensures same { t.new.shown ≡ t.old.shown }
-    ensures played { OnOk result
-        (IsPlayed (begin_timed sess t.old.shown (On seconds true)) t.old t.new) }
-{
-    let what = stop_of(memory_of(t), shown(t), sess)?;
-    restart(t, sess, seconds, true, &what)
-}
-
+/// Stops a session timer and begins one of so many seconds.
 #[tactic(auto, using(crate::proofs::TimedLed::stopped_on, crate::proofs::TimedLed::stopped_off))]
-fn restart(t: &mut Turn, sess: SessId, seconds: u32, me: bool, what: &Stop) -> Result<(), NoMemory>
-    requires room { (play_of t.old).listed + 3 < MOST_CALLS }
-    requires interval { seconds ≤ 4000000 }
-    ensures same { t.new.shown ≡ t.old.shown }
-    ensures played { OnOk result
-        (IsPlayed (stopped what.now (started sess seconds me)) t.old t.new) }
-{
-    if !stop_timer(t, what)? {
-        return Ok(());
-    }
-    start(t, sess, seconds, me)
-}
-
-#[tactic(auto, unfolding(crate::specs::TimedScripts::started), using(sc_apps::proofs::Playing::played_make))]
-fn start(t: &mut Turn, sess: SessId, seconds: u32, me: bool) -> Result<(), NoMemory>
-    requires room { (play_of t.old).listed + 1 < MOST_CALLS }
-    requires interval { seconds ≤ 4000000 }
-    ensures same { t.new.shown ≡ t.old.shown }
-    ensures played { OnOk result (IsPlayed (started sess seconds me) t.old t.new) }
-{
-    let name = timed_name(memory_of(t), sess)?;
-    let answer = start_timer(t, deadline(seconds, me), Period::Once, name)?;
-    note_timer(t, sess, seconds, me, answer)
-}
-
-#[tactic(auto, unfolding(sc_hosts::specs::Scripting::with_number), using(sc_apps::proofs::Playing::played_done))]
-fn note_timer(
-    t: &mut Turn,
+pub fn restart(
+    turn: &mut Turn,
     sess: SessId,
     seconds: u32,
     me: bool,
-    answer: CallAnswer,
-) -> Result<(), NoMemory>
-    requires { (play_of t.old).listed < MOST_CALLS }
-    ensures same { t.new.shown ≡ t.old.shown }
-    ensures played { OnOk result
-        (IsPlayed
-        (with_number (λ t. only (Call.SetAttribute (timed_name sess) (timed_text seconds me t)))
-        answer) t.old t.new) }
+    what: &Stop,
+) -> Result<(), Stopped>
+    requires interval { seconds ≤ 4000000 }
+    ensures same { turn.new.shown ≡ turn.old.shown }
+    ensures goes { Goes 0 (stopped what.now (started sess seconds me)) turn.old result turn.new }
 {
-    match answer {
-        CallAnswer::Number(timer) => note(t, sess, seconds, me, timer),
-        CallAnswer::Fine | CallAnswer::Refused(_) => Ok(()),
+    match stop_timer(turn, 0, what) {
+        Ok(made) => start(turn, made, sess, seconds, me),
+        Err(stop) => Err(stop),
     }
 }
 
-/// Notes the timer of a session, and makes no other call.
-#[tactic(auto, using(sc_apps::proofs::Playing::played_only))]
-pub fn note(t: &mut Turn, sess: SessId, seconds: u32, me: bool, timer: u64) -> Result<(), NoMemory>
-    requires { (play_of t.old).listed < MOST_CALLS }
-    ensures same { t.new.shown ≡ t.old.shown }
-    ensures played { OnOk result
-        (IsPlayed (only (Call.SetAttribute (timed_name sess) (timed_text seconds me timer))) t.old
-        t.new) }
+#[tactic(auto, using(sc_helpers::proofs::Steps::given_wanting))]
+fn start_named(turn: &mut Turn, made: u8, sess: SessId, delay_ms: u32) -> Result<u64, Stopped>
+    ensures same { turn.new.shown ≡ turn.old.shown }
+    ensures given { Gives (Call.StartTimer delay_ms Once (timed_name sess)) made turn.old result
+        turn.new }
 {
-    let name = timed_name(memory_of(t), sess)?;
-    let value = timed_text(memory_of(t), seconds, me, timer)?;
-    sc_apps::set_attribute(t, name, value)?;
-    Ok(())
+    match timed_name(memory_of(turn), sess) {
+        Ok(name) => try_start_timer(turn, made, delay_ms, name),
+        Err(NoMemory) => Err(wanting(made)),
+    }
+}
+
+#[tactic(auto, unfolding(crate::specs::TimedScripts::started), using(sc_helpers::proofs::Steps::number_on, sc_helpers::proofs::Steps::number_off))]
+fn start(turn: &mut Turn, made: u8, sess: SessId, seconds: u32, me: bool) -> Result<(), Stopped>
+    requires few { made < 90 }
+    requires interval { seconds ≤ 4000000 }
+    ensures same { turn.new.shown ≡ turn.old.shown }
+    ensures goes { Goes made (started sess seconds me) turn.old result turn.new }
+{
+    match start_named(turn, made, sess, deadline(seconds, me)) {
+        Ok(timer) => note(turn, made + 1, sess, seconds, me, timer),
+        Err(stop) => Err(stop),
+    }
+}
+
+fn noted(
+    alloc: Global,
+    sess: SessId,
+    seconds: u32,
+    me: bool,
+    timer: u64,
+) -> Result<(Text, Text), NoMemory>
+    ensures { IfOk result
+        (λ texts. (texts.0 ≡ timed_name sess) × (texts.1 ≡ timed_text seconds me timer)) }
+{
+    let name = timed_name(alloc, sess)?;
+    let value = timed_text(alloc, seconds, me, timer)?;
+    Ok((name, value))
+}
+
+#[tactic(auto, using(sc_helpers::proofs::Steps::led_wanting))]
+fn set_noted(
+    turn: &mut Turn,
+    made: u8,
+    sess: SessId,
+    seconds: u32,
+    me: bool,
+    timer: u64,
+) -> Result<u8, Stopped>
+    requires few { made < 100 }
+    ensures same { turn.new.shown ≡ turn.old.shown }
+    ensures led { Leads
+        (accepted_then (Call.SetAttribute (timed_name sess) (timed_text seconds me timer))) made
+        turn.old result turn.new }
+{
+    match noted(memory_of(turn), sess, seconds, me, timer) {
+        Ok((name, value)) => try_set_attribute(turn, made, name, value),
+        Err(NoMemory) => Err(wanting(made)),
+    }
+}
+
+/// Notes the timer of a session behind so many accepted calls, and makes no other call.
+#[tactic(auto, using(sc_helpers::proofs::Steps::last_on, sc_helpers::proofs::Steps::last_off))]
+pub fn note(
+    turn: &mut Turn,
+    made: u8,
+    sess: SessId,
+    seconds: u32,
+    me: bool,
+    timer: u64,
+) -> Result<(), Stopped>
+    requires few { made < 100 }
+    ensures same { turn.new.shown ≡ turn.old.shown }
+    ensures goes { Goes made
+        (only (Call.SetAttribute (timed_name sess) (timed_text seconds me timer))) turn.old result
+        turn.new }
+{
+    match set_noted(turn, made, sess, seconds, me, timer) {
+        Ok(_) => Ok(()),
+        Err(stop) => Err(stop),
+    }
 }
