@@ -1,2 +1,7 @@
+pub mod ActLaws
+pub mod Kept
+pub mod NotifyCalls
+pub mod NotifyPlays
+pub mod StateLaws
 pub mod SubLaws
 pub mod SubLed

@@ -1,18 +1,20 @@
 -- The scripts of subscriptions, by what was read before the first call.
-use Rattle.std.proofs.Common.{◌≡◌, ℕ, ◌==◌, Bool, true, false, Option, None, Some, [], refl, ap, ◌∙◌}
-use Rattle.std.specs.Prelude.{is_some}
+use Rattle.std.proofs.Common.{◌≡◌, ℕ, ◌+◌, ◌*◌, ◌==◌, Bool, true, false, not, if◌then◌else◌, Option, None, Some, [], refl, ap, ◌∙◌}
+use Rattle.std.specs.Prelude.{◌++◌, codes, decimal, is_some}
 use Rattle.sc_value.specs.declared.ids.SessId.{SessId}
 use Rattle.sc_terms.specs.declared.views.View.{View}
 use Rattle.sc_terms.specs.declared.calls.Call.{Call}
 use Rattle.sc_terms.specs.declared.calls.Call.TheVariants as calls
+use Rattle.sc_terms.specs.declared.views.Period.TheVariants.{Once}
 use Rattle.sc_grammar.specs.Written.{Bytes}
 use Rattle.sc_hosts.specs.HelperParts.{accepted_then, cancel_then, remove_then}
-use Rattle.sc_hosts.specs.Scripting.{Script, attribute, only, where_some, then_make}
-use Rattle.sc_hosts.specs.Subscriptions.{NamedSub, Rule, Subscription, changes, ended_sub, ev_name, event_of, failed_sub, notifies, sub_name, subscribed_for, subscription_of, timeout_state, without_timer}
+use Rattle.sc_hosts.specs.Scripting.{Script, Make, attribute, where_some, then_make, with_number}
+use Rattle.sc_hosts.specs.Subscriptions.{Rule, Subscription, changes, ev_name, is_pending, notifies, state_word, sub_name, sub_text, subscribed_for, subscription_of, timeout_state, without_timer}
 use Rattle.sc_turn.specs.Working.{Working}
 use Rattle.sc_apps.specs.Scripted.{IsPlayed}
 use Rattle.sc_helpers.specs.Leading.{cancel_some, remove_if, timer_named}
-use Rattle.sc_notifies.specs.SubScripts.{begun_noted, begun_timed, begun_told, change_of, change_told, cleared, standing_of, subscribed_by, timer_of_sub, unnamed}
+use Rattle.sc_notifies.specs.Notifying.{is_active, live_by, live_of, live_told}
+use Rattle.sc_notifies.specs.SubScripts.{begun_noted, begun_timed, begun_told, cleared, letter_word, standing_of, sub_words, subscribed_by, timer_of_sub, unnamed}
 use Rattle.sc_helpers.proofs.FoundLaws.{as_is, cancel_is, remove_is}
 
 without_is : (view : View) (old : Option Subscription) (script : Script) → without_timer view old script ≡ cancel_some (timer_of_sub view old) script
@@ -30,36 +32,52 @@ cleared_is : (view : View) (sess : SessId) (old : Option Subscription) (script :
 unfolding cleared unnamed standing_of
 cleared_is view sess old script = without_is view old _ ∙ ap (cancel_some (timer_of_sub view old)) (removed_is view sess script)
 
-ended_is : (view : View) (sess : SessId) (sub : Subscription) (script : Script)
+pub ended_is : (view : View) (sess : SessId) (sub : Subscription) (script : Script)
     → cancel_then sub.timer view (remove_then (sub_name sess) view (remove_then (ev_name sess) view script)) ≡ cleared (standing_of view sess (Some sub)) sess script
 unfolding cleared unnamed standing_of timer_of_sub
 ended_is view sess sub script = cancel_is sub.timer view _ ∙ ap (cancel_some (timer_named view sub.timer)) (removed_is view sess script)
 
-subscribed_is : (view : View) (rule : Rule) (sess : SessId) (event : Bytes) (seconds : ℕ) (old : Option Subscription) (over : Bool) → (seconds == 0) ≡ over
-    → subscribed_for view rule sess event seconds old ≡ subscribed_by (standing_of view sess old) rule sess event seconds
-unfolding subscribed_for subscribed_by begun_timed begun_noted begun_told standing_of
-subscribed_is view rule sess event seconds old true e = rw e (cleared_is view sess old (notifies sess event timeout_state []))
-subscribed_is view rule sess event seconds old false e = rw e (without_is view old _)
+actives : (o : Option Subscription) → is_active false o ≡ not (is_pending o)
+unfolding is_active is_pending
+actives None = refl
+actives (Some old) = twice old.active
+  where
+    twice : (b : Bool) → b ≡ not (not b)
+    twice true = refl
+    twice false = refl
 
-pub played_subscribed : (call : Call) (view : View) (rule : Rule) (sess : SessId) (event : Bytes) (seconds : ℕ) (o : Option Subscription) (old new : Working)
-    → IsPlayed (accepted_then call (subscribed_by (standing_of view sess o) rule sess event seconds)) old new → IsPlayed (accepted_then call (subscribed_for view rule sess event seconds o)) old new
-played_subscribed call view rule sess event seconds o old new is = as_is _ _ old new (ap (accepted_then call) (subscribed_is view rule sess event seconds o (seconds == 0) refl)) is
+-- a timer, both attributes, and a NOTIFY with this state
+abbrev told : SessId → Bytes → ℕ → ℕ → Bool → Bytes → Script
+told sess event seconds due active body =
+    Make (calls.StartTimer (seconds * 1000) Once (sub_name sess)) (with_number (λ t. accepted_then (calls.SetAttribute (sub_name sess) (sub_text due t)) (accepted_then (calls.SetAttribute (ev_name sess) event)
+    (notifies sess event (state_word active ++ codes ";expires=" ++ decimal seconds) body))))
 
-pub played_ended : (view : View) (named : NamedSub) (old new : Working)
-    → IsPlayed (cleared (standing_of view named.sess (Some named.sub)) named.sess (notifies named.sess (event_of view named.sess) timeout_state [])) old new → IsPlayed (ended_sub view named) old new
-unfolding ended_sub
-played_ended view named old new is = as_is _ _ old new (ended_is view named.sess named.sub (notifies named.sess (event_of view named.sess) timeout_state [])) is
+told_is : (sess : SessId) (event : Bytes) (seconds due : ℕ) (body : Bytes) (pending active : Bool) → active ≡ not pending
+    → told sess event seconds due (not pending) (if pending then [] else body) ≡ told sess event seconds due active (if active then body else [])
+told_is sess event seconds due body true true is = cc
+told_is sess event seconds due body true false is = refl
+told_is sess event seconds due body false true is = refl
+told_is sess event seconds due body false false is = cc
 
-pub played_failed : (view : View) (sess : SessId) (sub : Subscription) (old new : Working) → IsPlayed (cleared (standing_of view sess (Some sub)) sess (only (calls.InvalidateSession sess))) old new → IsPlayed (failed_sub view sess sub) old new
-unfolding failed_sub
-played_failed view sess sub old new is = as_is _ _ old new (ended_is view sess sub (only (calls.InvalidateSession sess))) is
+-- the charter's script, with a subscription that is remembered as active
+pub subscribed_is : (view : View) (rule : Rule) (sess : SessId) (event : Bytes) (seconds : ℕ) (o : Option Subscription)
+    → subscribed_for view rule sess event seconds o
+    ≡ subscribed_by (standing_of view sess o) (record { seconds = seconds; due = view.now + seconds * 1000; active = is_active false o; letter = true }) sess event rule.body
+unfolding subscribed_for subscribed_by begun_timed begun_noted begun_told standing_of sub_words sub_text letter_word
+subscribed_is view rule sess event seconds o =
+    both (seconds == 0) (cleared_is view sess o (notifies sess event timeout_state []))
+    (without_is view o _ ∙ ap (cancel_some (timer_of_sub view o)) (told_is sess event seconds (view.now + seconds * 1000) rule.body (is_pending o) (is_active false o) (actives o)))
+  where
+    both : (over : Bool) {a b c d : Script} → a ≡ b → c ≡ d → (if over then a else c) ≡ (if over then b else d)
+    both true one other = one
+    both false one other = other
 
 change_by : (view : View) (sess : SessId) (body : Bytes) (o : Option Subscription) → subscription_of view sess ≡ o
-    → where_some (subscription_of view sess) (changes view sess body) ≡ where_some (change_of view sess) (change_told sess body)
-unfolding where_some changes change_of change_told
+    → where_some (subscription_of view sess) (changes view sess body) ≡ where_some (live_of view sess) (live_told sess body)
+unfolding where_some changes live_of live_by live_told
 change_by view sess body None e = rw e refl
 change_by view sess body (Some sub) e = rw e refl
 
 pub played_change : (call : Call) (view : View) (sess : SessId) (body : Bytes) (old new : Working)
-    → IsPlayed (then_make call (where_some (change_of view sess) (change_told sess body))) old new → IsPlayed (then_make call (where_some (subscription_of view sess) (changes view sess body))) old new
+    → IsPlayed (then_make call (where_some (live_of view sess) (live_told sess body))) old new → IsPlayed (then_make call (where_some (subscription_of view sess) (changes view sess body))) old new
 played_change call view sess body old new is = as_is _ _ old new (ap (then_make call) (change_by view sess body (subscription_of view sess) refl)) is

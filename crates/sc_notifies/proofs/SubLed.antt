@@ -1,33 +1,37 @@
 -- The end of a subscription, and what follows it.
-use Rattle.std.proofs.Common.{◌≡◌, Bool, true, false}
+use Rattle.std.proofs.Common.{ℕ, Bool, Result, Ok, Err}
 use Rattle.sc_value.specs.declared.ids.SessId.{SessId}
+use Rattle.sc_grammar.specs.Written.{Bytes}
 use Rattle.sc_hosts.specs.Scripting.{Script}
-use Rattle.sc_hosts.specs.Subscriptions.{ev_name, sub_name}
 use Rattle.sc_turn.specs.Working.{Working}
-use Rattle.sc_apps.specs.Scripted.{IsPlayed}
-use Rattle.sc_helpers.specs.Leading.{IsLed, cancel_some, remove_if}
+use Rattle.sc_helpers.specs.Leading.{cancel_some, remove_if}
+use Rattle.sc_helpers.specs.Stopping.{Goes, Leads}
+use Rattle.sc_helpers.specs.declared.stopping.Stopped.{Stopped}
 use Rattle.sc_notifies.specs.SubScripts.{cleared, unnamed}
 use Rattle.sc_notifies.specs.declared.standing.Standing.{Standing}
-use Rattle.sc_helpers.proofs.LedLaws.{both, none, off_by, on_by}
+use Rattle.sc_helpers.proofs.Steps.{both_led, none_led}
 
-pub cleared_both : (standing : Standing) (sess : SessId) (old mid new : Working) (went on : Bool) → went ≡ true → IsLed (cancel_some standing.running) went old mid → IsLed (unnamed standing sess) on mid new → IsLed (cleared standing sess) on old new
-unfolding cleared unnamed
-cleared_both standing sess old mid new went on e led more = both (cancel_some standing.running) (unnamed standing sess) old mid new went on e led more
+pub cleared_both : (standing : Standing) (sess : SessId) (before middle : ℕ) (old mid new : Working) (out : Result ℕ Stopped) → Leads (cancel_some standing.running) before old (Ok middle) mid → Leads (unnamed standing sess) middle mid out new
+    → Leads (cleared standing sess) before old out new
+unfolding cleared
+cleared_both standing sess before middle old mid new out led more = both_led (cancel_some standing.running) (unnamed standing sess) before middle old mid new out led more
 
-pub cleared_none : (standing : Standing) (sess : SessId) (old new : Working) (went : Bool) → went ≡ false → IsLed (cancel_some standing.running) went old new → IsLed (cleared standing sess) false old new
-unfolding cleared unnamed
-cleared_none standing sess old new went e led = none (cancel_some standing.running) (unnamed standing sess) old new went e led
+pub cleared_none : (standing : Standing) (sess : SessId) (before : ℕ) (old new : Working) (stop : Stopped) → Leads (cancel_some standing.running) before old (Err stop) new → Leads (cleared standing sess) before old (Err stop) new
+unfolding cleared
+cleared_none standing sess before old new stop led = none_led (cancel_some standing.running) (unnamed standing sess) before old new stop led
 
-pub unnamed_both : (standing : Standing) (sess : SessId) (old mid new : Working) (went on : Bool) → went ≡ true → IsLed (remove_if standing.told (sub_name sess)) went old mid → IsLed (remove_if standing.named (ev_name sess)) on mid new → IsLed (unnamed standing sess) on old new
-unfolding unnamed
-unnamed_both standing sess old mid new went on e led more = both (remove_if standing.told (sub_name sess)) (remove_if standing.named (ev_name sess)) old mid new went on e led more
+pub unnamed_both : (first second : Bool) (a b : Bytes) (before middle : ℕ) (old mid new : Working) (out : Result ℕ Stopped) → Leads (remove_if first a) before old (Ok middle) mid → Leads (remove_if second b) middle mid out new
+    → Leads (λ script. remove_if first a (remove_if second b script)) before old out new
+unnamed_both first second a b before middle old mid new out led more = both_led (remove_if first a) (remove_if second b) before middle old mid new out led more
 
-pub unnamed_none : (standing : Standing) (sess : SessId) (old new : Working) (went : Bool) → went ≡ false → IsLed (remove_if standing.told (sub_name sess)) went old new → IsLed (unnamed standing sess) false old new
-unfolding unnamed
-unnamed_none standing sess old new went e led = none (remove_if standing.told (sub_name sess)) (remove_if standing.named (ev_name sess)) old new went e led
+pub unnamed_none : (first second : Bool) (a b : Bytes) (before : ℕ) (old new : Working) (stop : Stopped) → Leads (remove_if first a) before old (Err stop) new → Leads (λ script. remove_if first a (remove_if second b script)) before old (Err stop) new
+unnamed_none first second a b before old new stop led = none_led (remove_if first a) (remove_if second b) before old new stop led
 
-pub cleared_on : (standing : Standing) (sess : SessId) (script : Script) (old mid new : Working) (on : Bool) → on ≡ true → IsLed (cleared standing sess) on old mid → IsPlayed script mid new → IsPlayed (cleared standing sess script) old new
-cleared_on standing sess script old mid new on e led rest = on_by (cleared standing sess) script old mid new on e led rest
+pub cleared_on : (standing : Standing) (sess : SessId) (script : Script) (before after : ℕ) (old mid new : Working) (result : Result (Unit {0}) Stopped) → Leads (cleared standing sess) before old (Ok after) mid → Goes after script mid result new
+    → Goes before (cleared standing sess script) old result new
+unfolding Leads
+cleared_on standing sess script before after old mid new result led rest = led script result new rest
 
-pub cleared_off : (standing : Standing) (sess : SessId) (script : Script) (old new : Working) (on : Bool) → on ≡ false → IsLed (cleared standing sess) on old new → IsPlayed (cleared standing sess script) old new
-cleared_off standing sess script old new on e led = off_by (cleared standing sess) script old new on e led
+pub cleared_off : (standing : Standing) (sess : SessId) (script : Script) (before : ℕ) (old new : Working) (stop : Stopped) → Leads (cleared standing sess) before old (Err stop) new → Goes before (cleared standing sess script) old (Err stop) new
+unfolding Leads
+cleared_off standing sess script before old new stop led = led script

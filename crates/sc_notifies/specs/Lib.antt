@@ -1,1 +1,3 @@
+pub mod Notifying
+pub mod States
 pub mod SubScripts

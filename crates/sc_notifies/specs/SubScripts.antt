@@ -1,5 +1,5 @@
 -- The scripts of subscriptions, by what an application read before its first call (RFC 6665).
-use Rattle.std.specs.Prelude.{ℕ, ◌+◌, ◌*◌, ◌==◌, ◌++◌, [], not, Option, None, Some, is_some, option_map, if◌then◌else◌, codes, decimal}
+use Rattle.std.specs.Prelude.{ℕ, ◌*◌, ◌==◌, ◌++◌, [], Bool, true, false, Option, None, Some, is_some, if◌then◌else◌, codes, decimal}
 use Rattle.sc_value.specs.declared.ids.SessId.{SessId}
 use Rattle.sc_value.specs.declared.ids.TimerId.{TimerId}
 use Rattle.sc_terms.specs.declared.views.View.{View}
@@ -8,10 +8,10 @@ use Rattle.sc_terms.specs.declared.calls.Call.TheVariants as calls
 use Rattle.sc_grammar.specs.Written.{Bytes}
 use Rattle.sc_hosts.specs.HelperParts.{accepted_then}
 use Rattle.sc_hosts.specs.Scripting.{Script, Make, attribute, with_number}
-use Rattle.sc_hosts.specs.Subscriptions.{Rule, Subscription, ev_name, event_of, is_pending, notifies, seconds_left, state_word, sub_name, sub_text, subscription_of, timeout_state}
+use Rattle.sc_hosts.specs.Subscriptions.{Subscription, ev_name, is_pending, notifies, state_word, sub_name, timeout_state}
 use Rattle.sc_helpers.specs.Leading.{cancel_some, remove_if, timer_named}
-use Rattle.sc_notifies.specs.declared.standing.Change.{Change}
 use Rattle.sc_notifies.specs.declared.standing.Standing.{Standing}
+use Rattle.sc_notifies.specs.declared.subscribing.Term.{Term}
 
 -- the timer of a subscription's end, where it runs
 unfoldable pub timer_of_sub : View → Option Subscription → Option TimerId
@@ -38,46 +38,37 @@ unnamed standing sess =
 unfoldable pub cleared : Standing → SessId → Script → Script
 cleared standing sess = λ script. cancel_some standing.running (unnamed standing sess script)
 
--- the state is told of a subscription that begins or goes on
-unfoldable pub begun_told : Standing → Rule → SessId → Bytes → ℕ → Script
-begun_told standing rule sess event seconds =
-    notifies sess event (state_word (not standing.pending) ++ codes ";expires=" ++ decimal seconds)
-    (if standing.pending then [] else rule.body)
+-- ## A subscription that begins or goes on
+
+-- `A` for an active subscription, `P` for a pending one
+unfoldable pub letter_word : Bool → Bytes
+letter_word true = codes "A "
+letter_word false = codes "P "
+
+-- a subscription, written: its letter, the moment at which it ends, and its timer
+unfoldable pub sub_words : Bool → ℕ → ℕ → Bytes
+sub_words active due timer = letter_word active ++ decimal due ++ codes " " ++ decimal timer
+
+-- the state is told, with the body where the subscription is active
+unfoldable pub begun_told : Term → SessId → Bytes → Bytes → Script
+begun_told term sess event body =
+    notifies sess event (state_word term.active ++ codes ";expires=" ++ decimal term.seconds)
+    (if term.active then body else [])
 
 -- the subscription is remembered with its timer, and its state is told
-unfoldable pub begun_noted : Standing → Rule → SessId → Bytes → ℕ → ℕ → Script
-begun_noted standing rule sess event seconds t =
-    accepted_then
-    (calls.SetAttribute (sub_name sess) (sub_text (standing.moment + seconds * 1000) t))
-    (accepted_then (calls.SetAttribute (ev_name sess) event)
-    (begun_told standing rule sess event seconds))
+unfoldable pub begun_noted : Term → SessId → Bytes → Bytes → ℕ → Script
+begun_noted term sess event body t =
+    accepted_then (calls.SetAttribute (sub_name sess) (sub_words term.letter term.due t))
+    (accepted_then (calls.SetAttribute (ev_name sess) event) (begun_told term sess event body))
 
 -- its timer begins, then the same
-unfoldable pub begun_timed : Standing → Rule → SessId → Bytes → ℕ → Script
-begun_timed standing rule sess event seconds =
-    Make (calls.StartTimer (seconds * 1000) Once (sub_name sess))
-    (with_number (begun_noted standing rule sess event seconds))
+unfoldable pub begun_timed : Term → SessId → Bytes → Bytes → Script
+begun_timed term sess event body =
+    Make (calls.StartTimer (term.seconds * 1000) Once (sub_name sess))
+    (with_number (begun_noted term sess event body))
 
--- what follows a 200 to SUBSCRIBE for so many seconds, where the old subscription stands so
-unfoldable pub subscribed_by : Standing → Rule → SessId → Bytes → ℕ → Script
-subscribed_by standing rule sess event seconds =
-    if seconds == 0 then cleared standing sess (notifies sess event timeout_state [])
-    else cancel_some standing.running (begun_timed standing rule sess event seconds)
-
--- what there is to tell of a change
-unfoldable pub change_of : View → SessId → Option Change
-change_of view sess =
-    option_map
-    (λ sub.
-    record {
-      event = event_of view sess;
-      active = sub.active;
-      left = seconds_left sub.due view.now;
-    }) (subscription_of view sess)
-
--- the change is told to the subscriber
-unfoldable pub change_told : SessId → Bytes → Change → Script
-change_told sess body change =
-    notifies sess change.event
-    (state_word change.active ++ codes ";expires=" ++ decimal change.left)
-    (if change.active then body else [])
+-- what follows a 200 to SUBSCRIBE, where the old subscription stands so
+unfoldable pub subscribed_by : Standing → Term → SessId → Bytes → Bytes → Script
+subscribed_by standing term sess event body =
+    if term.seconds == 0 then cleared standing sess (notifies sess event timeout_state [])
+    else cancel_some standing.running (begun_timed term sess event body)

@@ -1,23 +1,23 @@
 //! The application that notifies of an event package.
 
-ghost use Rattle.std.specs.Prelude.{◌≡◌, ◌≤◌, ◌&&◌, [], false, slice_get, filter_map, if◌then◌else◌, IfSome, OnOk};
+ghost use Rattle.std.specs.Prelude.{◌≡◌, ◌≤◌, ◌&&◌, [], false, if◌then◌else◌, IfSome, OnOk};
 ghost use Rattle.sc_tokens.specs.Names.{same_bytes};
 ghost use Rattle.sc_terms.specs.declared.charters.Charter.{Charter};
 ghost use Rattle.sc_model.specs.Dialogs.{notify, subscribe};
 ghost use Rattle.sc_model.specs.Transactions.{is_failure};
 ghost use Rattle.sc_hosts.specs.Charters.{reply_ok};
 ghost use Rattle.sc_hosts.specs.Scripting.{Done, only, reply, where_some};
-ghost use Rattle.sc_hosts.specs.Subscriptions.{accepts, accepts_by, ended_sub, failed_sub, info_word, named_sub, notify_request, notify_script, rule_in, subscription_of};
+ghost use Rattle.sc_hosts.specs.Subscriptions.{accepts, accepts_by, ended_sub, failed_sub, info_word, notify_request, notify_script, rule_in, subscription_of};
 ghost use Rattle.sc_hosts.specs.Words.{ok};
 ghost use Rattle.sc_apps.specs.Scripted.{IsPlayed};
+ghost use Rattle.sc_notifies.specs.Notifying.{fired_of};
 ghost use Rattle.sc_model.specs.BestResponses.{server_error};
 
-use crate::accepting::accept;
-use crate::changing::change;
-use crate::ending::{ended_some, fail};
+use crate::accepting::accept_subscribe;
+use crate::changing::answer_and_change;
+use crate::ending::{failed, fire};
+use crate::refused::told;
 use crate::rules::{Rule, rule_in};
-use crate::standing::subscription_of;
-use crate::sub_texts::{Subscribed, first_sub};
 use sc_apps::{ended, memory_of, reply_200, reply_500, reply_ok, shown};
 use sc_methods::{is_failure, is_notify, is_subscribe};
 use sc_servlets::SipServlet;
@@ -50,7 +50,7 @@ impl SipServlet for Notifies {
     }
 }
 
-#[tactic(auto, unfolding(sc_hosts::specs::Subscriptions::notify_script), using(sc_apps::proofs::Playing::played_done))]
+#[tactic(auto, unfolding(sc_hosts::specs::Subscriptions::notify_script, crate::specs::Notifying::fired_of), using(sc_apps::proofs::Playing::played_done))]
 fn handle(t: &mut Turn, e: &Event) -> Result<(), NoMemory>
     requires calls { t.old.calls ≡ [] }
     requires memory { t.old.starved ≡ false }
@@ -128,7 +128,7 @@ fn accept_or_answer(
         else only (reply req 200 ok)) t.old t.new) }
 {
     if is_subscribe(request.method.as_bytes()) {
-        return accept(t, rule, req, sess, request);
+        return accept_subscribe(t, rule, req, sess, request);
     }
     reply_200(t, req)
 }
@@ -188,7 +188,7 @@ fn take_later(t: &mut Turn, req: ReqId, sess: SessId, request: &Request) -> Resu
         return renew(t, req, sess, request);
     }
     if is_info(request.method.as_bytes()) {
-        return change(t, req, sess, request);
+        return answer_and_change(t, req, sess, request);
     }
     reply_ok(t, req, request)
 }
@@ -214,33 +214,34 @@ fn take_response(t: &mut Turn, sess: SessId, response: &Response) -> Result<(), 
     if !is_failed_notify(response) {
         return Ok(());
     }
-    let sub = subscription_of(memory_of(t), shown(t), sess)?;
-    fail_some(t, sess, sub)
+    fail(t, sess)
 }
 
-#[tactic(auto, unfolding(sc_hosts::specs::Scripting::where_some), using(sc_apps::proofs::Playing::played_done))]
-fn fail_some(t: &mut Turn, sess: SessId, sub: Option<Subscribed>) -> Result<(), NoMemory>
+#[tactic(auto, using(crate::proofs::NotifyPlays::failed_played, crate::proofs::NotifyPlays::failed_told))]
+fn fail(t: &mut Turn, sess: SessId) -> Result<(), NoMemory>
     requires calls { t.old.calls ≡ [] }
     requires memory { t.old.starved ≡ false }
     ensures same { t.new.shown ≡ t.old.shown }
     ensures played { OnOk result
-        (IsPlayed (where_some sub (failed_sub t.old.shown sess)) t.old t.new) }
+        (IsPlayed (where_some (subscription_of t.old.shown sess) (failed_sub t.old.shown sess))
+        t.old t.new) }
 {
-    match sub {
-        Some(sub) => fail(t, sess, sub),
-        None => Ok(()),
+    match failed(t, sess) {
+        Ok(()) => Ok(()),
+        Err(refused) => told(refused),
     }
 }
 
+#[tactic(auto, using(crate::proofs::NotifyPlays::fired_played, crate::proofs::NotifyPlays::fired_told))]
 fn time_out(t: &mut Turn, id: TimerId) -> Result<(), NoMemory>
     requires calls { t.old.calls ≡ [] }
     requires memory { t.old.starved ≡ false }
     ensures same { t.new.shown ≡ t.old.shown }
     ensures played { OnOk result
-        (IsPlayed
-        (where_some (slice_get (filter_map (named_sub id) t.old.shown.attributes) 0)
-        (ended_sub t.old.shown)) t.old t.new) }
+        (IsPlayed (where_some (fired_of t.old.shown id) (ended_sub t.old.shown)) t.old t.new) }
 {
-    let named = first_sub(shown(t).attributes.as_slice(), id);
-    ended_some(t, named)
+    match fire(t, id) {
+        Ok(_) => Ok(()),
+        Err(refused) => told(refused),
+    }
 }

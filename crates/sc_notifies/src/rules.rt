@@ -1,7 +1,7 @@
 //! The package that an application notifies of (RFC 6665 sections 4.2 and 7.2), by its parameters,
 //! and what a SUBSCRIBE asks of it.
 
-ghost use Rattle.std.specs.Prelude.{◌≡◌, ◌≤◌, ◌&&◌, [], codes, nat_le, position, option_and_then, unwrap_or, IfOk, IfSome};
+ghost use Rattle.std.specs.Prelude.{◌≡◌, ◌≤◌, ◌&&◌, [], codes, min, nat_le, position, option_and_then, unwrap_or, IfOk, IfSome};
 ghost use Rattle.std.specs.List.{find};
 ghost use Rattle.std.specs.Option.{option_copied};
 ghost use Rattle.sc_tokens.specs.Blanks.{trimmed};
@@ -10,7 +10,9 @@ ghost use Rattle.sc_tokens.specs.Numbers.{number_of};
 ghost use Rattle.sc_tokens.specs.Names.{same_bytes};
 ghost use Rattle.sc_hosts.specs.HelperParts.{field_of};
 ghost use Rattle.sc_hosts.specs.Subscriptions.{asked_seconds, event_value, is_event, names_package, rule_in, rule_with};
+ghost use Rattle.sc_notifies.specs.Notifying.{asked_of, IsAtMost};
 
+use crate::refused::Asked;
 use sc_apps::small_number;
 use sc_ascii::{read_u64, same_name};
 use sc_helpers::{cut, field_of};
@@ -163,7 +165,7 @@ fn is_package(value: &[u8], event_package: &[u8]) -> bool
 
 /// Whether a request's Event is of the rule's package.
 #[tactic(auto, unfolding(sc_hosts::specs::Subscriptions::names_package))]
-pub fn names_package(rule: &Rule, request: &Request) -> bool
+fn names_package(rule: &Rule, request: &Request) -> bool
     ensures { result ≡ names_package rule.now request.now }
 {
     match event_value(request) {
@@ -183,8 +185,38 @@ fn expires_of(request: &Request) -> Option<u64>
 
 /// For how many seconds a subscription is asked: as Expires says, else for the longest time.
 #[tactic(auto, unfolding(sc_hosts::specs::Subscriptions::asked_seconds))]
-pub fn asked_seconds(rule: &Rule, request: &Request) -> u64
+fn asked_seconds(rule: &Rule, request: &Request) -> u64
     ensures { result ≡ asked_seconds rule.now request.now }
 {
     expires_of(request).unwrap_or(u64::from(rule.longest))
+}
+
+fn seconds_of(asked: u64, longest: u32) -> u32
+    ensures exact { result ≡ min asked longest }
+    ensures within { result ≤ longest }
+{
+    if asked < u64::from(longest) {
+        asked as u32
+    } else {
+        longest
+    }
+}
+
+/// What a SUBSCRIBE asks for, by this rule (RFC 6665 section 4.2.1): `BadEvent` where its first
+/// Event (or `o`) is missing or names another package before its `;`; else, where Expires is more
+/// than 0 and less than the least time, `Brief`; else `For` the seconds of Expires, or the longest
+/// time where it is missing or no number, and no more than that.
+#[tactic(auto, unfolding(crate::specs::Notifying::asked_of, crate::specs::Notifying::IsAtMost))]
+pub fn asked_for(request: &Request, rule: &Rule) -> Asked
+    ensures exact { result ≡ asked_of rule.now request.now }
+    ensures within { IsAtMost rule.now.longest result }
+{
+    if !names_package(rule, request) {
+        return Asked::BadEvent;
+    }
+    let asked = asked_seconds(rule, request);
+    if 0 < asked && asked < u64::from(rule.least) {
+        return Asked::Brief;
+    }
+    Asked::For(seconds_of(asked, rule.longest))
 }

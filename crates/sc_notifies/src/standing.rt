@@ -1,16 +1,17 @@
 //! How the subscription of a SipSession stands, read before the first call of a turn.
 
-ghost use Rattle.std.specs.Prelude.{◌≡◌, [], IfOk, option_and_then, unwrap_or};
+ghost use Rattle.std.specs.Prelude.{◌≡◌, [], Some, IfOk, option_and_then, option_map, unwrap_or};
 ghost use Rattle.sc_tokens.specs.Cuts.{pieces};
 ghost use Rattle.sc_hosts.specs.Scripting.{attribute};
 ghost use Rattle.sc_hosts.specs.Subscriptions.{event_of, is_pending, seconds_left, subscription_in, subscription_of};
-ghost use Rattle.sc_notifies.specs.SubScripts.{change_of, standing_of, timer_of_sub};
+ghost use Rattle.sc_notifies.specs.Notifying.{live_by, live_of};
+ghost use Rattle.sc_notifies.specs.SubScripts.{standing_of, timer_of_sub};
 
 use crate::sub_texts::{Subscribed, ev_name, seconds_left, sub_name, subscription_in};
 use sc_apps::attribute;
 use sc_helpers::{has_attribute, timer_named};
 use sc_terms::View;
-use sc_value::{CloneIn, NoMemory, SessId, Text, TimerId};
+use sc_value::{CloneIn, NoMemory, ReqId, SessId, Text, TimerId};
 use std::alloc::Global;
 
 /// How a subscription stands at the beginning of a turn.
@@ -28,15 +29,19 @@ pub struct Standing {
     pub pending: bool,
 }
 
-/// What there is to tell of a subscription whose state has changed.
+/// A subscription with what its calls need.
 #[derive(Drop)]
-pub struct Change {
-    /// The Event of the subscription.
+pub struct Live {
+    /// The subscription.
+    pub sub: Subscribed,
+    /// Its Event.
     pub event: Text,
-    /// Whether it is active.
-    pub active: bool,
     /// How many seconds are left, rounded up.
     pub left: u64,
+    /// How it stands.
+    pub standing: Standing,
+    /// The number of the next request.
+    pub next: ReqId,
 }
 
 fn subscription_at(view: &View, name: &[u8]) -> Option<Subscribed>
@@ -122,35 +127,83 @@ pub fn standing_of(
     })
 }
 
-fn change_by(alloc: Global, view: &View, sess: SessId, sub: &Subscribed) -> Result<Change, NoMemory>
-    ensures { IfOk result
-        (λ change.
-        change
-        ≡ record {
-          event = event_of view.entry.now sess;
-          active = sub.now.active;
-          left = seconds_left sub.now.due view.entry.now.now;
-        }) }
+#[tactic(auto, unfolding(crate::specs::SubScripts::standing_of, crate::specs::SubScripts::timer_of_sub, sc_hosts::specs::Subscriptions::is_pending))]
+fn standing_by(
+    alloc: Global,
+    view: &View,
+    sess: SessId,
+    sub: &Subscribed,
+) -> Result<Standing, NoMemory>
+    ensures { IfOk result (λ standing. standing ≡ standing_of view.entry.now sess (Some sub.now)) }
 {
-    let event = event_of(alloc, view, sess)?;
-    let left = seconds_left(sub.due, view.now)?;
-    Ok(Change {
-        event,
-        active: sub.active,
-        left,
+    let told = sub_name(alloc, sess)?;
+    let named = ev_name(alloc, sess)?;
+    Ok(Standing {
+        moment: view.now,
+        running: timer_named(view, sub.timer),
+        told: has_attribute(view, told.as_bytes()),
+        named: has_attribute(view, named.as_bytes()),
+        pending: !sub.active,
     })
 }
 
-/// What there is to tell of a SipSession's subscription, None where there is none.
-#[tactic(auto, unfolding(crate::specs::SubScripts::change_of))]
-pub fn change_of(alloc: Global, view: &View, sess: SessId) -> Result<Option<Change>, NoMemory>
-    ensures { IfOk result (λ change. change ≡ change_of view.entry.now sess) }
+fn parts_of(
+    alloc: Global,
+    view: &View,
+    sess: SessId,
+    sub: &Subscribed,
+) -> Result<(Text, u64, Standing), NoMemory>
+    ensures { IfOk result
+        (λ parts.
+        (parts.0 ≡ event_of view.entry.now sess)
+        × (parts.1 ≡ seconds_left sub.now.due view.entry.now.now)
+        × (parts.2 ≡ standing_of view.entry.now sess (Some sub.now))) }
 {
-    match subscription_of(alloc, view, sess)? {
+    let event = event_of(alloc, view, sess)?;
+    let left = seconds_left(sub.due, view.now)?;
+    let standing = standing_by(alloc, view, sess, sub)?;
+    Ok((event, left, standing))
+}
+
+/// A subscription of a SipSession with what its calls need.
+#[tactic(auto, unfolding(crate::specs::Notifying::live_by, crate::specs::Notifying::next_of))]
+pub fn live_by(alloc: Global, view: &View, sess: SessId, sub: Subscribed) -> Result<Live, NoMemory>
+    ensures { IfOk result (λ live. live ≡ live_by view.entry.now sess sub) }
+{
+    match parts_of(alloc, view, sess, &sub) {
+        Ok((event, left, standing)) => Ok(Live {
+            sub,
+            event,
+            left,
+            standing,
+            next: ReqId(view.next_request),
+        }),
+        Err(NoMemory) => Err(NoMemory),
+    }
+}
+
+fn live_some(
+    alloc: Global,
+    view: &View,
+    sess: SessId,
+    sub: Option<Subscribed>,
+) -> Result<Option<Live>, NoMemory>
+    ensures { IfOk result (λ live. live ≡ option_map (live_by view.entry.now sess) sub) }
+{
+    match sub {
         Some(sub) => {
-            let change = change_by(alloc, view, sess, &sub)?;
-            Ok(Some(change))
+            let live = live_by(alloc, view, sess, sub)?;
+            Ok(Some(live))
         }
         None => Ok(None),
     }
+}
+
+/// The subscription of a SipSession with what its calls need, None where there is none.
+#[tactic(auto, unfolding(crate::specs::Notifying::live_of))]
+pub fn live_of(alloc: Global, view: &View, sess: SessId) -> Result<Option<Live>, NoMemory>
+    ensures { IfOk result (λ live. live ≡ live_of view.entry.now sess) }
+{
+    let sub = subscription_of(alloc, view, sess)?;
+    live_some(alloc, view, sess, sub)
 }

@@ -1,191 +1,207 @@
 //! Subscriptions that begin or are renewed, and how that is told (RFC 6665 sections 4.2.1 and
 //! 4.2.2).
 
-ghost use Rattle.std.specs.Prelude.{◌≡◌, ◌≤◌, ◌+◌, ◌*◌, ◌<◌, IfOk, OnOk};
+ghost use Rattle.std.specs.Prelude.{◌≡◌, ◌≤◌, ◌*◌, ◌+◌, ◌<◌, IfOk};
 ghost use Rattle.sc_terms.specs.declared.views.Period.TheVariants.{Once};
 ghost use Rattle.sc_hosts.specs.HelperParts.{accepted_then};
-ghost use Rattle.sc_hosts.specs.RefusalParts.{MOST_CALLS};
-ghost use Rattle.sc_hosts.specs.Scripting.{with_number};
-ghost use Rattle.sc_hosts.specs.Subscriptions.{ev_name, sub_name, sub_text};
-ghost use Rattle.sc_turn.specs.Working.{play_of};
-ghost use Rattle.sc_apps.specs.Scripted.{IsPlayed};
-ghost use Rattle.sc_helpers.specs.Leading.{IsLed, cancel_some};
-ghost use Rattle.sc_notifies.specs.SubScripts.{begun_noted, begun_timed, begun_told, subscribed_by};
+ghost use Rattle.sc_hosts.specs.Subscriptions.{ev_name, sub_name};
+ghost use Rattle.sc_helpers.specs.Leading.{cancel_some};
+ghost use Rattle.sc_helpers.specs.Stopping.{Gives, Goes, Leads};
+ghost use Rattle.sc_notifies.specs.SubScripts.{begun_noted, begun_timed, begun_told, subscribed_by, sub_words};
 
 use crate::notifying::{end, tell_begun};
-use crate::rules::Rule;
 use crate::standing::Standing;
-use crate::sub_texts::{ev_name, sub_name, sub_text};
-use sc_apps::{memory_of, start_timer};
-use sc_helpers::{cancel_some, set_attribute};
-use sc_terms::{Call, CallAnswer, Period};
+use crate::sub_texts::{ev_name, sub_name, sub_words};
+use sc_apps::memory_of;
+use sc_helpers::{Stopped, try_cancel_some, try_set_attribute, try_start_timer, wanting};
+use sc_terms::Call;
 use sc_turn::Turn;
-use sc_value::{NoMemory, SessId, Text, sum};
+use sc_value::{NoMemory, SessId, Text};
+use std::alloc::Global;
 
-/// Begins, renews or ends a subscription for so many seconds, and tells so.
-#[tactic(auto, unfolding(crate::specs::SubScripts::subscribed_by))]
+/// For how long a subscription goes on, and how.
+#[derive(Clone, Copy, Debug)]
+pub struct Term {
+    /// For so many seconds, at most 4,000,000; 0 ends it.
+    pub seconds: u32,
+    /// The moment at which it ends, in milliseconds.
+    pub due: u64,
+    /// Whether it is told as active, and not as pending.
+    pub active: bool,
+    /// Whether it is remembered as active.
+    pub letter: bool,
+}
+
+/// Begins, renews or ends a subscription, and tells so, behind so many accepted calls.
+#[tactic(auto, unfolding(crate::specs::SubScripts::subscribed_by, sc_hosts::specs::Subscriptions::timeout_state))]
 pub fn subscribed_by(
-    t: &mut Turn,
-    rule: &Rule,
+    turn: &mut Turn,
+    made: u8,
+    term: Term,
     sess: SessId,
     event: &[u8],
-    seconds: u32,
+    body: &[u8],
     standing: &Standing,
-) -> Result<(), NoMemory>
-    requires room { (play_of t.old).listed + 6 < MOST_CALLS }
-    requires within { seconds ≤ 4000000 }
-    ensures same { t.new.shown ≡ t.old.shown }
-    ensures played { OnOk result
-        (IsPlayed (subscribed_by standing.now rule.now sess event.now seconds) t.old t.new) }
+) -> Result<(), Stopped>
+    requires few { made < 40 }
+    requires within { term.seconds ≤ 4000000 }
+    ensures same { turn.new.shown ≡ turn.old.shown }
+    ensures goes { Goes made (subscribed_by standing.now term sess event.now body.now) turn.old
+        result turn.new }
 {
-    if seconds == 0 {
-        return end(t, sess, event, standing);
+    if term.seconds == 0 {
+        return end(
+            turn,
+            made,
+            sess,
+            event,
+            b"terminated;reason=timeout",
+            standing,
+        );
     }
-    renew(t, rule, sess, event, seconds, standing)
+    renew(turn, made, term, sess, event, body, standing)
 }
 
-#[tactic(auto, using(sc_helpers::proofs::LedLaws::cancelled_on, sc_helpers::proofs::LedLaws::cancelled_off))]
+#[tactic(auto, using(sc_helpers::proofs::Steps::cancelled_on, sc_helpers::proofs::Steps::cancelled_off))]
 fn renew(
-    t: &mut Turn,
-    rule: &Rule,
+    turn: &mut Turn,
+    made: u8,
+    term: Term,
     sess: SessId,
     event: &[u8],
-    seconds: u32,
+    body: &[u8],
     standing: &Standing,
-) -> Result<(), NoMemory>
-    requires room { (play_of t.old).listed + 5 < MOST_CALLS }
-    requires within { seconds ≤ 4000000 }
-    ensures same { t.new.shown ≡ t.old.shown }
-    ensures played { OnOk result
-        (IsPlayed
-        (cancel_some standing.now.running
-        (begun_timed standing.now rule.now sess event.now seconds)) t.old t.new) }
+) -> Result<(), Stopped>
+    requires few { made < 40 }
+    requires within { term.seconds ≤ 4000000 }
+    ensures same { turn.new.shown ≡ turn.old.shown }
+    ensures goes { Goes made
+        (cancel_some standing.now.running (begun_timed term sess event.now body.now)) turn.old
+        result turn.new }
 {
-    if !cancel_some(t, standing.running)? {
-        return Ok(());
+    match try_cancel_some(turn, made, standing.running) {
+        Ok(made) => begin(turn, made, term, sess, event, body),
+        Err(stop) => Err(stop),
     }
-    begin(t, rule, sess, event, seconds, standing)
 }
 
-#[tactic(auto, unfolding(crate::specs::SubScripts::begun_timed), using(sc_apps::proofs::Playing::played_make))]
+#[tactic(auto, using(sc_helpers::proofs::Steps::given_wanting))]
+fn start(turn: &mut Turn, made: u8, sess: SessId, seconds: u32) -> Result<u64, Stopped>
+    requires within { seconds ≤ 4000000 }
+    ensures same { turn.new.shown ≡ turn.old.shown }
+    ensures given { Gives (Call.StartTimer (seconds * 1000) Once (sub_name sess)) made turn.old
+        result turn.new }
+{
+    match sub_name(memory_of(turn), sess) {
+        Ok(name) => try_start_timer(turn, made, seconds * 1000, name),
+        Err(NoMemory) => Err(wanting(made)),
+    }
+}
+
+#[tactic(auto, unfolding(crate::specs::SubScripts::begun_timed), using(sc_helpers::proofs::Steps::number_on, sc_helpers::proofs::Steps::number_off))]
 fn begin(
-    t: &mut Turn,
-    rule: &Rule,
+    turn: &mut Turn,
+    made: u8,
+    term: Term,
     sess: SessId,
     event: &[u8],
-    seconds: u32,
-    standing: &Standing,
-) -> Result<(), NoMemory>
-    requires room { (play_of t.old).listed + 4 < MOST_CALLS }
-    requires within { seconds ≤ 4000000 }
-    ensures same { t.new.shown ≡ t.old.shown }
-    ensures played { OnOk result
-        (IsPlayed (begun_timed standing.now rule.now sess event.now seconds) t.old t.new) }
+    body: &[u8],
+) -> Result<(), Stopped>
+    requires few { made < 50 }
+    requires within { term.seconds ≤ 4000000 }
+    ensures same { turn.new.shown ≡ turn.old.shown }
+    ensures goes { Goes made (begun_timed term sess event.now body.now) turn.old result turn.new }
 {
-    let name = sub_name(memory_of(t), sess)?;
-    let answer = start_timer(t, seconds * 1000, Period::Once, name)?;
-    note_begun(t, rule, sess, event, seconds, standing, answer)
-}
-
-#[tactic(auto, unfolding(sc_hosts::specs::Scripting::with_number), using(sc_apps::proofs::Playing::played_done))]
-fn note_begun(
-    t: &mut Turn,
-    rule: &Rule,
-    sess: SessId,
-    event: &[u8],
-    seconds: u32,
-    standing: &Standing,
-    answer: CallAnswer,
-) -> Result<(), NoMemory>
-    requires room { (play_of t.old).listed + 3 < MOST_CALLS }
-    requires within { seconds ≤ 4000000 }
-    ensures same { t.new.shown ≡ t.old.shown }
-    ensures played { OnOk result
-        (IsPlayed (with_number (begun_noted standing.now rule.now sess event.now seconds) answer)
-        t.old t.new) }
-{
-    match answer {
-        CallAnswer::Number(timer) => note(t, rule, sess, event, seconds, standing, timer),
-        CallAnswer::Fine | CallAnswer::Refused(_) => Ok(()),
+    match start(turn, made, sess, term.seconds) {
+        Ok(timer) => note(turn, made + 1, term, sess, event, body, timer),
+        Err(stop) => Err(stop),
     }
 }
 
-fn note_sub(
-    t: &mut Turn,
-    sess: SessId,
-    moment: u64,
-    seconds: u32,
-    timer: u64,
-) -> Result<bool, NoMemory>
-    requires room { (play_of t.old).listed < MOST_CALLS }
-    requires within { seconds ≤ 4000000 }
-    ensures same { t.new.shown ≡ t.old.shown }
-    ensures led { IfOk result
-        (λ on.
-        IsLed
-        (accepted_then
-        (Call.SetAttribute (sub_name sess) (sub_text (moment + seconds * 1000) timer))) on
-        t.old t.new) }
-    ensures listed { OnOk result ((play_of t.new).listed ≡ (play_of t.old).listed + 1) }
+fn noted(alloc: Global, sess: SessId, term: Term, timer: u64) -> Result<(Text, Text), NoMemory>
+    ensures { IfOk result
+        (λ texts. (texts.0 ≡ sub_name sess) × (texts.1 ≡ sub_words term.letter term.due timer)) }
 {
-    let due = sum(moment, u64::from(seconds) * 1000)?;
-    let name = sub_name(memory_of(t), sess)?;
-    let value = sub_text(memory_of(t), due, timer)?;
-    set_attribute(t, name, value)
+    let name = sub_name(alloc, sess)?;
+    let value = sub_words(alloc, term.letter, term.due, timer)?;
+    Ok((name, value))
 }
 
-#[tactic(auto, unfolding(crate::specs::SubScripts::begun_noted), using(sc_helpers::proofs::LedLaws::accepted_on, sc_helpers::proofs::LedLaws::accepted_off))]
+#[tactic(auto, using(sc_helpers::proofs::Steps::led_wanting))]
+fn note_sub(turn: &mut Turn, made: u8, sess: SessId, term: Term, timer: u64) -> Result<u8, Stopped>
+    requires few { made < 100 }
+    ensures same { turn.new.shown ≡ turn.old.shown }
+    ensures led { Leads
+        (accepted_then (Call.SetAttribute (sub_name sess) (sub_words term.letter term.due timer)))
+        made turn.old result turn.new }
+    ensures count { IfOk result (λ after. after ≡ made + 1) }
+{
+    match noted(memory_of(turn), sess, term, timer) {
+        Ok((name, value)) => try_set_attribute(turn, made, name, value),
+        Err(NoMemory) => Err(wanting(made)),
+    }
+}
+
+#[tactic(auto, unfolding(crate::specs::SubScripts::begun_noted), using(sc_helpers::proofs::Steps::accepted_on, sc_helpers::proofs::Steps::accepted_off))]
 fn note(
-    t: &mut Turn,
-    rule: &Rule,
+    turn: &mut Turn,
+    made: u8,
+    term: Term,
     sess: SessId,
     event: &[u8],
-    seconds: u32,
-    standing: &Standing,
+    body: &[u8],
     timer: u64,
-) -> Result<(), NoMemory>
-    requires room { (play_of t.old).listed + 3 < MOST_CALLS }
-    requires within { seconds ≤ 4000000 }
-    ensures same { t.new.shown ≡ t.old.shown }
-    ensures played { OnOk result
-        (IsPlayed (begun_noted standing.now rule.now sess event.now seconds timer) t.old t.new) }
+) -> Result<(), Stopped>
+    requires few { made < 60 }
+    ensures same { turn.new.shown ≡ turn.old.shown }
+    ensures goes { Goes made (begun_noted term sess event.now body.now timer) turn.old result
+        turn.new }
 {
-    if !note_sub(t, sess, standing.moment, seconds, timer)? {
-        return Ok(());
+    match note_sub(turn, made, sess, term, timer) {
+        Ok(made) => name_and_tell(turn, made, term, sess, event, body),
+        Err(stop) => Err(stop),
     }
-    name_and_tell(t, rule, sess, event, seconds, standing)
 }
 
-fn note_event(t: &mut Turn, sess: SessId, event: &[u8]) -> Result<bool, NoMemory>
-    requires { (play_of t.old).listed < MOST_CALLS }
-    ensures same { t.new.shown ≡ t.old.shown }
-    ensures led { IfOk result
-        (λ on. IsLed (accepted_then (Call.SetAttribute (ev_name sess) event.now)) on t.old t.new) }
-    ensures listed { OnOk result ((play_of t.new).listed ≡ (play_of t.old).listed + 1) }
+fn named(alloc: Global, sess: SessId, event: &[u8]) -> Result<(Text, Text), NoMemory>
+    ensures { IfOk result (λ texts. (texts.0 ≡ ev_name sess) × (texts.1 ≡ event.now)) }
 {
-    let name = ev_name(memory_of(t), sess)?;
-    let value = Text::from_slice(memory_of(t), event)?;
-    set_attribute(t, name, value)
+    let name = ev_name(alloc, sess)?;
+    let value = Text::from_slice(alloc, event)?;
+    Ok((name, value))
 }
 
-#[tactic(auto, using(sc_helpers::proofs::LedLaws::accepted_on, sc_helpers::proofs::LedLaws::accepted_off))]
+#[tactic(auto, using(sc_helpers::proofs::Steps::led_wanting))]
+fn note_event(turn: &mut Turn, made: u8, sess: SessId, event: &[u8]) -> Result<u8, Stopped>
+    requires few { made < 100 }
+    ensures same { turn.new.shown ≡ turn.old.shown }
+    ensures led { Leads (accepted_then (Call.SetAttribute (ev_name sess) event.now)) made turn.old
+        result turn.new }
+    ensures count { IfOk result (λ after. after ≡ made + 1) }
+{
+    match named(memory_of(turn), sess, event) {
+        Ok((name, value)) => try_set_attribute(turn, made, name, value),
+        Err(NoMemory) => Err(wanting(made)),
+    }
+}
+
+#[tactic(auto, using(sc_helpers::proofs::Steps::accepted_on, sc_helpers::proofs::Steps::accepted_off))]
 fn name_and_tell(
-    t: &mut Turn,
-    rule: &Rule,
+    turn: &mut Turn,
+    made: u8,
+    term: Term,
     sess: SessId,
     event: &[u8],
-    seconds: u32,
-    standing: &Standing,
-) -> Result<(), NoMemory>
-    requires { (play_of t.old).listed + 2 < MOST_CALLS }
-    ensures same { t.new.shown ≡ t.old.shown }
-    ensures played { OnOk result
-        (IsPlayed
+    body: &[u8],
+) -> Result<(), Stopped>
+    requires few { made < 70 }
+    ensures same { turn.new.shown ≡ turn.old.shown }
+    ensures goes { Goes made
         (accepted_then (Call.SetAttribute (ev_name sess) event.now)
-        (begun_told standing.now rule.now sess event.now seconds)) t.old t.new) }
+        (begun_told term sess event.now body.now)) turn.old result turn.new }
 {
-    if !note_event(t, sess, event)? {
-        return Ok(());
+    match note_event(turn, made, sess, event) {
+        Ok(made) => tell_begun(turn, made, term, sess, event, body),
+        Err(stop) => Err(stop),
     }
-    tell_begun(t, rule, sess, event, seconds, standing)
 }
