@@ -19,6 +19,7 @@ use Rattle.sc_state.specs.declared.host.Peer.TheVariants as peers
 use Rattle.sc_state.specs.declared.host.Server.{Server}
 use Rattle.sc_state.specs.declared.net.Entry.{Entry}
 use Rattle.sc_state.specs.declared.net.Net.{Net}
+use Rattle.sc_state.specs.declared.queue.Queued.{Queued}
 use Rattle.sc_state.specs.declared.queue.Queued.TheVariants as queued
 use Rattle.sc_state.specs.declared.queue.Waiting.{Waiting}
 use Rattle.sc_state.specs.declared.session.Session.{Session}
@@ -51,7 +52,7 @@ use Rattle.sc_walks.proofs.WalkNets.{delivered-walks, placed-walks}
 use Rattle.sc_waits.specs.Growing.{HostGrows, NetGrows, events_in}
 use Rattle.sc_waits.proofs.GrowingHosts.{grow-hosts}
 use Rattle.sc_waits.proofs.GrowingNets.{grow-nets}
-use Rattle.sc_reached.specs.Reached.{AllSmall}
+use Rattle.sc_reached.specs.Reached.{AllSmall, IsDeliveredAlone, answered_at_once}
 use Rattle.sc_reached.proofs.Delivering.{delivers}
 use Rattle.sc_reached.proofs.Reaching.{at-host}
 use Rattle.sc_hops.specs.Hops.{IsOnWay}
@@ -224,6 +225,11 @@ length-more (x ∷ xs) ys = omega (arith, length-more xs ys)
 room-before : (n m : ℕ) → n ≤ m → nat_le 64 m ≡ false → nat_le 64 n ≡ false
 room-before n m less room = grind (arith, nat_tests, less, room)
 
+-- what waits there once it was delivered
+delivered-events : (to : AppId) (live : Live Session) (event : Queued) (answers : List Entry) (net next : Net Session) → IsDeliveredAlone to live event answers net next
+    → events_in to next ≡ live.inbox ++ record { number = net.count + 1; event = event } ∷ []
+delivered-events to live event answers net next alone = events-live to next alone.later alone.lives ∙ alone.inbox
+
 none-some : (found : Option (Live Session)) (last : Live Session) → found ≡ None → found ≡ Some last → ⊥
 none-some found last p q = cc
 
@@ -318,7 +324,7 @@ module _ (setup : Setup) (epoch sender : ℕ) (sent : Request) (to : AppId) (uri
       let next : Net Session = Next net in
       let on = grows next in
       let waiting : Waiting = record { number = net.count + 1; event = queued.Request (unrouted setup.config sent) } in
-      let here : events_in to next ≡ now.0.inbox ++ waiting ∷ [] = events-live to next alone.later alone.lives ∙ alone.inbox in
+      let here : events_in to next ≡ now.0.inbox ++ waiting ∷ [] = delivered-events to now.0 waiting.event (answered_at_once It sent) net next alone in
       let ended : Arrives setup sent to net.count (End next) = record {
         waiting = waiting;
         is = refl;

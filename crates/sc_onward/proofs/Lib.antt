@@ -7,3 +7,4 @@ pub mod Turning
 pub mod OneHop
 pub mod Whole
 pub mod Sent
+pub mod Stopping

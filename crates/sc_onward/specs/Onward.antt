@@ -1,7 +1,7 @@
 -- A later request of a proxied dialog in the turn of its session: it is passed on, and what stops
 -- it instead; and how it goes from one session of its way to the next (RFC 3261 sections 12.2.2,
 -- 16.3, 16.6 and 16.12).
-use Rattle.std.specs.Prelude.{◌≡◌, ◌⊎◌, ◌≤◌, ◌<◌, ◌+◌, ◌^◌, ℕ, zero, suc, List, [], ◌∷◌, ◌++◌, true, false, Some, drop, is_some, length, slice_get}
+use Rattle.std.specs.Prelude.{◌≡◌, ◌⊎◌, ◌≤◌, ◌<◌, ◌+◌, ◌^◌, ℕ, zero, suc, List, [], ◌∷◌, ◌++◌, true, false, None, Some, drop, is_some, length, slice_get}
 use Rattle.std.specs.List.{find}
 use Rattle.sc_value.specs.declared.ids.AppId.{AppId}
 use Rattle.sc_value.specs.declared.ids.SessId.{SessId}
@@ -169,3 +169,58 @@ GoesAllTheWay setup run occurrence n =
     (out : SetOut) × (set_out setup run occurrence ≡ Some out)
     × (got : Got) × (find (has_vias 0 out.request.head.via) (got_in out.moment) ≡ Some got)
     × IsCarriedOn setup n got (drop (occurrence.step + 1) run)
+
+-- ## What stops it
+
+-- a call of the turn ends this SipSession
+unfoldable pub EndsIn : SessId → List CallRecord → Type 0
+EndsIn sess [] = ⊥
+EndsIn sess (one ∷ made) = (one.call ≡ calls.InvalidateSession sess) ⊎ EndsIn sess made
+
+-- the moment is the turn of this event, a later request whose next own URI names this session
+pub record TurnsTo (setup : Setup) (moment : Moment) (got : Got) (to : AppId) : Type 0 where
+  pub event : ℕ
+  pub now : ℕ
+  pub made : List CallRecord
+  pub end : End
+  pub step : moment.step ≡ steps.Turn got.app event now made end
+  pub request : Request
+  pub is : got.waiting.event ≡ queued.Request request
+  pub no_cancel : same_bytes (method_of request) cancel ≡ false
+  pub tagged : is_some (tag_of request.head.to) ≡ true
+  pub live : Live Session
+  pub lives : live_at got.app moment.before ≡ Some live
+  pub first : slice_get live.inbox 0 ≡ Some got.waiting
+  pub own : is_own setup.config (next_uri request) ≡ true
+  pub named : names moment.before.epoch to (next_uri request) ≡ true
+
+-- what the session's turn stops it by: no SipSession of it has the dialog (the request is answered
+-- 481); its sequence number is too low (500); it comes to a SipSession that isn't a proxy's (the
+-- application answers it); a call of the turn ends that SipSession, or one did (500); it may go no
+-- hop further (483). And what stops it behind that: the session that it is to go to doesn't live
+-- before the step or after it (481), or is full after it (503)
+pub data Stops (setup : Setup) (moment : Moment) (got : Got) (to : AppId)
+    (turn : TurnsTo setup moment got to) : Type 0 where
+  No_dialog : session_for turn.live.session turn.request ≡ None → Stops setup moment got to turn
+  Too_low : (sess : SessId) → session_for turn.live.session turn.request ≡ Some sess
+      → is_low (leg_of turn.live.session.known sess) turn.request ≡ true
+      → Stops setup moment got to turn
+  Not_proxied : (sess : SessId) (found : SessionView)
+      → session_for turn.live.session turn.request ≡ Some sess
+      → session_in turn.live.session.view sess ≡ Some found → is_proxy found.role ≡ false
+      → Stops setup moment got to turn
+  Ended : (found : SessionView) → EndsIn found.id turn.made → Stops setup moment got to turn
+  Has_ended : (found : SessionView)
+      → is_invalid
+      (worked_all setup.config
+      (prepared setup.config (ringing_at got.app (host_at got.app.host moment.before))
+      turn.live.session
+      (record { number = got.waiting.number; event = queued.Request turn.request }) turn.now)
+      turn.made).known
+      found.id ≡ true
+      → Stops setup moment got to turn
+  No_hops : turn.request.hops ≡ zero → Stops setup moment got to turn
+  Not_living : live_at to moment.before ≡ None → Stops setup moment got to turn
+  Gone : live_at to moment.after ≡ None → Stops setup moment got to turn
+  Full : (last : Live Session) → live_at to moment.after ≡ Some last → is_full last ≡ true
+      → Stops setup moment got to turn

@@ -1,4 +1,4 @@
-ghost use Rattle.std.specs.Prelude.{◌≡◌, ℕ, List, Some, ◌∷◌, false, length, slice_get, suc, true, zero};
+ghost use Rattle.std.specs.Prelude.{◌≡◌, ◌⊎◌, ℕ, List, Some, ◌∷◌, false, length, slice_get, suc, true, zero};
 ghost use Rattle.sc_value.specs.declared.ids.AppId.{AppId};
 ghost use Rattle.sc_value.specs.declared.message.Request.{Request};
 ghost use Rattle.sc_terms.specs.declared.calls.CallRecord.{CallRecord};
@@ -20,7 +20,7 @@ ghost use Rattle.sc_paths.specs.LaterRequests.{Occurrence, SetOut, carries, set_
 ghost use Rattle.sc_paths.specs.Moments.{Got, Moment, moments};
 ghost use Rattle.sc_paths.specs.Pieces.{Dialog, Direction, IsPiece, Piece, ahead};
 ghost use Rattle.sc_ways.specs.Ways.{AreSmallDraws, AreSmallNames, IsApart, VisitsFirst};
-ghost use Rattle.sc_onward.specs.Onward.{AnswersLast, AreCounted, AreSmallNumbers, ComesNext, ComesToProxy, GoesAllTheWay, HasNewBranches, IsLeftAlone, IsUnstopped, PassesLast};
+ghost use Rattle.sc_onward.specs.Onward.{AnswersLast, AreCounted, AreSmallNumbers, ComesNext, ComesToProxy, GoesAllTheWay, HasNewBranches, IsLeftAlone, IsUnstopped, PassesLast, Stops, TurnsTo};
 
 /// In the turn of a session for a later request that comes to the SipSession of a proxy, and whose
 /// sequence number isn't too low, the last order passes the request on, on a branch of its own,
@@ -148,4 +148,28 @@ pub fn sent_requests_come_to_the_first()
         → (was last : Live Session) → live_at app out.moment.before ≡ Some was
         → live_at app out.moment.after ≡ Some last → is_full last ≡ false
         → VisitsFirst app more (visits setup (moments setup epoch began journal) occurrence) }
+{}
+
+/// In each lawful run of the hosts: where a session turns to a later request whose next own URI
+/// names another session, that session has the request among its events in the same step, as it was
+/// passed on, or one of the stops that `Stops` lists, each with its answer, is there: nothing else
+/// stops it. The premises are those of `later_requests_go_to_the_next`. The contract is the law, for
+/// a journal that is lawful in either form in which sessions are kept, and the call does nothing.
+pub fn later_requests_go_on_or_stop()
+    ensures session { (setup : Setup) (epoch began : ℕ) (journal : List Step)
+        → IsLawful as_session setup epoch began journal
+        → AreSmallNumbers setup epoch (chained as_session setup epoch began journal)
+        → AreSmallDraws setup (moments setup epoch began journal)
+        → (place : ℕ) (moment : Moment) (got : Got) (to : AppId)
+        → slice_get (moments setup epoch began journal) place ≡ Some moment
+        → HasNewBranches setup moment → (turn : TurnsTo setup moment got to)
+        → ComesNext moment got to ⊎ Stops setup moment got to turn }
+    ensures history { (setup : Setup) (epoch began : ℕ) (journal : List Step)
+        → IsLawful (as_history setup.config) setup epoch began journal
+        → AreSmallNumbers setup epoch (chained as_session setup epoch began journal)
+        → AreSmallDraws setup (moments setup epoch began journal)
+        → (place : ℕ) (moment : Moment) (got : Got) (to : AppId)
+        → slice_get (moments setup epoch began journal) place ≡ Some moment
+        → HasNewBranches setup moment → (turn : TurnsTo setup moment got to)
+        → ComesNext moment got to ⊎ Stops setup moment got to turn }
 {}
