@@ -5,6 +5,8 @@ pub mod Clean
 pub mod Delivered
 pub mod Turning
 pub mod OneHop
+pub mod Counters
+pub mod Fresh
 pub mod Whole
 pub mod Sent
 pub mod Stopping

@@ -48,7 +48,7 @@ use Rattle.sc_onward.specs.Onward.{HasNewBranches, HasNoServer}
 use Rattle.sc_onward.proofs.Delivered.{Arrives}
 use Rattle.sc_onward.proofs.OneHop.{IsSound, Item, got-item}
 use Rattle.sc_onward.proofs.Turning.{SendsOn, sent-comes}
-use Rattle.sc_onward.proofs.Whole.{run-sound}
+use Rattle.sc_onward.proofs.Whole.{run-new, run-sound}
 
 -- ## One of the orders
 
@@ -211,31 +211,31 @@ module _ (setup : Setup) (epoch began : ℕ) (journal : List Step) (dialog : Dia
       absurd (inside-only host out.sender sender from.place (ap (λ (o : SetOut). o.sender) from.out_is))
 
   -- it is queued
-  some-found : (out : SetOut) (host : ℕ) → set_out setup Run occurrence ≡ Some out → out.sender ≡ peers.Inside host → HasNewBranches setup out.moment
+  some-found : (out : SetOut) (host : ℕ) → set_out setup Run occurrence ≡ Some out → out.sender ≡ peers.Inside host
       → carries_by setup.config Run dialog direction piece out ≡ true → (app : AppId) (more : List AppId) → ahead Run direction piece ≡ app ∷ more → (was last : Live Session)
       → live_at app out.moment.before ≡ Some was → live_at app out.moment.after ≡ Some last → is_full last ≡ false → find (has_vias 0 out.request.head.via) (got_in out.moment) ≡ None → ⊥
   unfolding set_out
-  some-found out host set sender new carries app more first was last there ends room none =
+  some-found out host set sender carries app more first was last there ends room none =
       let by = through (λ (moment : Moment). set_out_by setup moment moment.step occurrence.order) (slice_get Run occurrence.step) out set in
       let order = by-order occurrence.order by.0 out host by.2 sender in
       let from = session-by setup by.0 by.0.step order.0 out order.1 in
       let same : ◌≡◌ {A = Moment} out.moment by.0 = ap (λ (o : SetOut). o.moment) from.out_is in
       sent-found setup epoch names-small.within by.0
       (all-at (IsSound setup epoch) Run occurrence.step by.0 by.1 (run-sound setup epoch began journal lawful (record { within = names-small.within; hosts = names-small.hosts; events = names-small.events }) drawn))
-      (subst (λ (m : Moment). HasNewBranches setup m) same new) order.0 out order.1 Run dialog direction piece (carried setup.config Run dialog direction piece out carries) app more first was last
+      (all-at (HasNewBranches setup) Run occurrence.step by.0 by.1 (run-new setup epoch began journal lawful (record { within = names-small.within; hosts = names-small.hosts; events = names-small.events }) drawn)) order.0 out order.1 Run dialog direction piece (carried setup.config Run dialog direction piece out carries) app more first was last
       (subst (λ (m : Moment). live_at app m.before ≡ Some was) same there) (subst (λ (m : Moment). live_at app m.after ≡ Some last) same ends) room
       (subst (λ (m : Moment). find (has_vias 0 out.request.head.via) (got_in m) ≡ None) same none)
 
   pub sent-first : IsPiece setup epoch Run dialog piece → IsApart Run dialog piece → carries setup Run dialog direction piece occurrence ≡ true → (out : SetOut) (host : ℕ)
-      → set_out setup Run occurrence ≡ Some out → out.sender ≡ peers.Inside host → HasNewBranches setup out.moment → (app : AppId) (more : List AppId) → ahead Run direction piece ≡ app ∷ more
+      → set_out setup Run occurrence ≡ Some out → out.sender ≡ peers.Inside host → (app : AppId) (more : List AppId) → ahead Run direction piece ≡ app ∷ more
       → (was last : Live Session) → live_at app out.moment.before ≡ Some was → live_at app out.moment.after ≡ Some last → is_full last ≡ false → VisitsFirst app more (visits setup Run occurrence)
   unfolding carries visits
-  sent-first is apart carries-it out host set sender new app more first was last there ends room =
+  sent-first is apart carries-it out host set sender app more first was last there ends room =
       let begins : IsPrefix (visits setup Run occurrence) (app ∷ more) =
       subst (λ (apps : List AppId). IsPrefix (visits setup Run occurrence) apps) first (prefix setup epoch began journal dialog direction piece occurrence lawful is apart names-small drawn carries-it) in
       let carried-out : carries_by setup.config Run dialog direction piece out ≡ true =
       subst (λ (o : Option SetOut). option_map_or (carries_by setup.config Run dialog direction piece) o false ≡ true) set carries-it in
       first-visited app more (visits setup Run occurrence) begins
-      (λ none. some-found out host set sender new carried-out app more first was last there ends room
+      (λ none. some-found out host set sender carried-out app more first was last there ends room
       (none-found (find (has_vias 0 out.request.head.via) (got_in out.moment)) (drop (occurrence.step + 1) Run)
       (subst (λ (o : Option SetOut). option_map_or (λ (x : SetOut). visits_from (find (has_vias 0 x.request.head.via) (got_in x.moment)) (drop (occurrence.step + 1) Run)) o [] ≡ []) set none)))

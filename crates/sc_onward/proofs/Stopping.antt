@@ -29,7 +29,7 @@ use Rattle.sc_lasting.specs.Lasting.{All}
 use Rattle.sc_lasting.proofs.Pairs.{same-sess}
 use Rattle.sc_paths.specs.Moments.{Got, Moment, moments}
 use Rattle.sc_ways.specs.Ways.{AreSmallDraws}
-use Rattle.sc_onward.specs.Onward.{AreSmallNumbers, ComesNext, ComesToProxy, Ended, EndsIn, Full, Gone, Has_ended, HasNewBranches, IsLeftAlone, IsUnstopped, No_dialog, No_hops, Not_living, Not_proxied, Stops, Too_low, TurnsTo}
+use Rattle.sc_onward.specs.Onward.{AreSmallNumbers, ComesNext, ComesToProxy, Ended, EndsIn, Full, Gone, Has_ended, IsLeftAlone, IsUnstopped, No_dialog, No_hops, Not_living, Not_proxied, Stops, Too_low, TurnsTo}
 use Rattle.sc_onward.proofs.Whole.{hop}
 
 -- ## Calls
@@ -206,9 +206,9 @@ module _ (setup : Setup) (moment : Moment) (got : Got) (to : AppId) (turn : Turn
 -- in a lawful run
 pub goes-on-or-stops : (setup : Setup) (epoch began : ℕ) (journal : List Step) → IsLawful as_session setup epoch began journal
     → AreSmallNumbers setup epoch (chained as_session setup epoch began journal) → AreSmallDraws setup (moments setup epoch began journal) → (place : ℕ) (moment : Moment) (got : Got) (to : AppId)
-    → slice_get (moments setup epoch began journal) place ≡ Some moment → HasNewBranches setup moment → (turn : TurnsTo setup moment got to) → ComesNext moment got to ⊎ Stops setup moment got to turn
-goes-on-or-stops setup epoch began journal lawful numbers drawn place moment got to at new turn = by (goes-or-stops setup moment got to turn)
+    → slice_get (moments setup epoch began journal) place ≡ Some moment → (turn : TurnsTo setup moment got to) → ComesNext moment got to ⊎ Stops setup moment got to turn
+goes-on-or-stops setup epoch began journal lawful numbers drawn place moment got to at turn = by (goes-or-stops setup moment got to turn)
   where
     by : ((un : IsUnstopped setup moment got) × (un.to ≡ to)) ⊎ Stops setup moment got to turn → ComesNext moment got to ⊎ Stops setup moment got to turn
-    by (inl un) = inl (subst (λ (a : AppId). ComesNext moment got a) un.1 (hop setup epoch began journal lawful numbers drawn place moment got at new un.0))
+    by (inl un) = inl (subst (λ (a : AppId). ComesNext moment got a) un.1 (hop setup epoch began journal lawful numbers drawn place moment got at un.0))
     by (inr stops) = inr stops

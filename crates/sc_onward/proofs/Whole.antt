@@ -30,6 +30,7 @@ use Rattle.sc_ways.proofs.OneHop.{IsFine}
 use Rattle.sc_ways.proofs.OwnBranches.{Is64, IsReadyAt, moments-kept}
 use Rattle.sc_ways.proofs.Runs.{all-at, all-behind, run-each, run-fine}
 use Rattle.sc_onward.specs.Onward.{AreCounted, AreSmallNumbers, ComesNext, GoesAllTheWay, HasNewBranches, IsCarriedOn, IsUnstopped}
+use Rattle.sc_onward.proofs.Fresh.{all-new}
 use Rattle.sc_onward.proofs.OneHop.{IsSound, Item, next-found, one-hop}
 
 -- ## What is known of each moment
@@ -154,30 +155,33 @@ module _ (setup : Setup) (epoch began : ℕ) (journal : List Step) (lawful : IsL
       (counts-less journal setup (start setup epoch began) numbers.events)
       (run-each setup epoch began journal lawful Counted (λ before step later is allowed. counted-after before))
 
+  -- the branch of each later request that a turn sends is new
+  pub run-new : All (HasNewBranches setup) Run
+  run-new = all-new setup epoch began journal numbers.within lawful run-ready
+
   -- one hop of it
-  pub hop : (place : ℕ) (moment : Moment) (got : Got) → slice_get Run place ≡ Some moment → HasNewBranches setup moment → (un : IsUnstopped setup moment got) → ComesNext moment got un.to
+  pub hop : (place : ℕ) (moment : Moment) (got : Got) → slice_get Run place ≡ Some moment → (un : IsUnstopped setup moment got) → ComesNext moment got un.to
   unfolding ComesNext
-  hop place moment got at new un =
-      let comes = one-hop setup epoch numbers.within moment (all-at (IsSound setup epoch) Run place moment at run-sound) new got un in
+  hop place moment got at un =
+      let comes = one-hop setup epoch numbers.within moment (all-at (IsSound setup epoch) Run place moment at run-sound) (all-at (HasNewBranches setup) Run place moment at run-new) got un in
       (Item un.to comes.0, refl, comes.1, comes.2)
 
-  long-enough : (n : ℕ) (occurrence : Occurrence) → All (HasNewBranches setup) Run → GoesAllTheWay setup Run occurrence n → suc n ≤ length (visits setup Run occurrence)
+  long-enough : (n : ℕ) (occurrence : Occurrence) → GoesAllTheWay setup Run occurrence n → suc n ≤ length (visits setup Run occurrence)
   unfolding visits GoesAllTheWay
-  long-enough n occurrence new goes =
+  long-enough n occurrence goes =
       rw (goes.1, goes.3)
       (carried-long setup epoch numbers.within n (drop (occurrence.step + 1) Run) goes.2 (all-behind (IsSound setup epoch) (occurrence.step + 1) Run run-sound)
-      (all-behind (HasNewBranches setup) (occurrence.step + 1) Run new) goes.4)
+      (all-behind (HasNewBranches setup) (occurrence.step + 1) Run run-new) goes.4)
 
 -- all of those ahead
 pub whole : (setup : Setup) (epoch began : ℕ) (journal : List Step) (dialog : Dialog) (direction : Direction) (piece : Piece) (occurrence : Occurrence) → IsLawful as_session setup epoch began journal
     → IsPiece setup epoch (moments setup epoch began journal) dialog piece → IsApart (moments setup epoch began journal) dialog piece
     → AreSmallNames setup epoch (chained as_session setup epoch began journal) piece → AreSmallDraws setup (moments setup epoch began journal)
-    → All (HasNewBranches setup) (moments setup epoch began journal)
     → carries setup (moments setup epoch began journal) dialog direction piece occurrence ≡ true → (n : ℕ) → length (ahead (moments setup epoch began journal) direction piece) ≡ suc n
     → GoesAllTheWay setup (moments setup epoch began journal) occurrence n
     → visits setup (moments setup epoch began journal) occurrence ≡ ahead (moments setup epoch began journal) direction piece
-whole setup epoch began journal dialog direction piece occurrence lawful is apart small drawn new carried n count goes =
+whole setup epoch began journal dialog direction piece occurrence lawful is apart small drawn carried n count goes =
     prefix-whole (visits setup (moments setup epoch began journal) occurrence) (ahead (moments setup epoch began journal) direction piece)
     (prefix setup epoch began journal dialog direction piece occurrence lawful is apart small drawn carried)
     (subst (λ (m : ℕ). m ≤ length (visits setup (moments setup epoch began journal) occurrence)) (sym count)
-    (long-enough setup epoch began journal lawful (record { within = small.within; hosts = small.hosts; events = small.events }) drawn n occurrence new goes))
+    (long-enough setup epoch began journal lawful (record { within = small.within; hosts = small.hosts; events = small.events }) drawn n occurrence goes))

@@ -47,13 +47,31 @@ pub fn later_requests_are_passed_on()
         (record { number = number; event = queued.Request request }) now made end).orders }
 {}
 
+/// In each lawful run of the hosts: the branch of each later request that a turn sends, an ACK to a
+/// 2xx too, is new to all hosts: no server transaction of a request that came from a host of the
+/// container has it. So the host that the request comes to doesn't take it for one that came before
+/// (RFC 3261 sections 8.1.1.7 and 17.2.3). The premises are those of
+/// `later_requests_go_to_the_next`. The contract is the law, for a journal that is lawful in either
+/// form in which sessions are kept, and the call does nothing.
+pub fn later_requests_have_new_branches()
+    ensures session { (setup : Setup) (epoch began : ℕ) (journal : List Step)
+        → IsLawful as_session setup epoch began journal
+        → AreSmallNumbers setup epoch (chained as_session setup epoch began journal)
+        → AreSmallDraws setup (moments setup epoch began journal)
+        → All (HasNewBranches setup) (moments setup epoch began journal) }
+    ensures history { (setup : Setup) (epoch began : ℕ) (journal : List Step)
+        → IsLawful (as_history setup.config) setup epoch began journal
+        → AreSmallNumbers setup epoch (chained as_session setup epoch began journal)
+        → AreSmallDraws setup (moments setup epoch began journal)
+        → All (HasNewBranches setup) (moments setup epoch began journal) }
+{}
+
 /// In each lawful run of the hosts: where a session turns to a later request and nothing stops it
 /// there (`IsUnstopped` lists what may, each with its answer), the session that its next own URI
 /// names has the request among its events in the same step, as it was passed on. The numbers in
 /// names have 64 bits: the epoch, the hosts, the events, and the number that a session drew last by
-/// the end of each of its turns; and the branch of each later request that the turn sends is new to
-/// the server transactions of all hosts. The contract is the law, for a journal that is lawful in
-/// either form in which sessions are kept, and the call does nothing.
+/// the end of each of its turns. The contract is the law, for a journal that is lawful in either
+/// form in which sessions are kept, and the call does nothing.
 pub fn later_requests_go_to_the_next()
     ensures session { (setup : Setup) (epoch began : ℕ) (journal : List Step)
         → IsLawful as_session setup epoch began journal
@@ -61,7 +79,7 @@ pub fn later_requests_go_to_the_next()
         → AreSmallDraws setup (moments setup epoch began journal)
         → (place : ℕ) (moment : Moment) (got : Got)
         → slice_get (moments setup epoch began journal) place ≡ Some moment
-        → HasNewBranches setup moment → (unstopped : IsUnstopped setup moment got)
+        → (unstopped : IsUnstopped setup moment got)
         → ComesNext moment got unstopped.to }
     ensures history { (setup : Setup) (epoch began : ℕ) (journal : List Step)
         → IsLawful (as_history setup.config) setup epoch began journal
@@ -69,16 +87,15 @@ pub fn later_requests_go_to_the_next()
         → AreSmallDraws setup (moments setup epoch began journal)
         → (place : ℕ) (moment : Moment) (got : Got)
         → slice_get (moments setup epoch began journal) place ≡ Some moment
-        → HasNewBranches setup moment → (unstopped : IsUnstopped setup moment got)
+        → (unstopped : IsUnstopped setup moment got)
         → ComesNext moment got unstopped.to }
 {}
 
 /// A later request that keeps to the way of the INVITE of its dialog visits all of the sessions
 /// that stayed on the way and are ahead of it, where it is queued at the first of them and nothing
 /// stops it in the turns of all but the last (`GoesAllTheWay`). The premises are those of
-/// `later_requests_keep_to_the_way` of `sc_ways`, and that the branch of each later request that a
-/// turn sends is new to the server transactions of all hosts. The contract is the law, for a
-/// journal that is lawful in either form in which sessions are kept, and the call does nothing.
+/// `later_requests_keep_to_the_way` of `sc_ways`. The contract is the law, for a journal that is
+/// lawful in either form in which sessions are kept, and the call does nothing.
 pub fn later_requests_go_all_the_way()
     ensures session { (setup : Setup) (epoch began : ℕ) (journal : List Step) (dialog : Dialog)
         (direction : Direction) (piece : Piece) (occurrence : Occurrence)
@@ -87,7 +104,6 @@ pub fn later_requests_go_all_the_way()
         → IsApart (moments setup epoch began journal) dialog piece
         → AreSmallNames setup epoch (chained as_session setup epoch began journal) piece
         → AreSmallDraws setup (moments setup epoch began journal)
-        → All (HasNewBranches setup) (moments setup epoch began journal)
         → carries setup (moments setup epoch began journal) dialog direction piece occurrence ≡ true
         → (n : ℕ) → length (ahead (moments setup epoch began journal) direction piece) ≡ suc n
         → GoesAllTheWay setup (moments setup epoch began journal) occurrence n
@@ -100,7 +116,6 @@ pub fn later_requests_go_all_the_way()
         → IsApart (moments setup epoch began journal) dialog piece
         → AreSmallNames setup epoch (chained as_session setup epoch began journal) piece
         → AreSmallDraws setup (moments setup epoch began journal)
-        → All (HasNewBranches setup) (moments setup epoch began journal)
         → carries setup (moments setup epoch began journal) dialog direction piece occurrence ≡ true
         → (n : ℕ) → length (ahead (moments setup epoch began journal) direction piece) ≡ suc n
         → GoesAllTheWay setup (moments setup epoch began journal) occurrence n
@@ -112,9 +127,8 @@ pub fn later_requests_go_all_the_way()
 /// dialog, visits the first of the sessions that stayed on the way and are ahead of it, where that
 /// session lives before the step and after it and has room after it; behind it, it visits a
 /// beginning of the others. The premises are those of `later_requests_keep_to_the_way` of
-/// `sc_ways`, and that the branch of each later request that the turn sends is new to the server
-/// transactions of all hosts. The contract is the law, for a journal that is lawful in either form
-/// in which sessions are kept, and the call does nothing.
+/// `sc_ways`. The contract is the law, for a journal that is lawful in either form in which
+/// sessions are kept, and the call does nothing.
 pub fn sent_requests_come_to_the_first()
     ensures session { (setup : Setup) (epoch began : ℕ) (journal : List Step) (dialog : Dialog)
         (direction : Direction) (piece : Piece) (occurrence : Occurrence)
@@ -126,8 +140,7 @@ pub fn sent_requests_come_to_the_first()
         → carries setup (moments setup epoch began journal) dialog direction piece occurrence ≡ true
         → (out : SetOut) (host : ℕ)
         → set_out setup (moments setup epoch began journal) occurrence ≡ Some out
-        → out.sender ≡ peers.Inside host → HasNewBranches setup out.moment
-        → (app : AppId) (more : List AppId)
+        → out.sender ≡ peers.Inside host → (app : AppId) (more : List AppId)
         → ahead (moments setup epoch began journal) direction piece ≡ app ∷ more
         → (was last : Live Session) → live_at app out.moment.before ≡ Some was
         → live_at app out.moment.after ≡ Some last → is_full last ≡ false
@@ -142,8 +155,7 @@ pub fn sent_requests_come_to_the_first()
         → carries setup (moments setup epoch began journal) dialog direction piece occurrence ≡ true
         → (out : SetOut) (host : ℕ)
         → set_out setup (moments setup epoch began journal) occurrence ≡ Some out
-        → out.sender ≡ peers.Inside host → HasNewBranches setup out.moment
-        → (app : AppId) (more : List AppId)
+        → out.sender ≡ peers.Inside host → (app : AppId) (more : List AppId)
         → ahead (moments setup epoch began journal) direction piece ≡ app ∷ more
         → (was last : Live Session) → live_at app out.moment.before ≡ Some was
         → live_at app out.moment.after ≡ Some last → is_full last ≡ false
@@ -162,7 +174,7 @@ pub fn later_requests_go_on_or_stop()
         → AreSmallDraws setup (moments setup epoch began journal)
         → (place : ℕ) (moment : Moment) (got : Got) (to : AppId)
         → slice_get (moments setup epoch began journal) place ≡ Some moment
-        → HasNewBranches setup moment → (turn : TurnsTo setup moment got to)
+        → (turn : TurnsTo setup moment got to)
         → ComesNext moment got to ⊎ Stops setup moment got to turn }
     ensures history { (setup : Setup) (epoch began : ℕ) (journal : List Step)
         → IsLawful (as_history setup.config) setup epoch began journal
@@ -170,6 +182,6 @@ pub fn later_requests_go_on_or_stop()
         → AreSmallDraws setup (moments setup epoch began journal)
         → (place : ℕ) (moment : Moment) (got : Got) (to : AppId)
         → slice_get (moments setup epoch began journal) place ≡ Some moment
-        → HasNewBranches setup moment → (turn : TurnsTo setup moment got to)
+        → (turn : TurnsTo setup moment got to)
         → ComesNext moment got to ⊎ Stops setup moment got to turn }
 {}

@@ -6,5 +6,5 @@ pub returns-clause-session : goal.returns-clause-session
 returns-clause-session c = whole
 
 pub returns-clause-history : goal.returns-clause-history
-returns-clause-history c = λ setup epoch began journal dialog direction piece occurrence lawful is apart small drawn new carried n count goes.
-    whole setup epoch began journal dialog direction piece occurrence (lawful-histories setup epoch began journal lawful) is apart small drawn new carried n count goes
+returns-clause-history c = λ setup epoch began journal dialog direction piece occurrence lawful is apart small drawn carried n count goes.
+    whole setup epoch began journal dialog direction piece occurrence (lawful-histories setup epoch began journal lawful) is apart small drawn carried n count goes

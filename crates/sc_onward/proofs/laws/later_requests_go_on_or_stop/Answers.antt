@@ -6,5 +6,5 @@ pub returns-clause-session : goal.returns-clause-session
 returns-clause-session c = goes-on-or-stops
 
 pub returns-clause-history : goal.returns-clause-history
-returns-clause-history c = λ setup epoch began journal lawful numbers drawn place moment got to at new turn.
-    goes-on-or-stops setup epoch began journal (lawful-histories setup epoch began journal lawful) numbers drawn place moment got to at new turn
+returns-clause-history c = λ setup epoch began journal lawful numbers drawn place moment got to at turn.
+    goes-on-or-stops setup epoch began journal (lawful-histories setup epoch began journal lawful) numbers drawn place moment got to at turn
