@@ -176,11 +176,11 @@ module _ (setup : Setup) (moment : Moment) (got : Got) (to : AppId) (turn : Turn
       (prepared setup.config (ringing_at got.app (host_at got.app.host moment.before)) turn.live.session (record { number = got.waiting.number; event = queued.Request turn.request }) turn.now) turn.made).known
 
   by-valid : (comes : ComesToProxy turn.live.session turn.request) → All (LeavesAlone comes.found.id) turn.made → (b : Bool) → is_invalid Worked comes.found.id ≡ b → Goal
-  by-valid comes left true ended = inr (Has_ended comes.found ended)
+  by-valid comes left true ended = inr (Has_ended comes.sess comes.found comes.for comes.there ended)
   by-valid comes left false valid = by-hops comes (record { calls = left; valid = valid }) turn.request.hops refl
 
   by-calls : (comes : ComesToProxy turn.live.session turn.request) → EndsIn comes.found.id turn.made ⊎ All (LeavesAlone comes.found.id) turn.made → Goal
-  by-calls comes (inl ends) = inr (Ended comes.found ends)
+  by-calls comes (inl ends) = inr (Ended comes.sess comes.found comes.for comes.there ends)
   by-calls comes (inr left) = by-valid comes left (is_invalid Worked comes.found.id) refl
 
   by-low : (sess : SessId) (found : SessionView) → session_for turn.live.session turn.request ≡ Some sess → session_in turn.live.session.view sess ≡ Some found → is_proxy found.role ≡ true → (b : Bool)

@@ -209,8 +209,13 @@ pub data Stops (setup : Setup) (moment : Moment) (got : Got) (to : AppId)
       → session_for turn.live.session turn.request ≡ Some sess
       → session_in turn.live.session.view sess ≡ Some found → is_proxy found.role ≡ false
       → Stops setup moment got to turn
-  Ended : (found : SessionView) → EndsIn found.id turn.made → Stops setup moment got to turn
-  Has_ended : (found : SessionView)
+  Ended : (sess : SessId) (found : SessionView)
+      → session_for turn.live.session turn.request ≡ Some sess
+      → session_in turn.live.session.view sess ≡ Some found → EndsIn found.id turn.made
+      → Stops setup moment got to turn
+  Has_ended : (sess : SessId) (found : SessionView)
+      → session_for turn.live.session turn.request ≡ Some sess
+      → session_in turn.live.session.view sess ≡ Some found
       → is_invalid
       (worked_all setup.config
       (prepared setup.config (ringing_at got.app (host_at got.app.host moment.before))
