@@ -113,6 +113,18 @@ found-again test (x ∷ xs) s is = by (test x) (is_session s.id x) refl is (foun
     by true false at is rest = absurd (clash (is_session s.id x) (self-of x s is) at)
     by false false at is rest = rest is
 
+same : (a b : SessionView) → Some a ≡ Some b → a ≡ b
+same a b is = cc
+
+-- the one that is found by a name has it
+named : (sess : SessId) (sessions : List SessionView) (found : SessionView) → find (is_session sess) sessions ≡ Some found → found.id ≡ sess
+named sess [] found is = cc
+named sess (x ∷ xs) found is = by (is_session sess x) refl is (named sess xs found)
+  where
+    by : (b : Bool) → is_session sess x ≡ b → cond b (Some x) (find (is_session sess) xs) ≡ Some found → (find (is_session sess) xs ≡ Some found → found.id ≡ sess) → found.id ≡ sess
+    by true at p rest = subst (λ (s : SessionView). s.id ≡ sess) (same x found p) (same-sess x.id sess at)
+    by false at p rest = rest p
+
 -- ## A turn
 
 module _ (setup : Setup) (moment : Moment) (got : Got) (to : AppId) (turn : TurnsTo setup moment got to) where
@@ -175,12 +187,15 @@ module _ (setup : Setup) (moment : Moment) (got : Got) (to : AppId) (turn : Turn
       (worked_all setup.config
       (prepared setup.config (ringing_at got.app (host_at got.app.host moment.before)) turn.live.session (record { number = got.waiting.number; event = queued.Request turn.request }) turn.now) turn.made).known
 
+  its-name : (comes : ComesToProxy turn.live.session turn.request) → comes.found.id ≡ comes.sess
+  its-name comes = named comes.sess turn.live.session.view.sessions comes.found comes.there
+
   by-valid : (comes : ComesToProxy turn.live.session turn.request) → All (LeavesAlone comes.found.id) turn.made → (b : Bool) → is_invalid Worked comes.found.id ≡ b → Goal
-  by-valid comes left true ended = inr (Has_ended comes.sess comes.found comes.for comes.there ended)
+  by-valid comes left true ended = inr (Has_ended comes.sess comes.for (subst (λ (s : SessId). is_invalid Worked s ≡ true) (its-name comes) ended))
   by-valid comes left false valid = by-hops comes (record { calls = left; valid = valid }) turn.request.hops refl
 
   by-calls : (comes : ComesToProxy turn.live.session turn.request) → EndsIn comes.found.id turn.made ⊎ All (LeavesAlone comes.found.id) turn.made → Goal
-  by-calls comes (inl ends) = inr (Ended comes.sess comes.found comes.for comes.there ends)
+  by-calls comes (inl ends) = inr (Ended comes.sess comes.for (subst (λ (s : SessId). EndsIn s turn.made) (its-name comes) ends))
   by-calls comes (inr left) = by-valid comes left (is_invalid Worked comes.found.id) refl
 
   by-low : (sess : SessId) (found : SessionView) → session_for turn.live.session turn.request ≡ Some sess → session_in turn.live.session.view sess ≡ Some found → is_proxy found.role ≡ true → (b : Bool)

@@ -209,20 +209,16 @@ pub data Stops (setup : Setup) (moment : Moment) (got : Got) (to : AppId)
       → session_for turn.live.session turn.request ≡ Some sess
       → session_in turn.live.session.view sess ≡ Some found → is_proxy found.role ≡ false
       → Stops setup moment got to turn
-  Ended : (sess : SessId) (found : SessionView)
-      → session_for turn.live.session turn.request ≡ Some sess
-      → session_in turn.live.session.view sess ≡ Some found → EndsIn found.id turn.made
-      → Stops setup moment got to turn
-  Has_ended : (sess : SessId) (found : SessionView)
-      → session_for turn.live.session turn.request ≡ Some sess
-      → session_in turn.live.session.view sess ≡ Some found
+  Ended : (sess : SessId) → session_for turn.live.session turn.request ≡ Some sess
+      → EndsIn sess turn.made → Stops setup moment got to turn
+  Has_ended : (sess : SessId) → session_for turn.live.session turn.request ≡ Some sess
       → is_invalid
       (worked_all setup.config
       (prepared setup.config (ringing_at got.app (host_at got.app.host moment.before))
       turn.live.session
       (record { number = got.waiting.number; event = queued.Request turn.request }) turn.now)
       turn.made).known
-      found.id ≡ true
+      sess ≡ true
       → Stops setup moment got to turn
   No_hops : turn.request.hops ≡ zero → Stops setup moment got to turn
   Not_living : live_at to moment.before ≡ None → Stops setup moment got to turn
