@@ -190,7 +190,7 @@ module _ (setup : Setup) (app : AppId) (b : ℕ) where
 
 -- ## In a run
 
-next-is : (before : List Step) (setup : Setup) (net : Net History) (step : Step)
+pub next-is : (before : List Step) (setup : Setup) (net : Net History) (step : Step)
     → chained_from (as_history setup.config) setup net (before ++ step ∷ []) ≡ after_step (as_history setup.config) setup (chained_from (as_history setup.config) setup net before) step
 unfolding chained_from
 next-is [] setup net step = refl

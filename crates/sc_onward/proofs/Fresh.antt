@@ -58,7 +58,7 @@ use Rattle.sc_recorded.proofs.Hosts.{AreKinds, Good, IsReached, IsServed}
 use Rattle.sc_recorded.proofs.Nets.{Goes, Holds, OrderFits}
 use Rattle.sc_recorded.proofs.Steps.{StepFits, step-goes}
 use Rattle.sc_onward.specs.Onward.{HasNewBranches, HasNoServer}
-use Rattle.sc_onward.proofs.Counters.{draws-stay, drawn_of}
+use Rattle.sc_onward.proofs.Counters.{draws-stay, drawn_of, next-is}
 
 -- ## Two own Vias
 
@@ -236,12 +236,6 @@ module _ (config : Config) (epoch : ℕ) (app : AppId) (request : Request) where
   order-drawn (orders.CancelNow branch ∷ given) (suc place) low high order on at sends = order-drawn given place low high order on at sends
 
 -- ## Beginnings of a journal
-
-next-is : (before : List Step) (setup : Setup) (net : Net History) (step : Step)
-    → chained_from (as_history setup.config) setup net (before ++ step ∷ []) ≡ after_step (as_history setup.config) setup (chained_from (as_history setup.config) setup net before) step
-unfolding chained_from
-next-is [] setup net step = refl
-next-is (first ∷ before) setup net step = next-is before setup (after_step (as_history setup.config) setup net first) step
 
 lawful-front : (before later : List Step) (setup : Setup) (net : Net History) → IsLawfulFrom (as_history setup.config) setup net (before ++ later) → IsLawfulFrom (as_history setup.config) setup net before
 unfolding IsLawfulFrom
