@@ -1,4 +1,4 @@
--- The branch of each later request that a turn sends is new to the server transactions over inner hops of all hosts: no other session
+-- The branch of each request that a turn sends is new to the server transactions over inner hops of all hosts: no other session
 -- draws it, and this one drew lower ones before.
 use Rattle.std.proofs.Common.{◌≡◌, ◌≤◌, ◌<◌, ◌^◌, ◌⊎◌, inl, inr, ℕ, zero, suc, ◌++◌, Bool, true, false, Option, None, Some, List, [], ◌∷◌, refl, sym, ap, subst, ◌∙◌, arith, append_assoc, append-nil}
 use Rattle.std.specs.Prelude.{◌&&◌, length, map, option_map, slice_get, unwrap_or}
@@ -46,7 +46,7 @@ use Rattle.sc_lived.proofs.Sayings.{read-at}
 use Rattle.sc_paths.specs.Moments.{Moment, moments, moments_from, orders_by}
 use Rattle.sc_keyed.specs.Keyed.{AreOn, IsOn}
 use Rattle.sc_keyed.proofs.Branches.{sends-on-branches}
-use Rattle.sc_hops.specs.Hops.{HasBranchOf, Is_ack, Is_send, Sends}
+use Rattle.sc_hops.specs.Hops.{HasBranchOf}
 use Rattle.sc_hops.proofs.OneTurn.{unrouted-vias}
 use Rattle.sc_vias.proofs.RunVias.{drawn-is, live-named, on-rises, turn-on}
 use Rattle.sc_ways.proofs.OneHop.{allowed-turn, orders-are}
@@ -57,7 +57,7 @@ use Rattle.sc_recorded.specs.Recorded.{IsInner}
 use Rattle.sc_recorded.proofs.Hosts.{AreKinds, Good, IsReached, IsServed}
 use Rattle.sc_recorded.proofs.Nets.{Goes, Holds, OrderFits}
 use Rattle.sc_recorded.proofs.Steps.{StepFits, step-goes}
-use Rattle.sc_onward.specs.Onward.{HasNewBranches, HasNoServer}
+use Rattle.sc_onward.specs.Onward.{HasNewBranches, HasNoServer, sent_in}
 use Rattle.sc_onward.proofs.Counters.{draws-stay, drawn_of, next-is}
 
 -- ## Two own Vias
@@ -176,7 +176,7 @@ module _ (sent : Request) where
     all-fit (orders.Cancel branch ∷ given) low high each on = (tt, all-fit given low high each on)
     all-fit (orders.CancelNow branch ∷ given) low high each on = (tt, all-fit given low high each on)
 
--- ## The order that sends a later request
+-- ## The order that sends a request
 
 -- it goes on a branch of the turn
 record IsDrawn (config : Config) (epoch : ℕ) (app : AppId) (low high : ℕ) (request : Request) : Type 0 where
@@ -195,45 +195,32 @@ module _ (config : Config) (epoch : ℕ) (app : AppId) (request : Request) where
       over : (a b c : ℕ) → a < b → b < c → a < c
       over a b c p q = omega (arith, p, q)
 
-  sent-by : (order : Order) → (x : Request) → Sends request order → (branch : ℕ) → order ≡ orders.Send branch x → x ≡ request
-  sent-by order x (Is_send other is) branch same = cc
-  sent-by order x (Is_ack is) branch same = cc
+  none : None ≡ Some request → ⊥
+  none is = cc
 
-  acked-by : (order : Order) → (x : Request) → Sends request order → order ≡ orders.Acknowledge x → x ≡ request
-  acked-by order x (Is_send other is) same = cc
-  acked-by order x (Is_ack is) same = cc
+  here-drawn : (branch low high : ℕ) (x : Request) → low < branch → branch ≤ high → IsOn config epoch app branch x → Some x ≡ Some request → Drawn low high
+  here-drawn branch low high x above under on is =
+      record { branch = branch; above = above; under = under; on = subst (λ (r : Request). IsOn config epoch app branch r) (some-is x request is) on }
 
-  sends-none : (order : Order) → ((branch : ℕ) → order ≡ orders.Send branch request → ⊥) → (order ≡ orders.Acknowledge request → ⊥) → Sends request order → ⊥
-  sends-none order p q (Is_send branch is) = p branch is
-  sends-none order p q (Is_ack is) = q is
-
-  order-drawn : (given : List Order) (place low high : ℕ) (order : Order) → AreOn config epoch app low given high → slice_get given place ≡ Some order → Sends request order → Drawn low high
-  unfolding AreOn
-  order-drawn [] place low high order on at sends = cc
-  order-drawn (orders.Send branch x ∷ given) zero low high order on at sends =
-      record {
-        branch = branch;
-        above = on.0;
-        under = on-rises config epoch app given branch high on.2;
-        on = subst (λ (r : Request). IsOn config epoch app branch r) (sent-by order x sends branch (sym (some-is (orders.Send branch x) order at))) on.1;
-      }
-  order-drawn (orders.Acknowledge x ∷ given) zero low high order on at sends =
-      record {
-        branch = on.0;
-        above = on.1;
-        under = on-rises config epoch app given on.0 high on.3;
-        on = subst (λ (r : Request). IsOn config epoch app on.0 r) (acked-by order x sends (sym (some-is (orders.Acknowledge x) order at))) on.2;
-      }
-  order-drawn (orders.Respond event response ∷ given) zero low high order on at sends = absurd (sends-none order (λ branch is. cc) (λ is. cc) sends)
-  order-drawn (orders.Begin branch directive region state x ∷ given) zero low high order on at sends = absurd (sends-none order (λ other is. cc) (λ is. cc) sends)
-  order-drawn (orders.Cancel branch ∷ given) zero low high order on at sends = absurd (sends-none order (λ other is. cc) (λ is. cc) sends)
-  order-drawn (orders.CancelNow branch ∷ given) zero low high order on at sends = absurd (sends-none order (λ other is. cc) (λ is. cc) sends)
-  order-drawn (orders.Respond event response ∷ given) (suc place) low high order on at sends = order-drawn given place low high order on at sends
-  order-drawn (orders.Begin branch directive region state x ∷ given) (suc place) low high order on at sends = from-lower low branch high on.0 (order-drawn given place branch high order on.2 at sends)
-  order-drawn (orders.Send branch x ∷ given) (suc place) low high order on at sends = from-lower low branch high on.0 (order-drawn given place branch high order on.2 at sends)
-  order-drawn (orders.Acknowledge x ∷ given) (suc place) low high order on at sends = from-lower low on.0 high on.1 (order-drawn given place on.0 high order on.3 at sends)
-  order-drawn (orders.Cancel branch ∷ given) (suc place) low high order on at sends = order-drawn given place low high order on at sends
-  order-drawn (orders.CancelNow branch ∷ given) (suc place) low high order on at sends = order-drawn given place low high order on at sends
+  -- the request of an order does
+  order-drawn : (given : List Order) (place low high : ℕ) (order : Order) → AreOn config epoch app low given high → slice_get given place ≡ Some order → sent_in order ≡ Some request → Drawn low high
+  unfolding AreOn sent_in
+  order-drawn [] place low high order on at sent = cc
+  order-drawn (orders.Begin branch directive region state x ∷ given) zero low high order on at sent =
+      here-drawn branch low high x on.0 (on-rises config epoch app given branch high on.2) on.1 (ap sent_in (some-is (orders.Begin branch directive region state x) order at) ∙ sent)
+  order-drawn (orders.Send branch x ∷ given) zero low high order on at sent =
+      here-drawn branch low high x on.0 (on-rises config epoch app given branch high on.2) on.1 (ap sent_in (some-is (orders.Send branch x) order at) ∙ sent)
+  order-drawn (orders.Acknowledge x ∷ given) zero low high order on at sent =
+      here-drawn on.0 low high x on.1 (on-rises config epoch app given on.0 high on.3) on.2 (ap sent_in (some-is (orders.Acknowledge x) order at) ∙ sent)
+  order-drawn (orders.Respond event response ∷ given) zero low high order on at sent = absurd (none (ap sent_in (some-is (orders.Respond event response) order at) ∙ sent))
+  order-drawn (orders.Cancel branch ∷ given) zero low high order on at sent = absurd (none (ap sent_in (some-is (orders.Cancel branch) order at) ∙ sent))
+  order-drawn (orders.CancelNow branch ∷ given) zero low high order on at sent = absurd (none (ap sent_in (some-is (orders.CancelNow branch) order at) ∙ sent))
+  order-drawn (orders.Respond event response ∷ given) (suc place) low high order on at sent = order-drawn given place low high order on at sent
+  order-drawn (orders.Begin branch directive region state x ∷ given) (suc place) low high order on at sent = from-lower low branch high on.0 (order-drawn given place branch high order on.2 at sent)
+  order-drawn (orders.Send branch x ∷ given) (suc place) low high order on at sent = from-lower low branch high on.0 (order-drawn given place branch high order on.2 at sent)
+  order-drawn (orders.Acknowledge x ∷ given) (suc place) low high order on at sent = from-lower low on.0 high on.1 (order-drawn given place on.0 high order on.3 at sent)
+  order-drawn (orders.Cancel branch ∷ given) (suc place) low high order on at sent = order-drawn given place low high order on at sent
+  order-drawn (orders.CancelNow branch ∷ given) (suc place) low high order on at sent = order-drawn given place low high order on at sent
 
 -- ## Beginnings of a journal
 
@@ -419,7 +406,7 @@ module _ (setup : Setup) (epoch began : ℕ) (small : epoch < 2 ^ 64) (journal :
   none-at place order at = cc
 
   turn-new : (before : List Step) (app : AppId) (event now : ℕ) (made : List CallRecord) (end : End) (later : List Step) → before ++ steps.Turn app event now made end ∷ later ≡ journal
-      → (place : ℕ) (order : Order) (request : Request) → slice_get (orders_by setup (New before) (steps.Turn app event now made end)) place ≡ Some order → Sends request order → HasNoServer request (New before)
+      → (place : ℕ) (order : Order) (request : Request) → slice_get (orders_by setup (New before) (steps.Turn app event now made end)) place ≡ Some order → sent_in order ≡ Some request → HasNoServer request (New before)
   unfolding turn_of
   turn-new before app event now made end later is place order request at sends =
       let here = ready-at before (steps.Turn app event now made end) later is in

@@ -46,7 +46,7 @@ use Rattle.sc_ways.proofs.OneHop.{orders-are}
 use Rattle.sc_ways.proofs.OwnBranches.{IsOnOwnBranch, IsReadyAt, out-own}
 use Rattle.sc_ways.proofs.Recorders.{found-small}
 use Rattle.sc_ways.proofs.Waits.{events-live}
-use Rattle.sc_onward.specs.Onward.{AreCounted, HasNewBranches, HasNoServer, IsUnstopped, PassesLast}
+use Rattle.sc_onward.specs.Onward.{AreCounted, HasNewBranches, HasNoServer, IsUnstopped, PassesLast, sent_in}
 use Rattle.sc_onward.proofs.Clean.{CleanNet}
 use Rattle.sc_onward.proofs.Delivered.{Arrives}
 use Rattle.sc_onward.proofs.Ends.{turn-passes}
@@ -79,6 +79,11 @@ later-is : (order : Order) (sent : Request) → Sends sent order → later_in or
 unfolding later_in
 later-is order sent (Is_send branch is) = rw is refl
 later-is order sent (Is_ack is) = rw is refl
+
+pub sends-in : (order : Order) (sent : Request) → Sends sent order → sent_in order ≡ Some sent
+unfolding sent_in
+sends-in order sent (Is_send branch is) = rw is refl
+sends-in order sent (Is_ack is) = rw is refl
 
 -- ## The request as it is passed on
 
@@ -184,7 +189,7 @@ module _ (setup : Setup) (epoch : ℕ) (small : epoch < 2 ^ 64) (moment : Moment
 
   clean : CleanNet sent net
   unfolding HasNoServer
-  clean = new (length passes.before) passes.order sent at-place passes.sends
+  clean = new (length passes.before) passes.order sent at-place (sends-in passes.order sent passes.sends)
 
   after-is : moment.after ≡ after_step as_session setup net Turning
   after-is = sound.after ∙ ap (λ (s : Step). after_step as_session setup net s) un.step

@@ -46,7 +46,7 @@ use Rattle.sc_ways.proofs.Sending.{session-by}
 use Rattle.sc_ways.proofs.Waits.{events-live}
 use Rattle.sc_onward.specs.Onward.{HasNewBranches, HasNoServer}
 use Rattle.sc_onward.proofs.Delivered.{Arrives}
-use Rattle.sc_onward.proofs.OneHop.{IsSound, Item, got-item}
+use Rattle.sc_onward.proofs.OneHop.{IsSound, Item, got-item, sends-in}
 use Rattle.sc_onward.proofs.Turning.{SendsOn, sent-comes}
 use Rattle.sc_onward.proofs.Whole.{run-new, run-sound}
 
@@ -168,7 +168,7 @@ module _ (setup : Setup) (epoch : ℕ) (small : epoch < 2 ^ 64) (moment : Moment
             (subst (λ (n : ℕ). AreOtherBranches out.request (parts.before ++ order.0 ∷ parts.rest) n) parts.place_is
             (subst (λ (os : List Order). AreOtherBranches out.request os place) parts.is (subst (λ (m : Moment). AreOtherBranches out.request (given_in setup m) place) moment-is own.orders)));
         clients = subst (λ (m : Moment). HasNoClient out.request m.before) moment-is own.clients;
-        servers = new place order.0 out.request order.1 (subst (λ (r : Request). Sends r order.0) (sym request-is) (sends-by order.0 from.request order.2));
+        servers = new place order.0 out.request order.1 (sends-in order.0 out.request (subst (λ (r : Request). Sends r order.0) (sym request-is) (sends-by order.0 from.request order.2)));
         own = leading.0;
         named = subst (λ (e : ℕ). names e app (next_uri out.request) ≡ true) (ap (λ (m : Moment). m.before.epoch) moment-is ∙ sound.ready.fine.at) leading.1;
         no_cancel = is.no_cancel;

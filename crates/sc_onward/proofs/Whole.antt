@@ -155,7 +155,7 @@ module _ (setup : Setup) (epoch began : ℕ) (journal : List Step) (lawful : IsL
       (counts-less journal setup (start setup epoch began) numbers.events)
       (run-each setup epoch began journal lawful Counted (λ before step later is allowed. counted-after before))
 
-  -- the branch of each later request that a turn sends is new
+  -- the branch of each request that a turn sends is new
   pub run-new : All (HasNewBranches setup) Run
   run-new = all-new setup epoch began journal numbers.within lawful run-ready
 

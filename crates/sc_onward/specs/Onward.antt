@@ -1,7 +1,7 @@
 -- A later request of a proxied dialog in the turn of its session: it is passed on, and what stops
 -- it instead; and how it goes from one session of its way to the next (RFC 3261 sections 12.2.2,
 -- 16.3, 16.6 and 16.12).
-use Rattle.std.specs.Prelude.{◌≡◌, ◌⊎◌, ◌≤◌, ◌<◌, ◌+◌, ◌^◌, ℕ, zero, suc, List, [], ◌∷◌, ◌++◌, true, false, None, Some, drop, is_some, length, slice_get}
+use Rattle.std.specs.Prelude.{◌≡◌, ◌⊎◌, ◌≤◌, ◌<◌, ◌+◌, ◌^◌, ℕ, zero, suc, List, [], ◌∷◌, ◌++◌, true, false, Option, None, Some, drop, is_some, length, slice_get}
 use Rattle.std.specs.List.{find}
 use Rattle.sc_value.specs.declared.ids.AppId.{AppId}
 use Rattle.sc_value.specs.declared.ids.SessId.{SessId}
@@ -106,11 +106,18 @@ HasNoServer request net =
     → All (λ (server : Server). IsInner server.peer → HasBranchOf request server.request → ⊥)
     host.servers
 
--- the branch of each later request that the turn of the moment sends is new to all hosts
+-- the request that an order sends: an initial one, a later one, or the ACK to a 2xx
+unfoldable pub sent_in : Order → Option Request
+sent_in (orders.Begin branch directive region state request) = Some request
+sent_in (orders.Send branch request) = Some request
+sent_in (orders.Acknowledge request) = Some request
+sent_in order = None
+
+-- the branch of each request that the turn of the moment sends is new to all hosts
 abbrev pub HasNewBranches : Setup → Moment → Type 0
 HasNewBranches setup moment =
     (place : ℕ) (order : Order) (request : Request)
-    → slice_get (given_in setup moment) place ≡ Some order → Sends request order
+    → slice_get (given_in setup moment) place ≡ Some order → sent_in order ≡ Some request
     → HasNoServer request moment.before
 
 -- the moment is the turn of this event, a later request, and nothing stops it there: it comes to

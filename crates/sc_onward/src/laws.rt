@@ -47,13 +47,14 @@ pub fn later_requests_are_passed_on()
         (record { number = number; event = queued.Request request }) now made end).orders }
 {}
 
-/// In each lawful run of the hosts: the branch of each later request that a turn sends, an ACK to a
-/// 2xx too, is new to all hosts: no server transaction of a request that came from a host of the
-/// container has it. So the host that the request comes to doesn't take it for one that came before
-/// (RFC 3261 sections 8.1.1.7 and 17.2.3). The premises are those of
-/// `later_requests_go_to_the_next`. The contract is the law, for a journal that is lawful in either
-/// form in which sessions are kept, and the call does nothing.
-pub fn later_requests_have_new_branches()
+/// In each lawful run of the hosts: the branch of each request that a turn sends, an initial one, a
+/// later one or the ACK to a 2xx, is new to all hosts: no server transaction of a request that came
+/// from a host of the container has it. So a host to which the request comes doesn't take it for
+/// one that came before (RFC 3261 sections 8.1.1.7 and 17.2.3). The numbers in names have 64 bits:
+/// the epoch, the hosts, the events, and the number that a session drew last by the end of each of
+/// its turns. The contract is the law, for a journal that is lawful in either form in which
+/// sessions are kept, and the call does nothing.
+pub fn requests_have_new_branches()
     ensures session { (setup : Setup) (epoch began : ℕ) (journal : List Step)
         → IsLawful as_session setup epoch began journal
         → AreSmallNumbers setup epoch (chained as_session setup epoch began journal)

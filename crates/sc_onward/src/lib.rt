@@ -5,6 +5,5 @@ mod laws;
 
 pub use laws::{
     later_requests_are_passed_on, later_requests_go_all_the_way, later_requests_go_on_or_stop,
-    later_requests_go_to_the_next, later_requests_have_new_branches,
-    sent_requests_come_to_the_first,
+    later_requests_go_to_the_next, requests_have_new_branches, sent_requests_come_to_the_first,
 };

@@ -1,6 +1,6 @@
 use Rattle.sc_forms.proofs.HistoryLaws.{lawful-histories}
 use Rattle.sc_onward.proofs.Whole.{run-new}
-use Rattle.sc_onward.proofs.laws.later_requests_have_new_branches.Goals as goal
+use Rattle.sc_onward.proofs.laws.requests_have_new_branches.Goals as goal
 
 pub returns-clause-session : goal.returns-clause-session
 returns-clause-session c = run-new
