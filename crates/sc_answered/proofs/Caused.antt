@@ -338,7 +338,7 @@ failed-caused req ends.Starved view = none
 
 to-caused : (proxy : Proxy) (sess : SessId) (request : Option RequestView) (response : Response) (view : View) → Caused (forwarded_to proxy sess request response view)
 unfolding forwarded_to
-to-caused proxy sess None response view = if-caused (is_some proxy.options) (came_in view sess (initial_of proxy.request) response) [] (response-caused (session_in view sess) (initial_of proxy.request) _ response.code) none
+to-caused proxy sess None response view = if-caused (is_some proxy.options) (came_in view sess (initial_of proxy) response) [] (response-caused (session_in view sess) (initial_of proxy) _ response.code) none
 to-caused proxy sess (Some request) response view = response-caused (session_in view sess) (asked_of request) _ response.code
 
 passed-caused : (proxy : Proxy) (passing : Option Passing) (working : Working) → Caused (passed proxy passing working)

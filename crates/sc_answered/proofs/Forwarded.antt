@@ -114,7 +114,7 @@ subscribed-each Same proxy sess response view keep tagged =
 
 -- to an initial request that no view shows
 initial-state : (proxy : Proxy) (response : Response) (s : SessionView) → is_some proxy.options ≡ true
-    → (moved_on proxy response s).state ≡ state_after (meaning (Responded s.role (initial_of proxy.request) (is_some (tag_of response.head.to)) response.code)) s.state
+    → (moved_on proxy response s).state ≡ state_after (meaning (Responded s.role (initial_of proxy) (is_some (tag_of response.head.to)) response.code)) s.state
 unfolding moved_on in_state meaning
 initial-state proxy response s is = rw is (sym (after-first s.role proxy.request.method (is_some (tag_of response.head.to)) response.code s.state))
 
@@ -133,9 +133,9 @@ unfolding moved_on
 unmoved proxy response s is = rw is (kept s)
 
 initial-comes : (b : Bool) (proxy : Proxy) (sess : SessId) (response : Response) (view : View) → is_some proxy.options ≡ b
-    → Comes (cond b (came_in view sess (initial_of proxy.request) response) []) view.sessions (change_first (is_session sess) (moved_on proxy response) view.sessions)
+    → Comes (cond b (came_in view sess (initial_of proxy) response) []) view.sessions (change_first (is_session sess) (moved_on proxy response) view.sessions)
 initial-comes true proxy sess response view is =
-    comes-response sess (initial_of proxy.request) (is_some (tag_of response.head.to)) response.code (moved_on proxy response) view.sessions (initial-id proxy response) (λ s. initial-state proxy response s is)
+    comes-response sess (initial_of proxy) (is_some (tag_of response.head.to)) response.code (moved_on proxy response) view.sessions (initial-id proxy response) (λ s. initial-state proxy response s is)
 initial-comes false proxy sess response view is =
     comes-each view.sessions _ (each-first IsKept view.sessions (is_session sess) (moved_on proxy response) kept (λ s. unmoved proxy response s is))
 
@@ -154,7 +154,7 @@ forwarded-same : (proxy : Proxy) (sess : SessId) (request : Option RequestView) 
     → forwarded_to proxy sess request response w ≡ forwarded_to proxy sess request response v
 unfolding forwarded_to
 forwarded-same proxy sess None response v w each =
-    if-told (is_some proxy.options) _ _ (response-same v.sessions w.sessions sess (initial_of proxy.request) (is_some (tag_of response.head.to)) response.code each)
+    if-told (is_some proxy.options) _ _ (response-same v.sessions w.sessions sess (initial_of proxy) (is_some (tag_of response.head.to)) response.code each)
 forwarded-same proxy sess (Some request) response v w each =
     response-same v.sessions w.sessions sess (asked_of request) (is_some (tag_of response.head.to)) response.code each
 

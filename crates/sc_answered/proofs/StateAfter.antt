@@ -179,7 +179,7 @@ after-later method ends code state =
 
 -- a response means what it makes of the state
 pub after-responded : (role : Role) (request : RequestView) (tagged : Bool) (code : ℕ) (state : State)
-    → state_after (meaning (Response role (record { method = request.method; initial = request.initial; ends = request.ends }) tagged code)) state
+    → state_after (meaning (Response role (record { req = request.id; method = request.method; initial = request.initial; ends = request.ends }) tagged code)) state
     ≡ after_response role request tagged state code
 unfolding meaning after_response
 after-responded role request tagged code state =
@@ -192,8 +192,8 @@ state-of-more one earlier = state-joins (meaning one) (map meaning earlier)
 
 -- it goes where hosts go
 pub responses-join : (role : Role) (request : RequestView) (tagged : Bool) (code : ℕ) (earlier : List Happening)
-    → state_of (Response role (record { method = request.method; initial = request.initial; ends = request.ends }) tagged code ∷ earlier)
+    → state_of (Response role (record { req = request.id; method = request.method; initial = request.initial; ends = request.ends }) tagged code ∷ earlier)
     ≡ after_response role request tagged (state_of earlier) code
 responses-join role request tagged code earlier =
-    let one : Happening = Response role (record { method = request.method; initial = request.initial; ends = request.ends }) tagged code in
+    let one : Happening = Response role (record { req = request.id; method = request.method; initial = request.initial; ends = request.ends }) tagged code in
     state-of-more one earlier ∙ after-responded role request tagged code (state_of earlier)

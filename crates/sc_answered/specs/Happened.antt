@@ -73,12 +73,17 @@ HaveStates happened sessions =
 
 -- a request of which a view tells
 abbrev pub asked_of : RequestView → Asked
-asked_of request =
-    record { method = request.method; initial = request.initial; ends = request.ends }
+asked_of request = record {
+  req = request.id;
+  method = request.method;
+  initial = request.initial;
+  ends = request.ends;
+}
 
--- a request that began a SipSession and that no view shows any more
-abbrev pub initial_of : Request → Asked
-initial_of request = record { method = request.method; initial = true; ends = false }
+-- a proxied request that began a SipSession and that no view shows any more
+abbrev pub initial_of : Proxy → Asked
+initial_of proxy =
+    record { req = proxy.req; method = proxy.request.method; initial = true; ends = false }
 
 -- a response in this SipSession
 unfoldable pub response_in : Option SessionView → Asked → Bool → ℕ → List Happened
@@ -233,7 +238,7 @@ failed req ends.Starved view = []
 -- where it doesn't only one to the request that began the SipSession counts
 unfoldable pub forwarded_to : Proxy → SessId → Option RequestView → Response → View → List Happened
 forwarded_to proxy sess None response view =
-    if is_some proxy.options then came_in view sess (initial_of proxy.request) response else []
+    if is_some proxy.options then came_in view sess (initial_of proxy) response else []
 forwarded_to proxy sess (Some request) response view = came_in view sess (asked_of request) response
 
 -- the same, within a turn

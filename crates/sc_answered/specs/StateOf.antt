@@ -5,6 +5,7 @@
 use Rattle.std.specs.Prelude.{ℕ, List, [], ◌∷◌, Bool, true, false, not, ◌&&◌, ◌||◌, if◌then◌else◌, map}
 use Rattle.std.specs.List.{find}
 use Rattle.std.specs.Option.{option_map_or}
+use Rattle.sc_value.specs.declared.ids.ReqId.{ReqId}
 use Rattle.sc_tokens.specs.Names.{same_bytes}
 use Rattle.sc_terms.specs.declared.views.Role.{Role}
 use Rattle.sc_terms.specs.declared.views.State.{State}
@@ -18,9 +19,11 @@ use Rattle.sc_hosts.specs.States.{is_ringing}
 
 -- ## What happens in a SipSession
 
--- a request, as far as its responses count for the state: its method, whether it began the
--- SipSession, and whether it is a NOTIFY that ends the subscription
+-- a request: the number by which its application session knows it, and, as far as its responses
+-- count for the state, its method, whether it began the SipSession, and whether it is a NOTIFY that
+-- ends the subscription
 pub record Asked : Type 0 where
+  pub req : ReqId
   pub method : Bytes
   pub initial : Bool
   pub ends : Bool

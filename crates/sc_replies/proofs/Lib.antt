@@ -1,4 +1,6 @@
 mod Owed
+mod Brought
+mod BroughtProxies
 mod OwedShown
 mod OwedCalls
 mod OwedEnds

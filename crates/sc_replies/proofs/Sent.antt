@@ -28,7 +28,9 @@ use Rattle.sc_hosts.specs.Messages.{answered_here, bare_answer, given_response, 
 use Rattle.sc_hosts.specs.Preparing.{kept_of, own_tag_of}
 use Rattle.sc_answered.specs.StateOf.{Asked}
 use Rattle.sc_answered.specs.Happened.{Happened, answer_to, asked_of, response_in}
+use Rattle.sc_replies.specs.Came.{Came, IsBroughtBy}
 use Rattle.sc_replies.specs.Replies.{AreGiven, Reply, replies, reply_in}
+use Rattle.sc_replies.proofs.Brought.{FitsIn, by-kept}
 use Rattle.sc_replies.proofs.Owed.{IsKept}
 
 -- ## One after the other
@@ -42,10 +44,10 @@ no-more [] = refl
 no-more (x ∷ xs) = ap (λ ys. x ∷ ys) (no-more xs)
 
 -- more is given behind
-are-longer : (answers : List Reply) (given more : List Order) → AreGiven answers given → AreGiven answers (given ++ more)
+are-longer : (came : List Came) (answers : List Reply) (given more : List Order) → AreGiven came answers given → AreGiven came answers (given ++ more)
 unfolding AreGiven
-are-longer [] given more all = tt
-are-longer (reply ∷ earlier) given more all = (
+are-longer came [] given more all = tt
+are-longer came (reply ∷ earlier) given more all = (
   record {
     before = all.0.before;
     order = all.0.order;
@@ -57,10 +59,10 @@ are-longer (reply ∷ earlier) given more all = (
 )
 
 -- what was answered later is given behind
-are-then : (later earlier : List Reply) (given more : List Order) → AreGiven earlier given → AreGiven later more → AreGiven (later ++ earlier) (given ++ more)
+are-then : (came : List Came) (later earlier : List Reply) (given more : List Order) → AreGiven came earlier given → AreGiven came later more → AreGiven came (later ++ earlier) (given ++ more)
 unfolding AreGiven
-are-then [] earlier given more first all = are-longer earlier given more first
-are-then (reply ∷ later) earlier given more first all = (
+are-then came [] earlier given more first all = are-longer came earlier given more first
+are-then came (reply ∷ later) earlier given more first all = (
   record {
     before = given ++ all.0.before;
     order = all.0.order;
@@ -68,50 +70,50 @@ are-then (reply ∷ later) earlier given more first all = (
     is = ap (λ (os : List Order). given ++ os) all.0.is ∙ sym (append-assoc given all.0.before (all.0.order ∷ all.0.later));
     answers = all.0.answers;
   },
-  are-then later earlier given all.0.before first all.1,
+  are-then came later earlier given all.0.before first all.1,
 )
 
 -- these answers are among the orders that follow
-pub record Sends (new : List Happened) (before after : List Order) : Type 0 where
+pub record Sends (came : List Came) (new : List Happened) (before after : List Order) : Type 0 where
   pub more : List Order
   pub is : after ≡ before ++ more
-  pub given : AreGiven (replies new) more
+  pub given : AreGiven came (replies new) more
 
-pub sends-none : (before more : List Order) → Sends [] before (before ++ more)
+pub sends-none : (came : List Came) (before more : List Order) → Sends came [] before (before ++ more)
 unfolding AreGiven
-sends-none before more = record { more = more; is = refl; given = tt }
+sends-none came before more = record { more = more; is = refl; given = tt }
 
-pub sends-same : (before : List Order) → Sends [] before before
+pub sends-same : (came : List Came) (before : List Order) → Sends came [] before before
 unfolding AreGiven
-sends-same before = record { more = []; is = no-more before; given = tt }
+sends-same came before = record { more = []; is = no-more before; given = tt }
 
 -- from nothing on
-pub sends-any : (after : List Order) → Sends [] [] after
+pub sends-any : (came : List Came) (after : List Order) → Sends came [] [] after
 unfolding AreGiven
-sends-any after = record { more = after; is = refl; given = tt }
+sends-any came after = record { more = after; is = refl; given = tt }
 
-pub sends-then : (new more : List Happened) (xs ys zs : List Order) → Sends new xs ys → Sends more ys zs → Sends (more ++ new) xs zs
-sends-then new more xs ys zs p q = record {
+pub sends-then : (came : List Came) (new more : List Happened) (xs ys zs : List Order) → Sends came new xs ys → Sends came more ys zs → Sends came (more ++ new) xs zs
+sends-then came new more xs ys zs p q = record {
   more = p.more ++ q.more;
   is = q.is ∙ ap (λ (os : List Order). os ++ q.more) p.is ∙ append-assoc xs p.more q.more;
-  given = subst (λ (all : List Reply). AreGiven all (p.more ++ q.more)) (sym (filter_map-append (λ (one : Happened). reply_in one.what) more new))
-      (are-then (replies more) (replies new) p.more q.more p.given q.given);
+  given = subst (λ (all : List Reply). AreGiven came all (p.more ++ q.more)) (sym (filter_map-append (λ (one : Happened). reply_in one.what) more new))
+      (are-then came (replies more) (replies new) p.more q.more p.given q.given);
 }
 
 -- where nothing is told first
-pub sends-next : (new : List Happened) (xs ys zs : List Order) → Sends [] xs ys → Sends new ys zs → Sends new xs zs
-sends-next new xs ys zs p q =
-    subst (λ (all : List Happened). Sends all xs zs) (sym (no-more new)) (sends-then [] new xs ys zs p q)
+pub sends-next : (came : List Came) (new : List Happened) (xs ys zs : List Order) → Sends came [] xs ys → Sends came new ys zs → Sends came new xs zs
+sends-next came new xs ys zs p q =
+    subst (λ (all : List Happened). Sends came all xs zs) (sym (no-more new)) (sends-then came [] new xs ys zs p q)
 
 -- where nothing is told next
-pub sends-still : (new : List Happened) (xs ys zs : List Order) → Sends new xs ys → Sends [] ys zs → Sends new xs zs
-sends-still new xs ys zs p q = sends-then new [] xs ys zs p q
+pub sends-still : (came : List Came) (new : List Happened) (xs ys zs : List Order) → Sends came new xs ys → Sends came [] ys zs → Sends came new xs zs
+sends-still came new xs ys zs p q = sends-then came new [] xs ys zs p q
 
 -- by a test
-pub if-sends : {A : Type 0} (given : A → List Order) (b : Bool) (xs : List Order) (new other : List Happened) (y z : A)
-    → (b ≡ true → Sends new xs (given y)) → (b ≡ false → Sends other xs (given z)) → Sends (cond b new other) xs (given (cond b y z))
-if-sends given true xs new other y z p q = p refl
-if-sends given false xs new other y z p q = q refl
+pub if-sends : {A : Type 0} (came : List Came) (given : A → List Order) (b : Bool) (xs : List Order) (new other : List Happened) (y z : A)
+    → (b ≡ true → Sends came new xs (given y)) → (b ≡ false → Sends came other xs (given z)) → Sends came (cond b new other) xs (given (cond b y z))
+if-sends came given true xs new other y z p q = p refl
+if-sends came given false xs new other y z p q = q refl
 
 -- ## Tags
 
@@ -148,17 +150,17 @@ has-tag tag address = tag-by (is_some (tag_of address)) tag address refl
 -- ## One answer
 
 -- the order is the answer that is told
-pub one-given : (found : Option SessionView) (asked : Asked) (tagged : Bool) (code event : ℕ) (response : Response) → response.code ≡ code → is_some (tag_of response.head.to) ≡ tagged
-    → AreGiven (replies (response_in found asked tagged code)) (orders.Respond event response ∷ [])
+pub one-given : (came : List Came) (found : Option SessionView) (asked : Asked) (tagged : Bool) (code event : ℕ) (response : Response) → response.code ≡ code → is_some (tag_of response.head.to) ≡ tagged → IsBroughtBy came asked.req event
+    → AreGiven came (replies (response_in found asked tagged code)) (orders.Respond event response ∷ [])
 unfolding response_in reply_in AreGiven
-one-given None asked tagged code event response is tag = tt
-one-given (Some session) asked tagged code event response is tag = (
+one-given came None asked tagged code event response is tag by = tt
+one-given came (Some session) asked tagged code event response is tag by = (
   record {
     before = [];
     order = orders.Respond event response;
     later = [];
     is = refl;
-    answers = record { event = event; response = response; is = refl; code = is; tagged = tag };
+    answers = record { event = event; response = response; is = refl; brought = by; code = is; tagged = tag };
   },
   tt,
 )
@@ -217,15 +219,16 @@ answers-given : (config : Config) (answer : Answer) (view : View) (found : Optio
 unfolding answers answer_order
 answers-given config answer view found initial kept event is way = rw (is, way) refl
 
-pub answering-sends : (config : Config) (request : RequestView) (answer : Answer) (working : Working) → IsKept working.known.kept request.id
-    → Sends (answer_to working.play.view (Some request) answer.code) working.orders (answering config (Some request) answer working).orders
+pub answering-sends : (came : List Came) (config : Config) (request : RequestView) (answer : Answer) (working : Working) → IsKept working.known.kept request.id → FitsIn came working
+    → Sends came (answer_to working.play.view (Some request) answer.code) working.orders (answering config (Some request) answer working).orders
 unfolding answering answer_to
-answering-sends config request answer working is =
+answering-sends came config request answer working is fit =
     let view : View = working.play.view in
     let response : Response = given_response config view (own_tag_of view is.kept.sess) request.initial is.kept.request answer in
     record {
       more = orders.Respond is.event response ∷ [];
       is = ap (λ (os : List Order). working.orders ++ os) (answers-given config answer view (kept_of working.known request.id) request.initial is.kept is.event is.found is.way);
-      given = one-given (session_in view request.sess) (asked_of request) true answer.code is.event response
-          (given-code config view (own_tag_of view is.kept.sess) request.initial is.kept.request answer) (given-tagged config view (own_tag_of view is.kept.sess) request.initial is.kept.request answer);
+      given = one-given came (session_in view request.sess) (asked_of request) true answer.code is.event response
+          (given-code config view (own_tag_of view is.kept.sess) request.initial is.kept.request answer) (given-tagged config view (own_tag_of view is.kept.sess) request.initial is.kept.request answer)
+          (by-kept view.next_request came working.known.kept request.id is.kept is.event is.found is.way fit.1);
     }

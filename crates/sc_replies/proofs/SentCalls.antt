@@ -38,6 +38,8 @@ use Rattle.sc_hosts.specs.Working.{ack_with, acknowledges, cancels, dialog_in, d
 use Rattle.sc_lasting.proofs.Began.{first-passed, or-left, or-right}
 use Rattle.sc_lasting.proofs.Parts.{all-found}
 use Rattle.sc_answered.specs.Happened.{answer_to, given, given_by, given_if}
+use Rattle.sc_replies.specs.Came.{Came}
+use Rattle.sc_replies.proofs.Brought.{FitsIn}
 use Rattle.sc_replies.proofs.Owed.{IsFine, IsHeld, IsKept}
 use Rattle.sc_replies.proofs.OwedCalls.{InTurn, worked-holds}
 use Rattle.sc_replies.proofs.Sent.{Sends, answering-sends, sends-none, sends-same, sends-then}
@@ -110,12 +112,12 @@ pub owed-kept : (kepts : List Kept) (request : RequestView) → IsHeld kepts req
 unfolding IsHeld
 owed-kept kepts request held received lacks = held received lacks
 
-respond-sends : (config : Config) (answer : Answer) (working : Working) (found : Option RequestView)
-    → ((request : RequestView) → found ≡ Some request → IsKept working.known.kept request.id)
-    → Sends (answer_to working.play.view found answer.code) working.orders (answering config found answer working).orders
+respond-sends : (came : List Came) (config : Config) (answer : Answer) (working : Working) (found : Option RequestView)
+    → ((request : RequestView) → found ≡ Some request → IsKept working.known.kept request.id) → FitsIn came working
+    → Sends came (answer_to working.play.view found answer.code) working.orders (answering config found answer working).orders
 unfolding answer_to answering
-respond-sends config answer working None kept = sends-same working.orders
-respond-sends config answer working (Some request) kept = answering-sends config request answer working (kept request refl)
+respond-sends came config answer working None kept fit = sends-same came working.orders
+respond-sends came config answer working (Some request) kept fit = answering-sends came config request answer working (kept request refl) fit
 
 kept-by : (test : RequestView → Bool) (answer : Answer) (working : Working) (request : RequestView) → InTurn working
     → option_map_or (λ (r : RequestView). respond_refusal r answer) (find test working.play.view.requests) (Some NotYours) ≡ None
@@ -132,87 +134,88 @@ begun-kept sess answer working request ok accepted is = kept-by _ answer working
 
 -- ## Other calls tell no answer
 
-leg-sends : (req : ReqId) (uri : Option Uri) (kept : Option Kept) (working : Working) → Sends [] working.orders (drafts_leg req uri kept working).orders
+leg-sends : (came : List Came) (req : ReqId) (uri : Option Uri) (kept : Option Kept) (working : Working) → Sends came [] working.orders (drafts_leg req uri kept working).orders
 unfolding drafts_leg writes
-leg-sends req uri None working = sends-same working.orders
-leg-sends req uri (Some kept) working = sends-same working.orders
+leg-sends came req uri None working = sends-same came working.orders
+leg-sends came req uri (Some kept) working = sends-same came working.orders
 
-in-sends : (config : Config) (sess : SessId) (ask : Inside) (dialog : Option DialogState) (working : Working) → Sends [] working.orders (sends_in config sess ask dialog working).orders
+in-sends : (came : List Came) (config : Config) (sess : SessId) (ask : Inside) (dialog : Option DialogState) (working : Working) → Sends came [] working.orders (sends_in config sess ask dialog working).orders
 unfolding sends_in sends_later keeps_sent
-in-sends config sess ask None working = sends-same working.orders
-in-sends config sess ask (Some dialog) working = sends-none working.orders _
+in-sends came config sess ask None working = sends-same came working.orders
+in-sends came config sess ask (Some dialog) working = sends-none came working.orders _
 
-written-sends : (config : Config) (written : Written) (sess : SessId) (what : Asked) (working : Working) → Sends [] working.orders (sends_written config written sess what working).orders
+written-sends : (came : List Came) (config : Config) (written : Written) (sess : SessId) (what : Asked) (working : Working) → Sends came [] working.orders (sends_written config written sess what working).orders
 unfolding sends_written sends_initial keeps_sent
-written-sends config written sess (asked.Initial request) working = sends-none working.orders _
-written-sends config written sess (asked.Later ask) working = in-sends config sess ask (dialog_in working.known sess) working
+written-sends came config written sess (asked.Initial request) working = sends-none came working.orders _
+written-sends came config written sess (asked.Later ask) working = in-sends came config sess ask (dialog_in working.known sess) working
 
-send-sends : (config : Config) (number : ℕ) (written : Option Written) (draft : Option Draft) (working : Working) → Sends [] working.orders (sends config number written draft working).orders
+send-sends : (came : List Came) (config : Config) (number : ℕ) (written : Option Written) (draft : Option Draft) (working : Working) → Sends came [] working.orders (sends config number written draft working).orders
 unfolding sends forgets
-send-sends config number (Some written) (Some draft) working = written-sends config written draft.sess written.asked working
-send-sends config number (Some written) None working = sends-same working.orders
-send-sends config number None draft working = sends-same working.orders
+send-sends came config number (Some written) (Some draft) working = written-sends came config written draft.sess written.asked working
+send-sends came config number (Some written) None working = sends-same came working.orders
+send-sends came config number None draft working = sends-same came working.orders
 
-ack-with-sends : (config : Config) (body : Bytes) (dialog : Option DialogState) (kept : Option Kept) (working : Working) → Sends [] working.orders (ack_with config body dialog kept working).orders
+ack-with-sends : (came : List Came) (config : Config) (body : Bytes) (dialog : Option DialogState) (kept : Option Kept) (working : Working) → Sends came [] working.orders (ack_with config body dialog kept working).orders
 unfolding ack_with
-ack-with-sends config body (Some dialog) (Some kept) working = sends-none working.orders _
-ack-with-sends config body (Some dialog) None working = sends-same working.orders
-ack-with-sends config body None kept working = sends-same working.orders
+ack-with-sends came config body (Some dialog) (Some kept) working = sends-none came working.orders _
+ack-with-sends came config body (Some dialog) None working = sends-same came working.orders
+ack-with-sends came config body None kept working = sends-same came working.orders
 
-ack-sends : (config : Config) (sess : SessId) (body : Bytes) (request : Option RequestView) (working : Working) → Sends [] working.orders (acknowledges config sess body request working).orders
+ack-sends : (came : List Came) (config : Config) (sess : SessId) (body : Bytes) (request : Option RequestView) (working : Working) → Sends came [] working.orders (acknowledges config sess body request working).orders
 unfolding acknowledges
-ack-sends config sess body None working = sends-same working.orders
-ack-sends config sess body (Some request) working = ack-with-sends config body (dialog_in working.known sess) (kept_of working.known request.id) working
+ack-sends came config sess body None working = sends-same came working.orders
+ack-sends came config sess body (Some request) working = ack-with-sends came config body (dialog_in working.known sess) (kept_of working.known request.id) working
 
 -- ## Each call
 
-call-sends : (config : Config) (working : Working) (call : Call) → InTurn working → refusal working.play call ≡ None → Sends (given_by working.play call) working.orders (does config working call).orders
+call-sends : (came : List Came) (config : Config) (working : Working) (call : Call) → InTurn working → FitsIn came working → refusal working.play call ≡ None → Sends came (given_by working.play call) working.orders (does config working call).orders
 unfolding given_by does drafts_own drafts_later writes directs forgets cancels invalidates
-call-sends config working (calls.Respond req answer) ok is =
-    respond-sends config answer working (request_in working.play.view req) (λ request found. kept-by (is_request req) answer working request ok (respond-passed working.play req answer is) found)
-call-sends config working (calls.CreateRequest ask) ok is = sends-same working.orders
-call-sends config working (calls.CreateInDialog sess ask) ok is = sends-same working.orders
-call-sends config working (calls.B2bCreate req uri) ok is = leg-sends req uri (kept_of working.known req) working
-call-sends config working (calls.SetDirective draft directive origin) ok is = sends-same working.orders
-call-sends config working (calls.Send draft) ok is = send-sends config draft (find (is_written draft) working.written) (draft_in working.play draft) working
-call-sends config working (calls.Discard draft) ok is = sends-same working.orders
-call-sends config working (calls.Ack sess body) ok is = ack-sends config sess body (find (awaits_ack sess) working.play.view.requests) working
-call-sends config working (calls.Cancel req) ok is = sends-none working.orders (map (λ branch. orders.Cancel branch) (sent_branch (kept_of working.known req)))
-call-sends config working (calls.ProxyTo req uris how) ok is = sends-same working.orders
-call-sends config working (calls.ProxyCancel req) ok is = sends-same working.orders
-call-sends config working (calls.B2bRespond sess answer) ok is =
-    respond-sends config answer working (begun_by working.play.view sess) (λ request found. begun-kept sess answer working request ok (b2b-passed working.play sess answer is) found)
-call-sends config working (calls.Link a b) ok is = sends-same working.orders
-call-sends config working (calls.Unlink a) ok is = sends-same working.orders
-call-sends config working (calls.StartTimer delay period info) ok is = sends-same working.orders
-call-sends config working (calls.CancelTimer id) ok is = sends-same working.orders
-call-sends config working (calls.SetAttribute name value) ok is = sends-same working.orders
-call-sends config working (calls.RemoveAttribute name) ok is = sends-same working.orders
-call-sends config working (calls.SetExpires minutes) ok is = sends-same working.orders
-call-sends config working (calls.SetReadyFlag target flag) ok is = sends-same working.orders
-call-sends config working (calls.InvalidateSession sess) ok is = sends-none working.orders _
-call-sends config working calls.InvalidateApplication ok is = sends-same working.orders
+call-sends came config working (calls.Respond req answer) ok fit is =
+    respond-sends came config answer working (request_in working.play.view req) (λ request found. kept-by (is_request req) answer working request ok (respond-passed working.play req answer is) found) fit
+call-sends came config working (calls.CreateRequest ask) ok fit is = sends-same came working.orders
+call-sends came config working (calls.CreateInDialog sess ask) ok fit is = sends-same came working.orders
+call-sends came config working (calls.B2bCreate req uri) ok fit is = leg-sends came req uri (kept_of working.known req) working
+call-sends came config working (calls.SetDirective draft directive origin) ok fit is = sends-same came working.orders
+call-sends came config working (calls.Send draft) ok fit is = send-sends came config draft (find (is_written draft) working.written) (draft_in working.play draft) working
+call-sends came config working (calls.Discard draft) ok fit is = sends-same came working.orders
+call-sends came config working (calls.Ack sess body) ok fit is = ack-sends came config sess body (find (awaits_ack sess) working.play.view.requests) working
+call-sends came config working (calls.Cancel req) ok fit is = sends-none came working.orders (map (λ branch. orders.Cancel branch) (sent_branch (kept_of working.known req)))
+call-sends came config working (calls.ProxyTo req uris how) ok fit is = sends-same came working.orders
+call-sends came config working (calls.ProxyCancel req) ok fit is = sends-same came working.orders
+call-sends came config working (calls.B2bRespond sess answer) ok fit is =
+    respond-sends came config answer working (begun_by working.play.view sess) (λ request found. begun-kept sess answer working request ok (b2b-passed working.play sess answer is) found) fit
+call-sends came config working (calls.Link a b) ok fit is = sends-same came working.orders
+call-sends came config working (calls.Unlink a) ok fit is = sends-same came working.orders
+call-sends came config working (calls.StartTimer delay period info) ok fit is = sends-same came working.orders
+call-sends came config working (calls.CancelTimer id) ok fit is = sends-same came working.orders
+call-sends came config working (calls.SetAttribute name value) ok fit is = sends-same came working.orders
+call-sends came config working (calls.RemoveAttribute name) ok fit is = sends-same came working.orders
+call-sends came config working (calls.SetExpires minutes) ok fit is = sends-same came working.orders
+call-sends came config working (calls.SetReadyFlag target flag) ok fit is = sends-same came working.orders
+call-sends came config working (calls.InvalidateSession sess) ok fit is = sends-none came working.orders _
+call-sends came config working calls.InvalidateApplication ok fit is = sends-same came working.orders
 
-called-by : (config : Config) (working : Working) (call : Call) (found : Option Refusal) → InTurn working → refusal working.play call ≡ found
-    → Sends (given_if working.play call found) working.orders (does_by config working call found).orders
+called-by : (came : List Came) (config : Config) (working : Working) (call : Call) (found : Option Refusal) → InTurn working → FitsIn came working → refusal working.play call ≡ found
+    → Sends came (given_if working.play call found) working.orders (does_by config working call found).orders
 unfolding given_if does_by
-called-by config working call None ok is = call-sends config working call ok is
-called-by config working call (Some refused) ok is = sends-same working.orders
+called-by came config working call None ok fit is = call-sends came config working call ok fit is
+called-by came config working call (Some refused) ok fit is = sends-same came working.orders
 
-worked-sends : (config : Config) (working : Working) (call : Call) → InTurn working → Sends (given_if working.play call (refusal working.play call)) working.orders (worked config working call).orders
+worked-sends : (came : List Came) (config : Config) (working : Working) (call : Call) → InTurn working → FitsIn came working → Sends came (given_if working.play call (refusal working.play call)) working.orders (worked config working call).orders
 unfolding worked
-worked-sends config working call ok = called-by config working call (refusal working.play call) ok refl
+worked-sends came config working call ok fit = called-by came config working call (refusal working.play call) ok fit refl
 
 worked-play : (config : Config) (working : Working) (call : Call) → (worked config working call).play ≡ after_listed working.play call
 unfolding worked
 worked-play config working call = refl
 
-pub calls-send : (made : List CallRecord) (config : Config) (working : Working) → InTurn working
-    → Sends (given working.play made) working.orders (fold (λ working made. worked config working made.call) working made).orders
+pub calls-send : (came : List Came) (made : List CallRecord) (config : Config) (working : Working) → InTurn working
+    → ((more : List CallRecord) → FitsIn came (fold (λ working made. worked config working made.call) working more))
+    → Sends came (given working.play made) working.orders (fold (λ working made. worked config working made.call) working made).orders
 unfolding given
-calls-send [] config working ok = sends-same working.orders
-calls-send (m ∷ made) config working ok =
+calls-send came [] config working ok fit = sends-same came working.orders
+calls-send came (m ∷ made) config working ok fit =
     let next : Working = worked config working m.call in
-    sends-then (given_if working.play m.call (refusal working.play m.call)) (given (after_listed working.play m.call) made) working.orders next.orders (fold (λ working made. worked config working made.call) next made).orders
-    (worked-sends config working m.call ok)
-    (subst (λ (play : Play). Sends (given play made) next.orders (fold (λ working made. worked config working made.call) next made).orders) (worked-play config working m.call) (calls-send made config next (worked-holds config working m.call ok)))
+    sends-then came (given_if working.play m.call (refusal working.play m.call)) (given (after_listed working.play m.call) made) working.orders next.orders (fold (λ working made. worked config working made.call) next made).orders
+    (worked-sends came config working m.call ok (fit []))
+    (subst (λ (play : Play). Sends came (given play made) next.orders (fold (λ working made. worked config working made.call) next made).orders) (worked-play config working m.call) (calls-send came made config next (worked-holds config working m.call ok) (λ more. fit (m ∷ more))))

@@ -38,7 +38,12 @@ use Rattle.sc_hosts.specs.ViewChanges.{answered, is_owed}
 use Rattle.sc_hosts.specs.Words.{too_many_hops}
 use Rattle.sc_answered.specs.StateOf.{Exhausted}
 use Rattle.sc_answered.specs.Happened.{Happened, acted, acted_by, acted_from, acted_last, acted_next, all_acted, answer_to, asked_of, best_passed, called_by, chosen, ended_by, exhausted, exhausted_by, failed, failed_at, forwarded, forwarded_to, in_each, initial_of, passed, stopped, stopped_at, stopped_of}
+use Rattle.sc_lasting.specs.Lasting.{All}
+use Rattle.sc_lasting.proofs.Began.{same-number, test-found}
+use Rattle.sc_replies.specs.Came.{Came}
 use Rattle.sc_replies.specs.Replies.{AreGiven, replies, reply_in}
+use Rattle.sc_replies.proofs.Brought.{FitsIn, acted-fit, by-event, drafts-fit, faulted-fit}
+use Rattle.sc_replies.proofs.BroughtProxies.{AreBrought, IsBrought, acts-brought, all-brought, now-brought, pass-brought, start-brought}
 use Rattle.sc_replies.proofs.Owed.{IsKept}
 use Rattle.sc_replies.proofs.OwedCalls.{InTurn}
 use Rattle.sc_replies.proofs.OwedEnds.{all-hold, drafts-hold, faulted-holds}
@@ -72,102 +77,104 @@ owed-is test working request is owed ok =
     (both-true (is_none request.answered) (not (same_bytes request.method ack)) (right-true request.received (is_none request.answered) open_one)
     (right-true (request.received && is_none request.answered) (not (same_bytes request.method ack)) owed))
 
-answered-sends : (config : Config) (request : RequestView) (code : ℕ) (answer : Answer) (working : Working) → answer.code ≡ code → IsKept working.known.kept request.id
-    → Sends (answer_to working.play.view (Some request) code) working.orders (in_view (answered (Some request) code working.play.view) (answering config (Some request) answer working)).orders
-answered-sends config request code answer working is kept = rw (sym is) (answering-sends config request answer working kept)
+answered-sends : (came : List Came) (config : Config) (request : RequestView) (code : ℕ) (answer : Answer) (working : Working) → answer.code ≡ code → IsKept working.known.kept request.id → FitsIn came working
+    → Sends came (answer_to working.play.view (Some request) code) working.orders (in_view (answered (Some request) code working.play.view) (answering config (Some request) answer working)).orders
+answered-sends came config request code answer working is kept fit = rw (sym is) (answering-sends came config request answer working kept fit)
 
 bare-code : (code : ℕ) (reason : _) → (bare_answer code reason).code ≡ code
 unfolding bare_answer
 bare-code code reason = refl
 
-fault-sends : (config : Config) (test : RequestView → Bool) (found : Option RequestView) (working : Working) → find test working.play.view.requests ≡ found → InTurn working
-    → Sends (failed_at working.play.view found) working.orders (fault_at config found working).orders
+fault-sends : (came : List Came) (config : Config) (test : RequestView → Bool) (found : Option RequestView) (working : Working) → find test working.play.view.requests ≡ found → InTurn working → FitsIn came working
+    → Sends came (failed_at working.play.view found) working.orders (fault_at config found working).orders
 unfolding failed_at fault_at
-fault-sends config test None working is ok = sends-same working.orders
-fault-sends config test (Some request) working is ok =
-    if-sends orders_at (is_owed request && not request.proxied) working.orders (answer_to working.play.view (Some request) 500) []
+fault-sends came config test None working is ok fit = sends-same came working.orders
+fault-sends came config test (Some request) working is ok fit =
+    if-sends came orders_at (is_owed request && not request.proxied) working.orders (answer_to working.play.view (Some request) 500) []
     (in_view (answered (Some request) 500 working.play.view) (answering config (Some request) (bare_answer 500 server_error) working)) working
-    (λ owed. answered-sends config request 500 (bare_answer 500 server_error) working (bare-code 500 server_error) (owed-is test working request is (left-true (is_owed request) _ owed) ok))
-    (λ not. sends-same working.orders)
+    (λ owed. answered-sends came config request 500 (bare_answer 500 server_error) working (bare-code 500 server_error) (owed-is test working request is (left-true (is_owed request) _ owed) ok) fit)
+    (λ not. sends-same came working.orders)
 
-event-sends : (config : Config) (req : Option ReqId) (working : Working) → InTurn working
-    → Sends (failed_at working.play.view (option_and_then (request_in working.play.view) req)) working.orders (fault_at config (option_and_then (request_in working.play.view) req) working).orders
+event-sends : (came : List Came) (config : Config) (req : Option ReqId) (working : Working) → InTurn working → FitsIn came working
+    → Sends came (failed_at working.play.view (option_and_then (request_in working.play.view) req)) working.orders (fault_at config (option_and_then (request_in working.play.view) req) working).orders
 unfolding failed_at fault_at
-event-sends config None working ok = sends-same working.orders
-event-sends config (Some req) working ok = fault-sends config (is_request req) (request_in working.play.view req) working refl ok
+event-sends came config None working ok fit = sends-same came working.orders
+event-sends came config (Some req) working ok fit = fault-sends came config (is_request req) (request_in working.play.view req) working refl ok fit
 
-failed-sends : (config : Config) (req : Option ReqId) (end : End) (working : Working) → InTurn working
-    → Sends (failed req end working.play.view) working.orders (faulted config req end working).orders
+failed-sends : (came : List Came) (config : Config) (req : Option ReqId) (end : End) (working : Working) → InTurn working → FitsIn came working
+    → Sends came (failed req end working.play.view) working.orders (faulted config req end working).orders
 unfolding failed faulted
-failed-sends config req ends.Fine working ok = sends-same working.orders
-failed-sends config req ends.Fault working ok = event-sends config req working ok
-failed-sends config req ends.Starved working ok = sends-same working.orders
+failed-sends came config req ends.Fine working ok fit = sends-same came working.orders
+failed-sends came config req ends.Fault working ok fit = event-sends came config req working ok fit
+failed-sends came config req ends.Starved working ok fit = sends-same came working.orders
 
 -- ## Proxies
 
-start-sends : (config : Config) (proxy : Proxy) (uris : List Uri) (working : Working) → Sends [] working.orders (fold (started config proxy) working uris).orders
+start-sends : (came : List Came) (config : Config) (proxy : Proxy) (uris : List Uri) (working : Working) → Sends came [] working.orders (fold (started config proxy) working uris).orders
 unfolding started
-start-sends config proxy [] working = sends-same working.orders
-start-sends config proxy (uri ∷ uris) working =
-    sends-still [] working.orders (started config proxy working uri).orders (fold (started config proxy) (started config proxy working uri) uris).orders
-    (sends-none working.orders _) (start-sends config proxy uris (started config proxy working uri))
+start-sends came config proxy [] working = sends-same came working.orders
+start-sends came config proxy (uri ∷ uris) working =
+    sends-still came [] working.orders (started config proxy working uri).orders (fold (started config proxy) (started config proxy working uri) uris).orders
+    (sends-none came working.orders _) (start-sends came config proxy uris (started config proxy working uri))
 
-if-given : (b : Bool) (new : List Happened) (given : List Order) → AreGiven (replies new) given → AreGiven (replies (cond b new [])) given
+if-given : (came : List Came) (b : Bool) (new : List Happened) (given : List Order) → AreGiven came (replies new) given → AreGiven came (replies (cond b new [])) given
 unfolding AreGiven
-if-given true new given all = all
-if-given false new given all = tt
+if-given came true new given all = all
+if-given came false new given all = tt
 
-forwarded-given : (proxy : Proxy) (sess : SessId) (found : Option RequestView) (response : Response) (view : View)
-    → AreGiven (replies (forwarded_to proxy sess found response view)) (orders.Respond proxy.event response ∷ [])
+forwarded-given : (came : List Came) (proxy : Proxy) (sess : SessId) (found : Option RequestView) (response : Response) (view : View) → request_in view proxy.req ≡ found → IsBrought came proxy
+    → AreGiven came (replies (forwarded_to proxy sess found response view)) (orders.Respond proxy.event response ∷ [])
 unfolding forwarded_to
-forwarded-given proxy sess None response view =
-    if-given (is_some proxy.options) _ (orders.Respond proxy.event response ∷ [])
-    (one-given (session_in view sess) (initial_of proxy.request) (is_some (tag_of response.head.to)) response.code proxy.event response refl refl)
-forwarded-given proxy sess (Some request) response view =
-    one-given (session_in view sess) (asked_of request) (is_some (tag_of response.head.to)) response.code proxy.event response refl refl
+forwarded-given came proxy sess None response view is by =
+    if-given came (is_some proxy.options) _ (orders.Respond proxy.event response ∷ [])
+    (one-given came (session_in view sess) (initial_of proxy) (is_some (tag_of response.head.to)) response.code proxy.event response refl refl
+    (by-event came proxy.req proxy.req proxy.event refl by))
+forwarded-given came proxy sess (Some request) response view is by =
+    one-given came (session_in view sess) (asked_of request) (is_some (tag_of response.head.to)) response.code proxy.event response refl refl
+    (by-event came proxy.req request.id proxy.event (sym (same-number request.id.0 proxy.req.0 (test-found (is_request proxy.req) view.requests request is))) by)
 
-forward-sends : (proxy : Proxy) (sess : SessId) (response : Response) (working : Working) → Sends (forwarded proxy sess response working) working.orders (forwards proxy sess response working).orders
+forward-sends : (came : List Came) (proxy : Proxy) (sess : SessId) (response : Response) (working : Working) → IsBrought came proxy → Sends came (forwarded proxy sess response working) working.orders (forwards proxy sess response working).orders
 unfolding forwards
-forward-sends proxy sess response working = record {
+forward-sends came proxy sess response working by = record {
   more = orders.Respond proxy.event response ∷ [];
   is = refl;
-  given = forwarded-given proxy sess (request_in working.play.view proxy.req) response working.play.view;
+  given = forwarded-given came proxy sess (request_in working.play.view proxy.req) response working.play.view refl by;
 }
 
-pass-sends : (proxy : Proxy) (passing : Option Passing) (working : Working) → Sends (passed proxy passing working) working.orders (passes proxy passing working).orders
+pass-sends : (came : List Came) (proxy : Proxy) (passing : Option Passing) (working : Working) → IsBrought came proxy → Sends came (passed proxy passing working) working.orders (passes proxy passing working).orders
 unfolding passed passes
-pass-sends proxy None working = sends-same working.orders
-pass-sends proxy (Some passing) working =
-    if-sends orders_at (can_pass proxy passing.response) working.orders (forwarded proxy passing.sess passing.response working) [] (forwards proxy passing.sess passing.response working) working
-    (λ can. forward-sends proxy passing.sess passing.response working) (λ not. sends-same working.orders)
+pass-sends came proxy None working by = sends-same came working.orders
+pass-sends came proxy (Some passing) working by =
+    if-sends came orders_at (can_pass proxy passing.response) working.orders (forwarded proxy passing.sess passing.response working) [] (forwards proxy passing.sess passing.response working) working
+    (λ can. forward-sends came proxy passing.sess passing.response working by) (λ not. sends-same came working.orders)
 
-best-sends : (proxy : Proxy) (response : Option Response) (working : Working) → Sends (best_passed proxy response working) working.orders (forwards_best proxy response working).orders
+best-sends : (came : List Came) (proxy : Proxy) (response : Option Response) (working : Working) → IsBrought came proxy → Sends came (best_passed proxy response working) working.orders (forwards_best proxy response working).orders
 unfolding best_passed forwards_best
-best-sends proxy None working = sends-same working.orders
-best-sends proxy (Some response) working = forward-sends proxy proxy.sess response working
+best-sends came proxy None working by = sends-same came working.orders
+best-sends came proxy (Some response) working by = forward-sends came proxy proxy.sess response working by
 
-choose-sends : (proxy : Proxy) (working : Working) → Sends (chosen proxy working) working.orders (chooses proxy working).orders
+choose-sends : (came : List Came) (proxy : Proxy) (working : Working) → IsBrought came proxy → Sends came (chosen proxy working) working.orders (chooses proxy working).orders
 unfolding chosen chooses
-choose-sends proxy working =
-    if-sends orders_at (can_choose proxy) working.orders (best_passed proxy (best_response proxy.candidates) working) [] (forwards_best proxy (best_response proxy.candidates) working) working
-    (λ can. best-sends proxy (best_response proxy.candidates) working) (λ not. sends-same working.orders)
+choose-sends came proxy working by =
+    if-sends came orders_at (can_choose proxy) working.orders (best_passed proxy (best_response proxy.candidates) working) [] (forwards_best proxy (best_response proxy.candidates) working) working
+    (λ can. best-sends came proxy (best_response proxy.candidates) working by) (λ not. sends-same came working.orders)
 
 -- the end of a search is no answer
-none-replies : (original : SessId) (sessions : List SessionView) (given : List Order)
-    → AreGiven (replies (map (λ (session : SessionView). record { sess = session.id; what = Exhausted (not (same_session session.id original)) }) sessions)) given
+none-replies : (came : List Came) (original : SessId) (sessions : List SessionView) (given : List Order)
+    → AreGiven came (replies (map (λ (session : SessionView). record { sess = session.id; what = Exhausted (not (same_session session.id original)) }) sessions)) given
 unfolding reply_in AreGiven
-none-replies original [] given = tt
-none-replies original (session ∷ sessions) given = none-replies original sessions given
+none-replies came original [] given = tt
+none-replies came original (session ∷ sessions) given = none-replies came original sessions given
 
-over-given : (known : Known) (req : ReqId) (original : SessId) (sessions : List SessionView) (given : List Order) → AreGiven (replies (exhausted_by known req original sessions)) given
+over-given : (came : List Came) (known : Known) (req : ReqId) (original : SessId) (sessions : List SessionView) (given : List Order) → AreGiven came (replies (exhausted_by known req original sessions)) given
 unfolding exhausted_by in_each
-over-given known req original sessions given = none-replies original (filter (is_of known req) sessions) given
+over-given came known req original sessions given = none-replies came original (filter (is_of known req) sessions) given
 
-exhausted-given : (proxy : Proxy) (working : Working) (given : List Order) → AreGiven (replies (exhausted proxy working)) given
+exhausted-given : (came : List Came) (proxy : Proxy) (working : Working) (given : List Order) → AreGiven came (replies (exhausted proxy working)) given
 unfolding exhausted
-exhausted-given proxy working given =
-    if-given (is_exhausted proxy && is_some proxy.options) (exhausted_by working.known proxy.req proxy.sess working.play.view.sessions) given
-    (over-given working.known proxy.req proxy.sess working.play.view.sessions given)
+exhausted-given came proxy working given =
+    if-given came (is_exhausted proxy && is_some proxy.options) (exhausted_by working.known proxy.req proxy.sess working.play.view.sessions) given
+    (over-given came working.known proxy.req proxy.sess working.play.view.sessions given)
 
 if-orders : (b : Bool) (os : List Order) (y z : Working) → y.orders ≡ os → z.orders ≡ os → (cond b y z).orders ≡ os
 if-orders true os y z p q = p
@@ -177,131 +184,136 @@ close-orders : (proxy : Proxy) (working : Working) → (closes proxy working).or
 unfolding closes
 close-orders proxy working = if-orders (is_exhausted proxy && is_some proxy.options) working.orders _ working refl refl
 
-sends-cancelled : (new : List Happened) → ((given : List Order) → AreGiven (replies new) given) → (proxy : Proxy) (working : Working) → Sends new working.orders (sends_cancels proxy working).orders
+sends-cancelled : (came : List Came) (new : List Happened) → ((given : List Order) → AreGiven came (replies new) given) → (proxy : Proxy) (working : Working) → Sends came new working.orders (sends_cancels proxy working).orders
 unfolding sends_cancels
-sends-cancelled new all proxy working = record { more = _; is = refl; given = all _ }
+sends-cancelled came new all proxy working = record { more = _; is = refl; given = all _ }
 
-cancels-sent : (now proxy : Proxy) (working : Working) → Sends (exhausted now (sends_cancels proxy working)) working.orders (sends_cancels proxy working).orders
-cancels-sent now proxy working =
-    sends-cancelled (exhausted now (sends_cancels proxy working)) (exhausted-given now (sends_cancels proxy working)) proxy working
+cancels-sent : (came : List Came) (now proxy : Proxy) (working : Working) → Sends came (exhausted now (sends_cancels proxy working)) working.orders (sends_cancels proxy working).orders
+cancels-sent came now proxy working =
+    sends-cancelled came (exhausted now (sends_cancels proxy working)) (exhausted-given came now (sends_cancels proxy working)) proxy working
 
-last-sends : (proxy : Proxy) (working : Working)
-    → Sends (acted_last proxy working) working.orders (in_proxy proxy.req rested (closes (proxy_now proxy working) (sends_cancels proxy working))).orders
+last-sends : (came : List Came) (proxy : Proxy) (working : Working)
+    → Sends came (acted_last proxy working) working.orders (in_proxy proxy.req rested (closes (proxy_now proxy working) (sends_cancels proxy working))).orders
 unfolding acted_last
-last-sends proxy working =
+last-sends came proxy working =
     let told : Working = sends_cancels proxy working in
-    subst (λ (after : List Order). Sends (exhausted (proxy_now proxy working) told) working.orders after) (sym (close-orders (proxy_now proxy working) told)) (cancels-sent (proxy_now proxy working) proxy working)
+    subst (λ (after : List Order). Sends came (exhausted (proxy_now proxy working) told) working.orders after) (sym (close-orders (proxy_now proxy working) told)) (cancels-sent came (proxy_now proxy working) proxy working)
 
-next-sends : (proxy : Proxy) (working : Working)
-    → Sends (acted_next proxy working) working.orders (in_proxy proxy.req rested (closes (proxy_now proxy (chooses (proxy_now proxy working) working)) (sends_cancels proxy (chooses (proxy_now proxy working) working)))).orders
+next-sends : (came : List Came) (proxy : Proxy) (working : Working) → IsBrought came proxy → AreBrought came working.known
+    → Sends came (acted_next proxy working) working.orders (in_proxy proxy.req rested (closes (proxy_now proxy (chooses (proxy_now proxy working) working)) (sends_cancels proxy (chooses (proxy_now proxy working) working)))).orders
 unfolding acted_next
-next-sends proxy working =
+next-sends came proxy working by all =
     let chosen_by : Working = chooses (proxy_now proxy working) working in
-    sends-then (chosen (proxy_now proxy working) working) (acted_last proxy chosen_by) working.orders chosen_by.orders
-    (in_proxy proxy.req rested (closes (proxy_now proxy chosen_by) (sends_cancels proxy chosen_by))).orders (choose-sends (proxy_now proxy working) working) (last-sends proxy chosen_by)
+    sends-then came (chosen (proxy_now proxy working) working) (acted_last proxy chosen_by) working.orders chosen_by.orders
+    (in_proxy proxy.req rested (closes (proxy_now proxy chosen_by) (sends_cancels proxy chosen_by))).orders (choose-sends came (proxy_now proxy working) working (now-brought came proxy working by all)) (last-sends came proxy chosen_by)
 
-acted-sends : (config : Config) (proxy : Proxy) (working : Working) → Sends (acted config proxy working) working.orders (proxy_acted config proxy working).orders
+acted-sends : (came : List Came) (config : Config) (proxy : Proxy) (working : Working) → IsBrought came proxy → AreBrought came working.known → Sends came (acted config proxy working) working.orders (proxy_acted config proxy working).orders
 unfolding acted acted_from proxy_acted
-acted-sends config proxy working =
+acted-sends came config proxy working by all =
     let begun : Working = fold (started config proxy) working (starting proxy) in
+    let all_begun : AreBrought came begun.known = start-brought came config proxy (starting proxy) working all in
     let forwarded : Working = passes (proxy_now proxy begun) proxy.passing begun in
     let chosen_by : Working = chooses (proxy_now proxy forwarded) forwarded in
     let after : Working = in_proxy proxy.req rested (closes (proxy_now proxy chosen_by) (sends_cancels proxy chosen_by)) in
-    sends-next (acted_next proxy forwarded ++ passed (proxy_now proxy begun) proxy.passing begun) working.orders begun.orders after.orders (start-sends config proxy (starting proxy) working)
-    (sends-then (passed (proxy_now proxy begun) proxy.passing begun) (acted_next proxy forwarded) begun.orders forwarded.orders after.orders
-    (pass-sends (proxy_now proxy begun) proxy.passing begun) (next-sends proxy forwarded))
+    sends-next came (acted_next proxy forwarded ++ passed (proxy_now proxy begun) proxy.passing begun) working.orders begun.orders after.orders (start-sends came config proxy (starting proxy) working)
+    (sends-then came (passed (proxy_now proxy begun) proxy.passing begun) (acted_next proxy forwarded) begun.orders forwarded.orders after.orders
+    (pass-sends came (proxy_now proxy begun) proxy.passing begun (now-brought came proxy begun by all_begun))
+    (next-sends came proxy forwarded by (pass-brought came (proxy_now proxy begun) proxy.passing begun all_begun)))
 
-acts-sends : (config : Config) (proxy : Proxy) (working : Working) → Sends (acted_by config proxy working) working.orders (acts config working proxy).orders
+acts-sends : (came : List Came) (config : Config) (proxy : Proxy) (working : Working) → IsBrought came proxy → AreBrought came working.known → Sends came (acted_by config proxy working) working.orders (acts config working proxy).orders
 unfolding acted_by acts
-acts-sends config proxy working =
-    if-sends orders_at (is_invalid working.known proxy.sess) working.orders [] (acted config proxy working) working (proxy_acted config proxy working)
-    (λ invalid. sends-same working.orders) (λ not. acted-sends config proxy working)
+acts-sends came config proxy working by all =
+    if-sends came orders_at (is_invalid working.known proxy.sess) working.orders [] (acted config proxy working) working (proxy_acted config proxy working)
+    (λ invalid. sends-same came working.orders) (λ not. acted-sends came config proxy working by all)
 
-proxies-send : (proxies : List Proxy) (config : Config) (working : Working) → Sends (all_acted config proxies working) working.orders (fold (acts config) working proxies).orders
-unfolding all_acted
-proxies-send [] config working = sends-same working.orders
-proxies-send (proxy ∷ proxies) config working =
+proxies-send : (came : List Came) (proxies : List Proxy) (config : Config) (working : Working) → All (IsBrought came) proxies → AreBrought came working.known → Sends came (all_acted config proxies working) working.orders (fold (acts config) working proxies).orders
+unfolding all_acted All
+proxies-send came [] config working each all = sends-same came working.orders
+proxies-send came (proxy ∷ proxies) config working each all =
     let next : Working = acts config working proxy in
-    sends-then (acted_by config proxy working) (all_acted config proxies next) working.orders next.orders (fold (acts config) next proxies).orders
-    (acts-sends config proxy working) (proxies-send proxies config next)
+    sends-then came (acted_by config proxy working) (all_acted config proxies next) working.orders next.orders (fold (acts config) next proxies).orders
+    (acts-sends came config proxy working each.0 all) (proxies-send came proxies config next each.1 (acts-brought came config working proxy all))
 
-all-send : (config : Config) (working : Working) → Sends (all_acted config working.known.proxies working) working.orders (all_act config working).orders
+all-send : (came : List Came) (config : Config) (working : Working) → FitsIn came working → Sends came (all_acted config working.known.proxies working) working.orders (all_act config working).orders
 unfolding all_act
-all-send config working = proxies-send working.known.proxies config working
+all-send came config working fit = proxies-send came working.known.proxies config working (all-brought came working fit) (all-brought came working fit)
 
 -- ## A later request that goes no further
 
-spent-sends : (config : Config) (test : RequestView → Bool) (request : RequestView) (working : Working) → find test working.play.view.requests ≡ Some request → InTurn working
-    → Sends (cond (is_owed request) (answer_to working.play.view (Some request) 483) []) working.orders (hops_spent config request working).orders
+spent-sends : (came : List Came) (config : Config) (test : RequestView → Bool) (request : RequestView) (working : Working) → find test working.play.view.requests ≡ Some request → InTurn working → FitsIn came working
+    → Sends came (cond (is_owed request) (answer_to working.play.view (Some request) 483) []) working.orders (hops_spent config request working).orders
 unfolding hops_spent
-spent-sends config test request working is ok =
-    if-sends orders_at (is_owed request) working.orders (answer_to working.play.view (Some request) 483) []
+spent-sends came config test request working is ok fit =
+    if-sends came orders_at (is_owed request) working.orders (answer_to working.play.view (Some request) 483) []
     (in_view (answered (Some request) 483 working.play.view) (answering config (Some request) (bare_answer 483 too_many_hops) working)) working
-    (λ owed. answered-sends config request 483 (bare_answer 483 too_many_hops) working (bare-code 483 too_many_hops) (owed-is test working request is owed ok))
-    (λ not. sends-same working.orders)
+    (λ owed. answered-sends came config request 483 (bare_answer 483 too_many_hops) working (bare-code 483 too_many_hops) (owed-is test working request is owed ok) fit)
+    (λ not. sends-same came working.orders)
 
-if-none : (b : Bool) (xs : List Order) (y z : Working) → Sends [] xs y.orders → Sends [] xs z.orders → Sends [] xs (cond b y z).orders
-if-none true xs y z p q = p
-if-none false xs y z p q = q
+if-none : (came : List Came) (b : Bool) (xs : List Order) (y z : Working) → Sends came [] xs y.orders → Sends came [] xs z.orders → Sends came [] xs (cond b y z).orders
+if-none came true xs y z p q = p
+if-none came false xs y z p q = q
 
-on-sends : (config : Config) (kept : Kept) (working : Working) → Sends [] working.orders (passed_on config kept working).orders
+on-sends : (came : List Came) (config : Config) (kept : Kept) (working : Working) → Sends came [] working.orders (passed_on config kept working).orders
 unfolding passed_on
-on-sends config kept working = if-none (same_bytes kept.request.method ack) working.orders _ _ (sends-none working.orders _) (sends-none working.orders _)
+on-sends came config kept working = if-none came (same_bytes kept.request.method ack) working.orders _ _ (sends-none came working.orders _) (sends-none came working.orders _)
 
-later-sends : (config : Config) (test : RequestView → Bool) (request : RequestView) (kept : Option Kept) (working : Working) → find test working.play.view.requests ≡ Some request → InTurn working
-    → Sends (stopped_at working request kept) working.orders (passed_later config request kept working).orders
+later-sends : (came : List Came) (config : Config) (test : RequestView → Bool) (request : RequestView) (kept : Option Kept) (working : Working) → find test working.play.view.requests ≡ Some request → InTurn working → FitsIn came working
+    → Sends came (stopped_at working request kept) working.orders (passed_later config request kept working).orders
 unfolding stopped_at passed_later
-later-sends config test request None working is ok = sends-same working.orders
-later-sends config test request (Some kept) working is ok =
-    if-sends orders_at (request.initial || not request.proxied || is_invalid working.known request.sess) working.orders []
+later-sends came config test request None working is ok fit = sends-same came working.orders
+later-sends came config test request (Some kept) working is ok fit =
+    if-sends came orders_at (request.initial || not request.proxied || is_invalid working.known request.sess) working.orders []
     (cond (request.hops == 0) (cond (is_owed request) (answer_to working.play.view (Some request) 483) []) []) working
-    (cond (request.hops == 0) (hops_spent config request working) (passed_on config kept working)) (λ left. sends-same working.orders)
-    (λ goes. if-sends orders_at (request.hops == 0) working.orders (cond (is_owed request) (answer_to working.play.view (Some request) 483) []) []
-    (hops_spent config request working) (passed_on config kept working) (λ spent. spent-sends config test request working is ok) (λ on. on-sends config kept working))
+    (cond (request.hops == 0) (hops_spent config request working) (passed_on config kept working)) (λ left. sends-same came working.orders)
+    (λ goes. if-sends came orders_at (request.hops == 0) working.orders (cond (is_owed request) (answer_to working.play.view (Some request) 483) []) []
+    (hops_spent config request working) (passed_on config kept working) (λ spent. spent-sends came config test request working is ok fit) (λ on. on-sends came config kept working))
 
-of-sends : (config : Config) (test : RequestView → Bool) (found : Option RequestView) (working : Working) → find test working.play.view.requests ≡ found → InTurn working
-    → Sends (stopped_of working found) working.orders (passed_request_of config found working).orders
+of-sends : (came : List Came) (config : Config) (test : RequestView → Bool) (found : Option RequestView) (working : Working) → find test working.play.view.requests ≡ found → InTurn working → FitsIn came working
+    → Sends came (stopped_of working found) working.orders (passed_request_of config found working).orders
 unfolding stopped_of passed_request_of
-of-sends config test None working is ok = sends-same working.orders
-of-sends config test (Some request) working is ok = later-sends config test request (kept_of working.known request.id) working is ok
+of-sends came config test None working is ok fit = sends-same came working.orders
+of-sends came config test (Some request) working is ok fit = later-sends came config test request (kept_of working.known request.id) working is ok fit
 
-req-sends : (config : Config) (req : Option ReqId) (working : Working) → InTurn working
-    → Sends (stopped_of working (option_and_then (request_in working.play.view) req)) working.orders (passed_request_of config (option_and_then (request_in working.play.view) req) working).orders
+req-sends : (came : List Came) (config : Config) (req : Option ReqId) (working : Working) → InTurn working → FitsIn came working
+    → Sends came (stopped_of working (option_and_then (request_in working.play.view) req)) working.orders (passed_request_of config (option_and_then (request_in working.play.view) req) working).orders
 unfolding stopped_of passed_request_of
-req-sends config None working ok = sends-same working.orders
-req-sends config (Some req) working ok = of-sends config (is_request req) (request_in working.play.view req) working refl ok
+req-sends came config None working ok fit = sends-same came working.orders
+req-sends came config (Some req) working ok fit = of-sends came config (is_request req) (request_in working.play.view req) working refl ok fit
 
-stopped-sends : (config : Config) (event : Queued) (req : Option ReqId) (working : Working) → InTurn working
-    → Sends (stopped event req working) working.orders (passes_later config event req working).orders
+stopped-sends : (came : List Came) (config : Config) (event : Queued) (req : Option ReqId) (working : Working) → InTurn working → FitsIn came working
+    → Sends came (stopped event req working) working.orders (passes_later config event req working).orders
 unfolding stopped passes_later
-stopped-sends config event req working ok =
-    if-sends orders_at (is_request_event event) working.orders (stopped_of working (option_and_then (request_in working.play.view) req)) []
-    (passed_request_of config (option_and_then (request_in working.play.view) req) working) working (λ later. req-sends config req working ok) (λ not. sends-same working.orders)
+stopped-sends came config event req working ok fit =
+    if-sends came orders_at (is_request_event event) working.orders (stopped_of working (option_and_then (request_in working.play.view) req)) []
+    (passed_request_of config (option_and_then (request_in working.play.view) req) working) working (λ later. req-sends came config req working ok fit) (λ not. sends-same came working.orders)
 
 -- ## All that follows
 
-ended-sends : (config : Config) (event : Queued) (req : Option ReqId) (working : Working) → InTurn working
-    → Sends (ended_by config event req working) working.orders (passes_later config event req (all_act config working)).orders
+ended-sends : (came : List Came) (config : Config) (event : Queued) (req : Option ReqId) (working : Working) → InTurn working → FitsIn came working
+    → Sends came (ended_by config event req working) working.orders (passes_later config event req (all_act config working)).orders
 unfolding ended_by
-ended-sends config event req working ok =
-    sends-then (all_acted config working.known.proxies working) (stopped event req (all_act config working)) working.orders (all_act config working).orders
-    (passes_later config event req (all_act config working)).orders (all-send config working) (stopped-sends config event req (all_act config working) (all-hold config working ok))
+ended-sends came config event req working ok fit =
+    sends-then came (all_acted config working.known.proxies working) (stopped event req (all_act config working)) working.orders (all_act config working).orders
+    (passes_later config event req (all_act config working)).orders (all-send came config working fit)
+    (stopped-sends came config event req (all_act config working) (all-hold config working ok) (acted-fit came config working fit))
 
 same-orders : (working : Working) → (drafts_ended working).orders ≡ working.orders
 unfolding drafts_ended
 same-orders working = refl
 
-left-sends : (config : Config) (req : Option ReqId) (end : End) (working : Working) → InTurn (drafts_ended working)
-    → Sends (failed req end (drafts_ended working).play.view) working.orders (faulted config req end (drafts_ended working)).orders
-left-sends config req end working ok =
-    subst (λ (before : List Order). Sends (failed req end (drafts_ended working).play.view) before (faulted config req end (drafts_ended working)).orders) (same-orders working) (failed-sends config req end (drafts_ended working) ok)
+left-sends : (came : List Came) (config : Config) (req : Option ReqId) (end : End) (working : Working) → InTurn (drafts_ended working) → FitsIn came (drafts_ended working)
+    → Sends came (failed req end (drafts_ended working).play.view) working.orders (faulted config req end (drafts_ended working)).orders
+left-sends came config req end working ok fit =
+    subst (λ (before : List Order). Sends came (failed req end (drafts_ended working).play.view) before (faulted config req end (drafts_ended working)).orders) (same-orders working) (failed-sends came config req end (drafts_ended working) ok fit)
 
 -- after the calls, once drafts that were left are gone
-pub called-sends : (config : Config) (event : Queued) (req : Option ReqId) (end : End) (working : Working) → InTurn working
-    → Sends (called_by config event req end (drafts_ended working)) working.orders (passes_later config event req (all_act config (faulted config req end (drafts_ended working)))).orders
+pub called-sends : (came : List Came) (config : Config) (event : Queued) (req : Option ReqId) (end : End) (working : Working) → InTurn working → FitsIn came working
+    → Sends came (called_by config event req end (drafts_ended working)) working.orders (passes_later config event req (all_act config (faulted config req end (drafts_ended working)))).orders
 unfolding called_by
-called-sends config event req end working ok =
+called-sends came config event req end working ok fit =
     let left : Working = drafts_ended working in
     let told : Working = faulted config req end left in
-    sends-then (failed req end left.play.view) (ended_by config event req told) working.orders told.orders (passes_later config event req (all_act config told)).orders
-    (left-sends config req end working (drafts-hold working ok)) (ended-sends config event req told (faulted-holds config req end left (drafts-hold working ok)))
+    let fits : FitsIn came left = drafts-fit came working fit in
+    sends-then came (failed req end left.play.view) (ended_by config event req told) working.orders told.orders (passes_later config event req (all_act config told)).orders
+    (left-sends came config req end working (drafts-hold working ok) fits)
+    (ended-sends came config event req told (faulted-holds config req end left (drafts-hold working ok)) (faulted-fit came config req end left fits))

@@ -4,6 +4,7 @@ use Rattle.std.specs.Prelude.{◌&&◌, cond, is_none, not}
 use Rattle.std.specs.List.{find}
 use Rattle.sc_tokens.specs.Names.{same_bytes}
 use Rattle.sc_value.specs.declared.ids.AppId.{AppId}
+use Rattle.sc_value.specs.declared.ids.ReqId.{ReqId}
 use Rattle.sc_value.specs.declared.ids.SessId.{SessId}
 use Rattle.sc_value.specs.declared.message.Request.{Request}
 use Rattle.sc_terms.specs.declared.events.Event.TheVariants as events
@@ -28,7 +29,7 @@ use Rattle.sc_hosts.specs.Effects.{begun}
 use Rattle.sc_hosts.specs.Finishing.{finished, outcome, outcome_of}
 use Rattle.sc_hosts.specs.Histories.{History, as_history, as_session, session_after}
 use Rattle.sc_hosts.specs.Legs.{is_low, leg_of, session_for}
-use Rattle.sc_hosts.specs.Looking.{request_in, session_in}
+use Rattle.sc_hosts.specs.Looking.{is_request, request_in, session_in}
 use Rattle.sc_hosts.specs.Preparing.{cancelled_proxy, cancelled_request, is_invited, kept_of, own_tag_of, prepared, prepared_cancel, prepared_for, proxy_of, terminated}
 use Rattle.sc_hosts.specs.PreparingRequests.{next_id, prepared_request, received, refused, showing_in, silent, taken, taken_in, too_low}
 use Rattle.sc_hosts.specs.Runs.{IsLawful, chained}
@@ -39,7 +40,11 @@ use Rattle.sc_hosts.specs.Working.{starts, worked_all}
 use Rattle.sc_lived.specs.Lived.{told}
 use Rattle.sc_lived.proofs.Sayings.{session-lived}
 use Rattle.sc_answered.specs.Happened.{Happened, answer_to, asked_of, at_moment, called_by, cancelled, cancelled_in, given, happened_by, heard, shown_by, too_low as told_low, too_low_in}
+use Rattle.sc_lasting.proofs.Began.{same-number, test-found}
+use Rattle.sc_lasting.proofs.Parts.{all-found}
+use Rattle.sc_replies.specs.Came.{Came, IsBroughtBy, brought, came_of}
 use Rattle.sc_replies.specs.Replies.{AreGiven, GaveAll, HasGivenAll, answered_first, came, gave, orders_of, replies}
+use Rattle.sc_replies.proofs.Brought.{FitsAt, FitsShown, InvitedFits, by-event, by-turn, calls-fit, lives-fit, shown-fits}
 use Rattle.sc_replies.proofs.OwedCalls.{InTurn, calls-hold}
 use Rattle.sc_replies.proofs.OwedEnds.{lives-hold, started-holds}
 use Rattle.sc_replies.proofs.OwedShown.{At}
@@ -50,131 +55,171 @@ use Rattle.sc_replies.proofs.SentEnds.{called-sends}
 abbrev orders_in : Prepared → List Order
 orders_in shown = shown.orders
 
+no-more : {A : Type 0} (xs : List A) → xs ≡ xs ++ []
+no-more [] = refl
+no-more (x ∷ xs) = ap (λ ys. x ∷ ys) (no-more xs)
+
 -- ## What the container answers first
 
 not-ack : (is_ack late : Bool) → (not is_ack && late) ≡ true → is_ack ≡ false
 not-ack true late is = cc
 not-ack false late is = refl
 
-refused-given : (found : Option RequestView) (x : Session) (number : ℕ) (request : Request) → same_bytes request.method ack ≡ false
-    → Sends (answer_to x.view found 500) [] (refused number 500 server_error request)
+refused-given : (came : List Came) (found : Option RequestView) (x : Session) (number : ℕ) (request : Request) → same_bytes request.method ack ≡ false
+    → ((shown : RequestView) → found ≡ Some shown → IsBroughtBy came shown.id number)
+    → Sends came (answer_to x.view found 500) [] (refused number 500 server_error request)
 unfolding refused answer_to AreGiven
-refused-given None x number request is = sends-any _
-refused-given (Some shown) x number request is = rw is (record {
+refused-given came None x number request is by = sends-any came _
+refused-given came (Some shown) x number request is by = rw is (record {
   more = orders.Respond number _ ∷ [];
   is = refl;
-  given = one-given (session_in x.view shown.sess) (asked_of shown) true 500 number _ (own-code [] 500 server_error request) (own-tagged [] 500 server_error request);
+  given = one-given came (session_in x.view shown.sess) (asked_of shown) true 500 number _ (own-code [] 500 server_error request) (own-tagged [] 500 server_error request) (by shown refl);
 })
 
-low-sends : (x : Session) (number : ℕ) (sess : SessId) (request : Request) → is_low (leg_of x.known sess) request ≡ true
-    → Sends (answer_to (received x number sess false false request).view (request_in (received x number sess false false request).view (next_id x)) 500) [] (too_low x number sess request).orders
+-- the request that comes is this one
+abbrev BringsNext : List Came → Session → ℕ → Type 0
+BringsNext came x number = (req : ReqId) → req.0 ≡ x.view.next_request → IsBroughtBy came req number
+
+low-sends : (came : List Came) (x : Session) (number : ℕ) (sess : SessId) (request : Request) → BringsNext came x number → is_low (leg_of x.known sess) request ≡ true
+    → Sends came (answer_to (received x number sess false false request).view (request_in (received x number sess false false request).view (next_id x)) 500) [] (too_low x number sess request).orders
 unfolding too_low silent is_low
-low-sends x number sess request low = refused-given _ (received x number sess false false request) number request (not-ack (same_bytes request.method ack) _ low)
+low-sends came x number sess request new low =
+    let after : Session = received x number sess false false request in
+    refused-given came (request_in after.view (next_id x)) after number request (not-ack (same_bytes request.method ack) _ low)
+    (λ shown found. new shown.id (same-number shown.id.0 x.view.next_request (test-found (is_request (next_id x)) after.view.requests shown found)))
 
-in-sends : (x : Session) (number : ℕ) (sess : SessId) (found : Option SessionView) (request : Request) → Sends (too_low_in x number sess found request) [] (taken_in x number sess found request).orders
+in-sends : (came : List Came) (x : Session) (number : ℕ) (sess : SessId) (found : Option SessionView) (request : Request) → BringsNext came x number → Sends came (too_low_in x number sess found request) [] (taken_in x number sess found request).orders
 unfolding too_low_in taken_in
-in-sends x number sess None request = sends-any _
-in-sends x number sess (Some found) request =
-    if-sends orders_in (is_low (leg_of x.known sess) request) [] _ [] (too_low x number sess request) (taken x number found request) (λ low. low-sends x number sess request low) (λ not. sends-any _)
+in-sends came x number sess None request new = sends-any came _
+in-sends came x number sess (Some found) request new =
+    if-sends came orders_in (is_low (leg_of x.known sess) request) [] _ [] (too_low x number sess request) (taken x number found request) (λ low. low-sends came x number sess request new low) (λ not. sends-any came _)
 
-request-sends : (x : Session) (number : ℕ) (request : Request) (sess : Option SessId) → Sends (told_low x number request sess) [] (prepared_request x number request sess).orders
+request-sends : (came : List Came) (x : Session) (number : ℕ) (request : Request) (sess : Option SessId) → BringsNext came x number → Sends came (told_low x number request sess) [] (prepared_request x number request sess).orders
 unfolding told_low prepared_request
-request-sends x number request None = sends-any _
-request-sends x number request (Some sess) = in-sends x number sess (session_in x.view sess) request
+request-sends came x number request None new = sends-any came _
+request-sends came x number request (Some sess) new = in-sends came x number sess (session_in x.view sess) request new
 
-ended-sends : (x : Session) (invited : Invited) (request : RequestView) (kept : Kept) → Sends (answer_to x.view (Some request) 487) [] (terminated x invited request (Some kept)).orders
+ended-sends : (came : List Came) (x : Session) (invited : Invited) (request : RequestView) (kept : Kept) → IsBroughtBy came request.id invited.event → Sends came (answer_to x.view (Some request) 487) [] (terminated x invited request (Some kept)).orders
 unfolding terminated showing_in answer_to
-ended-sends x invited request kept = record {
+ended-sends came x invited request kept by = record {
   more = orders.Respond invited.event _ ∷ [];
   is = refl;
-  given = one-given (session_in x.view request.sess) (asked_of request) true 487 invited.event _
-      (own-code (own_tag_of x.view invited.sess) 487 request_terminated kept.request) (own-tagged (own_tag_of x.view invited.sess) 487 request_terminated kept.request);
+  given = one-given came (session_in x.view request.sess) (asked_of request) true 487 invited.event _
+      (own-code (own_tag_of x.view invited.sess) 487 request_terminated kept.request) (own-tagged (own_tag_of x.view invited.sess) 487 request_terminated kept.request) by;
 }
 
-by-answer : (b : Bool) (x : Session) (invited : Invited) (kept : Kept) (request : RequestView)
-    → Sends (cond b (answer_to x.view (Some request) 487) []) [] (cond b (terminated x invited request (Some kept)) (showing_in x invited.sess (events.Cancelled invited.req invited.sess) (Some invited.req) [])).orders
-by-answer true x invited kept request = ended-sends x invited request kept
-by-answer false x invited kept request = sends-any _
+by-answer : (came : List Came) (b : Bool) (x : Session) (invited : Invited) (kept : Kept) (request : RequestView) → IsBroughtBy came request.id invited.event
+    → Sends came (cond b (answer_to x.view (Some request) 487) []) [] (cond b (terminated x invited request (Some kept)) (showing_in x invited.sess (events.Cancelled invited.req invited.sess) (Some invited.req) [])).orders
+by-answer came true x invited kept request by = ended-sends came x invited request kept by
+by-answer came false x invited kept request by = sends-any came _
 
-by-proxy : (b : Bool) (x : Session) (new : List Happened) (y z : Prepared) → Sends new [] z.orders → Sends (cond b [] new) [] (cond b y z).orders
-by-proxy true x new y z p = sends-any y.orders
-by-proxy false x new y z p = p
+by-proxy : (came : List Came) (b : Bool) (x : Session) (new : List Happened) (y z : Prepared) → Sends came new [] z.orders → Sends came (cond b [] new) [] (cond b y z).orders
+by-proxy came true x new y z p = sends-any came y.orders
+by-proxy came false x new y z p = p
 
-open-sends : (x : Session) (invited : Invited) (kept : Kept) (request : RequestView) → kept_of x.known invited.req ≡ Some kept
-    → Sends (cond request.proxied [] (cond (is_none request.answered) (answer_to x.view (Some request) 487) [])) [] (cancelled_request x invited (Some request)).orders
+open-sends : (came : List Came) (x : Session) (invited : Invited) (kept : Kept) (request : RequestView) → kept_of x.known invited.req ≡ Some kept → IsBroughtBy came request.id invited.event
+    → Sends came (cond request.proxied [] (cond (is_none request.answered) (answer_to x.view (Some request) 487) [])) [] (cancelled_request x invited (Some request)).orders
 unfolding cancelled_request
-open-sends x invited kept request is =
-    rw is (by-proxy request.proxied x _ (cancelled_proxy x invited (proxy_of x.known invited.req)) _ (by-answer (is_none request.answered) x invited kept request))
+open-sends came x invited kept request is by =
+    rw is (by-proxy came request.proxied x _ (cancelled_proxy x invited (proxy_of x.known invited.req)) _ (by-answer came (is_none request.answered) x invited kept request by))
 
-cancelled-sends : (x : Session) (invited : Invited) (found : Option Kept) (request : Option RequestView) → kept_of x.known invited.req ≡ found
-    → Sends (cancelled_in x found request) [] (cancelled_request x invited request).orders
+cancelled-sends : (came : List Came) (x : Session) (invited : Invited) (found : Option Kept) (request : Option RequestView) → kept_of x.known invited.req ≡ found
+    → ((r : RequestView) → request ≡ Some r → IsBroughtBy came r.id invited.event)
+    → Sends came (cancelled_in x found request) [] (cancelled_request x invited request).orders
 unfolding cancelled_in
-cancelled-sends x invited None request is = sends-any _
-cancelled-sends x invited (Some kept) None is = sends-any _
-cancelled-sends x invited (Some kept) (Some request) is = open-sends x invited kept request is
+cancelled-sends came x invited None request is by = sends-any came _
+cancelled-sends came x invited (Some kept) None is by = sends-any came _
+cancelled-sends came x invited (Some kept) (Some request) is by = open-sends came x invited kept request is (by request refl)
 
-cancel-sends : (x : Session) (found : Option Invited) → Sends (cancelled x found) [] (prepared_cancel x found).orders
+cancel-sends : (came : List Came) (x : Session) (test : Invited → Bool) (found : Option Invited) → find test x.known.invited ≡ found → FitsAt came x → Sends came (cancelled x found) [] (prepared_cancel x found).orders
 unfolding cancelled prepared_cancel
-cancel-sends x None = sends-any _
-cancel-sends x (Some invited) = cancelled-sends x invited (kept_of x.known invited.req) (request_in x.view invited.req) refl
+cancel-sends came x test None is fit = sends-any _ _
+cancel-sends came x test (Some invited) is fit =
+    let fits : InvitedFits x.view.next_request came invited = all-found (InvitedFits x.view.next_request came) test x.known.invited invited is fit.2 in
+    cancelled-sends came x invited (kept_of x.known invited.req) (request_in x.view invited.req) refl
+    (λ r found. by-event came invited.req r.id invited.event (sym (same-number r.id.0 invited.req.0 (test-found (is_request invited.req) x.view.requests r found))) fits.1)
 
-for-sends : (config : Config) (ringing : List ℕ) (x : Session) (number : ℕ) (event : Queued) → Sends (answered_first x number event) [] (prepared_for config ringing x number event).orders
-unfolding answered_first prepared_for
-for-sends config ringing x number (queued.Initial region subscriber popped request) = sends-any _
-for-sends config ringing x number (queued.Request request) = request-sends x number request (session_for x request)
-for-sends config ringing x number (queued.Response branch response) = sends-any _
-for-sends config ringing x number (queued.Cancelled event) = cancel-sends x (find (is_invited event) x.known.invited)
-for-sends config ringing x number (queued.Timer id) = sends-any _
-for-sends config ringing x number (queued.BranchTimer branch due) = sends-any _
-for-sends config ringing x number queued.Expired = sends-any _
-for-sends config ringing x number queued.Ready = sends-any _
+for-sends : (came : List Came) (config : Config) (ringing : List ℕ) (x : Session) (number : ℕ) (event : Queued) → FitsAt came x
+    → Sends (came ++ brought x number event) (answered_first x number event) [] (prepared_for config ringing x number event).orders
+unfolding answered_first prepared_for brought
+for-sends came config ringing x number (queued.Initial region subscriber popped request) fit = sends-any _ _
+for-sends came config ringing x number (queued.Request request) fit =
+    request-sends (came ++ record { id = next_id x; event = number; request = request } ∷ []) x number request (session_for x request) (λ req is. by-turn came x number request req is fit)
+for-sends came config ringing x number (queued.Response branch response) fit = sends-any _ _
+for-sends came config ringing x number (queued.Cancelled event) fit =
+    cancel-sends (came ++ []) x (is_invited event) (find (is_invited event) x.known.invited) refl (subst (λ (all : List Came). FitsAt all x) (no-more came) fit)
+for-sends came config ringing x number (queued.Timer id) fit = sends-any _ _
+for-sends came config ringing x number (queued.BranchTimer branch due) fit = sends-any _ _
+for-sends came config ringing x number queued.Expired fit = sends-any _ _
+for-sends came config ringing x number queued.Ready fit = sends-any _ _
 
-first-sends : (config : Config) (x : Session) (turn : Turn)
-    → Sends (answered_first (at_moment turn.now x) turn.waiting.number turn.waiting.event) [] (prepared config turn.ringing x turn.waiting turn.now).orders
+-- the moment counts for nothing
+brought-now : (now : ℕ) (x : Session) (number : ℕ) (event : Queued) → brought (at_moment now x) number event ≡ brought x number event
+unfolding brought
+brought-now now x number (queued.Initial region subscriber popped request) = refl
+brought-now now x number (queued.Request request) = refl
+brought-now now x number (queued.Response branch response) = refl
+brought-now now x number (queued.Cancelled event) = refl
+brought-now now x number (queued.Timer id) = refl
+brought-now now x number (queued.BranchTimer branch due) = refl
+brought-now now x number queued.Expired = refl
+brought-now now x number queued.Ready = refl
+
+first-sends : (came : List Came) (config : Config) (x : Session) (turn : Turn) → FitsAt came x
+    → Sends (came ++ brought x turn.waiting.number turn.waiting.event) (answered_first (at_moment turn.now x) turn.waiting.number turn.waiting.event) [] (prepared config turn.ringing x turn.waiting turn.now).orders
 unfolding prepared
-first-sends config x turn = for-sends config turn.ringing (at_moment turn.now x) turn.waiting.number turn.waiting.event
+first-sends came config x turn fit =
+    subst (λ (new : List Came). Sends (came ++ new) (answered_first (at_moment turn.now x) turn.waiting.number turn.waiting.event) [] (prepared_for config turn.ringing (at_moment turn.now x) turn.waiting.number turn.waiting.event).orders)
+    (brought-now turn.now x turn.waiting.number turn.waiting.event)
+    (for-sends came config turn.ringing (at_moment turn.now x) turn.waiting.number turn.waiting.event fit)
 
 -- ## A turn
 
-worked-sends : (config : Config) (turn : Turn) (shown : Prepared) → InTurn (starts shown) → Sends (given (begun shown.view) turn.calls) shown.orders (worked_all config shown turn.calls).orders
+worked-sends : (came : List Came) (config : Config) (turn : Turn) (shown : Prepared) → InTurn (starts shown) → FitsShown came shown → Sends came (given (begun shown.view) turn.calls) shown.orders (worked_all config shown turn.calls).orders
 unfolding worked_all starts
-worked-sends config turn shown ok = calls-send turn.calls config (starts shown) ok
+worked-sends came config turn shown ok fit = calls-send came turn.calls config (starts shown) ok (λ more. calls-fit came config shown more fit)
 
 worked-holds : (config : Config) (turn : Turn) (shown : Prepared) → InTurn (starts shown) → InTurn (worked_all config shown turn.calls)
 unfolding worked_all
 worked-holds config turn shown ok = calls-hold turn.calls config (starts shown) ok
 
-finish-sends : (config : Config) (turn : Turn) (shown : Prepared) → InTurn (starts shown)
-    → Sends (called_by config turn.waiting.event shown.req turn.end (drafts_ended (worked_all config shown turn.calls))) (worked_all config shown turn.calls).orders
+finish-sends : (came : List Came) (config : Config) (turn : Turn) (shown : Prepared) → InTurn (starts shown) → FitsShown came shown
+    → Sends came (called_by config turn.waiting.event shown.req turn.end (drafts_ended (worked_all config shown turn.calls))) (worked_all config shown turn.calls).orders
     (finished config turn.waiting.event shown.req turn.end (worked_all config shown turn.calls)).orders
 unfolding finished
-finish-sends config turn shown ok = called-sends config turn.waiting.event shown.req turn.end (worked_all config shown turn.calls) (worked-holds config turn shown ok)
+finish-sends came config turn shown ok fit =
+    called-sends came config turn.waiting.event shown.req turn.end (worked_all config shown turn.calls) (worked-holds config turn shown ok) (calls-fit came config shown turn.calls fit)
 
-shown-sends : (config : Config) (turn : Turn) (shown : Prepared) → InTurn (starts shown)
-    → Sends (shown_by config turn shown) shown.orders (finished config turn.waiting.event shown.req turn.end (worked_all config shown turn.calls)).orders
+shown-sends : (came : List Came) (config : Config) (turn : Turn) (shown : Prepared) → InTurn (starts shown) → FitsShown came shown
+    → Sends came (shown_by config turn shown) shown.orders (finished config turn.waiting.event shown.req turn.end (worked_all config shown turn.calls)).orders
 unfolding shown_by
-shown-sends config turn shown ok =
-    sends-then (given (begun shown.view) turn.calls) (called_by config turn.waiting.event shown.req turn.end (drafts_ended (worked_all config shown turn.calls))) shown.orders
+shown-sends came config turn shown ok fit =
+    sends-then came (given (begun shown.view) turn.calls) (called_by config turn.waiting.event shown.req turn.end (drafts_ended (worked_all config shown turn.calls))) shown.orders
     (worked_all config shown turn.calls).orders (finished config turn.waiting.event shown.req turn.end (worked_all config shown turn.calls)).orders
-    (worked-sends config turn shown ok) (finish-sends config turn shown ok)
+    (worked-sends came config turn shown ok fit) (finish-sends came config turn shown ok fit)
 
-turn-sends : (config : Config) (x : Session) (turn : Turn) → At x → Sends (gave config x turn) [] (orders_of config x turn)
+turn-sends : (came : List Came) (config : Config) (x : Session) (turn : Turn) → At x → FitsAt came x
+    → Sends (came ++ brought x turn.waiting.number turn.waiting.event) (gave config x turn) [] (orders_of config x turn)
 unfolding gave outcome outcome_of
-turn-sends config x turn ok =
+turn-sends came config x turn ok fit =
+    let all : List Came = came ++ brought x turn.waiting.number turn.waiting.event in
     let shown : Prepared = prepared config turn.ringing x turn.waiting turn.now in
-    sends-then (answered_first (at_moment turn.now x) turn.waiting.number turn.waiting.event) (shown_by config turn shown) [] shown.orders
-    (finished config turn.waiting.event shown.req turn.end (worked_all config shown turn.calls)).orders (first-sends config x turn) (shown-sends config turn shown (started-holds config turn x ok))
+    sends-then all (answered_first (at_moment turn.now x) turn.waiting.number turn.waiting.event) (shown_by config turn shown) [] shown.orders
+    (finished config turn.waiting.event shown.req turn.end (worked_all config shown turn.calls)).orders (first-sends came config x turn fit)
+    (shown-sends all config turn shown (started-holds config turn x ok) (shown-fits came config turn.ringing x turn.waiting turn.now turn.waiting.event refl fit))
 
-all-given : (config : Config) (x : Session) (turn : Turn) → Sends (gave config x turn) [] (orders_of config x turn) → AreGiven (replies (gave config x turn)) (orders_of config x turn)
-all-given config x turn sends = subst (λ (os : List Order). AreGiven (replies (gave config x turn)) os) (sym sends.is) sends.given
+all-given : (came : List Came) (config : Config) (x : Session) (turn : Turn) → Sends came (gave config x turn) [] (orders_of config x turn) → AreGiven came (replies (gave config x turn)) (orders_of config x turn)
+all-given came config x turn sends = subst (λ (os : List Order). AreGiven came (replies (gave config x turn)) os) (sym sends.is) sends.given
 
 turns-give : (turns : List Turn) (config : Config) (history : History) → GaveAll config history turns
-unfolding GaveAll
+unfolding GaveAll came_of
 turns-give [] config history = tt
-turns-give (turn ∷ earlier) config history = (
-  all-given config (session_after config history earlier) turn (turn-sends config (session_after config history earlier) turn (lives-hold earlier config history)),
-  turns-give earlier config history,
-)
+turns-give (turn ∷ earlier) config history =
+    let x : Session = session_after config history earlier in
+    let came : List Came = came_of config history earlier in (
+      all-given (came ++ brought x turn.waiting.number turn.waiting.event) config x turn (turn-sends came config x turn (lives-hold earlier config history) (lives-fit earlier config history)),
+      turns-give earlier config history,
+    )
 
 -- ## The laws
 
@@ -184,10 +229,6 @@ histories-give config history = turns-give history.turns config history
 append-assoc : {A : Type 0} (xs ys zs : List A) → xs ++ (ys ++ zs) ≡ (xs ++ ys) ++ zs
 append-assoc [] ys zs = refl
 append-assoc (x ∷ xs) ys zs = ap (λ more. x ∷ more) (append-assoc xs ys zs)
-
-no-more : {A : Type 0} (xs : List A) → xs ≡ xs ++ []
-no-more [] = refl
-no-more (x ∷ xs) = ap (λ ys. x ∷ ys) (no-more xs)
 
 heard-parts : (x : Session) (number : ℕ) (event : Queued) → heard x number event ≡ answered_first x number event ++ came x event
 unfolding heard answered_first came

@@ -49,6 +49,10 @@ unfoldable pub IsAmong : Came → List Came → Type 0
 IsAmong one [] = ⊥
 IsAmong one (other ∷ more) = (other ≡ one) ⊎ IsAmong one more
 
+-- what came under this number, this event brought: the event by which an answer to it goes
+unfoldable pub IsBroughtBy : List Came → ReqId → ℕ → Type 0
+IsBroughtBy came req event = All (λ (one : Came). one.id ≡ req → one.event ≡ event) came
+
 -- ## What is kept of it
 
 -- a request that is kept as one that came under an event's number is the one that this event

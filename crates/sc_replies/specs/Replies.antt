@@ -3,6 +3,7 @@
 use Rattle.std.specs.Prelude.{◌≡◌, ℕ, List, [], ◌∷◌, ◌++◌, Bool, Option, None, Some, is_some}
 use Rattle.std.specs.List.{filter_map, find}
 use Rattle.sc_value.specs.declared.ids.AppId.{AppId}
+use Rattle.sc_value.specs.declared.ids.ReqId.{ReqId}
 use Rattle.sc_value.specs.declared.message.Response.{Response}
 use Rattle.sc_terms.specs.declared.settings.Config.{Config}
 use Rattle.sc_parts.specs.declared.setup.Setup.{Setup}
@@ -22,6 +23,7 @@ use Rattle.sc_hosts.specs.Sessions.{Turn}
 use Rattle.sc_lived.specs.Lived.{HasLived, Told}
 use Rattle.sc_answered.specs.StateOf.{Exhausted, Happening, Overtaken, Response as Responded, Undone}
 use Rattle.sc_answered.specs.Happened.{Happened, at_moment, cancelled, got, shown_by, too_low}
+use Rattle.sc_replies.specs.Came.{Came, IsBroughtBy, came_of}
 
 -- ## What a turn tells, by where it comes from
 
@@ -50,14 +52,17 @@ gave config session turn =
 
 -- ## Answers and orders
 
--- an answer: its code, and whether it has a To tag
+-- an answer: the request that it is to, by the number under which the session knows it, its code,
+-- and whether it has a To tag
 pub record Reply : Type 0 where
+  pub req : ReqId
   pub code : ℕ
   pub tagged : Bool
 
 -- the answer that is told; what comes of other SipSessions is none
 unfoldable pub reply_in : Happening → Option Reply
-reply_in (Responded role asked tagged code) = Some (record { code = code; tagged = tagged })
+reply_in (Responded role asked tagged code) =
+    Some (record { req = asked.req; code = code; tagged = tagged })
 reply_in Overtaken = None
 reply_in Undone = None
 reply_in (Exhausted derived) = None
@@ -66,27 +71,30 @@ reply_in (Exhausted derived) = None
 abbrev pub replies : List Happened → List Reply
 replies happened = filter_map (λ (one : Happened). reply_in one.what) happened
 
--- the order is this answer, by the server transaction of some event
-pub record IsReply (reply : Reply) (order : Order) : Type 0 where
+-- the order is this answer, by the server transaction of the event that brought its request, as
+-- what came by then tells it
+pub record IsReply (requests : List Came) (reply : Reply) (order : Order) : Type 0 where
   pub event : ℕ
   pub response : Response
   pub is : order ≡ orders.Respond event response
+  pub brought : IsBroughtBy requests reply.req event
   pub code : response.code ≡ reply.code
   pub tagged : is_some (tag_of response.head.to) ≡ reply.tagged
 
 -- the answer is one of these orders, behind some and before others
-pub record HasOrder (reply : Reply) (given : List Order) : Type 0 where
+pub record HasOrder (requests : List Came) (reply : Reply) (given : List Order) : Type 0 where
   pub before : List Order
   pub order : Order
   pub later : List Order
   pub is : given ≡ before ++ order ∷ later
-  pub answers : IsReply reply order
+  pub answers : IsReply requests reply order
 
 -- each answer of a list, the newest first, is an order of its own among these, which stand in the
 -- order in which they are given: what was answered earlier is given before it
-unfoldable pub AreGiven : List Reply → List Order → Type 0
-AreGiven [] given = Unit {0}
-AreGiven (reply ∷ earlier) given = (place : HasOrder reply given) × AreGiven earlier place.before
+unfoldable pub AreGiven : List Came → List Reply → List Order → Type 0
+AreGiven requests [] given = Unit {0}
+AreGiven requests (reply ∷ earlier) given =
+    (place : HasOrder requests reply given) × AreGiven requests earlier place.before
 
 -- ## A life
 
@@ -95,11 +103,13 @@ abbrev pub orders_of : Config → Session → Turn → List Order
 orders_of config session turn =
     (outcome config turn.ringing session turn.waiting turn.now turn.calls turn.end).orders
 
--- what each of these turns of a history answered, it gave to send
+-- what each of these turns of a history answered, it gave to send, each to the request that came by
+-- then
 unfoldable pub GaveAll : Config → History → List Turn → Type 0
 GaveAll config history [] = Unit {0}
 GaveAll config history (turn ∷ earlier) =
-    AreGiven (replies (gave config (session_after config history earlier) turn))
+    AreGiven (came_of config history (turn ∷ earlier))
+    (replies (gave config (session_after config history earlier) turn))
     (orders_of config (session_after config history earlier) turn)
     × GaveAll config history earlier
 

@@ -18,7 +18,8 @@ ghost use Rattle.sc_replies.specs.Replies.{GaveAll, HasGivenAll, came, gave};
 /// response to a request of one's own and what comes of that. In every history of an application
 /// session each answer that a turn gave, by a call, by the container or as a proxy, is an order of
 /// its own among those that the turn gives to its host: a response of that code, with a To tag or
-/// without, in the order in which they are told. The contract is the law, and the call does
+/// without, in the order in which they are told, and under the number of the event that brought the
+/// request that it answers, where that request came. The contract is the law, and the call does
 /// nothing.
 pub fn answers_are_given()
     ensures parts { (config : Config) (session : Session) (turn : Turn)
@@ -27,9 +28,10 @@ pub fn answers_are_given()
     ensures given { (config : Config) (history : History) → GaveAll config history history.turns }
 {}
 
-/// After a lawful journal each answer that a turn of a live session gave is an order of that turn.
-/// A session that is kept as what it is comes of such a history, whose turns are those that the
-/// journal tells of it. The contract is the law, and the call does nothing.
+/// After a lawful journal each answer that a turn of a live session gave is an order of that turn,
+/// under the event that brought its request. A session that is kept as what it is comes of such a
+/// history, whose turns are those that the journal tells of it. The contract is the law, and the
+/// call does nothing.
 pub fn live_answers_are_given()
     ensures history { (setup : Setup) (epoch began : ℕ) (journal : List Step) (app : AppId)
         (live : Live History) → IsLawful (as_history setup.config) setup epoch began journal
