@@ -50,7 +50,7 @@ use Rattle.sc_walked.proofs.WalkShown.{prepared-walks}
 use Rattle.sc_lasting.specs.Lasting.{All}
 use Rattle.sc_lasting.proofs.Began.{same-number, test-found}
 use Rattle.sc_lasting.proofs.Parts.{all-append, all-each, all-filter, all-first, all-found, all-map, removed-only, unlinked-only}
-use Rattle.sc_replies.specs.Came.{Came, IsBroughtBy, brought, came_of}
+use Rattle.sc_replies.specs.Came.{AreSingle, Came, IsBroughtBy, brought, came_of}
 
 -- ## Numbers and events
 
@@ -476,10 +476,40 @@ unfolding session_after came_of fresh first_known All
 lives-fit [] config history = (tt, tt, tt, tt)
 lives-fit (turn ∷ earlier) config history = turn-fits (came_of config history earlier) config turn (session_after config history earlier) (lives-fit earlier config history)
 
--- ## The request that an answer is to
+-- ## No two came under one number
 
 number-of : (a b : ReqId) → a ≡ b → a.0 ≡ b.0
 number-of a b is = ap (λ (req : ReqId). req.0) is
+
+single-more : (next : ℕ) (came : List Came) (one : Came) → one.id.0 ≡ next → All (IsBelow next) came → AreSingle came → AreSingle (came ++ one ∷ [])
+unfolding AreSingle All
+single-more next [] one is below single = (tt, tt)
+single-more next (other ∷ came) one is below single = (
+  all-append (λ (later : Came). later.id ≡ other.id → ⊥) came one single.0 (λ same. not-lower other.id.0 next below.0 (sym (number-of one.id other.id same) ∙ is)),
+  single-more next came one is below.1 single.1,
+)
+
+single-brought : (came : List Came) (x : Session) (number : ℕ) (event : Queued) → All (IsBelow x.view.next_request) came → AreSingle came → AreSingle (came ++ brought x number event)
+unfolding brought
+single-brought came x number (queued.Initial region subscriber popped request) below single = single-more x.view.next_request came (one_of x number request) refl below single
+single-brought came x number (queued.Request request) below single = single-more x.view.next_request came (one_of x number request) refl below single
+single-brought came x number (queued.Response branch response) below single = subst AreSingle (no-more came) single
+single-brought came x number (queued.Cancelled event) below single = subst AreSingle (no-more came) single
+single-brought came x number (queued.Timer id) below single = subst AreSingle (no-more came) single
+single-brought came x number (queued.BranchTimer branch due) below single = subst AreSingle (no-more came) single
+single-brought came x number queued.Expired below single = subst AreSingle (no-more came) single
+single-brought came x number queued.Ready below single = subst AreSingle (no-more came) single
+
+turns-single : (turns : List Turn) (config : Config) (history : History) → AreSingle (came_of config history turns)
+unfolding came_of AreSingle
+turns-single [] config history = tt
+turns-single (turn ∷ earlier) config history =
+    single-brought (came_of config history earlier) (session_after config history earlier) turn.waiting.number turn.waiting.event (lives-fit earlier config history).0 (turns-single earlier config history)
+
+pub lives-single : (config : Config) (history : History) → AreSingle (came_of config history history.turns)
+lives-single config history = turns-single history.turns config history
+
+-- ## The request that an answer is to
 
 -- one that goes by an event
 pub by-event : (came : List Came) (req other : ReqId) (event : ℕ) → req.0 ≡ other.0 → All (λ (one : Came). one.id.0 ≡ req.0 → one.event ≡ event) came → IsBroughtBy came other event

@@ -49,6 +49,11 @@ unfoldable pub IsAmong : Came → List Came → Type 0
 IsAmong one [] = ⊥
 IsAmong one (other ∷ more) = (other ≡ one) ⊎ IsAmong one more
 
+-- no two of them came under one number
+unfoldable pub AreSingle : List Came → Type 0
+AreSingle [] = Unit {0}
+AreSingle (one ∷ more) = All (λ (other : Came). other.id ≡ one.id → ⊥) more × AreSingle more
+
 -- what came under this number, this event brought: the event by which an answer to it goes
 unfoldable pub IsBroughtBy : List Came → ReqId → ℕ → Type 0
 IsBroughtBy came req event = All (λ (one : Came). one.id ≡ req → one.event ≡ event) came
@@ -75,11 +80,13 @@ AreAsTheyCame came known =
 
 -- ## Live sessions
 
--- what the journal tells of a session is its life, and it keeps what came in that as it came
+-- what the journal tells of a session is its life, it keeps what came in that as it came, and each
+-- request came under a number of its own
 pub record HaveKept (setup : Setup) (app : AppId) (given : List Told) (history : History)
     (session : Session) (inbox : List Waiting) : Type 0 where
   pub lived : IsLived setup app given history inbox
   pub kept : AreAsTheyCame (came_of setup.config history history.turns) session.known
+  pub single : AreSingle (came_of setup.config history history.turns)
 
 -- what the session is comes of such a history
 pub record HasKept (setup : Setup) (app : AppId) (given : List Told) (session : Session)

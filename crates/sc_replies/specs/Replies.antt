@@ -103,8 +103,7 @@ abbrev pub orders_of : Config → Session → Turn → List Order
 orders_of config session turn =
     (outcome config turn.ringing session turn.waiting turn.now turn.calls turn.end).orders
 
--- what each of these turns of a history answered, it gave to send, each to the request that came by
--- then
+-- what each of these turns of a history answered, it gave to send, by what had come until then
 unfoldable pub GaveAll : Config → History → List Turn → Type 0
 GaveAll config history [] = Unit {0}
 GaveAll config history (turn ∷ earlier) =

@@ -11,7 +11,7 @@ ghost use Rattle.sc_hosts.specs.Sessions.{Turn};
 ghost use Rattle.sc_hosts.specs.Steps.{live_at};
 ghost use Rattle.sc_lived.specs.Lived.{told};
 ghost use Rattle.sc_answered.specs.Happened.{at_moment, happened_by};
-ghost use Rattle.sc_replies.specs.Came.{AreAsTheyCame, HasKept, HaveKept, came_of};
+ghost use Rattle.sc_replies.specs.Came.{AreAsTheyCame, AreSingle, HasKept, HaveKept, came_of};
 ghost use Rattle.sc_replies.specs.Replies.{GaveAll, HasGivenAll, came, gave};
 
 /// What a turn tells of its SipSessions is what it gave, and before it what came with its event, a
@@ -45,13 +45,15 @@ pub fn live_answers_are_given()
 
 /// A request that an application session keeps as one that came under the number of an event, by
 /// which its answers go, is the one that this event brought to it, and an INVITE that can be
-/// cancelled under such a number is of a request that this event brought. So it is in every
-/// history; and of a live session after a lawful journal it is so of the turns that the journal
-/// tells of it, for each form in which sessions are kept. The contract is the law, and the call
-/// does nothing.
+/// cancelled under such a number is of a request that this event brought; and no two requests came
+/// under one number. So it is in every history; and of a live session after a lawful journal it is
+/// so of the turns that the journal tells of it, for each form in which sessions are kept. The
+/// contract is the law, and the call does nothing.
 pub fn requests_are_kept_as_they_came()
     ensures life { (config : Config) (history : History)
         → AreAsTheyCame (came_of config history history.turns) (session_of config history).known }
+    ensures numbers { (config : Config) (history : History)
+        → AreSingle (came_of config history history.turns) }
     ensures history { (setup : Setup) (epoch began : ℕ) (journal : List Step) (app : AppId)
         (live : Live History) → IsLawful (as_history setup.config) setup epoch began journal
         → live_at app (chained (as_history setup.config) setup epoch began journal) ≡ Some live
