@@ -50,7 +50,7 @@ use Rattle.sc_walked.proofs.WalkShown.{prepared-walks}
 use Rattle.sc_lasting.specs.Lasting.{All}
 use Rattle.sc_lasting.proofs.Began.{same-number, test-found}
 use Rattle.sc_lasting.proofs.Parts.{all-append, all-each, all-filter, all-first, all-found, all-map, removed-only, unlinked-only}
-use Rattle.sc_replies.specs.Came.{AreSingle, Came, IsBroughtBy, brought, came_of}
+use Rattle.sc_replies.specs.Came.{AreSingle, Came, brought, came_of}
 
 -- ## Numbers and events
 
@@ -511,27 +511,21 @@ lives-single config history = turns-single history.turns config history
 
 -- ## The request that an answer is to
 
--- one that goes by an event
-pub by-event : (came : List Came) (req other : ReqId) (event : ℕ) → req.0 ≡ other.0 → All (λ (one : Came). one.id.0 ≡ req.0 → one.event ≡ event) came → IsBroughtBy came other event
-unfolding IsBroughtBy
-by-event came req other event is all =
-    all-map (λ (one : Came). one.id.0 ≡ req.0 → one.event ≡ event) (λ (one : Came). one.id ≡ other → one.event ≡ event) came
-    (λ one by same. by (number-of one.id other same ∙ sym is)) all
+-- what came under this number, this event brought
+abbrev pub GoesBy : List Came → ReqId → ℕ → Type 0
+GoesBy came req event = All (λ (one : Came). one.id.0 ≡ req.0 → one.event ≡ event) came
 
 -- one that is kept as it came
 pub by-kept : (next : ℕ) (came : List Came) (kepts : List Kept) (req : ReqId) (kept : Kept) (event : ℕ) → find (λ (k : Kept). same_request k.id req) kepts ≡ Some kept → kept.way ≡ Received event
-    → All (KeptFits next came) kepts → IsBroughtBy came req event
-unfolding IsBroughtBy
+    → All (KeptFits next came) kepts → GoesBy came req event
 by-kept next came kepts req kept event found way all =
     let test : Kept → Bool = λ k. same_request k.id req in
     let is : kept.id.0 ≡ req.0 = same-number kept.id.0 req.0 (test-found test kepts kept found) in
-    all-map (λ (one : Came). one.id.0 ≡ kept.id.0 → kept.way ≡ Received one.event) (λ (one : Came). one.id ≡ req → one.event ≡ event) came
-    (λ one by same. one-event kept.way one.event event (by (number-of one.id req same ∙ sym is)) way) (all-found (KeptFits next came) test kepts kept found all).1
+    all-map (λ (one : Came). one.id.0 ≡ kept.id.0 → kept.way ≡ Received one.event) (λ (one : Came). one.id.0 ≡ req.0 → one.event ≡ event) came
+    (λ one by same. one-event kept.way one.event event (by (same ∙ sym is)) way) (all-found (KeptFits next came) test kepts kept found all).1
 
 -- one that the event of the turn brings
 pub by-turn : (came : List Came) (x : Session) (number : ℕ) (request : Request) (req : ReqId) → req.0 ≡ x.view.next_request → FitsAt came x
-    → IsBroughtBy (came ++ record { id = next_id x; event = number; request = request } ∷ []) req number
-unfolding IsBroughtBy
+    → GoesBy (came ++ record { id = next_id x; event = number; request = request } ∷ []) req number
 by-turn came x number request req is fit =
-    let one : Came = one_of x number request in
-    by-event (came ++ one ∷ []) req req number refl (fits-own x.view.next_request came one req (λ (event : ℕ). event ≡ number) is fit.0 refl).1
+    (fits-own x.view.next_request came (one_of x number request) req (λ (event : ℕ). event ≡ number) is fit.0 refl).1

@@ -12,7 +12,7 @@ use Rattle.sc_state.specs.declared.session.Known.{Known}
 use Rattle.sc_state.specs.declared.working.Working.{Working}
 use Rattle.sc_model.specs.BestResponses.{best_response}
 use Rattle.sc_model.specs.SessionStates.{is_final}
-use Rattle.sc_hosts.specs.Acting.{acted, acts, chooses, closes, forwards, forwards_best, passes, proxy_now, rested, sends_cancels, started, with_forwarded}
+use Rattle.sc_hosts.specs.Acting.{acted, acts, all_act, chooses, closes, forwards, forwards_best, passes, proxy_now, rested, sends_cancels, started, with_forwarded}
 use Rattle.sc_hosts.specs.Branches.{can_choose, can_pass, is_exhausted, starting}
 use Rattle.sc_hosts.specs.Looking.{same_request}
 use Rattle.sc_hosts.specs.Preparing.{proxy_of}
@@ -21,18 +21,24 @@ use Rattle.sc_walked.proofs.WalkParts.{if-is}
 use Rattle.sc_lasting.specs.Lasting.{All}
 use Rattle.sc_lasting.proofs.Parts.{all-first, all-found, all-map}
 use Rattle.sc_replies.specs.Came.{Came}
-use Rattle.sc_replies.proofs.Brought.{FitsIn, ProxyFits}
+use Rattle.sc_replies.proofs.Brought.{FitsIn, GoesBy, ProxyFits}
+use Rattle.sc_replies.proofs.CameProxies.{ProxiesCame, ProxyCame}
 
--- a proxied request goes by the event that brought it
+-- a proxied request came, and goes by the event that brought it
 abbrev pub IsBrought : List Came → Proxy → Type 0
-IsBrought came proxy = All (λ (one : Came). one.id.0 ≡ proxy.req.0 → one.event ≡ proxy.event) came
+IsBrought came proxy = GoesBy came proxy.req proxy.event × ProxyCame came proxy
 
 -- so do all
 abbrev pub AreBrought : List Came → Known → Type 0
 AreBrought came known = All (IsBrought came) known.proxies
 
-pub all-brought : (came : List Came) (working : Working) → FitsIn came working → AreBrought came working.known
-all-brought came working fit = all-map (ProxyFits working.play.view.next_request came) (IsBrought came) working.known.proxies (λ proxy fits. fits.1) fit.3
+all-both : (next : ℕ) (came : List Came) (all : List Proxy) → All (ProxyFits next came) all → All (ProxyCame came) all → All (IsBrought came) all
+unfolding All
+all-both next came [] fits has = tt
+all-both next came (proxy ∷ all) fits has = ((fits.0.1, has.0), all-both next came all fits.1 has.1)
+
+pub all-brought : (came : List Came) (working : Working) → FitsIn came working → ProxiesCame came working.known → AreBrought came working.known
+all-brought came working fit has = all-both working.play.view.next_request came working.known.proxies fit.3 has
 
 module _ (came : List Came) where
   if-brought : (b : Bool) (y z : Working) → AreBrought came y.known → AreBrought came z.known → AreBrought came (cond b y z).known
@@ -104,3 +110,12 @@ module _ (came : List Came) where
   pub acts-brought : (config : Config) (working : Working) (proxy : Proxy) → AreBrought came working.known → AreBrought came (acts config working proxy).known
   unfolding acts
   acts-brought config working proxy all = if-brought (is_invalid working.known proxy.sess) working (acted config proxy working) all (acted-brought config proxy working all)
+
+  all-acted : (all : List Proxy) (config : Config) (working : Working) → AreBrought came working.known → AreBrought came (fold (acts config) working all).known
+  all-acted [] config working by = by
+  all-acted (proxy ∷ all) config working by = all-acted all config (acts config working proxy) (acts-brought config working proxy by)
+
+  pub acted-came : (config : Config) (working : Working) → FitsIn came working → ProxiesCame came working.known → ProxiesCame came (all_act config working).known
+  unfolding all_act
+  acted-came config working fit has =
+      all-map (IsBrought came) (ProxyCame came) _ (λ proxy by. by.1) (all-acted working.known.proxies config working (all-brought came working fit has))

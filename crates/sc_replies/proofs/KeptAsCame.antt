@@ -63,7 +63,7 @@ invited-more : (came more : List Came) (invited : Invited) → IsInvitedAsCame c
 unfolding IsInvitedAsCame
 invited-more came more invited is = (is.0, among-first (record { id = invited.req; event = invited.event; request = is.0 }) came more is.1)
 
-more-came : (came more : List Came) (known : Known) → AreAsTheyCame came known → AreAsTheyCame (came ++ more) known
+pub more-came : (came more : List Came) (known : Known) → AreAsTheyCame came known → AreAsTheyCame (came ++ more) known
 more-came came more known keeps = (
   all-map (IsKeptAsCame came) (IsKeptAsCame (came ++ more)) known.kept (kept-more came more) keeps.0,
   all-map (IsInvitedAsCame came) (IsInvitedAsCame (came ++ more)) known.invited (invited-more came more) keeps.1,
@@ -264,7 +264,7 @@ module _ (came : List Came) where
 
 -- ## A life
 
-life-keeps : (turns : List Turn) (config : Config) (history : History) → AreAsTheyCame (came_of config history turns) (session_after config history turns).known
+pub life-keeps : (turns : List Turn) (config : Config) (history : History) → AreAsTheyCame (came_of config history turns) (session_after config history turns).known
 unfolding session_after came_of fresh first_known All
 life-keeps [] config history = (tt, tt)
 life-keeps (turn ∷ earlier) config history =

@@ -1,6 +1,9 @@
 mod Owed
 mod Brought
 mod BroughtProxies
+mod ShownCame
+mod CameProxies
+mod Fine
 mod OwedShown
 mod OwedCalls
 mod OwedEnds

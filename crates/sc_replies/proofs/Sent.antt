@@ -28,10 +28,12 @@ use Rattle.sc_hosts.specs.Messages.{answered_here, bare_answer, given_response, 
 use Rattle.sc_hosts.specs.Preparing.{kept_of, own_tag_of}
 use Rattle.sc_answered.specs.StateOf.{Asked}
 use Rattle.sc_answered.specs.Happened.{Happened, answer_to, asked_of, response_in}
-use Rattle.sc_replies.specs.Came.{Came, IsBroughtBy}
+use Rattle.sc_replies.specs.Came.{Came, brought_by}
 use Rattle.sc_replies.specs.Replies.{AreGiven, Reply, replies, reply_in}
-use Rattle.sc_replies.proofs.Brought.{FitsIn, by-kept}
+use Rattle.sc_replies.proofs.Brought.{by-kept}
+use Rattle.sc_replies.proofs.Fine.{FineIn, brought-is}
 use Rattle.sc_replies.proofs.Owed.{IsKept}
+use Rattle.sc_replies.proofs.ShownCame.{HasCome}
 
 -- ## One after the other
 
@@ -150,7 +152,7 @@ has-tag tag address = tag-by (is_some (tag_of address)) tag address refl
 -- ## One answer
 
 -- the order is the answer that is told
-pub one-given : (came : List Came) (found : Option SessionView) (asked : Asked) (tagged : Bool) (code event : ℕ) (response : Response) → response.code ≡ code → is_some (tag_of response.head.to) ≡ tagged → IsBroughtBy came asked.req event
+pub one-given : (came : List Came) (found : Option SessionView) (asked : Asked) (tagged : Bool) (code event : ℕ) (response : Response) → response.code ≡ code → is_some (tag_of response.head.to) ≡ tagged → brought_by came asked.req ≡ Some event
     → AreGiven came (replies (response_in found asked tagged code)) (orders.Respond event response ∷ [])
 unfolding response_in reply_in AreGiven
 one-given came None asked tagged code event response is tag by = tt
@@ -219,10 +221,10 @@ answers-given : (config : Config) (answer : Answer) (view : View) (found : Optio
 unfolding answers answer_order
 answers-given config answer view found initial kept event is way = rw (is, way) refl
 
-pub answering-sends : (came : List Came) (config : Config) (request : RequestView) (answer : Answer) (working : Working) → IsKept working.known.kept request.id → FitsIn came working
+pub answering-sends : (came : List Came) (config : Config) (request : RequestView) (answer : Answer) (working : Working) → IsKept working.known.kept request.id → HasCome came request.id.0 → FineIn came working
     → Sends came (answer_to working.play.view (Some request) answer.code) working.orders (answering config (Some request) answer working).orders
 unfolding answering answer_to
-answering-sends came config request answer working is fit =
+answering-sends came config request answer working is has fine =
     let view : View = working.play.view in
     let response : Response = given_response config view (own_tag_of view is.kept.sess) request.initial is.kept.request answer in
     record {
@@ -230,5 +232,5 @@ answering-sends came config request answer working is fit =
       is = ap (λ (os : List Order). working.orders ++ os) (answers-given config answer view (kept_of working.known request.id) request.initial is.kept is.event is.found is.way);
       given = one-given came (session_in view request.sess) (asked_of request) true answer.code is.event response
           (given-code config view (own_tag_of view is.kept.sess) request.initial is.kept.request answer) (given-tagged config view (own_tag_of view is.kept.sess) request.initial is.kept.request answer)
-          (by-kept view.next_request came working.known.kept request.id is.kept is.event is.found is.way fit.1);
+          (brought-is came request.id is.event (by-kept view.next_request came working.known.kept request.id is.kept is.event is.found is.way fine.0.1) has);
     }

@@ -39,9 +39,10 @@ use Rattle.sc_lasting.proofs.Began.{first-passed, or-left, or-right}
 use Rattle.sc_lasting.proofs.Parts.{all-found}
 use Rattle.sc_answered.specs.Happened.{answer_to, given, given_by, given_if}
 use Rattle.sc_replies.specs.Came.{Came}
-use Rattle.sc_replies.proofs.Brought.{FitsIn}
+use Rattle.sc_replies.proofs.Fine.{FineIn}
 use Rattle.sc_replies.proofs.Owed.{IsFine, IsHeld, IsKept}
 use Rattle.sc_replies.proofs.OwedCalls.{InTurn, worked-holds}
+use Rattle.sc_replies.proofs.ShownCame.{HasCome, IsCome}
 use Rattle.sc_replies.proofs.Sent.{Sends, answering-sends, sends-none, sends-same, sends-then}
 
 -- ## What an accepted answer says of its request
@@ -113,24 +114,26 @@ unfolding IsHeld
 owed-kept kepts request held received lacks = held received lacks
 
 respond-sends : (came : List Came) (config : Config) (answer : Answer) (working : Working) (found : Option RequestView)
-    → ((request : RequestView) → found ≡ Some request → IsKept working.known.kept request.id) → FitsIn came working
+    → ((request : RequestView) → found ≡ Some request → IsKept working.known.kept request.id × HasCome came request.id.0) → FineIn came working
     → Sends came (answer_to working.play.view found answer.code) working.orders (answering config found answer working).orders
 unfolding answer_to answering
 respond-sends came config answer working None kept fit = sends-same came working.orders
-respond-sends came config answer working (Some request) kept fit = answering-sends came config request answer working (kept request refl) fit
+respond-sends came config answer working (Some request) kept fit = answering-sends came config request answer working (kept request refl).0 (kept request refl).1 fit
 
-kept-by : (test : RequestView → Bool) (answer : Answer) (working : Working) (request : RequestView) → InTurn working
+kept-by : (came : List Came) (test : RequestView → Bool) (answer : Answer) (working : Working) (request : RequestView) → InTurn working → FineIn came working
     → option_map_or (λ (r : RequestView). respond_refusal r answer) (find test working.play.view.requests) (Some NotYours) ≡ None
-    → find test working.play.view.requests ≡ Some request → IsKept working.known.kept request.id
-kept-by test answer working request ok accepted is =
-    let owed : IsOwed request = found-owed (find test working.play.view.requests) answer request is accepted in
-    owed-kept working.known.kept request (found-held test working request is ok) owed.received owed.lacks
+    → find test working.play.view.requests ≡ Some request → IsKept working.known.kept request.id × HasCome came request.id.0
+kept-by came test answer working request ok fine accepted is =
+    let owed : IsOwed request = found-owed (find test working.play.view.requests) answer request is accepted in (
+      owed-kept working.known.kept request (found-held test working request is ok) owed.received owed.lacks,
+      all-found (IsCome came) test working.play.view.requests request is fine.1 owed.received,
+    )
 
-begun-kept : (sess : SessId) (answer : Answer) (working : Working) (request : RequestView) → InTurn working
+begun-kept : (came : List Came) (sess : SessId) (answer : Answer) (working : Working) (request : RequestView) → InTurn working → FineIn came working
     → option_map_or (λ (r : RequestView). respond_refusal r answer) (begun_by working.play.view sess) (Some NotYours) ≡ None
-    → begun_by working.play.view sess ≡ Some request → IsKept working.known.kept request.id
+    → begun_by working.play.view sess ≡ Some request → IsKept working.known.kept request.id × HasCome came request.id.0
 unfolding begun_by
-begun-kept sess answer working request ok accepted is = kept-by _ answer working request ok accepted is
+begun-kept came sess answer working request ok fine accepted is = kept-by came _ answer working request ok fine accepted is
 
 -- ## Other calls tell no answer
 
@@ -168,10 +171,10 @@ ack-sends came config sess body (Some request) working = ack-with-sends came con
 
 -- ## Each call
 
-call-sends : (came : List Came) (config : Config) (working : Working) (call : Call) → InTurn working → FitsIn came working → refusal working.play call ≡ None → Sends came (given_by working.play call) working.orders (does config working call).orders
+call-sends : (came : List Came) (config : Config) (working : Working) (call : Call) → InTurn working → FineIn came working → refusal working.play call ≡ None → Sends came (given_by working.play call) working.orders (does config working call).orders
 unfolding given_by does drafts_own drafts_later writes directs forgets cancels invalidates
 call-sends came config working (calls.Respond req answer) ok fit is =
-    respond-sends came config answer working (request_in working.play.view req) (λ request found. kept-by (is_request req) answer working request ok (respond-passed working.play req answer is) found) fit
+    respond-sends came config answer working (request_in working.play.view req) (λ request found. kept-by came (is_request req) answer working request ok fit (respond-passed working.play req answer is) found) fit
 call-sends came config working (calls.CreateRequest ask) ok fit is = sends-same came working.orders
 call-sends came config working (calls.CreateInDialog sess ask) ok fit is = sends-same came working.orders
 call-sends came config working (calls.B2bCreate req uri) ok fit is = leg-sends came req uri (kept_of working.known req) working
@@ -183,7 +186,7 @@ call-sends came config working (calls.Cancel req) ok fit is = sends-none came wo
 call-sends came config working (calls.ProxyTo req uris how) ok fit is = sends-same came working.orders
 call-sends came config working (calls.ProxyCancel req) ok fit is = sends-same came working.orders
 call-sends came config working (calls.B2bRespond sess answer) ok fit is =
-    respond-sends came config answer working (begun_by working.play.view sess) (λ request found. begun-kept sess answer working request ok (b2b-passed working.play sess answer is) found) fit
+    respond-sends came config answer working (begun_by working.play.view sess) (λ request found. begun-kept came sess answer working request ok fit (b2b-passed working.play sess answer is) found) fit
 call-sends came config working (calls.Link a b) ok fit is = sends-same came working.orders
 call-sends came config working (calls.Unlink a) ok fit is = sends-same came working.orders
 call-sends came config working (calls.StartTimer delay period info) ok fit is = sends-same came working.orders
@@ -195,13 +198,13 @@ call-sends came config working (calls.SetReadyFlag target flag) ok fit is = send
 call-sends came config working (calls.InvalidateSession sess) ok fit is = sends-none came working.orders _
 call-sends came config working calls.InvalidateApplication ok fit is = sends-same came working.orders
 
-called-by : (came : List Came) (config : Config) (working : Working) (call : Call) (found : Option Refusal) → InTurn working → FitsIn came working → refusal working.play call ≡ found
+called-by : (came : List Came) (config : Config) (working : Working) (call : Call) (found : Option Refusal) → InTurn working → FineIn came working → refusal working.play call ≡ found
     → Sends came (given_if working.play call found) working.orders (does_by config working call found).orders
 unfolding given_if does_by
 called-by came config working call None ok fit is = call-sends came config working call ok fit is
 called-by came config working call (Some refused) ok fit is = sends-same came working.orders
 
-worked-sends : (came : List Came) (config : Config) (working : Working) (call : Call) → InTurn working → FitsIn came working → Sends came (given_if working.play call (refusal working.play call)) working.orders (worked config working call).orders
+worked-sends : (came : List Came) (config : Config) (working : Working) (call : Call) → InTurn working → FineIn came working → Sends came (given_if working.play call (refusal working.play call)) working.orders (worked config working call).orders
 unfolding worked
 worked-sends came config working call ok fit = called-by came config working call (refusal working.play call) ok fit refl
 
@@ -210,7 +213,7 @@ unfolding worked
 worked-play config working call = refl
 
 pub calls-send : (came : List Came) (made : List CallRecord) (config : Config) (working : Working) → InTurn working
-    → ((more : List CallRecord) → FitsIn came (fold (λ working made. worked config working made.call) working more))
+    → ((more : List CallRecord) → FineIn came (fold (λ working made. worked config working made.call) working more))
     → Sends came (given working.play made) working.orders (fold (λ working made. worked config working made.call) working made).orders
 unfolding given
 calls-send came [] config working ok fit = sends-same came working.orders

@@ -40,9 +40,12 @@ use Rattle.sc_answered.specs.StateOf.{Exhausted}
 use Rattle.sc_answered.specs.Happened.{Happened, acted, acted_by, acted_from, acted_last, acted_next, all_acted, answer_to, asked_of, best_passed, called_by, chosen, ended_by, exhausted, exhausted_by, failed, failed_at, forwarded, forwarded_to, in_each, initial_of, passed, stopped, stopped_at, stopped_of}
 use Rattle.sc_lasting.specs.Lasting.{All}
 use Rattle.sc_lasting.proofs.Began.{same-number, test-found}
-use Rattle.sc_replies.specs.Came.{Came}
+use Rattle.sc_replies.specs.Came.{Came, brought_by}
 use Rattle.sc_replies.specs.Replies.{AreGiven, replies, reply_in}
-use Rattle.sc_replies.proofs.Brought.{FitsIn, acted-fit, by-event, drafts-fit, faulted-fit}
+use Rattle.sc_lasting.proofs.Parts.{all-found}
+use Rattle.sc_replies.proofs.Brought.{GoesBy}
+use Rattle.sc_replies.proofs.Fine.{FineIn, acted-fine, brought-is, drafts-fine, faulted-fine}
+use Rattle.sc_replies.proofs.ShownCame.{HasCome, IsCome}
 use Rattle.sc_replies.proofs.BroughtProxies.{AreBrought, IsBrought, acts-brought, all-brought, now-brought, pass-brought, start-brought}
 use Rattle.sc_replies.proofs.Owed.{IsKept}
 use Rattle.sc_replies.proofs.OwedCalls.{InTurn}
@@ -68,40 +71,42 @@ both-true true b p q = q
 both-true false b p q = cc
 
 -- what is owed is kept
-owed-is : (test : RequestView → Bool) (working : Working) (request : RequestView) → find test working.play.view.requests ≡ Some request → is_owed request ≡ true → InTurn working
-    → IsKept working.known.kept request.id
+owed-is : (came : List Came) (test : RequestView → Bool) (working : Working) (request : RequestView) → find test working.play.view.requests ≡ Some request → is_owed request ≡ true → InTurn working → FineIn came working
+    → IsKept working.known.kept request.id × HasCome came request.id.0
 unfolding is_owed lacks_final
-owed-is test working request is owed ok =
-    let open_one = left-true (request.received && is_none request.answered) (not (same_bytes request.method ack)) owed in
-    owed-kept working.known.kept request (found-held test working request is ok) (left-true request.received (is_none request.answered) open_one)
-    (both-true (is_none request.answered) (not (same_bytes request.method ack)) (right-true request.received (is_none request.answered) open_one)
-    (right-true (request.received && is_none request.answered) (not (same_bytes request.method ack)) owed))
+owed-is came test working request is owed ok fine =
+    let open_one = left-true (request.received && is_none request.answered) (not (same_bytes request.method ack)) owed in (
+      owed-kept working.known.kept request (found-held test working request is ok) (left-true request.received (is_none request.answered) open_one)
+          (both-true (is_none request.answered) (not (same_bytes request.method ack)) (right-true request.received (is_none request.answered) open_one)
+          (right-true (request.received && is_none request.answered) (not (same_bytes request.method ack)) owed)),
+      all-found (IsCome came) test working.play.view.requests request is fine.1 (left-true request.received (is_none request.answered) open_one),
+    )
 
-answered-sends : (came : List Came) (config : Config) (request : RequestView) (code : ℕ) (answer : Answer) (working : Working) → answer.code ≡ code → IsKept working.known.kept request.id → FitsIn came working
+answered-sends : (came : List Came) (config : Config) (request : RequestView) (code : ℕ) (answer : Answer) (working : Working) → answer.code ≡ code → IsKept working.known.kept request.id × HasCome came request.id.0 → FineIn came working
     → Sends came (answer_to working.play.view (Some request) code) working.orders (in_view (answered (Some request) code working.play.view) (answering config (Some request) answer working)).orders
-answered-sends came config request code answer working is kept fit = rw (sym is) (answering-sends came config request answer working kept fit)
+answered-sends came config request code answer working is kept fit = rw (sym is) (answering-sends came config request answer working kept.0 kept.1 fit)
 
 bare-code : (code : ℕ) (reason : _) → (bare_answer code reason).code ≡ code
 unfolding bare_answer
 bare-code code reason = refl
 
-fault-sends : (came : List Came) (config : Config) (test : RequestView → Bool) (found : Option RequestView) (working : Working) → find test working.play.view.requests ≡ found → InTurn working → FitsIn came working
+fault-sends : (came : List Came) (config : Config) (test : RequestView → Bool) (found : Option RequestView) (working : Working) → find test working.play.view.requests ≡ found → InTurn working → FineIn came working
     → Sends came (failed_at working.play.view found) working.orders (fault_at config found working).orders
 unfolding failed_at fault_at
 fault-sends came config test None working is ok fit = sends-same came working.orders
 fault-sends came config test (Some request) working is ok fit =
     if-sends came orders_at (is_owed request && not request.proxied) working.orders (answer_to working.play.view (Some request) 500) []
     (in_view (answered (Some request) 500 working.play.view) (answering config (Some request) (bare_answer 500 server_error) working)) working
-    (λ owed. answered-sends came config request 500 (bare_answer 500 server_error) working (bare-code 500 server_error) (owed-is test working request is (left-true (is_owed request) _ owed) ok) fit)
+    (λ owed. answered-sends came config request 500 (bare_answer 500 server_error) working (bare-code 500 server_error) (owed-is came test working request is (left-true (is_owed request) _ owed) ok fit) fit)
     (λ not. sends-same came working.orders)
 
-event-sends : (came : List Came) (config : Config) (req : Option ReqId) (working : Working) → InTurn working → FitsIn came working
+event-sends : (came : List Came) (config : Config) (req : Option ReqId) (working : Working) → InTurn working → FineIn came working
     → Sends came (failed_at working.play.view (option_and_then (request_in working.play.view) req)) working.orders (fault_at config (option_and_then (request_in working.play.view) req) working).orders
 unfolding failed_at fault_at
 event-sends came config None working ok fit = sends-same came working.orders
 event-sends came config (Some req) working ok fit = fault-sends came config (is_request req) (request_in working.play.view req) working refl ok fit
 
-failed-sends : (came : List Came) (config : Config) (req : Option ReqId) (end : End) (working : Working) → InTurn working → FitsIn came working
+failed-sends : (came : List Came) (config : Config) (req : Option ReqId) (end : End) (working : Working) → InTurn working → FineIn came working
     → Sends came (failed req end working.play.view) working.orders (faulted config req end working).orders
 unfolding failed faulted
 failed-sends came config req ends.Fine working ok fit = sends-same came working.orders
@@ -122,16 +127,21 @@ unfolding AreGiven
 if-given came true new given all = all
 if-given came false new given all = tt
 
+-- under a number that is the same
+pub found-brought : (came : List Came) (req other : ReqId) (event : ℕ) → req.0 ≡ other.0 → GoesBy came req event → HasCome came req.0 → brought_by came other ≡ Some event
+found-brought came req other event is by has =
+    brought-is came other event (subst (λ (n : ℕ). All (λ (one : Came). one.id.0 ≡ n → one.event ≡ event) came) is by) (subst (HasCome came) is has)
+
 forwarded-given : (came : List Came) (proxy : Proxy) (sess : SessId) (found : Option RequestView) (response : Response) (view : View) → request_in view proxy.req ≡ found → IsBrought came proxy
     → AreGiven came (replies (forwarded_to proxy sess found response view)) (orders.Respond proxy.event response ∷ [])
 unfolding forwarded_to
 forwarded-given came proxy sess None response view is by =
     if-given came (is_some proxy.options) _ (orders.Respond proxy.event response ∷ [])
     (one-given came (session_in view sess) (initial_of proxy) (is_some (tag_of response.head.to)) response.code proxy.event response refl refl
-    (by-event came proxy.req proxy.req proxy.event refl by))
+    (brought-is came proxy.req proxy.event by.0 by.1))
 forwarded-given came proxy sess (Some request) response view is by =
     one-given came (session_in view sess) (asked_of request) (is_some (tag_of response.head.to)) response.code proxy.event response refl refl
-    (by-event came proxy.req request.id proxy.event (sym (same-number request.id.0 proxy.req.0 (test-found (is_request proxy.req) view.requests request is))) by)
+    (found-brought came proxy.req request.id proxy.event (sym (same-number request.id.0 proxy.req.0 (test-found (is_request proxy.req) view.requests request is))) by.0 by.1)
 
 forward-sends : (came : List Came) (proxy : Proxy) (sess : SessId) (response : Response) (working : Working) → IsBrought came proxy → Sends came (forwarded proxy sess response working) working.orders (forwards proxy sess response working).orders
 unfolding forwards
@@ -234,19 +244,19 @@ proxies-send came (proxy ∷ proxies) config working each all =
     sends-then came (acted_by config proxy working) (all_acted config proxies next) working.orders next.orders (fold (acts config) next proxies).orders
     (acts-sends came config proxy working each.0 all) (proxies-send came proxies config next each.1 (acts-brought came config working proxy all))
 
-all-send : (came : List Came) (config : Config) (working : Working) → FitsIn came working → Sends came (all_acted config working.known.proxies working) working.orders (all_act config working).orders
+all-send : (came : List Came) (config : Config) (working : Working) → FineIn came working → Sends came (all_acted config working.known.proxies working) working.orders (all_act config working).orders
 unfolding all_act
-all-send came config working fit = proxies-send came working.known.proxies config working (all-brought came working fit) (all-brought came working fit)
+all-send came config working fit = proxies-send came working.known.proxies config working (all-brought came working fit.0 fit.2) (all-brought came working fit.0 fit.2)
 
 -- ## A later request that goes no further
 
-spent-sends : (came : List Came) (config : Config) (test : RequestView → Bool) (request : RequestView) (working : Working) → find test working.play.view.requests ≡ Some request → InTurn working → FitsIn came working
+spent-sends : (came : List Came) (config : Config) (test : RequestView → Bool) (request : RequestView) (working : Working) → find test working.play.view.requests ≡ Some request → InTurn working → FineIn came working
     → Sends came (cond (is_owed request) (answer_to working.play.view (Some request) 483) []) working.orders (hops_spent config request working).orders
 unfolding hops_spent
 spent-sends came config test request working is ok fit =
     if-sends came orders_at (is_owed request) working.orders (answer_to working.play.view (Some request) 483) []
     (in_view (answered (Some request) 483 working.play.view) (answering config (Some request) (bare_answer 483 too_many_hops) working)) working
-    (λ owed. answered-sends came config request 483 (bare_answer 483 too_many_hops) working (bare-code 483 too_many_hops) (owed-is test working request is owed ok) fit)
+    (λ owed. answered-sends came config request 483 (bare_answer 483 too_many_hops) working (bare-code 483 too_many_hops) (owed-is came test working request is owed ok fit) fit)
     (λ not. sends-same came working.orders)
 
 if-none : (came : List Came) (b : Bool) (xs : List Order) (y z : Working) → Sends came [] xs y.orders → Sends came [] xs z.orders → Sends came [] xs (cond b y z).orders
@@ -257,7 +267,7 @@ on-sends : (came : List Came) (config : Config) (kept : Kept) (working : Working
 unfolding passed_on
 on-sends came config kept working = if-none came (same_bytes kept.request.method ack) working.orders _ _ (sends-none came working.orders _) (sends-none came working.orders _)
 
-later-sends : (came : List Came) (config : Config) (test : RequestView → Bool) (request : RequestView) (kept : Option Kept) (working : Working) → find test working.play.view.requests ≡ Some request → InTurn working → FitsIn came working
+later-sends : (came : List Came) (config : Config) (test : RequestView → Bool) (request : RequestView) (kept : Option Kept) (working : Working) → find test working.play.view.requests ≡ Some request → InTurn working → FineIn came working
     → Sends came (stopped_at working request kept) working.orders (passed_later config request kept working).orders
 unfolding stopped_at passed_later
 later-sends came config test request None working is ok fit = sends-same came working.orders
@@ -268,19 +278,19 @@ later-sends came config test request (Some kept) working is ok fit =
     (λ goes. if-sends came orders_at (request.hops == 0) working.orders (cond (is_owed request) (answer_to working.play.view (Some request) 483) []) []
     (hops_spent config request working) (passed_on config kept working) (λ spent. spent-sends came config test request working is ok fit) (λ on. on-sends came config kept working))
 
-of-sends : (came : List Came) (config : Config) (test : RequestView → Bool) (found : Option RequestView) (working : Working) → find test working.play.view.requests ≡ found → InTurn working → FitsIn came working
+of-sends : (came : List Came) (config : Config) (test : RequestView → Bool) (found : Option RequestView) (working : Working) → find test working.play.view.requests ≡ found → InTurn working → FineIn came working
     → Sends came (stopped_of working found) working.orders (passed_request_of config found working).orders
 unfolding stopped_of passed_request_of
 of-sends came config test None working is ok fit = sends-same came working.orders
 of-sends came config test (Some request) working is ok fit = later-sends came config test request (kept_of working.known request.id) working is ok fit
 
-req-sends : (came : List Came) (config : Config) (req : Option ReqId) (working : Working) → InTurn working → FitsIn came working
+req-sends : (came : List Came) (config : Config) (req : Option ReqId) (working : Working) → InTurn working → FineIn came working
     → Sends came (stopped_of working (option_and_then (request_in working.play.view) req)) working.orders (passed_request_of config (option_and_then (request_in working.play.view) req) working).orders
 unfolding stopped_of passed_request_of
 req-sends came config None working ok fit = sends-same came working.orders
 req-sends came config (Some req) working ok fit = of-sends came config (is_request req) (request_in working.play.view req) working refl ok fit
 
-stopped-sends : (came : List Came) (config : Config) (event : Queued) (req : Option ReqId) (working : Working) → InTurn working → FitsIn came working
+stopped-sends : (came : List Came) (config : Config) (event : Queued) (req : Option ReqId) (working : Working) → InTurn working → FineIn came working
     → Sends came (stopped event req working) working.orders (passes_later config event req working).orders
 unfolding stopped passes_later
 stopped-sends came config event req working ok fit =
@@ -289,31 +299,31 @@ stopped-sends came config event req working ok fit =
 
 -- ## All that follows
 
-ended-sends : (came : List Came) (config : Config) (event : Queued) (req : Option ReqId) (working : Working) → InTurn working → FitsIn came working
+ended-sends : (came : List Came) (config : Config) (event : Queued) (req : Option ReqId) (working : Working) → InTurn working → FineIn came working
     → Sends came (ended_by config event req working) working.orders (passes_later config event req (all_act config working)).orders
 unfolding ended_by
 ended-sends came config event req working ok fit =
     sends-then came (all_acted config working.known.proxies working) (stopped event req (all_act config working)) working.orders (all_act config working).orders
     (passes_later config event req (all_act config working)).orders (all-send came config working fit)
-    (stopped-sends came config event req (all_act config working) (all-hold config working ok) (acted-fit came config working fit))
+    (stopped-sends came config event req (all_act config working) (all-hold config working ok) (acted-fine came config working fit))
 
 same-orders : (working : Working) → (drafts_ended working).orders ≡ working.orders
 unfolding drafts_ended
 same-orders working = refl
 
-left-sends : (came : List Came) (config : Config) (req : Option ReqId) (end : End) (working : Working) → InTurn (drafts_ended working) → FitsIn came (drafts_ended working)
+left-sends : (came : List Came) (config : Config) (req : Option ReqId) (end : End) (working : Working) → InTurn (drafts_ended working) → FineIn came (drafts_ended working)
     → Sends came (failed req end (drafts_ended working).play.view) working.orders (faulted config req end (drafts_ended working)).orders
 left-sends came config req end working ok fit =
     subst (λ (before : List Order). Sends came (failed req end (drafts_ended working).play.view) before (faulted config req end (drafts_ended working)).orders) (same-orders working) (failed-sends came config req end (drafts_ended working) ok fit)
 
 -- after the calls, once drafts that were left are gone
-pub called-sends : (came : List Came) (config : Config) (event : Queued) (req : Option ReqId) (end : End) (working : Working) → InTurn working → FitsIn came working
+pub called-sends : (came : List Came) (config : Config) (event : Queued) (req : Option ReqId) (end : End) (working : Working) → InTurn working → FineIn came working
     → Sends came (called_by config event req end (drafts_ended working)) working.orders (passes_later config event req (all_act config (faulted config req end (drafts_ended working)))).orders
 unfolding called_by
 called-sends came config event req end working ok fit =
     let left : Working = drafts_ended working in
     let told : Working = faulted config req end left in
-    let fits : FitsIn came left = drafts-fit came working fit in
+    let fits : FineIn came left = drafts-fine came working fit in
     sends-then came (failed req end left.play.view) (ended_by config event req told) working.orders told.orders (passes_later config event req (all_act config told)).orders
     (left-sends came config req end working (drafts-hold working ok) fits)
-    (ended-sends came config event req told (faulted-holds config req end left (drafts-hold working ok)) (faulted-fit came config req end left fits))
+    (ended-sends came config event req told (faulted-holds config req end left (drafts-hold working ok)) (faulted-fine came config req end left fits))

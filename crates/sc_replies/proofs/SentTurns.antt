@@ -42,15 +42,18 @@ use Rattle.sc_lived.proofs.Sayings.{session-lived}
 use Rattle.sc_answered.specs.Happened.{Happened, answer_to, asked_of, at_moment, called_by, cancelled, cancelled_in, given, happened_by, heard, shown_by, too_low as told_low, too_low_in}
 use Rattle.sc_lasting.proofs.Began.{same-number, test-found}
 use Rattle.sc_lasting.proofs.Parts.{all-found}
-use Rattle.sc_replies.specs.Came.{Came, IsBroughtBy, brought, came_of}
+use Rattle.sc_replies.specs.Came.{AreAsTheyCame, Came, IsInvitedAsCame, brought, brought_by, came_of}
 use Rattle.sc_replies.specs.Replies.{AreGiven, GaveAll, HasGivenAll, answered_first, came, gave, orders_of, replies}
-use Rattle.sc_replies.proofs.Brought.{FitsAt, FitsShown, InvitedFits, by-event, by-turn, calls-fit, lives-fit, shown-fits}
+use Rattle.sc_replies.proofs.Brought.{InvitedFits, by-turn}
+use Rattle.sc_replies.proofs.Fine.{FineAt, FineShown, among-has, brought-is, calls-fine, lives-fine, shown-fine}
+use Rattle.sc_replies.proofs.KeptAsCame.{life-keeps, more-came}
+use Rattle.sc_replies.proofs.ShownCame.{HasCome, last-has}
 use Rattle.sc_replies.proofs.OwedCalls.{InTurn, calls-hold}
 use Rattle.sc_replies.proofs.OwedEnds.{lives-hold, started-holds}
 use Rattle.sc_replies.proofs.OwedShown.{At}
 use Rattle.sc_replies.proofs.Sent.{Sends, if-sends, one-given, own-code, own-tagged, sends-any, sends-then}
 use Rattle.sc_replies.proofs.SentCalls.{calls-send}
-use Rattle.sc_replies.proofs.SentEnds.{called-sends}
+use Rattle.sc_replies.proofs.SentEnds.{called-sends, found-brought}
 
 abbrev orders_in : Prepared → List Order
 orders_in shown = shown.orders
@@ -66,7 +69,7 @@ not-ack true late is = cc
 not-ack false late is = refl
 
 refused-given : (came : List Came) (found : Option RequestView) (x : Session) (number : ℕ) (request : Request) → same_bytes request.method ack ≡ false
-    → ((shown : RequestView) → found ≡ Some shown → IsBroughtBy came shown.id number)
+    → ((shown : RequestView) → found ≡ Some shown → brought_by came shown.id ≡ Some number)
     → Sends came (answer_to x.view found 500) [] (refused number 500 server_error request)
 unfolding refused answer_to AreGiven
 refused-given came None x number request is by = sends-any came _
@@ -78,7 +81,7 @@ refused-given came (Some shown) x number request is by = rw is (record {
 
 -- the request that comes is this one
 abbrev BringsNext : List Came → Session → ℕ → Type 0
-BringsNext came x number = (req : ReqId) → req.0 ≡ x.view.next_request → IsBroughtBy came req number
+BringsNext came x number = (req : ReqId) → req.0 ≡ x.view.next_request → brought_by came req ≡ Some number
 
 low-sends : (came : List Came) (x : Session) (number : ℕ) (sess : SessId) (request : Request) → BringsNext came x number → is_low (leg_of x.known sess) request ≡ true
     → Sends came (answer_to (received x number sess false false request).view (request_in (received x number sess false false request).view (next_id x)) 500) [] (too_low x number sess request).orders
@@ -99,7 +102,7 @@ unfolding told_low prepared_request
 request-sends came x number request None new = sends-any came _
 request-sends came x number request (Some sess) new = in-sends came x number sess (session_in x.view sess) request new
 
-ended-sends : (came : List Came) (x : Session) (invited : Invited) (request : RequestView) (kept : Kept) → IsBroughtBy came request.id invited.event → Sends came (answer_to x.view (Some request) 487) [] (terminated x invited request (Some kept)).orders
+ended-sends : (came : List Came) (x : Session) (invited : Invited) (request : RequestView) (kept : Kept) → brought_by came request.id ≡ Some invited.event → Sends came (answer_to x.view (Some request) 487) [] (terminated x invited request (Some kept)).orders
 unfolding terminated showing_in answer_to
 ended-sends came x invited request kept by = record {
   more = orders.Respond invited.event _ ∷ [];
@@ -108,7 +111,7 @@ ended-sends came x invited request kept by = record {
       (own-code (own_tag_of x.view invited.sess) 487 request_terminated kept.request) (own-tagged (own_tag_of x.view invited.sess) 487 request_terminated kept.request) by;
 }
 
-by-answer : (came : List Came) (b : Bool) (x : Session) (invited : Invited) (kept : Kept) (request : RequestView) → IsBroughtBy came request.id invited.event
+by-answer : (came : List Came) (b : Bool) (x : Session) (invited : Invited) (kept : Kept) (request : RequestView) → brought_by came request.id ≡ Some invited.event
     → Sends came (cond b (answer_to x.view (Some request) 487) []) [] (cond b (terminated x invited request (Some kept)) (showing_in x invited.sess (events.Cancelled invited.req invited.sess) (Some invited.req) [])).orders
 by-answer came true x invited kept request by = ended-sends came x invited request kept by
 by-answer came false x invited kept request by = sends-any came _
@@ -117,41 +120,48 @@ by-proxy : (came : List Came) (b : Bool) (x : Session) (new : List Happened) (y 
 by-proxy came true x new y z p = sends-any came y.orders
 by-proxy came false x new y z p = p
 
-open-sends : (came : List Came) (x : Session) (invited : Invited) (kept : Kept) (request : RequestView) → kept_of x.known invited.req ≡ Some kept → IsBroughtBy came request.id invited.event
+open-sends : (came : List Came) (x : Session) (invited : Invited) (kept : Kept) (request : RequestView) → kept_of x.known invited.req ≡ Some kept → brought_by came request.id ≡ Some invited.event
     → Sends came (cond request.proxied [] (cond (is_none request.answered) (answer_to x.view (Some request) 487) [])) [] (cancelled_request x invited (Some request)).orders
 unfolding cancelled_request
 open-sends came x invited kept request is by =
     rw is (by-proxy came request.proxied x _ (cancelled_proxy x invited (proxy_of x.known invited.req)) _ (by-answer came (is_none request.answered) x invited kept request by))
 
 cancelled-sends : (came : List Came) (x : Session) (invited : Invited) (found : Option Kept) (request : Option RequestView) → kept_of x.known invited.req ≡ found
-    → ((r : RequestView) → request ≡ Some r → IsBroughtBy came r.id invited.event)
+    → ((r : RequestView) → request ≡ Some r → brought_by came r.id ≡ Some invited.event)
     → Sends came (cancelled_in x found request) [] (cancelled_request x invited request).orders
 unfolding cancelled_in
 cancelled-sends came x invited None request is by = sends-any came _
 cancelled-sends came x invited (Some kept) None is by = sends-any came _
 cancelled-sends came x invited (Some kept) (Some request) is by = open-sends came x invited kept request is (by request refl)
 
-cancel-sends : (came : List Came) (x : Session) (test : Invited → Bool) (found : Option Invited) → find test x.known.invited ≡ found → FitsAt came x → Sends came (cancelled x found) [] (prepared_cancel x found).orders
-unfolding cancelled prepared_cancel
-cancel-sends came x test None is fit = sends-any _ _
-cancel-sends came x test (Some invited) is fit =
-    let fits : InvitedFits x.view.next_request came invited = all-found (InvitedFits x.view.next_request came) test x.known.invited invited is fit.2 in
-    cancelled-sends came x invited (kept_of x.known invited.req) (request_in x.view invited.req) refl
-    (λ r found. by-event came invited.req r.id invited.event (sym (same-number r.id.0 invited.req.0 (test-found (is_request invited.req) x.view.requests r found))) fits.1)
+-- an INVITE that can be cancelled came
+invited-has : (came : List Came) (invited : Invited) → IsInvitedAsCame came invited → HasCome came invited.req.0
+unfolding IsInvitedAsCame
+invited-has came invited is = among-has (record { id = invited.req; event = invited.event; request = is.0 }) came is.1
 
-for-sends : (came : List Came) (config : Config) (ringing : List ℕ) (x : Session) (number : ℕ) (event : Queued) → FitsAt came x
+cancel-sends : (came : List Came) (x : Session) (test : Invited → Bool) (found : Option Invited) → find test x.known.invited ≡ found → FineAt came x → AreAsTheyCame came x.known → Sends came (cancelled x found) [] (prepared_cancel x found).orders
+unfolding cancelled prepared_cancel
+cancel-sends came x test None is fit as_came = sends-any _ _
+cancel-sends came x test (Some invited) is fit as_came =
+    let fits : InvitedFits x.view.next_request came invited = all-found (InvitedFits x.view.next_request came) test x.known.invited invited is fit.0.2 in
+    let has : HasCome came invited.req.0 = invited-has came invited (all-found (IsInvitedAsCame came) test x.known.invited invited is as_came.1) in
+    cancelled-sends came x invited (kept_of x.known invited.req) (request_in x.view invited.req) refl
+    (λ r found. found-brought came invited.req r.id invited.event (sym (same-number r.id.0 invited.req.0 (test-found (is_request invited.req) x.view.requests r found))) fits.1 has)
+
+for-sends : (came : List Came) (config : Config) (ringing : List ℕ) (x : Session) (number : ℕ) (event : Queued) → FineAt came x → AreAsTheyCame came x.known
     → Sends (came ++ brought x number event) (answered_first x number event) [] (prepared_for config ringing x number event).orders
 unfolding answered_first prepared_for brought
-for-sends came config ringing x number (queued.Initial region subscriber popped request) fit = sends-any _ _
-for-sends came config ringing x number (queued.Request request) fit =
-    request-sends (came ++ record { id = next_id x; event = number; request = request } ∷ []) x number request (session_for x request) (λ req is. by-turn came x number request req is fit)
-for-sends came config ringing x number (queued.Response branch response) fit = sends-any _ _
-for-sends came config ringing x number (queued.Cancelled event) fit =
-    cancel-sends (came ++ []) x (is_invited event) (find (is_invited event) x.known.invited) refl (subst (λ (all : List Came). FitsAt all x) (no-more came) fit)
-for-sends came config ringing x number (queued.Timer id) fit = sends-any _ _
-for-sends came config ringing x number (queued.BranchTimer branch due) fit = sends-any _ _
-for-sends came config ringing x number queued.Expired fit = sends-any _ _
-for-sends came config ringing x number queued.Ready fit = sends-any _ _
+for-sends came config ringing x number (queued.Initial region subscriber popped request) fit as_came = sends-any _ _
+for-sends came config ringing x number (queued.Request request) fit as_came =
+    request-sends (came ++ record { id = next_id x; event = number; request = request } ∷ []) x number request (session_for x request) (λ req is. brought-is (came ++ record { id = next_id x; event = number; request = request } ∷ []) req number (by-turn came x number request req is fit.0)
+    (last-has came (record { id = next_id x; event = number; request = request }) req.0 (sym is)))
+for-sends came config ringing x number (queued.Response branch response) fit as_came = sends-any _ _
+for-sends came config ringing x number (queued.Cancelled event) fit as_came =
+    cancel-sends (came ++ []) x (is_invited event) (find (is_invited event) x.known.invited) refl (subst (λ (all : List Came). FineAt all x) (no-more came) fit) (more-came came [] x.known as_came)
+for-sends came config ringing x number (queued.Timer id) fit as_came = sends-any _ _
+for-sends came config ringing x number (queued.BranchTimer branch due) fit as_came = sends-any _ _
+for-sends came config ringing x number queued.Expired fit as_came = sends-any _ _
+for-sends came config ringing x number queued.Ready fit as_came = sends-any _ _
 
 -- the moment counts for nothing
 brought-now : (now : ℕ) (x : Session) (number : ℕ) (event : Queued) → brought (at_moment now x) number event ≡ brought x number event
@@ -165,32 +175,32 @@ brought-now now x number (queued.BranchTimer branch due) = refl
 brought-now now x number queued.Expired = refl
 brought-now now x number queued.Ready = refl
 
-first-sends : (came : List Came) (config : Config) (x : Session) (turn : Turn) → FitsAt came x
+first-sends : (came : List Came) (config : Config) (x : Session) (turn : Turn) → FineAt came x → AreAsTheyCame came x.known
     → Sends (came ++ brought x turn.waiting.number turn.waiting.event) (answered_first (at_moment turn.now x) turn.waiting.number turn.waiting.event) [] (prepared config turn.ringing x turn.waiting turn.now).orders
 unfolding prepared
-first-sends came config x turn fit =
+first-sends came config x turn fit as_came =
     subst (λ (new : List Came). Sends (came ++ new) (answered_first (at_moment turn.now x) turn.waiting.number turn.waiting.event) [] (prepared_for config turn.ringing (at_moment turn.now x) turn.waiting.number turn.waiting.event).orders)
     (brought-now turn.now x turn.waiting.number turn.waiting.event)
-    (for-sends came config turn.ringing (at_moment turn.now x) turn.waiting.number turn.waiting.event fit)
+    (for-sends came config turn.ringing (at_moment turn.now x) turn.waiting.number turn.waiting.event fit as_came)
 
 -- ## A turn
 
-worked-sends : (came : List Came) (config : Config) (turn : Turn) (shown : Prepared) → InTurn (starts shown) → FitsShown came shown → Sends came (given (begun shown.view) turn.calls) shown.orders (worked_all config shown turn.calls).orders
+worked-sends : (came : List Came) (config : Config) (turn : Turn) (shown : Prepared) → InTurn (starts shown) → FineShown came shown → Sends came (given (begun shown.view) turn.calls) shown.orders (worked_all config shown turn.calls).orders
 unfolding worked_all starts
-worked-sends came config turn shown ok fit = calls-send came turn.calls config (starts shown) ok (λ more. calls-fit came config shown more fit)
+worked-sends came config turn shown ok fit = calls-send came turn.calls config (starts shown) ok (λ more. calls-fine came config shown more fit)
 
 worked-holds : (config : Config) (turn : Turn) (shown : Prepared) → InTurn (starts shown) → InTurn (worked_all config shown turn.calls)
 unfolding worked_all
 worked-holds config turn shown ok = calls-hold turn.calls config (starts shown) ok
 
-finish-sends : (came : List Came) (config : Config) (turn : Turn) (shown : Prepared) → InTurn (starts shown) → FitsShown came shown
+finish-sends : (came : List Came) (config : Config) (turn : Turn) (shown : Prepared) → InTurn (starts shown) → FineShown came shown
     → Sends came (called_by config turn.waiting.event shown.req turn.end (drafts_ended (worked_all config shown turn.calls))) (worked_all config shown turn.calls).orders
     (finished config turn.waiting.event shown.req turn.end (worked_all config shown turn.calls)).orders
 unfolding finished
 finish-sends came config turn shown ok fit =
-    called-sends came config turn.waiting.event shown.req turn.end (worked_all config shown turn.calls) (worked-holds config turn shown ok) (calls-fit came config shown turn.calls fit)
+    called-sends came config turn.waiting.event shown.req turn.end (worked_all config shown turn.calls) (worked-holds config turn shown ok) (calls-fine came config shown turn.calls fit)
 
-shown-sends : (came : List Came) (config : Config) (turn : Turn) (shown : Prepared) → InTurn (starts shown) → FitsShown came shown
+shown-sends : (came : List Came) (config : Config) (turn : Turn) (shown : Prepared) → InTurn (starts shown) → FineShown came shown
     → Sends came (shown_by config turn shown) shown.orders (finished config turn.waiting.event shown.req turn.end (worked_all config shown turn.calls)).orders
 unfolding shown_by
 shown-sends came config turn shown ok fit =
@@ -198,15 +208,15 @@ shown-sends came config turn shown ok fit =
     (worked_all config shown turn.calls).orders (finished config turn.waiting.event shown.req turn.end (worked_all config shown turn.calls)).orders
     (worked-sends came config turn shown ok fit) (finish-sends came config turn shown ok fit)
 
-turn-sends : (came : List Came) (config : Config) (x : Session) (turn : Turn) → At x → FitsAt came x
+turn-sends : (came : List Came) (config : Config) (x : Session) (turn : Turn) → At x → FineAt came x → AreAsTheyCame came x.known
     → Sends (came ++ brought x turn.waiting.number turn.waiting.event) (gave config x turn) [] (orders_of config x turn)
 unfolding gave outcome outcome_of
-turn-sends came config x turn ok fit =
+turn-sends came config x turn ok fit as_came =
     let all : List Came = came ++ brought x turn.waiting.number turn.waiting.event in
     let shown : Prepared = prepared config turn.ringing x turn.waiting turn.now in
     sends-then all (answered_first (at_moment turn.now x) turn.waiting.number turn.waiting.event) (shown_by config turn shown) [] shown.orders
-    (finished config turn.waiting.event shown.req turn.end (worked_all config shown turn.calls)).orders (first-sends came config x turn fit)
-    (shown-sends all config turn shown (started-holds config turn x ok) (shown-fits came config turn.ringing x turn.waiting turn.now turn.waiting.event refl fit))
+    (finished config turn.waiting.event shown.req turn.end (worked_all config shown turn.calls)).orders (first-sends came config x turn fit as_came)
+    (shown-sends all config turn shown (started-holds config turn x ok) (shown-fine came config x turn fit))
 
 all-given : (came : List Came) (config : Config) (x : Session) (turn : Turn) → Sends came (gave config x turn) [] (orders_of config x turn) → AreGiven came (replies (gave config x turn)) (orders_of config x turn)
 all-given came config x turn sends = subst (λ (os : List Order). AreGiven came (replies (gave config x turn)) os) (sym sends.is) sends.given
@@ -217,7 +227,7 @@ turns-give [] config history = tt
 turns-give (turn ∷ earlier) config history =
     let x : Session = session_after config history earlier in
     let came : List Came = came_of config history earlier in (
-      all-given (came ++ brought x turn.waiting.number turn.waiting.event) config x turn (turn-sends came config x turn (lives-hold earlier config history) (lives-fit earlier config history)),
+      all-given (came ++ brought x turn.waiting.number turn.waiting.event) config x turn (turn-sends came config x turn (lives-hold earlier config history) (lives-fine earlier config history) (life-keeps earlier config history)),
       turns-give earlier config history,
     )
 

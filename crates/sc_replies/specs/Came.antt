@@ -1,7 +1,8 @@
 -- The requests that came to an application session, by the numbers of the events that brought them,
 -- and that it keeps them so: the answer to a request that is kept goes by its event (RFC 3261
 -- section 8.2.6).
-use Rattle.std.specs.Prelude.{◌≡◌, ◌⊎◌, ℕ, List, [], ◌∷◌, ◌++◌}
+use Rattle.std.specs.Prelude.{◌≡◌, ◌⊎◌, ℕ, List, [], ◌∷◌, ◌++◌, Option, option_map}
+use Rattle.std.specs.List.{find}
 use Rattle.sc_value.specs.declared.ids.AppId.{AppId}
 use Rattle.sc_value.specs.declared.ids.ReqId.{ReqId}
 use Rattle.sc_value.specs.declared.message.Request.{Request}
@@ -16,6 +17,7 @@ use Rattle.sc_state.specs.declared.session.Known.{Known}
 use Rattle.sc_state.specs.declared.session.Session.{Session}
 use Rattle.sc_state.specs.declared.session.Way.TheVariants.{Received}
 use Rattle.sc_hosts.specs.Histories.{History, session_after, session_of}
+use Rattle.sc_hosts.specs.Looking.{same_request}
 use Rattle.sc_hosts.specs.PreparingRequests.{next_id}
 use Rattle.sc_hosts.specs.Sessions.{Turn}
 use Rattle.sc_lasting.specs.Lasting.{All}
@@ -54,9 +56,10 @@ unfoldable pub AreSingle : List Came → Type 0
 AreSingle [] = Unit {0}
 AreSingle (one ∷ more) = All (λ (other : Came). other.id ≡ one.id → ⊥) more × AreSingle more
 
--- what came under this number, this event brought: the event by which an answer to it goes
-unfoldable pub IsBroughtBy : List Came → ReqId → ℕ → Type 0
-IsBroughtBy came req event = All (λ (one : Came). one.id ≡ req → one.event ≡ event) came
+-- the event that brought the request of this number
+unfoldable pub brought_by : List Came → ReqId → Option ℕ
+brought_by came req =
+    option_map (λ (one : Came). one.event) (find (λ (one : Came). same_request one.id req) came)
 
 -- ## What is kept of it
 

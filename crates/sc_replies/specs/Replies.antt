@@ -23,7 +23,7 @@ use Rattle.sc_hosts.specs.Sessions.{Turn}
 use Rattle.sc_lived.specs.Lived.{HasLived, Told}
 use Rattle.sc_answered.specs.StateOf.{Exhausted, Happening, Overtaken, Response as Responded, Undone}
 use Rattle.sc_answered.specs.Happened.{Happened, at_moment, cancelled, got, shown_by, too_low}
-use Rattle.sc_replies.specs.Came.{Came, IsBroughtBy, came_of}
+use Rattle.sc_replies.specs.Came.{Came, brought_by, came_of}
 
 -- ## What a turn tells, by where it comes from
 
@@ -77,7 +77,7 @@ pub record IsReply (requests : List Came) (reply : Reply) (order : Order) : Type
   pub event : ℕ
   pub response : Response
   pub is : order ≡ orders.Respond event response
-  pub brought : IsBroughtBy requests reply.req event
+  pub brought : brought_by requests reply.req ≡ Some event
   pub code : response.code ≡ reply.code
   pub tagged : is_some (tag_of response.head.to) ≡ reply.tagged
 

@@ -19,7 +19,7 @@ ghost use Rattle.sc_replies.specs.Replies.{GaveAll, HasGivenAll, came, gave};
 /// session each answer that a turn gave, by a call, by the container or as a proxy, is an order of
 /// its own among those that the turn gives to its host: a response of that code, with a To tag or
 /// without, in the order in which they are told, and under the number of the event that brought the
-/// request that it answers, where that request came. The contract is the law, and the call does
+/// request that it answers, which came then or before. The contract is the law, and the call does
 /// nothing.
 pub fn answers_are_given()
     ensures parts { (config : Config) (session : Session) (turn : Turn)
