@@ -2,9 +2,11 @@
 //!
 //! A row is a call and behind `=` what it answers: nothing where it is accepted and gives no
 //! number, the number that it gives, or the refusal. `54 times` is an answer too: the call is
-//! accepted so often. A row `each` is each of the calls. What stands behind `#` is a remark.
+//! accepted so often. A row `each` is each of the calls. A helper's call answers what it gives, or
+//! its refusal. What stands behind `#` is a remark.
 
 use crate::calling::make;
+use crate::helping::help;
 use crate::reading::{cut, number, word};
 use crate::views::turn;
 use sc_terms::{CallAnswer, End};
@@ -48,13 +50,21 @@ fn text_of(alloc: Global, answer: CallAnswer) -> Result<String, AllocError> {
     }
 }
 
+// Whether a helper's call is answered so.
+fn is_helped(t: &mut Turn, alloc: Global, call: &str, answer: &str) -> bool {
+    match help(t, alloc, call) {
+        Some(told) => told.as_str() == answer,
+        None => false,
+    }
+}
+
 fn is_answered(t: &mut Turn, alloc: Global, call: &str, answer: &str) -> bool {
     match make(t, alloc, call) {
         Some(told) => match text_of(alloc, told) {
             Ok(text) => text.as_str() == answer,
             Err(_) => false,
         },
-        None => false,
+        None => is_helped(t, alloc, call, answer),
     }
 }
 

@@ -48,11 +48,13 @@ fn meant(byte: u8) -> u8 {
         b'_' => b' ',
         b'^' => b'\r',
         b'|' => b'\n',
+        b'!' => b'=',
         _ => byte,
     }
 }
 
-/// The text that a word stands for: `_` for a blank, `^` and `|` for CR and LF, `~` for nothing.
+/// The text that a word stands for: `_` for a blank, `^` and `|` for CR and LF, `!` for `=`, `~` for
+/// nothing.
 pub fn text_of(alloc: Global, word: &str) -> Result<Text, NoMemory> {
     let mut text = Text::new(alloc);
     for byte in word.as_bytes() {
