@@ -60,8 +60,8 @@ pub fn written(text: Result<String, AllocError>) -> Option<String> {
     }
 }
 
-/// Makes the call of a helper that a row names, or sets or looks at what one remembers. None where it
-/// names no such call.
+/// Makes the call of a helper that a row names, or sets or looks at what one remembers. None where
+/// it names no such call.
 pub fn help(t: &mut Turn, alloc: Global, row: &str) -> Option<String> {
     if let Some(told) = remember(t, alloc, row) {
         return Some(told);

@@ -53,8 +53,8 @@ fn meant(byte: u8) -> u8 {
     }
 }
 
-/// The text that a word stands for: `_` for a blank, `^` and `|` for CR and LF, `!` for `=`, `~` for
-/// nothing.
+/// The text that a word stands for: `_` for a blank, `^` and `|` for CR and LF, `!` for `=`, `~`
+/// for nothing.
 pub fn text_of(alloc: Global, word: &str) -> Result<Text, NoMemory> {
     let mut text = Text::new(alloc);
     for byte in word.as_bytes() {
