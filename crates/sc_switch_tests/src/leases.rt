@@ -1,5 +1,7 @@
 //! Leases that are out, and the turns that are made of them.
 
+ghost use Rattle.std.specs.Prelude.{◌≡◌, IfOk};
+
 use sc_servlets::{Catalogue, Done, Lease};
 use sc_terms::View;
 use sc_value::{CloneIn, Discard, List, NoMemory, Shared, Text};
@@ -69,14 +71,26 @@ fn forged_params(alloc: Global) -> Result<List<Text>, NoMemory> {
     Ok(params)
 }
 
-fn forged_view(alloc: Global, view: &View) -> Result<Shared<View>, NoMemory> {
+fn forged_view(alloc: Global, view: &View) -> Result<Shared<View>, NoMemory>
+    ensures moment { IfOk result (λ forged. forged.now ≡ view.entry.now.now) }
+    ensures counter { IfOk result (λ forged. forged.counter ≡ view.entry.now.counter) }
+    ensures requests { IfOk result (λ forged. forged.next_request ≡ view.entry.now.next_request) }
+    ensures timers { IfOk result (λ forged. forged.next_timer ≡ view.entry.now.next_timer) }
+    ensures sessions { IfOk result (λ forged. forged.sessions ≡ view.entry.now.sessions) }
+{
     let params = forged_params(alloc)?;
     let mut view = view.clone_in(alloc)?;
     view.params = params;
     Shared::new(alloc, view)
 }
 
-fn showing(lease: Lease, shown: Shared<View>) -> Lease {
+fn showing(lease: Lease, shown: Shared<View>) -> Lease
+    requires moment { shown.now ≡ lease.shown.now }
+    requires counter { shown.counter ≡ lease.shown.counter }
+    requires requests { shown.next_request ≡ lease.shown.next_request }
+    requires timers { shown.next_timer ≡ lease.shown.next_timer }
+    requires sessions { shown.sessions ≡ lease.shown.sessions }
+{
     let Lease {
         number,
         app,
