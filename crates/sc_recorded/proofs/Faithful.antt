@@ -1,4 +1,4 @@
--- What a session proxies to targets is the request that began it, with options that stay on the path or don't as its accepted calls ask.
+-- What a session proxies to targets is the request that began it, as its first accepted call that proxied asks.
 use Rattle.std.proofs.Common.{◌≡◌, ◌⊎◌, inl, inr, ℕ, Bool, true, false, Option, None, Some, List, [], ◌∷◌, refl, sym, ap, subst, ◌∙◌}
 use Rattle.std.specs.Prelude.{is_some}
 use Rattle.std.specs.Option.{option_map_or}
@@ -24,7 +24,7 @@ use Rattle.sc_hosts.specs.Legs.{first_known, fresh}
 use Rattle.sc_hosts.specs.Preparing.{prepared}
 use Rattle.sc_hosts.specs.Sessions.{Turn}
 use Rattle.sc_hosts.specs.Working.{worked_all}
-use Rattle.sc_walked.specs.SessionWalks.{AreDone, Each}
+use Rattle.sc_walked.specs.SessionWalks.{Each}
 use Rattle.sc_lasting.specs.Lasting.{All}
 use Rattle.sc_lasting.proofs.Parts.{all-each, each-weaker}
 use Rattle.sc_proxied.specs.ProxyLists.{ProxyEvent, proxy_after}
@@ -41,116 +41,108 @@ use Rattle.sc_begun.specs.Begun.{IsFirst}
 use Rattle.sc_begun.proofs.FirstProxies.{IsProper}
 use Rattle.sc_recorded.specs.Recorded.{IsTaggedEvent}
 use Rattle.sc_recorded.proofs.MadeEnds.{IsFaithful}
+use Rattle.sc_recorded.proofs.Settled.{SaysSo}
 
--- a call that proxies stays on the path, or not, as this says
-unfoldable pub StaysAs : Bool → Call → Type 0
-StaysAs stays (calls.ProxyTo req uris how) = how.record_route ≡ stays
-StaysAs stays call = Unit {0}
+-- each turn took no later request without To tag
+unfoldable pub AreTagged : List Turn → Type 0
+AreTagged [] = Unit {0}
+AreTagged (turn ∷ earlier) = IsTaggedEvent turn.waiting.event × AreTagged earlier
 
--- it is proxied with such options, or it is a later request
-unfoldable pub IsRight : Bool → Proxy → Type 0
-IsRight stays proxy =
-    ((how : ProxyOptions) × (proxy.options ≡ Some how) × (how.record_route ≡ stays)) ⊎ ((proxy.options ≡ None) × (is_some (tag_of proxy.request.head.to) ≡ true))
+-- a call proxied it, or it is a later request
+unfoldable pub IsRight : Proxy → Type 0
+IsRight proxy = ((how : ProxyOptions) × (proxy.options ≡ Some how)) ⊎ ((proxy.options ≡ None) × (is_some (tag_of proxy.request.head.to) ≡ true))
 
 clash : (b : Bool) → b ≡ true → b ≡ false → ⊥
 clash b p q = cc
 
-right-is : (stays : Bool) (p q : Proxy) → as_begun q ≡ as_begun p → IsRight stays p → IsRight stays q
+right-is : (p q : Proxy) → as_begun q ≡ as_begun p → IsRight p → IsRight q
 unfolding IsRight new_proxy
-right-is stays p q same (inl how) = inl (how.0, ap (λ (r : Proxy). r.options) same ∙ how.1, how.2)
-right-is stays p q same (inr later) = inr (ap (λ (r : Proxy). r.options) same ∙ later.0, subst (λ (r : Request). is_some (tag_of r.head.to) ≡ true) (sym (ap (λ (r : Proxy). r.request) same)) later.1)
+right-is p q same (inl how) = inl (how.0, ap (λ (r : Proxy). r.options) same ∙ how.1)
+right-is p q same (inr later) = inr (ap (λ (r : Proxy). r.options) same ∙ later.0, subst (λ (r : Request). is_some (tag_of r.head.to) ≡ true) (sym (ap (λ (r : Proxy). r.request) same)) later.1)
 
-right-after : (stays : Bool) (events : List ProxyEvent) (p q : Proxy) → q ≡ proxy_after p events → IsRight stays p → IsRight stays q
-right-after stays events p q is right = right-is stays p q (ap (λ (r : Proxy). as_begun r) is ∙ after-begun events p) right
+right-after : (events : List ProxyEvent) (p q : Proxy) → q ≡ proxy_after p events → IsRight p → IsRight q
+right-after events p q is right = right-is p q (ap (λ (r : Proxy). as_begun r) is ∙ after-begun events p) right
 
 -- ## A call begins to proxy it
 
-begins-by : (stays : Bool) (first : Proxy) (call : Call) → BeginsBy first call → StaysAs stays call → IsRight stays first
-unfolding BeginsBy StaysAs IsRight
-begins-by stays first (calls.ProxyTo req uris how) by keeps = inl (how, by.1, keeps)
-begins-by stays first (calls.Respond req answer) by keeps = absurd by
-begins-by stays first (calls.CreateRequest ask) by keeps = absurd by
-begins-by stays first (calls.CreateInDialog sess ask) by keeps = absurd by
-begins-by stays first (calls.B2bCreate req uri) by keeps = absurd by
-begins-by stays first (calls.SetDirective draft directive origin) by keeps = absurd by
-begins-by stays first (calls.Send draft) by keeps = absurd by
-begins-by stays first (calls.Discard draft) by keeps = absurd by
-begins-by stays first (calls.Ack sess body) by keeps = absurd by
-begins-by stays first (calls.Cancel req) by keeps = absurd by
-begins-by stays first (calls.ProxyCancel req) by keeps = absurd by
-begins-by stays first (calls.B2bRespond sess answer) by keeps = absurd by
-begins-by stays first (calls.Link a b) by keeps = absurd by
-begins-by stays first (calls.Unlink a) by keeps = absurd by
-begins-by stays first (calls.StartTimer delay period info) by keeps = absurd by
-begins-by stays first (calls.CancelTimer id) by keeps = absurd by
-begins-by stays first (calls.SetAttribute name value) by keeps = absurd by
-begins-by stays first (calls.RemoveAttribute name) by keeps = absurd by
-begins-by stays first (calls.SetExpires minutes) by keeps = absurd by
-begins-by stays first (calls.SetReadyFlag target flag) by keeps = absurd by
-begins-by stays first (calls.InvalidateSession sess) by keeps = absurd by
-begins-by stays first calls.InvalidateApplication by keeps = absurd by
+begins-by : (first : Proxy) (call : Call) → BeginsBy first call → IsRight first
+unfolding BeginsBy IsRight
+begins-by first (calls.ProxyTo req uris how) by = inl (how, by.1)
+begins-by first (calls.Respond req answer) by = absurd by
+begins-by first (calls.CreateRequest ask) by = absurd by
+begins-by first (calls.CreateInDialog sess ask) by = absurd by
+begins-by first (calls.B2bCreate req uri) by = absurd by
+begins-by first (calls.SetDirective draft directive origin) by = absurd by
+begins-by first (calls.Send draft) by = absurd by
+begins-by first (calls.Discard draft) by = absurd by
+begins-by first (calls.Ack sess body) by = absurd by
+begins-by first (calls.Cancel req) by = absurd by
+begins-by first (calls.ProxyCancel req) by = absurd by
+begins-by first (calls.B2bRespond sess answer) by = absurd by
+begins-by first (calls.Link a b) by = absurd by
+begins-by first (calls.Unlink a) by = absurd by
+begins-by first (calls.StartTimer delay period info) by = absurd by
+begins-by first (calls.CancelTimer id) by = absurd by
+begins-by first (calls.SetAttribute name value) by = absurd by
+begins-by first (calls.RemoveAttribute name) by = absurd by
+begins-by first (calls.SetExpires minutes) by = absurd by
+begins-by first (calls.SetReadyFlag target flag) by = absurd by
+begins-by first (calls.InvalidateSession sess) by = absurd by
+begins-by first calls.InvalidateApplication by = absurd by
 
-begins-in : (stays : Bool) (first : Proxy) (made : List CallRecord) (play : Play) (given : List ProxyEvent) → BeginsIn first play made given → AreDone (StaysAs stays) play made → IsRight stays first
-unfolding BeginsIn AreDone
-begins-in stays first [] play given begins done = absurd begins
-begins-in stays first (m ∷ made) play given (inl one) done = begins-by stays first m.call one.1 (done.0 one.0)
-begins-in stays first (m ∷ made) play given (inr later) done = begins-in stays first made (after_listed play m.call) given later done.1
+begins-in : (first : Proxy) (made : List CallRecord) (play : Play) (given : List ProxyEvent) → BeginsIn first play made given → IsRight first
+unfolding BeginsIn
+begins-in first [] play given begins = absurd begins
+begins-in first (m ∷ made) play given (inl one) = begins-by first m.call one.1
+begins-in first (m ∷ made) play given (inr later) = begins-in first made (after_listed play m.call) given later
 
-begun-right : (stays : Bool) (play : Play) (made : List CallRecord) (q : Proxy) → HasBegun play made q → AreDone (StaysAs stays) play made → IsRight stays q
+begun-right : (play : Play) (made : List CallRecord) (q : Proxy) → HasBegun play made q → IsRight q
 unfolding new_proxy
-begun-right stays play made q begun done = right-is stays (as_begun q) q refl (begins-in stays (as_begun q) made play begun.given begun.by done)
+begun-right play made q begun = right-is (as_begun q) q refl (begins-in (as_begun q) made play begun.given begun.by)
 
-passed-right : (stays : Bool) (event : Queued) (first : Proxy) (own : List ProxyEvent) → IsPassed event first own → IsTaggedEvent event → IsRight stays first
+passed-right : (event : Queued) (first : Proxy) (own : List ProxyEvent) → IsPassed event first own → IsTaggedEvent event → IsRight first
 unfolding IsPassed IsTaggedEvent IsRight
-passed-right stays (queued.Request request) first own passed tagged = inr (passed.1, subst (λ (r : Request). is_some (tag_of r.head.to) ≡ true) (sym passed.0) tagged)
-passed-right stays (queued.Initial region subscriber popped request) first own passed tagged = absurd passed
-passed-right stays (queued.Response branch response) first own passed tagged = absurd passed
-passed-right stays (queued.Cancelled number) first own passed tagged = absurd passed
-passed-right stays (queued.Timer id) first own passed tagged = absurd passed
-passed-right stays (queued.BranchTimer branch due) first own passed tagged = absurd passed
-passed-right stays queued.Expired first own passed tagged = absurd passed
-passed-right stays queued.Ready first own passed tagged = absurd passed
+passed-right (queued.Request request) first own passed tagged = inr (passed.1, subst (λ (r : Request). is_some (tag_of r.head.to) ≡ true) (sym passed.0) tagged)
+passed-right (queued.Initial region subscriber popped request) first own passed tagged = absurd passed
+passed-right (queued.Response branch response) first own passed tagged = absurd passed
+passed-right (queued.Cancelled number) first own passed tagged = absurd passed
+passed-right (queued.Timer id) first own passed tagged = absurd passed
+passed-right (queued.BranchTimer branch due) first own passed tagged = absurd passed
+passed-right queued.Expired first own passed tagged = absurd passed
+passed-right queued.Ready first own passed tagged = absurd passed
 
 -- ## Over a life
 
--- each of these turns took a fit event, and its accepted calls proxy as this says
-unfoldable pub AreFitting : Bool → Config → History → List Turn → Type 0
-AreFitting stays config history [] = Unit {0}
-AreFitting stays config history (turn ∷ earlier) =
-    IsTaggedEvent turn.waiting.event × AreDone (StaysAs stays) (begun (prepared config turn.ringing (session_after config history earlier) turn.waiting turn.now).view) turn.calls
-    × AreFitting stays config history earlier
-
 -- each proxied request has a number of its own, and right options
-pub record AreRight (stays : Bool) (x : Session) : Type 0 where
+pub record AreRight (x : Session) : Type 0 where
   pub single : AreSingle x.known.proxies
-  pub all : All (IsRight stays) x.known.proxies
+  pub all : All IsRight x.known.proxies
 
-new-right : (stays : Bool) (config : Config) (turn : Turn) (x : Session) (high : ℕ) (q : Proxy) → NewTurn config turn x high q → IsTaggedEvent turn.waiting.event
-    → AreDone (StaysAs stays) (begun (prepared config turn.ringing x turn.waiting turn.now).view) turn.calls → IsRight stays q
+new-right : (config : Config) (turn : Turn) (x : Session) (high : ℕ) (q : Proxy) → NewTurn config turn x high q → IsTaggedEvent turn.waiting.event
+    → IsRight q
 unfolding new_proxy
-new-right stays config turn x high q new tagged done = right-is stays (as_begun q) q refl (by new.told)
+new-right config turn x high q new tagged = right-is (as_begun q) q refl (by new.told)
   where
-    by : IsBegun config x turn (as_begun q) new.own ⊎ IsPassed turn.waiting.event (as_begun q) new.own → IsRight stays (as_begun q)
-    by (inl one) = begins-in stays (as_begun q) turn.calls _ one.given one.of_calls done
-    by (inr passed) = passed-right stays turn.waiting.event (as_begun q) _ passed tagged
+    by : IsBegun config x turn (as_begun q) new.own ⊎ IsPassed turn.waiting.event (as_begun q) new.own → IsRight (as_begun q)
+    by (inl one) = begins-in (as_begun q) turn.calls _ one.given one.of_calls
+    by (inr passed) = passed-right turn.waiting.event (as_begun q) _ passed tagged
 
-turn-right : (stays : Bool) (config : Config) (history : History) (turn : Turn) (earlier : List Turn) → AreRight stays (session_after config history earlier) → IsTaggedEvent turn.waiting.event
-    → AreDone (StaysAs stays) (begun (prepared config turn.ringing (session_after config history earlier) turn.waiting turn.now).view) turn.calls
-    → AreRight stays (after_turn config turn (session_after config history earlier))
-turn-right stays config history turn earlier right tagged done =
+turn-right : (config : Config) (history : History) (turn : Turn) (earlier : List Turn) → AreRight (session_after config history earlier) → IsTaggedEvent turn.waiting.event
+    → AreRight (after_turn config turn (session_after config history earlier))
+turn-right config history turn earlier right tagged =
     let x : Session = session_after config history earlier in
     let after : Session = after_turn config turn x in
     let told = turn-tells config turn x right.single (all-numbered config history earlier) in
     record {
       single = told.single;
-      all = grows-all (OldTurn config turn x after.view.counter) (NewTurn config turn x after.view.counter) (IsRight stays) (IsRight stays) x.known.proxies after.known.proxies
-          (λ p q old ok. right-after stays old.own p q old.is ok) (λ q new. new-right stays config turn x after.view.counter q new tagged done) told.grows right.all;
+      all = grows-all (OldTurn config turn x after.view.counter) (NewTurn config turn x after.view.counter) (IsRight) (IsRight) x.known.proxies after.known.proxies
+          (λ p q old ok. right-after old.own p q old.is ok) (λ q new. new-right config turn x after.view.counter q new tagged) told.grows right.all;
     }
 
-pub lives-right : (stays : Bool) (config : Config) (history : History) (turns : List Turn) → AreFitting stays config history turns → AreRight stays (session_after config history turns)
-unfolding session_after AreFitting fresh first_known All NumbersApart numbers_of
-lives-right stays config history [] fit = record { single = tt; all = tt }
-lives-right stays config history (turn ∷ earlier) fit = turn-right stays config history turn earlier (lives-right stays config history earlier fit.2) fit.0 fit.1
+pub lives-right : (config : Config) (history : History) (turns : List Turn) → AreTagged turns → AreRight (session_after config history turns)
+unfolding session_after AreTagged fresh first_known All NumbersApart numbers_of
+lives-right config history [] fit = record { single = tt; all = tt }
+lives-right config history (turn ∷ earlier) fit = turn-right config history turn earlier (lives-right config history earlier fit.1) fit.0
 
 -- ## Within a turn
 
@@ -159,7 +151,7 @@ single-came x event xs ys each single =
     subst (λ (ns : List ℕ). NumbersApart ns)
     (sym (same-numbers xs ys (each-weaker (Comes x event) (λ (p q : Proxy). q.req ≡ p.req) xs ys (λ p q come. ap (λ (r : Proxy). r.req) come.is ∙ after-req come.came p) each))) single
 
-module _ (stays : Bool) (config : Config) (turn : Turn) (x : Session) where
+module _ (config : Config) (turn : Turn) (x : Session) where
   abbrev shown : Prepared
   shown = prepared config turn.ringing x turn.waiting turn.now
 
@@ -176,31 +168,31 @@ module _ (stays : Bool) (config : Config) (turn : Turn) (x : Session) where
   unfolding prepared
   comes single = event-comes config turn.ringing dated turn.waiting.number turn.waiting.event single
 
-  shown-right : AreRight stays x → All (IsRight stays) shown.known.proxies
+  shown-right : AreRight x → All IsRight shown.known.proxies
   shown-right right =
-      all-each (IsRight stays) (Comes dated turn.waiting.event) x.known.proxies shown.known.proxies (λ p q come ok. right-after stays come.came p q come.is ok) (comes right.single) right.all
+      all-each (IsRight) (Comes dated turn.waiting.event) x.known.proxies shown.known.proxies (λ p q come ok. right-after come.came p q come.is ok) (comes right.single) right.all
 
-  played-right : AreRight stays x → AreDone (StaysAs stays) (begun shown.view) turn.calls → All (IsRight stays) played.known.proxies
-  played-right right done =
+  played-right : AreRight x → All IsRight played.known.proxies
+  played-right right =
       let given : AreGiven (begun shown.view) turn.calls shown.known.proxies played.known.proxies =
       turn-given config shown turn.calls (single-came dated turn.waiting.event x.known.proxies shown.known.proxies (comes right.single) right.single) in
-      grows-all (SaidAll (begun shown.view) turn.calls) (HasBegun (begun shown.view) turn.calls) (IsRight stays) (IsRight stays) shown.known.proxies played.known.proxies
-      (λ p q said ok. right-after stays _ p q said ok) (λ q new. begun-right stays (begun shown.view) turn.calls q new done) given.grows (shown-right right)
+      grows-all (SaidAll (begun shown.view) turn.calls) (HasBegun (begun shown.view) turn.calls) (IsRight) (IsRight) shown.known.proxies played.known.proxies
+      (λ p q said ok. right-after _ p q said ok) (λ q new. begun-right (begun shown.view) turn.calls q new) given.grows (shown-right right)
 
   -- as proxies act
-  pub acting-right : AreRight stays x → AreDone (StaysAs stays) (begun shown.view) turn.calls → All (IsRight stays) acting.known.proxies
-  acting-right right done = subst (λ (all : List Proxy). All (IsRight stays) all) (sym (acting-same config shown.req turn.end played)) (played-right right done)
+  pub acting-right : AreRight x → All IsRight acting.known.proxies
+  acting-right right = subst (λ (all : List Proxy). All IsRight all) (sym (acting-same config shown.req turn.end played)) (played-right right)
 
 -- ## What goes to targets
 
-faithful : (stays : Bool) (began : Request) (p : Proxy) → IsFirst began → IsRight stays p → IsProper began p → IsFaithful stays began p
-unfolding IsRight IsProper IsFaithful records_route
-faithful stays began p first (inl how) (inl is) = inl (is, ap (λ (o : Option ProxyOptions). option_map_or (λ (h : ProxyOptions). h.record_route) o true) how.1 ∙ how.2)
-faithful stays began p first (inl how) (inr bare) = inr bare.1
-faithful stays began p first (inr later) (inl is) = absurd (clash _ later.1 (subst (λ (r : Request). is_some (tag_of r.head.to) ≡ false) (sym is) first))
-faithful stays began p first (inr later) (inr bare) = inr bare.1
+faithful : (stays : Bool) (began : Request) (p : Proxy) → IsFirst began → IsRight p → SaysSo stays p → IsProper began p → IsFaithful stays began p
+unfolding IsRight SaysSo IsProper IsFaithful records_route
+faithful stays began p first (inl how) says (inl is) = inl (is, ap (λ (o : Option ProxyOptions). option_map_or (λ (h : ProxyOptions). h.record_route) o true) how.1 ∙ says how.0 how.1)
+faithful stays began p first (inl how) says (inr bare) = inr bare.1
+faithful stays began p first (inr later) says (inl is) = absurd (clash _ later.1 (subst (λ (r : Request). is_some (tag_of r.head.to) ≡ false) (sym is) first))
+faithful stays began p first (inr later) says (inr bare) = inr bare.1
 
-pub all-faithful : (stays : Bool) (began : Request) (all : List Proxy) → IsFirst began → All (IsRight stays) all → All (IsProper began) all → All (IsFaithful stays began) all
+pub all-faithful : (stays : Bool) (began : Request) (all : List Proxy) → IsFirst began → All IsRight all → All (SaysSo stays) all → All (IsProper began) all → All (IsFaithful stays began) all
 unfolding All
-all-faithful stays began [] first right proper = tt
-all-faithful stays began (p ∷ all) first right proper = (faithful stays began p first right.0 proper.0, all-faithful stays began all first right.1 proper.1)
+all-faithful stays began [] first right says proper = tt
+all-faithful stays began (p ∷ all) first right says proper = (faithful stays began p first right.0 says.0 proper.0, all-faithful stays began all first right.1 says.1 proper.1)

@@ -5,6 +5,10 @@ pub mod Steps
 pub mod MadeCalls
 pub mod MadeShown
 pub mod MadeEnds
+pub mod Settled
+pub mod Asking
+pub mod Settling
+pub mod Spans
 pub mod Faithful
 pub mod MadeTurns
 pub mod Texts
@@ -12,5 +16,5 @@ pub mod SoundKinds
 pub mod Runs
 pub mod Chain
 pub mod Law
-pub mod Minds
+pub mod FirstAsked
 pub mod Whole

@@ -27,7 +27,7 @@ use Rattle.sc_hosts.specs.PreparingRequests.{received}
 use Rattle.sc_hosts.specs.Sessions.{Turn}
 use Rattle.sc_hosts.specs.ViewChanges.{linked, with_own_session}
 use Rattle.sc_hosts.specs.Working.{worked_all}
-use Rattle.sc_walked.specs.SessionWalks.{AreDone, SessionLaws}
+use Rattle.sc_walked.specs.SessionWalks.{SessionLaws}
 use Rattle.sc_walked.proofs.WalkCalls.{session_at, worked_all-walks}
 use Rattle.sc_walked.proofs.WalkEnds.{all_act-goes, done-any, drafts_ended-goes, faulted-goes}
 use Rattle.sc_walked.proofs.WalkShown.{prepared-walks}
@@ -40,10 +40,11 @@ use Rattle.sc_proxying.proofs.Rising.{IsNumbered}
 use Rattle.sc_begun.specs.Begun.{IsFirst}
 use Rattle.sc_begun.proofs.FirstProxies.{AreProper, proper-law}
 use Rattle.sc_recorded.specs.Recorded.{IsTaggedEvent, routed}
-use Rattle.sc_recorded.proofs.Faithful.{AreRight, StaysAs, acting-right, all-faithful}
+use Rattle.sc_recorded.proofs.Faithful.{AreRight, acting-right, all-faithful}
 use Rattle.sc_recorded.proofs.MadeCalls.{AreMade, worked_all-made}
 use Rattle.sc_recorded.proofs.MadeEnds.{IsNamed, all_act-made, before-made, passes_later-made}
 use Rattle.sc_recorded.proofs.MadeShown.{prepared-made}
+use Rattle.sc_recorded.proofs.Settled.{SaysSo}
 
 -- ## A session keeps its names
 
@@ -181,16 +182,16 @@ module _ (config : Config) (turn : Turn) (x : Session) where
 
   module _ (epoch : ℕ) (app : AppId) (stays : Bool) (began : Request) (some : 1 ≤ length began.head.via) (first : IsFirst began) (named : IsNamed epoch app x.view) where
     -- the orders of the turn
-    pub turn-made : IsTaggedEvent turn.waiting.event → IsNumbered x → IsOf began turn.waiting.event → AreProper began x → AreRight stays x → AreDone (StaysAs stays) (begun shown.view) turn.calls
+    pub turn-made : IsTaggedEvent turn.waiting.event → IsNumbered x → IsOf began turn.waiting.event → AreProper began x → AreRight x → All (SaysSo stays) acting.known.proxies
         → AreMade (routed config epoch app stays began.head.record_route) (outcome config turn.ringing x turn.waiting turn.now turn.calls turn.end).orders
     unfolding outcome outcome_of finished prepared
-    turn-made tagged numbered of proper right done =
+    turn-made tagged numbered of proper right says =
         let routes = routed config epoch app stays began.head.record_route in
         let names : SameNames x.view acting.play.view = acting-walks turn.waiting.event (λ y z. SameNames y.view z.view) (names-law turn.waiting.event) refl in
         let still : AreProper began (session_at acting) = acting-walks turn.waiting.event (λ y z. AreProper began y → AreProper began z) (proper-law began turn.waiting.event of) refl proper in
         let calls = worked_all-made routes config shown turn.calls (prepared-made routes config turn.ringing (record x { view = record x.view { now = turn.now } }) turn.waiting.number turn.waiting.event) in
         let before = before-made config epoch app stays began some shown.req turn.end played calls.0 in
         let acts = all_act-made config epoch app stays began some acting
-        (all-faithful stays began acting.known.proxies first (acting-right stays config turn x right done) still.proper.1)
+        (all-faithful stays began acting.known.proxies first (acting-right config turn x right) says still.proper.1)
         (before, (names.0 ∙ named.0, names.1 ∙ named.1)) in
         passes_later-made config epoch app stays began some turn.waiting.event shown.req acted (λ later r kept found has. tagged-by turn.waiting.event refl tagged numbered later r kept found has) acts.0

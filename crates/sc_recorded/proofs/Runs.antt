@@ -5,10 +5,10 @@ use Rattle.std.specs.Prelude.{◌==◌, ◌&&◌, cond, map, option_and_then, op
 use Rattle.std.proofs.lemmas.Bool.Decides.{nat_tests}
 use Rattle.sc_value.specs.declared.ids.AppId.{AppId}
 use Rattle.sc_value.specs.declared.message.Request.{Request}
-use Rattle.sc_terms.specs.declared.calls.Call.{Call}
 use Rattle.sc_terms.specs.declared.calls.CallRecord.{CallRecord}
 use Rattle.sc_terms.specs.declared.calls.End.{End}
 use Rattle.sc_terms.specs.declared.settings.AppEntry.{AppEntry}
+use Rattle.sc_terms.specs.declared.calls.ProxyOptions.{ProxyOptions}
 use Rattle.sc_terms.specs.declared.steps.Step.{Step}
 use Rattle.sc_terms.specs.declared.steps.Step.TheVariants as steps
 use Rattle.sc_parts.specs.declared.setup.Setup.{Setup}
@@ -21,11 +21,9 @@ use Rattle.sc_state.specs.declared.orders.Order.{Order}
 use Rattle.sc_state.specs.declared.queue.Waiting.{Waiting}
 use Rattle.sc_state.specs.declared.session.Session.{Session}
 use Rattle.sc_model.specs.Names.{IsOf64}
-use Rattle.sc_hosts.specs.Effects.{begun}
-use Rattle.sc_hosts.specs.Histories.{History, as_history, as_session, session_after, session_of}
+use Rattle.sc_hosts.specs.Histories.{History, as_history, as_session, session_of}
 use Rattle.sc_hosts.specs.Inboxes.{live_in}
 use Rattle.sc_hosts.specs.Nets.{host_at}
-use Rattle.sc_hosts.specs.Preparing.{prepared}
 use Rattle.sc_hosts.specs.Runs.{IsAllowed, IsLawful, IsLawfulFrom, MayTurn, after_step, chained, chained_from, quiet_host, shown, start}
 use Rattle.sc_hosts.specs.Sessions.{Form, Turn}
 use Rattle.sc_hosts.specs.Steps.{live_at, outcome_by, turn_of}
@@ -33,11 +31,9 @@ use Rattle.sc_hosts.specs.Transacting.{is_same_app}
 use Rattle.sc_forms.specs.Simulations.{map_host, map_live}
 use Rattle.sc_forms.proofs.HistoryLaws.{chained-histories, live_at-histories}
 use Rattle.sc_forms.proofs.NetMaps.{host_at-maps}
-use Rattle.sc_walked.specs.SessionWalks.{AreDone}
 use Rattle.sc_lasting.specs.Lasting.{All, IsLife, IsOf}
-use Rattle.sc_lasting.proofs.Parts.{all-append}
-use Rattle.sc_lived.specs.Lived.{AreAccepted, AreOfOne, AreTaken, IsLived, MayTake, Told, is_refused, told, told_by, told_of, told_turns, turned_events}
-use Rattle.sc_lived.proofs.Accepted.{life-done, one-life}
+use Rattle.sc_lived.specs.Lived.{AreOfOne, AreTaken, IsLived, MayTake, Told, told, told_by, told_of, told_turns, turned_events}
+use Rattle.sc_lived.proofs.Accepted.{one-life}
 use Rattle.sc_lived.proofs.Sayings.{has-lived}
 use Rattle.sc_keyed.specs.Keyed.{AreOn, IsOn}
 use Rattle.sc_keyed.proofs.Branches.{sends-on-branches}
@@ -51,12 +47,14 @@ use Rattle.sc_vias.proofs.RunVias.{Hold, after-kept, live-named, start-kept}
 use Rattle.sc_ways.proofs.OneHop.{IsFine}
 use Rattle.sc_ways.proofs.Recorders.{found-small}
 use Rattle.sc_recorded.specs.Recorded.{IsTaggedEvent, routed}
-use Rattle.sc_recorded.proofs.Faithful.{AreFitting, StaysAs, lives-right}
+use Rattle.sc_recorded.proofs.Faithful.{lives-right}
+use Rattle.sc_recorded.proofs.Asking.{FirstSays, asked_in}
 use Rattle.sc_recorded.proofs.Hosts.{other-name, Good, IsLiveAs, IsReached, IsSent, IsServed}
-use Rattle.sc_recorded.proofs.SoundKinds.{AreTagged, Fit, IsSound, TakesTagged, beginning, other-fit, own-fit, sound-kinds}
+use Rattle.sc_recorded.proofs.SoundKinds.{Fit, IsSound, TakesTagged, beginning, other-fit, own-fit, sound-kinds}
 use Rattle.sc_recorded.proofs.MadeCalls.{AreMade}
 use Rattle.sc_recorded.proofs.MadeTurns.{turn-made}
 use Rattle.sc_recorded.proofs.Nets.{Goes, Holds, first-of}
+use Rattle.sc_recorded.proofs.Spans.{asked_of, life-says, says-front}
 use Rattle.sc_recorded.proofs.Steps.{StepFits, live-as, step-goes}
 
 -- ## Beginnings of a journal
@@ -77,15 +75,9 @@ unfolding told
 told-append [] later app = refl
 told-append (step ∷ before) later app = ap (λ ts. told_by app step ++ ts) (told-append before later app) ∙ sym (append_assoc (told_by app step) (told app before) (told app later))
 
-front : {A : Type 0} (P : A → Type 0) (xs ys : List A) → All P (xs ++ ys) → All P xs
-unfolding All
-front P [] ys all = tt
-front P (x ∷ xs) ys all = (all.0, front P xs ys all.1)
-
-back : {A : Type 0} (P : A → Type 0) (xs ys : List A) → All P (xs ++ ys) → All P ys
-unfolding All
-back P [] ys all = all
-back P (x ∷ xs) ys all = back P xs ys all.1
+pub asked-both : (xs ys : List Told) → asked_of (xs ++ ys) ≡ asked_of xs ++ asked_of ys
+asked-both [] ys = refl
+asked-both (x ∷ xs) ys = ap (λ hs. asked_in x.calls ++ hs) (asked-both xs ys) ∙ sym (append_assoc (asked_in x.calls) (asked_of xs) (asked_of ys))
 
 -- ## Names
 
@@ -100,17 +92,6 @@ unfolding chained
 names-kept setup epoch began before = kept-from setup epoch before (start setup epoch began) (start-kept setup epoch (λ n. Unit {0}) began)
 
 -- ## Events of a life
-
-tagged-turns : (stays : Bool) (setup : Setup) (history : History) (turns : List Turn) → AreTagged turns → IsLife (λ event. Unit {0}) (StaysAs stays) setup.config history turns
-    → AreFitting stays setup.config history turns
-unfolding AreTagged IsLife AreFitting
-tagged-turns stays setup history [] tagged life = tt
-tagged-turns stays setup history (turn ∷ earlier) tagged life = (tagged.0, life.1, tagged-turns stays setup history earlier tagged.1 life.2)
-
-last-done : (setup : Setup) (Does : Call → Type 0) (history : History) (turn : Turn) (earlier : List Turn) → IsLife (λ event. Unit {0}) Does setup.config history (turn ∷ earlier)
-    → AreDone Does (begun (prepared setup.config turn.ringing (session_after setup.config history earlier) turn.waiting turn.now).view) turn.calls
-unfolding IsLife
-last-done setup Does history turn earlier life = life.1
 
 last-of : (setup : Setup) (history top : History) (turn : Turn) (earlier : List Turn) → IsLife (IsOf history.request) (λ call. Unit {0}) setup.config top (turn ∷ earlier) → IsOf history.request turn.waiting.event
 unfolding IsLife
@@ -139,7 +120,7 @@ quiet-is (app ∷ apps) (suc number) host at = quiet-is apps number host at
 -- ## One session of a lawful run
 
 module _ (setup : Setup) (epoch began : ℕ) (journal : List Step) (app : AppId) (stays : Bool) (small : epoch < 2 ^ 64) (name : IsOf64 epoch app 0)
-    (accepted : AreAccepted (StaysAs stays) (told app journal)) where
+    (says : FirstSays stays (asked_of (told app journal))) where
   abbrev Form-of : Form History
   Form-of = as_history setup.config
 
@@ -242,42 +223,41 @@ module _ (setup : Setup) (epoch began : ℕ) (journal : List Step) (app : AppId)
         lived : IsLived setup app (told app before) live.session live.inbox
         lived = subst (λ (a : AppId). IsLived setup a (told a before) live.session live.inbox) here (has-lived setup epoch began before of live lawful lives)
 
-        told-is : AreAccepted (StaysAs stays) (told app before ++ (told_by app (steps.Turn of event now made end) ++ told app later))
-        unfolding told
-        told-is = subst (λ (ts : List Told). AreAccepted (StaysAs stays) ts) (told-append before (steps.Turn of event now made end ∷ later) app)
-            (subst (λ (j : List Step). AreAccepted (StaysAs stays) (told app j)) (sym is) accepted)
+        said : (b : Bool) → b ≡ true → asked_of (cond b (record { event = event; now = now; calls = made; end = end } ∷ []) []) ≡ asked_in made ++ []
+        said true same = refl
+        said false same = cc
 
-        calls-by : (b : Bool) → is_same_app app of ≡ b → AreAccepted (StaysAs stays) (cond b (record { event = event; now = now; calls = made; end = end } ∷ []) []) → of ≡ app
-            → All (λ (m : CallRecord). is_refused m.answer ≡ false → StaysAs stays m.call) made
-        unfolding All
-        calls-by true is told same = told.0
-        calls-by false is told same = absurd (differs app.host app.serial (subst (λ (a : AppId). is_same_app app a ≡ false) same is))
+        same-here : is_same_app app of ≡ true
+        same-here = subst (λ (a : AppId). is_same_app app a ≡ true) (sym here) (itself app.host app.serial)
           where
-            differs : (h s : ℕ) → (h == h && s == s) ≡ false → ⊥
-            differs h s is = grind (arith, nat_tests, is)
+            itself : (h s : ℕ) → (h == h && s == s) ≡ true
+            itself h s = grind (arith, nat_tests)
 
-        calls : All (λ (m : CallRecord). is_refused m.answer ≡ false → StaysAs stays m.call) made
-        unfolding told_by
-        calls =
-            calls-by (is_same_app app of) refl
-            (front (λ (t : Told). All (λ (m : CallRecord). is_refused m.answer ≡ false → StaysAs stays m.call) t.calls) (told_by app (steps.Turn of event now made end)) (told app later)
-            (back (λ (t : Told). All (λ (m : CallRecord). is_refused m.answer ≡ false → StaysAs stays m.call) t.calls) (told app before) _ told-is)) here
+        -- what was asked up to this turn, with it, and later
+        asked-is : asked_of (told_turns (turn ∷ live.session.turns)) ++ asked_of (told app later) ≡ asked_of (told app journal)
+        unfolding told told_turns turn_of told_by
+        asked-is =
+            let mine : List ProxyOptions = asked_in made ++ [] in
+            ap (λ (hs : List ProxyOptions). hs ++ asked_of (told app later)) (asked-both (told_turns live.session.turns) (told_of turn ∷ []) ∙ ap (λ (ts : List Told). asked_of ts ++ mine) lived.turns_are)
+            ∙ append_assoc (asked_of (told app before)) mine (asked_of (told app later))
+            ∙ sym (ap (λ (ts : List Told). asked_of ts) (told-append before (steps.Turn of event now made end ∷ later) app)
+            ∙ asked-both (told app before) (told app (steps.Turn of event now made end ∷ later))
+            ∙ ap (λ (hs : List ProxyOptions). asked_of (told app before) ++ hs)
+            (asked-both (told_by app (steps.Turn of event now made end)) (told app later) ∙ ap (λ (hs : List ProxyOptions). hs ++ asked_of (told app later)) (said (is_same_app app of) same-here)))
+            ∙ ap (λ (j : List Step). asked_of (told app j)) is
 
-        before-accepted : AreAccepted (StaysAs stays) (told_turns live.session.turns)
-        before-accepted = subst (λ (ts : List Told). AreAccepted (StaysAs stays) ts) (sym lived.turns_are)
-            (front (λ (t : Told). All (λ (m : CallRecord). is_refused m.answer ≡ false → StaysAs stays m.call) t.calls) (told app before) _ told-is)
+        -- the first call of those that proxied, up to this turn
+        first-says : FirstSays stays (asked_of (told_turns (turn ∷ live.session.turns)))
+        first-says =
+            says-front stays (asked_of (told_turns (turn ∷ live.session.turns))) (asked_of (told app later)) (subst (λ (hs : List ProxyOptions). FirstSays stays hs) (sym asked-is) says)
 
-        -- the life with this turn
-        life : IsLife (λ event. Unit {0}) (StaysAs stays) setup.config live.session (turn ∷ live.session.turns)
-        unfolding told_turns AreTaken turn_of
-        life =
-            life-done setup app (StaysAs stays) live.session (turn ∷ live.session.turns)
-            (subst (λ (a : AppId). MayTake setup a (record live.session { turns = live.session.turns }) turn) here may-take, lived.taken)
-            (all-append (λ (t : Told). All (λ (m : CallRecord). is_refused m.answer ≡ false → StaysAs stays m.call) t.calls) (told_turns live.session.turns) (told_of turn) before-accepted calls)
+        taken : AreTaken setup app live.session (turn ∷ live.session.turns)
+        unfolding AreTaken
+        taken = (subst (λ (a : AppId). MayTake setup a (record live.session { turns = live.session.turns }) turn) here may-take, lived.taken)
 
-        fitting : AreFitting stays setup.config live.session live.session.turns
-        unfolding IsLife
-        fitting = tagged-turns stays setup live.session live.session.turns as-live.2 life.2
+        one-with : (rest : List Waiting) × AreOfOne first (turned_events (turn ∷ live.session.turns) ++ rest)
+        unfolding turned_events turn_of
+        one-with = one-first first (turned_events live.session.turns) live.inbox waiting at lived.events_are
 
         of-first : IsOf first turn.waiting.event
         unfolding turned_events turn_of
@@ -291,7 +271,7 @@ module _ (setup : Setup) (epoch began : ℕ) (journal : List Step) (app : AppId)
         routes-are =
             turn-made setup.config turn session epoch app stays first as-live.0 (began-first setup epoch began before of live lives) (named.0, named.1 ∙ here) tagged
             (all-numbered setup.config live.session live.session.turns) of-first (lives-proper setup.config live.session live.session.turns (one-life setup.config live.session live.inbox lived.events_are))
-            (lives-right stays setup.config live.session live.session.turns fitting) (last-done setup (StaysAs stays) live.session turn live.session.turns life)
+            (lives-right setup.config live.session live.session.turns as-live.2) (life-says setup app stays live.session turn live.session.turns one-with.0 one-with.1 taken first-says)
 
         own : All (Fit setup.config epoch app stays known) given
         own =

@@ -15,22 +15,17 @@ use Rattle.sc_model.specs.Names.{IsOf64}
 use Rattle.sc_model.specs.OwnHosts.{is_own}
 use Rattle.sc_hosts.specs.Histories.{History, as_history, begun_history, turned_history}
 use Rattle.sc_hosts.specs.Messages.{kin}
-use Rattle.sc_hosts.specs.Sessions.{Turn}
 use Rattle.sc_hosts.specs.Taking.{unrouted}
 use Rattle.sc_hosts.specs.Transacting.{top_via}
 use Rattle.sc_lasting.specs.Lasting.{All}
 use Rattle.sc_keyed.specs.Keyed.{AreOn, IsOn}
 use Rattle.sc_paths.specs.Pieces.{is_branch_of}
-use Rattle.sc_recorded.specs.Recorded.{IsTaggedEvent, routed}
+use Rattle.sc_recorded.specs.Recorded.{routed}
+use Rattle.sc_recorded.proofs.Faithful.{AreTagged}
 use Rattle.sc_recorded.proofs.Hosts.{AreKinds}
 use Rattle.sc_recorded.proofs.MadeCalls.{AreMade, IsMadeOf, IsMadeOrder}
 use Rattle.sc_recorded.proofs.Nets.{OrderFits}
 use Rattle.sc_recorded.proofs.Texts.{branch-own}
-
--- each turn took no later request without To tag
-unfoldable pub AreTagged : List Turn → Type 0
-AreTagged [] = Unit {0}
-AreTagged (turn ∷ earlier) = IsTaggedEvent turn.waiting.event × AreTagged earlier
 
 abbrev pub TakesTagged : History → Type 0
 TakesTagged history = AreTagged history.turns

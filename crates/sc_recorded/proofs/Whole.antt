@@ -23,20 +23,15 @@ use Rattle.sc_ways.specs.Ways.{AreSmallNames}
 use Rattle.sc_ways.proofs.Callees.{callee-small}
 use Rattle.sc_ways.proofs.OneHop.{IsFine}
 use Rattle.sc_ways.proofs.Runs.{run-each, run-fine, run-next}
-use Rattle.sc_recorded.specs.Recorded.{IsOfOneMind, IsRecorded, records}
+use Rattle.sc_recorded.specs.Recorded.{IsRecorded, records}
 use Rattle.sc_recorded.proofs.Chain.{IsAt, IsOfRun}
 use Rattle.sc_recorded.proofs.Law.{HasServer, behind-have, recorded-way}
-use Rattle.sc_recorded.proofs.Minds.{run-stays}
+use Rattle.sc_recorded.proofs.FirstAsked.{run-says}
 use Rattle.sc_recorded.proofs.Runs.{AreTold, IsTold, run-told}
 
 passed : (test : Server → Bool) (found : Option Server) (rest : Bool) → rest ≡ false → option_map_or test found rest ≡ true → (server : Server) × (found ≡ Some server)
 passed test None rest none is = cc
 passed test (Some server) rest none is = (server, refl)
-
-all-zip : {A : Type 0} (P Q R : A → Type 0) (xs : List A) → ((x : A) → P x → Q x → R x) → All P xs → All Q xs → All R xs
-unfolding All
-all-zip P Q R [] each p q = tt
-all-zip P Q R (x ∷ xs) each p q = (each x p.0 q.0, all-zip P Q R xs each p.1 q.1)
 
 module _ (setup : Setup) (epoch began : ℕ) (journal : List Step) (lawful : IsLawful as_session setup epoch began journal) where
   abbrev Run : List Moment
@@ -83,23 +78,23 @@ module _ (setup : Setup) (epoch began : ℕ) (journal : List Step) (lawful : IsL
 
   -- ## What is told of each session
 
-  of-run : (piece : Piece) → epoch < 2 ^ 64 → All (IsFine setup epoch) Run → (app : AppId) → Small app → IsOfOneMind Run app → IsOfRun setup epoch Run piece app
+  of-run : (piece : Piece) → epoch < 2 ^ 64 → All (IsFine setup epoch) Run → (app : AppId) → Small app → IsOfRun setup epoch Run piece app
   unfolding moments
-  of-run piece small fine app name mind =
-      let accepted = run-stays (records Run app) journal setup (start setup epoch began) app mind in
-      let told : AreTold setup epoch began journal app (records Run app) small name accepted None Run =
-      run-told setup epoch began journal app (records Run app) small name accepted (lawful_back-histories setup epoch began journal lawful) fine in
+  of-run piece small fine app name =
+      let says = run-says journal setup (start setup epoch began) app in
+      let told : AreTold setup epoch began journal app (records Run app) small name says None Run =
+      run-told setup epoch began journal app (records Run app) small name says (lawful_back-histories setup epoch began journal lawful) fine in
       record {
         final = told.final;
-        all = all-map (IsTold setup epoch began journal app (records Run app) small name accepted told.final) (IsAt setup epoch Run piece app told.final) Run
+        all = all-map (IsTold setup epoch began journal app (records Run app) small name says told.final) (IsAt setup epoch Run piece app told.final) Run
             (λ moment at. record { known = at.known; grows = at.grows; servers = at.servers; owns = at.owns; clients = at.clients }) told.all;
       }
 
   pub recorded-run : (dialog : Dialog) (piece : Piece) → IsPiece setup epoch Run dialog piece → AreSmallNames setup epoch (chained as_session setup epoch began journal) piece
-      → All (IsOfOneMind Run) (sessions_of piece) → IsRecorded setup epoch Run dialog piece
+      → IsRecorded setup epoch Run dialog piece
   unfolding goes_on
-  recorded-run dialog piece is small minds =
+  recorded-run dialog piece is small =
       let fine = run-fine setup epoch began journal lawful small.hosts small.events in
       recorded-way setup epoch Run dialog piece is.begun is.passed
-      (all-zip Small (IsOfOneMind Run) (IsOfRun setup epoch Run piece) (sessions_of piece) (λ app name mind. of-run piece small.within fine app name mind)
-      (names piece.caller piece.proxies piece.callee small.within fine small.caller is.begun is.passed) minds)
+      (all-map Small (IsOfRun setup epoch Run piece) (sessions_of piece) (λ app name. of-run piece small.within fine app name)
+      (names piece.caller piece.proxies piece.callee small.within fine small.caller is.begun is.passed))

@@ -1,7 +1,6 @@
 -- The Record-Route that an INVITE has where its way through the container ends (RFC 3261 section
 -- 16.6, step 4).
 use Rattle.std.specs.Prelude.{◌≡◌, ℕ, List, ◌∷◌, Bool, true, false, None, Some, is_some, if◌then◌else◌}
-use Rattle.std.specs.List.{flat_map}
 use Rattle.std.specs.Option.{option_map_or}
 use Rattle.sc_value.specs.declared.ids.AppId.{AppId}
 use Rattle.sc_value.specs.declared.message.Head.{Head}
@@ -17,7 +16,7 @@ use Rattle.sc_state.specs.declared.queue.Queued.TheVariants as queued
 use Rattle.sc_model.specs.Dialogs.{tag_of}
 use Rattle.sc_hosts.specs.Messages.{own_address}
 use Rattle.sc_lasting.specs.Lasting.{All}
-use Rattle.sc_paths.specs.Moments.{Moment, options_in, proxied_with}
+use Rattle.sc_paths.specs.Moments.{Moment, proxied_with}
 use Rattle.sc_paths.specs.Pieces.{Dialog, Piece, heads_at_end, received, record_routed}
 
 -- ## On the way
@@ -33,12 +32,6 @@ routed config epoch app stays routes =
 abbrev pub records : List Moment → AppId → Bool
 records run app =
     option_map_or (λ (how : ProxyOptions). how.record_route) (proxied_with run app) false
-
--- its later calls that proxied and were accepted ask for the same
-abbrev pub IsOfOneMind : List Moment → AppId → Type 0
-IsOfOneMind run app =
-    All (λ (how : ProxyOptions). how.record_route ≡ records run app)
-    (flat_map (λ moment. options_in app moment.step) run)
 
 -- a later request that waits has a To tag
 unfoldable pub IsTaggedEvent : Queued → Type 0
