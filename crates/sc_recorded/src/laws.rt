@@ -13,9 +13,9 @@ ghost use Rattle.sc_recorded.specs.Recorded.{IsRecorded};
 /// the proxies of the way that record-routed it, the last one's on top (RFC 3261 section 16.6, step
 /// 4): so it has as it leaves the container, on each branch on which a response comes that makes
 /// the dialog, and as it came to the session that answers it. It is so after every lawful journal
-/// in which the numbers in names have 64 bits; a session record-routed the INVITE where the first of
-/// its accepted calls that proxied asked for it, whatever later ones ask. The contract is the law,
-/// for a journal that is lawful in either form in which sessions are kept, and the call does
+/// in which the numbers in names have 64 bits. A session record-routed the INVITE where the first
+/// of its accepted calls that proxied asked for it, whatever later ones ask. The contract is the
+/// law, for a journal that is lawful in either form in which sessions are kept, and the call does
 /// nothing.
 pub fn invites_record_their_way()
     ensures session { (setup : Setup) (epoch began : ℕ) (journal : List Step) (dialog : Dialog)
