@@ -1,6 +1,5 @@
 pub mod Hosts
 pub mod Nets
-pub mod DueEvents
 pub mod Steps
 pub mod MadeCalls
 pub mod MadeShown

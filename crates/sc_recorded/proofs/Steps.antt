@@ -51,8 +51,8 @@ use Rattle.sc_hosts.specs.Words.{unavailable}
 use Rattle.sc_lasting.specs.Lasting.{All}
 use Rattle.sc_lasting.proofs.Parts.{all-filter, all-first, all-found}
 use Rattle.sc_keyed.proofs.OldOrders.{IsOld, goodbye-sends}
+use Rattle.sc_walks.proofs.DueEvents.{AreGood, IsGoodItem, due-good}
 use Rattle.sc_recorded.specs.Recorded.{IsInner, IsTaggedEvent}
-use Rattle.sc_recorded.proofs.DueEvents.{BringNone, BringsNone, due-brings}
 use Rattle.sc_recorded.proofs.Hosts.{AreKinds, Good, IsLiveAs, IsSent, IsServed, MessageComes, pass_server-good, takes-began}
 use Rattle.sc_recorded.proofs.Nets.{Goes, Holds, OrderFits, answer-holds, changes, delivered-goes, first-of, goes, goes-then, if-goes, if-holds, obeyed-holds, passed-holds, placed-goes, queue_for-holds, rest-of}
 
@@ -235,8 +235,8 @@ module _ {S : Type 0} (form : Form S) (app : AppId) (request_of : S → Request)
       fold-kept (clients_to place net) (passes config client_items.PlaceLost unavailable) (λ client. Unit {0}) known
       (λ n client any k. passes-kept known config client_items.PlaceLost unavailable n client k) (any-all (clients_to place net)) net kept
 
-  fires-kept : (known : Option Request) (config : Config) (now : ℕ) (net : Net S) (entry : DueEntry) (item : DueItem) → BringsNone item → Kept known net → Kept known (fires config now net entry item)
-  unfolding fires mark_fired BringsNone
+  fires-kept : (known : Option Request) (config : Config) (now : ℕ) (net : Net S) (entry : DueEntry) (item : DueItem) → IsGoodItem IsTaggedEvent item → Kept known net → Kept known (fires config now net entry item)
+  unfolding fires mark_fired IsGoodItem
   fires-kept known config now net entry (Of_session of event) none kept =
       queue_for-holds form app request_of Lives Sound kinds known of event _ none
       (change-kept known of.host (mark_fired entry) net
@@ -251,16 +251,16 @@ module _ {S : Type 0} (form : Form S) (app : AppId) (request_of : S → Request)
   fires-kept known config now net entry (Of_server server) none kept =
       change-kept known server.app.host _ net (λ host good. pass_server-good form app request_of Lives Sound kinds server.app.host known server.event (server_items.MomentCame now) host good) kept
 
-  fire-all : (due : List Dated) (known : Option Request) (config : Config) (now : ℕ) (net : Net S) → BringNone due → Kept known net
+  fire-all : (due : List Dated) (known : Option Request) (config : Config) (now : ℕ) (net : Net S) → AreGood IsTaggedEvent due → Kept known net
       → Kept known (fold (λ n (d : Dated). fires config now n d.entry d.item) net due)
-  unfolding BringNone
+  unfolding AreGood
   fire-all [] known config now net none kept = kept
   fire-all (d ∷ due) known config now net none kept = fire-all due known config now (fires config now net d.entry d.item) none.1 (fires-kept known config now net d.entry d.item none.0 kept)
 
   ticked-kept : (known : Option Request) (config : Config) (now : ℕ) (net : Net S) → Kept known net → Kept known (ticked form config now net)
-  unfolding ticked
+  unfolding ticked IsTaggedEvent
   ticked-kept known config now net kept =
-      fire-all (due_items form now net) known config now (record net { moment = now }) (due-brings form now net) (record { hosts = kept.hosts; wire = kept.wire })
+      fire-all (due_items form now net) known config now (record net { moment = now }) (due-good IsTaggedEvent tt (λ id. tt) (λ number due. tt) form now net) (record { hosts = kept.hosts; wire = kept.wire })
 
   -- ## Turns
 

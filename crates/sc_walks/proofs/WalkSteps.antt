@@ -35,7 +35,7 @@ use Rattle.sc_hosts.specs.Words.{unavailable}
 use Rattle.sc_walks.proofs.WalkHosts.{takes-walks, pass_server-walks}
 use Rattle.sc_walks.proofs.WalkNets.{if-walks, fold-walks, change_host-walks, put-walks, placed-walks, queue_for-walks, passed-walks}
 use Rattle.sc_walks.specs.Walks.{HostLaws, IsLate, NetLaws}
-use Rattle.sc_walks.proofs.Late.{IsLateItem, AreLate, due-late}
+use Rattle.sc_walks.proofs.DueEvents.{AreGood, IsGoodItem, due-good}
 
 module _ {S : Type 0} {Begins : Form S → Type 0} (H : ℕ → ℕ → ℕ → Host S → ℕ → Host S → Type 0) (P : Net S → Net S → Type 0)
     (hosts : (number now : ℕ) → HostLaws Begins number now (H number now)) (law : NetLaws H P) where
@@ -116,25 +116,25 @@ module _ {S : Type 0} {Begins : Form S → Type 0} (H : ℕ → ℕ → ℕ → 
   unfolding lost
   lost-walks config place net = fold-walks H P hosts law (clients_to place net) (passes config client_items.PlaceLost unavailable) (passes-walks config client_items.PlaceLost unavailable) net
 
-  fires-walks : (config : Config) (now : ℕ) (net : Net S) (entry : DueEntry) (item : DueItem) → IsLateItem item → P net (fires config now net entry item)
-  unfolding fires IsLateItem
+  fires-walks : (config : Config) (now : ℕ) (net : Net S) (entry : DueEntry) (item : DueItem) → IsGoodItem IsLate item → P net (fires config now net entry item)
+  unfolding fires IsGoodItem
   fires-walks config now net entry (Of_session app event) late =
       law.after _ _ _ (change_host-walks H P hosts law app.host (mark_fired entry) net (λ host. (hosts app.host net.moment).marks entry net.count host)) (queue_for-walks H P hosts law app event late _)
   fires-walks config now net entry (Of_client client) late = passes-walks config (client_items.MomentCame now) _ net client
   fires-walks config now net entry (Of_server server) late =
       change_host-walks H P hosts law server.app.host _ net (λ host. pass_server-walks server.app.host net.moment (H server.app.host net.moment) (hosts server.app.host net.moment) server.event _ net.count host)
 
-  all-fire : (config : Config) (now : ℕ) (ds : List Dated) → AreLate ds → (net : Net S)
+  all-fire : (config : Config) (now : ℕ) (ds : List Dated) → AreGood IsLate ds → (net : Net S)
       → P net (fold (λ net d. fires config now net d.entry d.item) net ds)
-  unfolding AreLate
+  unfolding AreGood
   all-fire config now [] late net = law.same net
   all-fire config now (d ∷ ds) late net = law.after _ _ _ (fires-walks config now net d.entry d.item late.0) (all-fire config now ds late.1 (fires config now net d.entry d.item))
 
   pub ticked-walks : (form : Form S) (config : Config) (now : ℕ) (net : Net S) → P net (ticked form config now net)
-  unfolding ticked
+  unfolding ticked IsLate
   ticked-walks form config now net =
       law.after _ _ _ (law.ticks net now)
-      (all-fire config now (due_items form now net) (due-late form now net) (record net { moment = now }))
+      (all-fire config now (due_items form now net) (due-good IsLate tt (λ id. tt) (λ number due. tt) form now net) (record net { moment = now }))
 
   -- ## After a turn
 
