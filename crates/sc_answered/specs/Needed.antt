@@ -39,7 +39,9 @@ hangs_up happening = false
 -- NOTIFY that ends the subscription; and each of what comes of other SipSessions
 unfoldable pub can_end : Happening → Bool
 can_end (Response role asked tagged code) =
-    if asked.initial then (if same_bytes asked.method invite then is_failure code && not (is_uac role) else (if same_bytes asked.method subscribe then is_failure code else is_final code))
+    if asked.initial
+    then (if same_bytes asked.method invite then is_failure code && not (is_uac role)
+    else (if same_bytes asked.method subscribe then is_failure code else is_final code))
     else is_final code && (same_bytes asked.method bye || asked.ends)
 can_end Overtaken = true
 can_end Undone = true

@@ -109,7 +109,8 @@ IsPut put.Failed len left = Unit {0}
 -- what the next put comes to
 abbrev pub next_put : MemoryState → Place → ℕ → Put
 next_put edge to len =
-    if is_listed edge.failing (one_more edge.puts) || (known_at edge.places to).is_barred then put.Failed
+    if is_listed edge.failing (one_more edge.puts) || (known_at edge.places to).is_barred
+    then put.Failed
     else put_share (share_at edge.shares edge.puts) (edge.taken.room - length edge.taken.kept) len
 
 -- the places after a put there of a piece of this length

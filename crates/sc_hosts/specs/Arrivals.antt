@@ -114,7 +114,8 @@ later_arrives form setup from request net =
 -- a request that belongs to no transaction; a CANCEL gets 481 (RFC 3261 section 9.2)
 unfoldable pub unclaimed : {S : Type 0} → Form S → Setup → Place → Request → Net S → Net S
 unclaimed form setup from request net =
-    if same_bytes (method_of request) cancel then edge_answer setup.config from 481 does_not_exist request net
+    if same_bytes (method_of request) cancel
+    then edge_answer setup.config from 481 does_not_exist request net
     else (if is_some (tag_of request.head.to) then later_arrives form setup from request net
     else initial_arrives form setup from request net)
 

@@ -166,7 +166,9 @@ leg_script before view (events.Initial req sess region subscriber popped request
 leg_script before view (events.Request req sess request) =
     where_some (partner view sess) (other_leg req request)
 leg_script before view (events.Response req sess response) =
-    if is_initial view req then where_some (partner view sess) (λ other. only (calls.B2bRespond other (same_answer response)))
+    if is_initial view req
+    then where_some (partner view sess)
+    (λ other. only (calls.B2bRespond other (same_answer response)))
     else sent_back view req response
 leg_script before view (events.Branch req sess response) = Done
 leg_script before view (events.Cancelled req sess) =

@@ -79,7 +79,8 @@ is_subscribed original request response =
 -- its SipSession the tag
 unfoldable pub handling : Session → ReqId → SessionView → Request → Response → Handling
 handling session req original request response =
-    if same_bytes request.method invite && makes_dialog response.code then handling_by session req original (tag_of response.head.to)
+    if same_bytes request.method invite && makes_dialog response.code
+    then handling_by session req original (tag_of response.head.to)
     else
     (if is_subscribed original request response then takes_tag original (tag_of response.head.to)
     else In original.id)
@@ -122,9 +123,13 @@ handled_in session req original came (Derives tag) = (
   record { 0 = length session.view.sessions + 1 },
   record session {
     view =
-        record session.view { sessions = session.view.sessions ++ derived_session session.view original tag ∷ [] };
+        record session.view {
+          sessions = session.view.sessions ++ derived_session session.view original tag ∷ [];
+        };
     known =
-        record session.known { legs = session.known.legs ++ derived_leg (leg_of session.known original.id) req came ∷ [] };
+        record session.known {
+          legs = session.known.legs ++ derived_leg (leg_of session.known original.id) req came ∷ [];
+        };
   },
 )
 
@@ -153,9 +158,13 @@ overtaken_legs known req sess (session ∷ sessions) (leg ∷ legs) =
 unfoldable pub overtaken : ReqId → SessId → Session → Session
 overtaken req sess session = record session {
   view =
-      record session.view { sessions = map (overtaken_session session.known req sess) session.view.sessions };
+      record session.view {
+        sessions = map (overtaken_session session.known req sess) session.view.sessions;
+      };
   known =
-      record session.known { legs = overtaken_legs session.known req sess session.view.sessions session.known.legs };
+      record session.known {
+        legs = overtaken_legs session.known req sess session.view.sessions session.known.legs;
+      };
 }
 
 -- a failure of a UAC's INVITE ends its derived SipSessions
@@ -169,5 +178,7 @@ failed_session known req original session =
 unfoldable pub without_derived : ReqId → SessId → Session → Session
 without_derived req original session = record session {
   view =
-      record session.view { sessions = map (failed_session session.known req original) session.view.sessions };
+      record session.view {
+        sessions = map (failed_session session.known req original) session.view.sessions;
+      };
 }

@@ -162,7 +162,9 @@ with_timer delay period info view = record view {
 -- an attribute that is set again keeps its place
 unfoldable pub with_attribute : Bytes → Bytes → List Field → List Field
 with_attribute name value fields =
-    if is_set name fields then change_first (λ field. same_bytes field.name name) (λ field. record field { value = value }) fields
+    if is_set name fields
+    then change_first (λ field. same_bytes field.name name)
+    (λ field. record field { value = value }) fields
     else fields ++ record { name = name; value = value } ∷ []
 
 -- the application session, or a SipSession, goes away by itself once ready, or doesn't

@@ -73,7 +73,8 @@ above count numbers = filter (λ number. nat_lt count number) numbers
 -- those that a step queued, with those that it queued and dropped as it ended the session
 unfoldable pub queued_by : {S : Type 0} → Form S → Setup → AppId → Net S → Step → List ℕ
 queued_by form setup app net step =
-    if is_some (live_at app (after_step form setup net step)) then above net.count (waiting_in app (after_step form setup net step))
+    if is_some (live_at app (after_step form setup net step))
+    then above net.count (waiting_in app (after_step form setup net step))
     else above net.count (waiting_in app (before_end form setup app net step))
 
 -- those that these steps queued, from this net on

@@ -127,7 +127,11 @@ is_needed view leg kept (Sent branch) =
 unfoldable pub lightened : Session → Session
 lightened session = record session {
   known =
-      record session.known { kept = filter (λ kept. is_needed session.view (leg_of session.known kept.sess) kept kept.way) session.known.kept };
+      record session.known {
+        kept = filter
+            (λ kept. is_needed session.view (leg_of session.known kept.sess) kept kept.way)
+            session.known.kept;
+      };
 }
 
 -- ## The whole turn

@@ -222,7 +222,9 @@ with_request request leg =
 -- the response makes the dialog of the request: a 101 to 299 to INVITE, a 2xx to SUBSCRIBE
 unfoldable pub makes_dialog_of : Request → Response → Bool
 makes_dialog_of request response =
-    if same_bytes request.method invite then is_success response.code || (makes_dialog response.code && is_some (tag_of response.head.to))
+    if same_bytes request.method invite
+    then is_success response.code
+    || (makes_dialog response.code && is_some (tag_of response.head.to))
     else same_bytes request.method subscribe && is_success response.code
 
 -- a response is one to the request on whose branch it came, whatever number its CSeq has (RFC 3261
@@ -231,7 +233,9 @@ unfoldable pub as_answer : Request → Response → Response
 as_answer request response =
     record response {
       head =
-          record response.head { cseq = record response.head.cseq { number = request.head.cseq.number } };
+          record response.head {
+            cseq = record response.head.cseq { number = request.head.cseq.number };
+          };
     }
 
 -- the dialog is that of the response that made it

@@ -171,7 +171,8 @@ send_named config app branch request (Some host) net =
 -- a request with a To tag: by an own URI to its session, else outside
 unfoldable pub send_later : {S : Type 0} → Config → AppId → ℕ → Request → Net S → Net S
 send_later config app branch request net =
-    if is_own config (next_uri request) then send_named config app branch request (named_host (next_uri request) net) net
+    if is_own config (next_uri request)
+    then send_named config app branch request (named_host (next_uri request) net) net
     else leave config app branch request net
 
 -- the other end, where that is a host

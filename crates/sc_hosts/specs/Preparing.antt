@@ -84,7 +84,8 @@ cancelled_request session invited None =
 cancelled_request session invited (Some request) =
     if request.proxied then cancelled_proxy session invited (proxy_of session.known invited.req)
     else
-    (if is_none request.answered then terminated session invited request (kept_of session.known invited.req)
+    (if is_none request.answered
+    then terminated session invited request (kept_of session.known invited.req)
     else showing_cancel session invited)
 
 -- a CANCEL that came for an INVITE
@@ -133,7 +134,8 @@ prepared_expiry session =
 -- as 408
 unfoldable pub timed_out : Config → Session → Proxy → ℕ → Bool → Session
 timed_out config session proxy branch provisional =
-    if is_invite proxy && provisional then record session { known = change_proxy proxy.req (to_cancel branch) session.known }
+    if is_invite proxy && provisional
+    then record session { known = change_proxy proxy.req (to_cancel branch) session.known }
     else
     record session {
       known = change_proxy proxy.req

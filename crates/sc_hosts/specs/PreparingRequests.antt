@@ -94,7 +94,10 @@ with_invited number req sess request known =
 unfoldable pub received : Session → ℕ → SessId → Bool → Bool → Request → Session
 received session number sess initial passed request = record {
   view =
-      record (numbered session).view { requests = session.view.requests ++ request_view (next_id session) sess initial passed request ∷ [] };
+      record (numbered session).view {
+        requests = session.view.requests
+            ++ request_view (next_id session) sess initial passed request ∷ [];
+      };
   known = with_invited number (next_id session) sess request (record session.known {
     kept =
         session.known.kept

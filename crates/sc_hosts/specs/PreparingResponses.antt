@@ -76,7 +76,8 @@ responded kept request response sess session =
     let after : Session = settled_legs request sess response session in record {
       view =
           tidy
-          (change_request request.id (with_success sess response) (answered_in sess request (is_some (tag_of response.head.to)) response.code after.view));
+          (change_request request.id (with_success sess response)
+          (answered_in sess request (is_some (tag_of response.head.to)) response.code after.view));
       known = change_leg sess (with_answer kept.request response) after.known;
     }
 

@@ -167,7 +167,10 @@ notified_event view sess request seconds old =
 -- section 4.2.1)
 unfoldable pub accepts : View → Rule → ReqId → SessId → Request → Script
 accepts view rule req sess request =
-    if not (names_package rule request) then only (answer_with req 489 (codes "Bad Event") (field (codes "Allow-Events") rule.event_package ∷ []))
+    if not (names_package rule request)
+    then only
+    (answer_with req 489 (codes "Bad Event")
+    (field (codes "Allow-Events") rule.event_package ∷ []))
     else (if nat_lt 0 (asked_seconds rule request) && nat_lt (asked_seconds rule request) rule.least
     then only
     (answer_with req 423 (codes "Interval Too Brief")
@@ -234,7 +237,8 @@ info_word = codes "INFO"
 -- a later request: a SUBSCRIBE renews, an INFO brings a new state
 unfoldable pub notify_request : View → Option Rule → ReqId → SessId → Request → Script
 notify_request view rule req sess request =
-    if same_bytes request.method subscribe then accepts_by view rule (reply req 200 ok) req sess request
+    if same_bytes request.method subscribe
+    then accepts_by view rule (reply req 200 ok) req sess request
     else (if same_bytes request.method info_word
     then then_make (reply req 200 ok)
     (where_some (subscription_of view sess) (changes view sess request.head.body))

@@ -78,7 +78,8 @@ claim_by make (Some server) other = make server
 -- the claim of a request, by its method and its top Via (RFC 3261 section 17.2.3)
 unfoldable pub claim_of : {S : Type 0} → Peer → Request → Host S → Claim
 claim_of from request host =
-    if same_bytes (method_of request) cancel then claim_by Cancels (find (is_cancelled_by from request) host.servers) Unclaimed
+    if same_bytes (method_of request) cancel
+    then claim_by Cancels (find (is_cancelled_by from request) host.servers) Unclaimed
     else
     (if same_bytes (method_of request) ack then claim_by Acks (find (is_acked_by from request) host.servers) Unclaimed
     else claim_by Repeats (find (is_repeated_by from request) host.servers) Unclaimed)
@@ -109,7 +110,8 @@ ap_of (Other text) = None
 -- the own URI by which the request comes here: its top Route, or its Request-URI
 unfoldable pub own_uri : Config → Request → Option Uri
 own_uri config request =
-    if option_map_or (λ route. is_own config route.uri) (slice_get request.head.route 0) false then option_map (λ route. route.uri) (slice_get request.head.route 0)
+    if option_map_or (λ route. is_own config route.uri) (slice_get request.head.route 0) false
+    then option_map (λ route. route.uri) (slice_get request.head.route 0)
     else (if is_own config request.uri then Some request.uri else None)
 
 -- the own top Route is taken off
@@ -163,7 +165,9 @@ with_trying from now request taken =
     if same_bytes (method_of request) invite
     then replying from (messages.Response (trying_response trying request)) (record taken {
       host =
-          record taken.host { servers = change_first (is_server taken.count) (tried request now) taken.host.servers };
+          record taken.host {
+            servers = change_first (is_server taken.count) (tried request now) taken.host.servers;
+          };
     }) else taken
 
 -- the tag that an application session drew as it began
@@ -228,7 +232,8 @@ begun form config coming noted request host =
 unfoldable pub take_initial : {S : Type 0} → Form S → Config → Coming → Note → Request → Host S
     → Taken S
 take_initial form config coming noted request host =
-    if nat_le MOST_LIVE (length host.sessions) then refuse config coming.from 503 unavailable request coming.count host
+    if nat_le MOST_LIVE (length host.sessions)
+    then refuse config coming.from 503 unavailable request coming.count host
     else begun form config coming noted request host
 
 -- a request of these methods begins nothing
@@ -243,7 +248,8 @@ unfoldable pub take_begun : {S : Type 0} → Form S → Config → Coming → Op
 take_begun form config coming None request host =
     refuse config coming.from 481 does_not_exist request coming.count host
 take_begun form config coming (Some noted) request host =
-    if is_never_initial request then refuse config coming.from 481 does_not_exist request coming.count host
+    if is_never_initial request
+    then refuse config coming.from 481 does_not_exist request coming.count host
     else take_initial form config coming noted request host
 
 -- ## Every request that comes to a host
@@ -259,7 +265,8 @@ take_new form config coming noted request host =
 unfoldable pub take_unclaimed : {S : Type 0} → Form S → Config → Coming → Option Note → Request
     → Host S → Taken S
 take_unclaimed form config coming noted request host =
-    if same_bytes (method_of request) cancel then refuse config coming.from 481 does_not_exist request coming.count host
+    if same_bytes (method_of request) cancel
+    then refuse config coming.from 481 does_not_exist request coming.count host
     else take_new form config coming noted request host
 
 -- a request, by its claim

@@ -20,7 +20,9 @@ use Rattle.sc_hosts.specs.Inboxes.{quiet, queue, is_full_at, replying}
 -- a provisional response finds no room in a full inbox
 unfoldable pub told : {S : Type 0} → ℕ → Client → Response → ℕ → Host S → Taken S
 told now client response count host =
-    if is_cancel_client client || (not (is_final response.code) && is_full_at client.app.serial host) then quiet host count
+    if is_cancel_client client
+    || (not (is_final response.code) && is_full_at client.app.serial host)
+    then quiet host count
     else queue client.app.serial now (queued.Response client.branch (without_via response)) count
     host
 
@@ -39,7 +41,9 @@ unfoldable pub with_reply : {S : Type 0} → ClientOut → ℕ → Client → Re
 with_reply out now client response taken =
     if out.ack then replying client.peer (messages.Request (ack_of client.request response)) taken
     else
-    (if out.cancel then replying client.peer (messages.Request (cancel_of client.request)) (record taken { host = with_client (cancelling now client) taken.host })
+    (if out.cancel
+    then replying client.peer (messages.Request (cancel_of client.request))
+    (record taken { host = with_client (cancelling now client) taken.host })
     else taken)
 
 -- a response passes its client transaction, which tells, acknowledges or cancels

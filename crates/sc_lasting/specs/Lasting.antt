@@ -96,7 +96,8 @@ IsLife Good Does config history (turn ∷ earlier) =
     Good turn.waiting.event
     × AreDone Does
     (begun
-    (prepared config turn.ringing (session_after config history earlier) turn.waiting turn.now).view)
+    (prepared config turn.ringing (session_after config history earlier) turn.waiting
+    turn.now).view)
     turn.calls
     × IsLife Good Does config history earlier
 
@@ -108,7 +109,8 @@ IsSince Good Does config history earlier (turn ∷ later) =
     Good turn.waiting.event
     × AreDone Does
     (begun
-    (prepared config turn.ringing (session_after config history (later ++ earlier)) turn.waiting turn.now).view)
+    (prepared config turn.ringing (session_after config history (later ++ earlier)) turn.waiting
+    turn.now).view)
     turn.calls
     × IsSince Good Does config history earlier later
 

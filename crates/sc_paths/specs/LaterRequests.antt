@@ -142,7 +142,8 @@ unfoldable pub visits_from : Option Got → List Moment → List AppId
 visits_from None later = []
 visits_from (Some got) [] = got.app ∷ []
 visits_from (Some got) (moment ∷ later) =
-    if is_turn_of got moment.step then got.app ∷ visits_from (find (is_passed_on got) (got_in moment)) later
+    if is_turn_of got moment.step
+    then got.app ∷ visits_from (find (is_passed_on got) (got_in moment)) later
     else visits_from (Some got) later
 
 -- the sessions whose inbox got it, by itself or as passed on, in order

@@ -135,7 +135,8 @@ drop_line (Err kind) = Err kind
 -- `turn H S` or `drop H S`, with H of 32 bits
 unfoldable pub three_words : Bytes → Bytes → Bytes → Result Line ℕ
 three_words word host serial =
-    if same_bytes word (codes "turn") then turn_line (app_of (decimal_upto 4294967295 host) (decimal_upto MOST_COUNT serial))
+    if same_bytes word (codes "turn")
+    then turn_line (app_of (decimal_upto 4294967295 host) (decimal_upto MOST_COUNT serial))
     else
     (if same_bytes word (codes "drop")
     then drop_line (app_of (decimal_upto 4294967295 host) (decimal_upto MOST_COUNT serial))

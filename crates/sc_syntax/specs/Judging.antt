@@ -122,7 +122,9 @@ with_field left name value =
     counted 1
     (record left {
       lists =
-          record left.lists { others = left.lists.others ++ record { name = name; value = value } ∷ [] };
+          record left.lists {
+            others = left.lists.others ++ record { name = name; value = value } ∷ [];
+          };
     })
 
 -- a value of one line, read so

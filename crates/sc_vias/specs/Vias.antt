@@ -30,7 +30,8 @@ drawn_by setup net (steps.Turn app event now made end) =
     (λ live.
     option_map_or
     (λ waiting.
-    (outcome_by as_session setup.config live.session (turn_of net app waiting now made end)).session.view.counter)
+    (outcome_by as_session setup.config live.session
+    (turn_of net app waiting now made end)).session.view.counter)
     (slice_get live.inbox 0) 0)
     (live_at app net) 0
 drawn_by setup net step = 0

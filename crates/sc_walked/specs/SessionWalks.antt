@@ -230,7 +230,9 @@ pub record SessionLaws (event : Queued) (Does : Call → Type 0)
         view =
             record x.view { sessions = x.view.sessions ++ derived_session x.view original tag ∷ [] };
         known =
-            record x.known { legs = x.known.legs ++ derived_leg (leg_of x.known original.id) req came ∷ [] };
+            record x.known {
+              legs = x.known.legs ++ derived_leg (leg_of x.known original.id) req came ∷ [];
+            };
       })
   -- accepted calls that look at more than one of these
   pub begins_leg : (play : Play) (known : Known) (req : ReqId) (uri : Option Uri)
@@ -257,5 +259,7 @@ pub record SessionLaws (event : Queued) (Does : Call → Type 0)
       → Q x
       (record x {
         known =
-            record x.known { proxies = x.known.proxies ++ sent_proxy kept (x.view.counter + 1) ∷ [] };
+            record x.known {
+              proxies = x.known.proxies ++ sent_proxy kept (x.view.counter + 1) ∷ [];
+            };
       })
