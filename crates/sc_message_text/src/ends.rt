@@ -1,7 +1,7 @@
 //! The ends of lines (RFC 3261 section 7).
 
-ghost use Rattle.std.specs.Prelude.{◌≡◌, ◌≤◌, ◌<◌, ◌+◌, ◌∷◌, IfSome, IsTrue, length, take, drop};
-ghost use Rattle.std.specs.Option.{option_copied, option_map};
+ghost use Rattle.std.specs.Prelude.{◌≡◌, ◌≤◌, ◌+◌, ◌∷◌, IfSome, IsTrue, length};
+ghost use Rattle.std.specs.Option.{option_copied};
 ghost use Rattle.sc_tokens.specs.Tokens.{begins_blank};
 ghost use Rattle.sc_syntax.specs.declared.ending.Ending.TheVariants.{Empty};
 ghost use Rattle.sc_syntax.specs.Lines.{begins_break, behind_start, end_of, is_end, pieces_at, start_line};

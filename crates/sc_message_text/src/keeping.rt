@@ -1,7 +1,6 @@
 //! What a header line leaves of the values that are read from it (RFC 3261 section 20).
 
 ghost use Rattle.std.specs.Prelude.{◌≡◌, ◌++◌, ◌∷◌, [], OnOk};
-ghost use Rattle.std.specs.Option.{option_map_or};
 ghost use Rattle.sc_syntax.specs.declared.left.Left.{Left};
 ghost use Rattle.sc_syntax.specs.Judging.{begins_well, counted, has_branch, with_call_id, with_contacts, with_cseq, with_field, with_from, with_hops, with_length, with_record_routes, with_routes, with_to, with_vias};
 ghost use Rattle.sc_value.specs.OtherFields.{IsOther};

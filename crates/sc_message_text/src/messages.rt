@@ -1,14 +1,13 @@
 //! Whole messages (RFC 3261 section 7).
 
-ghost use Rattle.std.specs.Prelude.{◌≡◌, ◌++◌, length, decimal, Ok, IfOk, OnErr, OnOk};
-ghost use Rattle.std.specs.List.{flat_map};
-ghost use Rattle.sc_grammar.specs.Written.{address_text, closing_lines, contact_line, crlf, cseq_text, dialog_lines, field_line, head_text, hops_line, line, request_line, routing_lines, status_line, written};
+ghost use Rattle.std.specs.Prelude.{◌≡◌, ◌++◌, Ok, IfOk, OnErr, OnOk};
+ghost use Rattle.sc_grammar.specs.Written.{closing_lines, cseq_text, dialog_lines, head_text, hops_line, line, request_line, routing_lines, status_line, written};
 ghost use Rattle.sc_value.specs.declared.message.Message.{Message};
 ghost use Rattle.sc_syntax.specs.Messages.{message_of};
 ghost use Rattle.sc_spelling.specs.Kept.{HasBranch, HasRoom};
 ghost use Rattle.sc_spelling.specs.Made.{HasCode};
 ghost use Rattle.sc_spelling.specs.SpelledMessages.{HasMethod};
-ghost use Rattle.sc_tokens.specs.HeaderNames.{call_id_name, content_length_name, cseq_name, from_name, to_name};
+ghost use Rattle.sc_tokens.specs.HeaderNames.{cseq_name};
 
 use crate::headers::put_cseq;
 use crate::items::put_items;
@@ -42,10 +41,13 @@ pub fn text_of(alloc: Global, message: &Message) -> Result<Text, NoMemory>
     written_text(alloc, message)
 }
 
+// How many bytes a message has in most calls: a text of them is made without growing.
+const ROOM: usize = 512;
+
 fn written_text(alloc: Global, message: &Message) -> Result<Text, NoMemory>
     ensures { IfOk result (λ text. text ≡ written message.now) }
 {
-    let mut out = Text::new(alloc);
+    let mut out = Text::with_room(alloc, ROOM)?;
     put_message(message, &mut out)?;
     Ok(out)
 }

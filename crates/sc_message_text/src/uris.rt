@@ -1,6 +1,6 @@
 //! URIs (RFC 3261 section 19.1.1).
 
-ghost use Rattle.std.specs.Prelude.{◌≡◌, ◌++◌, IfOk, OnOk};
+ghost use Rattle.std.specs.Prelude.{◌≡◌, IfOk};
 ghost use Rattle.sc_grammar.specs.Written.{uri_text as uri_form};
 
 use sc_uri_text::put_uri;

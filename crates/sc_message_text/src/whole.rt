@@ -1,6 +1,6 @@
 //! Whole messages from text (RFC 3261 section 7).
 
-ghost use Rattle.std.specs.Prelude.{◌≡◌, ◌≤◌, ◌+◌, ◌^◌, length};
+ghost use Rattle.std.specs.Prelude.{◌≤◌, ◌+◌, ◌^◌, length};
 ghost use Rattle.std.specs.Option.{option_copied, option_map_or};
 ghost use Rattle.sc_syntax.specs.Messages.{finished, message_in, message_of, parts_in, placed};
 ghost use Rattle.sc_syntax.specs.StartLines.{start_of};

@@ -1,5 +1,6 @@
 -- Texts of many bytes.
-use Rattle.std.proofs.Common.{◌≡◌, ◌==◌, ◌<◌, ◌+◌, ◌++◌, ℕ, List, cond, false, length, ap, ◌∙◌, sym, arith}
+use Rattle.std.proofs.Common.{◌≡◌, ◌==◌, ◌<◌, ◌+◌, ◌++◌, ℕ, suc, List, [], ◌∷◌, Bool, cond, true, false, length, refl, ap, ◌∙◌, sym, arith}
+use Rattle.std.proofs.lemmas.Bool.{false≢true}
 use Rattle.std.proofs.lemmas.Bool.Decides.{nat_tests}
 use Rattle.std.proofs.lemmas.List.{length-append}
 use Rattle.sc_value.specs.TextBytes.{bytes_of}
@@ -21,3 +22,24 @@ pub appended_long : (short long more : List ℕ) → (length long == 0) ≡ fals
 appended_long short long more h =
     by_long short (long ++ more) (more_than_none (length long) (length more) (length (long ++ more)) h (length-append long more))
     ∙ ap (λ b. b ++ more) (sym (by_long short long h))
+
+-- ## Behind a short text
+
+longer_than : (n m k : ℕ) → 22 < n + m → k ≡ n + m → 22 < k
+longer_than n m k h is = grind (arith, h, is)
+
+not_empty : (n : ℕ) → (suc n == 0) ≡ false
+not_empty n = grind (arith, nat_tests)
+
+pub appended_short : (short long more : List ℕ) → (length long == 0) ≡ true → 22 < length short + length more → bytes_of short ((long ++ short) ++ more) ≡ bytes_of short long ++ more
+appended_short short [] more none h =
+    by_long short (short ++ more) (not_none (length (short ++ more)) (longer_than (length short) (length more) (length (short ++ more)) h (length-append short more)))
+appended_short short (x ∷ xs) more none h = absurd (false≢true (sym (not_empty (length xs)) ∙ none))
+
+either : (b : Bool) (bytes : List ℕ) → cond b bytes bytes ≡ bytes
+either true bytes = refl
+either false bytes = refl
+
+pub short_twice : (short long : List ℕ) → (length long == 0) ≡ true → bytes_of short (long ++ short) ≡ bytes_of short long
+short_twice short [] none = either (length short == 0) short
+short_twice short (x ∷ xs) none = absurd (false≢true (sym (not_empty (length xs)) ∙ none))

@@ -1,6 +1,6 @@
 //! Names of headers (RFC 3261 section 7.3).
 
-ghost use Rattle.std.specs.Prelude.{◌≡◌, ◌||◌, Bool};
+ghost use Rattle.std.specs.Prelude.{◌≡◌, ◌||◌};
 ghost use Rattle.std.specs.Option.{option_copied};
 ghost use Rattle.sc_tokens.specs.HeaderNames.{long_of, long_name, is_system_name, is_dialog_name, is_routing_name};
 ghost use Rattle.sc_tokens.specs.Names.{same_name};

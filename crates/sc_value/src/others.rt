@@ -1,6 +1,6 @@
 //! The headers of a message that have no structure here.
 
-ghost use Rattle.std.specs.Prelude.{◌≡◌, ◌==◌, ◌<◌, ◌∷◌, [], ◌++◌, Some, length, slice_get, IfOk, OnOk, OnErr, IsTrue, ◌↔◌};
+ghost use Rattle.std.specs.Prelude.{◌≡◌, ◌==◌, ◌<◌, ◌∷◌, [], ◌++◌, Some, length, slice_get, OnOk, OnErr, IsTrue, ◌↔◌};
 ghost use Rattle.sc_value.specs.OtherFields.{IsOther, AreOthers};
 
 use crate::{CloneIn, Field, List, NoMemory, Same, is_system_name, is_token, is_value, long_name};

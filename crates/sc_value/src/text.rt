@@ -33,6 +33,19 @@ impl Text {
         Text::short(alloc, &[])
     }
 
+    /// The empty text, with memory for so many bytes: what is put behind it takes no more until it
+    /// is longer.
+    pub fn with_room(alloc: Global, room: usize) -> Result<Text, NoMemory>
+        ensures { IfOk result (λ t. t ≡ []) }
+    {
+        let long = Vec::with_capacity(alloc, room)?;
+        Ok(Text {
+            short: ShortText::new(&[]),
+            long,
+            alloc,
+        })
+    }
+
     // The text of at most 22 bytes.
     fn short(alloc: Global, bytes: &[u8]) -> Text
         requires { length bytes.now ≤ 22 }
@@ -116,33 +129,24 @@ impl Text {
     }
 
     /// Puts bytes at the end, all of them or, for want of memory, none.
-    #[tactic(auto, using(crate::proofs::TextLaws::appended_long))]
+    #[tactic(auto, using(crate::proofs::TextLaws::appended_long, crate::proofs::TextLaws::appended_short, crate::proofs::TextLaws::short_twice))]
     pub fn append(&mut self, bytes: &[u8]) -> Result<(), NoMemory>
         ensures ok { OnOk result (self.new ≡ self.old ++ bytes.now) }
         ensures err { OnErr result (self.new ≡ self.old) }
     {
-        if self.long.is_empty() {
-            let own = longer(self.alloc, &self.short, bytes)?;
-            *self = own;
+        if !self.long.is_empty() {
+            self.long.extend_from_slice(bytes)?;
             return Ok(());
         }
+        let own = self.short.as_bytes();
+        if bytes.len() <= MOST_SHORT - own.len() {
+            self.short = self.short.with(bytes);
+            return Ok(());
+        }
+        self.long.extend_from_slice(own)?;
         self.long.extend_from_slice(bytes)?;
         Ok(())
     }
-}
-
-// A short text with bytes behind it.
-fn longer(alloc: Global, short: &ShortText, bytes: &[u8]) -> Result<Text, NoMemory>
-    ensures { IfOk result (λ text. text ≡ short.now ++ bytes.now) }
-{
-    let len = short.as_bytes().len();
-    if bytes.len() <= MOST_SHORT - len {
-        let own = short.with(bytes);
-        return Ok(Text::short(alloc, own.as_bytes()));
-    }
-    let mut own = Vec::from_slice(alloc, short.as_bytes())?;
-    own.extend_from_slice(bytes)?;
-    Ok(Text::from_vec(alloc, own))
 }
 
 impl CloneIn for Text {
