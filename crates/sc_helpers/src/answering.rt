@@ -93,19 +93,6 @@ pub fn answer_first(
     Ok(!is_refused(answer))
 }
 
-/// Answers a request with this code and reason, and nothing else. Tells whether the script goes on.
-#[tactic(auto, using(crate::proofs::LedLaws::led_made))]
-pub fn reply_first(t: &mut Turn, req: ReqId, code: u16, reason: &[u8]) -> Result<bool, NoMemory>
-    requires { (play_of t.old).listed < MOST_CALLS }
-    ensures same { t.new.shown ≡ t.old.shown }
-    ensures led { IfOk result
-        (λ on. IsLed (accepted_then (reply req code reason.now)) on t.old t.new) }
-    ensures listed { OnOk result ((play_of t.new).listed ≡ (play_of t.old).listed + 1) }
-{
-    let answer = sc_apps::reply(t, req, code, reason)?;
-    Ok(!is_refused(answer))
-}
-
 fn plain_answer(
     alloc: Global,
     code: u16,

@@ -1,6 +1,6 @@
 //! The header fields of a request, by name, and the items of their values.
 
-ghost use Rattle.std.specs.Prelude.{◌≡◌, position, codes};
+ghost use Rattle.std.specs.Prelude.{◌≡◌, position};
 ghost use Rattle.std.specs.List.{find, list_any};
 ghost use Rattle.std.specs.Option.{option_copied};
 ghost use Rattle.sc_tokens.specs.Names.{same_name};

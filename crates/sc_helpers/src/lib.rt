@@ -4,7 +4,6 @@
 
 mod answering;
 mod fields;
-mod going;
 mod laws;
 mod making;
 mod numbers;
@@ -14,9 +13,8 @@ mod sending;
 mod stepping;
 mod stopping;
 
-pub use answering::{answer_first, answer_only, reply_first, try_answer, try_reply};
+pub use answering::{answer_first, answer_only, try_answer, try_reply};
 pub use fields::{field_of, lists_option};
-pub use going::{cancel_some, remove_if, send_in, set_attribute};
 pub use laws::accepted_calls_are_played;
 pub use making::{field, number_field, numbered, one, two};
 pub use numbers::{leading_number, strict_number};

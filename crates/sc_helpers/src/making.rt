@@ -3,6 +3,7 @@
 ghost use Rattle.std.specs.Prelude.{◌≡◌, ◌++◌, ◌∷◌, [], decimal, IfOk};
 ghost use Rattle.sc_hosts.specs.HelperParts.{field};
 
+use sc_terms::Inside;
 use sc_value::{Field, List, NoMemory, Text, write_u64};
 use std::alloc::Global;
 
@@ -54,4 +55,23 @@ pub fn two(alloc: Global, first: Field, second: Field) -> Result<List<Field>, No
     fields.push(first)?;
     fields.push(second)?;
     Ok(fields)
+}
+
+/// What a request in a dialog is asked with.
+pub fn inside_of(
+    alloc: Global,
+    method: &[u8],
+    fields: List<Field>,
+    body: &[u8],
+) -> Result<Inside, NoMemory>
+    ensures { IfOk result
+        (λ ask. ask ≡ record { method = method.now; fields = fields; body = body.now }) }
+{
+    let method = Text::from_slice(alloc, method)?;
+    let body = Text::from_slice(alloc, body)?;
+    Ok(Inside {
+        method,
+        fields,
+        body,
+    })
 }

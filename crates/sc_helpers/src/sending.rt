@@ -6,7 +6,7 @@ ghost use Rattle.sc_hosts.specs.HelperParts.{accepted_then, send_in};
 ghost use Rattle.sc_helpers.specs.Leading.{remove_if};
 ghost use Rattle.sc_helpers.specs.Stopping.{Gives, Leads};
 
-use crate::going::inside_of;
+use crate::making::inside_of;
 use crate::stopping::{Stopped, counted, wanting};
 use sc_apps::memory_of;
 use sc_terms::{Call, Inside};
