@@ -17,7 +17,7 @@ use sc_parts::Setup;
 use sc_state::{Net, Prepared, Session};
 use sc_terms::{Bad, CallRecord, Config, End, Step};
 use sc_ticks::{lost, ticked};
-use sc_value::{AppId, List, NoMemory, Place};
+use sc_value::{AppId, Boxed, List, NoMemory, Place};
 use std::alloc::Global;
 
 fn nothing_sent(alloc: Global, net: &mut Net<Session>)
@@ -92,7 +92,7 @@ pub fn after_begun(
     setup: &Setup,
     app: AppId,
     event: u64,
-    begun: Option<Prepared>,
+    begun: Option<Boxed<Prepared>>,
     now: u64,
     made: &[CallRecord],
     end: End,

@@ -16,7 +16,7 @@ use sc_net::obeyed;
 use sc_parts::Setup;
 use sc_state::{Live, Net, Outcome, Prepared, Session, Waiting};
 use sc_terms::{CallRecord, Config, End};
-use sc_value::{AppId, CloneIn, NoMemory, Shared};
+use sc_value::{AppId, Boxed, CloneIn, NoMemory, Shared};
 use std::alloc::Global;
 
 /// The event leaves the inbox, what the turn sends is sent, and then the session ends or waits for
@@ -80,7 +80,7 @@ fn outcome_begun(
     alloc: Global,
     config: &Config,
     app: AppId,
-    begun: Option<Prepared>,
+    begun: Option<Boxed<Prepared>>,
     session: &Session,
     waiting: &Waiting,
     now: u64,
@@ -99,12 +99,12 @@ fn outcome_begun(
         (turn_of net.now app waiting.now now made.now end)) }
 {
     match begun {
-        Some(shown) => outcome_from(alloc, config, shown, waiting, made, end),
+        Some(shown) => outcome_from(alloc, config, shown.into_inner(), waiting, made, end),
         None => outcome_by(alloc, config, app, session, waiting, now, made, end, net),
     }
 }
 
-fn let_go(begun: Option<Prepared>) {
+fn let_go(begun: Option<Boxed<Prepared>>) {
     drop(begun);
 }
 
@@ -113,7 +113,7 @@ fn first_by(
     alloc: Global,
     setup: &Setup,
     app: AppId,
-    begun: Option<Prepared>,
+    begun: Option<Boxed<Prepared>>,
     session: &Session,
     waiting: Option<&Waiting>,
     now: u64,
@@ -158,7 +158,7 @@ fn turns_by(
     alloc: Global,
     setup: &Setup,
     app: AppId,
-    begun: Option<Prepared>,
+    begun: Option<Boxed<Prepared>>,
     live: &Option<Shared<Live<Session>>>,
     now: u64,
     made: &[CallRecord],
@@ -200,7 +200,7 @@ pub fn turns(
     alloc: Global,
     setup: &Setup,
     app: AppId,
-    begun: Option<Prepared>,
+    begun: Option<Boxed<Prepared>>,
     now: u64,
     made: &[CallRecord],
     end: End,

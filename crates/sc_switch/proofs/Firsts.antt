@@ -1,6 +1,6 @@
 -- A live session of the net after a lawful journal: since when its first event has been first is past, and its
 -- host is an application's.
-use Rattle.std.proofs.Common.{◌≡◌, ◌≤◌, ℕ, zero, suc, Bool, true, Option, None, Some, List, [], ◌∷◌, length, refl, arith}
+use Rattle.std.proofs.Common.{◌≡◌, ◌≤◌, ℕ, zero, suc, true, Option, None, Some, List, [], ◌∷◌, length, refl, arith}
 use Rattle.std.specs.Prelude.{IfSome, is_some, slice_get}
 use Rattle.sc_value.specs.declared.ids.AppId.{AppId}
 use Rattle.sc_terms.specs.declared.settings.AppEntry.{AppEntry}

@@ -1,12 +1,10 @@
 -- Where no session lives, and no transaction, a net is idle.
-use Rattle.std.proofs.Common.{◌≡◌, ◌≤◌, ℕ, zero, suc, ◌+◌, Bool, true, false, List, [], ◌∷◌, refl, sym, ◌∙◌, arith, length}
+use Rattle.std.proofs.Common.{◌≡◌, ℕ, suc, ◌+◌, Bool, true, false, List, [], ◌∷◌, refl, sym, ◌∙◌, arith, length}
 use Rattle.std.specs.Prelude.{◌==◌, ◌&&◌, cond, not, filter, sum_by}
 use Rattle.std.specs.List.{list_all}
 use Rattle.std.proofs.lemmas.Bool.Decides.{nat_tests}
 use Rattle.std.proofs.lemmas.List.Sums.{sum_by-cons}
-use Rattle.sc_state.specs.declared.host.Client.{Client}
 use Rattle.sc_state.specs.Hosts.{Host}
-use Rattle.sc_state.specs.declared.host.Server.{Server}
 use Rattle.sc_state.specs.declared.net.Net.{Net}
 use Rattle.sc_hosts.specs.Runs.{live_count, is_idle_host, is_idle}
 use Rattle.sc_hosts.specs.Transacting.{state_of_client, state_of_server, is_over}

@@ -1,16 +1,15 @@
 -- How many leases were given: one for each that is out, that a step ended, or that was answered `Other`.
-use Rattle.std.proofs.Common.{◌≡◌, ◌≤◌, ℕ, ◌+◌, ◌++◌, Bool, true, false, Option, None, Some, List, [], ◌∷◌, refl, ap, arith, length, length-append}
+use Rattle.std.proofs.Common.{◌≡◌, ◌≤◌, ℕ, ◌+◌, ◌++◌, true, Option, None, Some, List, [], ◌∷◌, refl, ap, arith, length, length-append}
 use Rattle.std.specs.Prelude.{is_some}
 use Rattle.std.specs.List.{find}
 use Rattle.std.proofs.lemmas.List.{append-nil}
-use Rattle.sc_value.specs.declared.ids.AppId.{AppId}
 use Rattle.sc_terms.specs.declared.steps.Step.{Step}
 use Rattle.sc_terms.specs.declared.steps.Step.TheVariants as steps
 use Rattle.sc_servlets.specs.declared.lease.Lease.{Lease}
 use Rattle.sc_servlets.specs.declared.done.Done.{Done}
 use Rattle.sc_hosts.specs.Histories.{as_session}
 use Rattle.sc_leases.proofs.KeptCounts.{one-fewer, app-fewer}
-use Rattle.sc_leases.specs.Leases.{has_number, kept_after, without_app, without_number}
+use Rattle.sc_leases.specs.Leases.{has_number, kept_after}
 use Rattle.sc_switch.specs.declared.refused.Committed.{Committed}
 use Rattle.sc_switch.specs.declared.refused.Committed.TheVariants as committed
 use Rattle.sc_switch.specs.declared.refused.Epoch.{Epoch}

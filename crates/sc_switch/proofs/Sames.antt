@@ -12,7 +12,6 @@ use Rattle.sc_state.specs.declared.queue.Waiting.{Waiting}
 use Rattle.sc_state.specs.declared.session.Session.{Session}
 use Rattle.sc_state.specs.declared.working.Prepared.{Prepared}
 use Rattle.sc_servlets.specs.declared.lease.Lease.{Lease}
-use Rattle.sc_servlets.specs.declared.done.Done.{Done}
 use Rattle.sc_model.specs.Settings.{app_of}
 use Rattle.sc_hosts.specs.Histories.{as_session}
 use Rattle.sc_hosts.specs.Runs.{shown}

@@ -3,7 +3,6 @@
 use Rattle.std.specs.Prelude.{◌≡◌, ℕ, ◌≤◌, List, [], ◌++◌, Bool, Option, Some, is_some, length, min}
 use Rattle.std.specs.List.{find, flat_map}
 use Rattle.std.specs.Option.{option_and_then}
-use Rattle.sc_value.specs.declared.ids.AppId.{AppId}
 use Rattle.sc_value.specs.declared.message.Sent.{Sent}
 use Rattle.sc_terms.specs.declared.charters.Charter.{Charter}
 use Rattle.sc_terms.specs.declared.charters.ListenerCharter.{ListenerCharter}
@@ -11,22 +10,16 @@ use Rattle.sc_terms.specs.declared.steps.Step.{Step}
 use Rattle.sc_terms.specs.declared.steps.Step.TheVariants as steps
 use Rattle.sc_parts.specs.declared.setup.Setup.{Setup}
 use Rattle.sc_journal.specs.Kept.{Kept}
-use Rattle.sc_state.specs.declared.host.Live.{Live}
 use Rattle.sc_state.specs.declared.net.Net.{Net}
-use Rattle.sc_state.specs.declared.queue.Waiting.{Waiting}
 use Rattle.sc_state.specs.declared.session.Session.{Session}
-use Rattle.sc_state.specs.declared.working.Prepared.{Prepared}
 use Rattle.sc_servlets.specs.declared.lease.Lease.{Lease}
 use Rattle.sc_servlets.specs.declared.done.Done.{Done}
 use Rattle.sc_servlets.specs.Stated.{servlet_at, listener_at}
 use Rattle.sc_model.specs.JournalSizes.{journal_size}
-use Rattle.sc_model.specs.Settings.{IsSetup, app_of, charters_of}
+use Rattle.sc_model.specs.Settings.{IsSetup, charters_of}
 use Rattle.sc_hosts.specs.Histories.{as_session}
 use Rattle.sc_hosts.specs.Runs.{chained, IsLawful, all_sent, live_count, shown, waiting_count}
-use Rattle.sc_hosts.specs.Steps.{live_at}
-use Rattle.sc_hosts.specs.Transacting.{is_same_app}
 use Rattle.sc_leases.specs.Leases.{AreLeases, has_number}
-use Rattle.sc_runs.specs.Next.{Next, next_events, lowest}
 
 -- what callers see: the set-up, the number and the first moment of the epoch, the steps of the
 -- epoch that were handed on, those that are kept, what was sent and not taken yet, the live leases

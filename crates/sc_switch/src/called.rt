@@ -1,11 +1,10 @@
 //! Whom a lease calls, and whether a brought turn is that of a live lease.
 
-ghost use Rattle.std.specs.Prelude.{◌≡◌, ◌↔◌, filter, position, Option, Some, slice_get, IsTrue, IfOk};
-ghost use Rattle.std.specs.Option.{option_copied, option_and_then};
+ghost use Rattle.std.specs.Prelude.{◌≡◌, ◌↔◌, filter, position, Option, Some, slice_get, IsTrue};
+ghost use Rattle.std.specs.Option.{option_copied};
 ghost use Rattle.std.specs.List.{find};
 ghost use Rattle.sc_model.specs.Settings.{charters_of};
 ghost use Rattle.sc_servlets.specs.Brought.{called_servlet, called_listener};
-ghost use Rattle.sc_servlets.specs.Stated.{servlet_at, listener_at};
 ghost use Rattle.sc_switch.specs.Standing.{servlet_of, listener_of, is_live_lease};
 ghost use Rattle.sc_leases.specs.Leases.{has_number, has_other_number, is_of_other, kept_after, without_app, without_number};
 ghost use Rattle.sc_switch.specs.Offering.{Judges};

@@ -1,8 +1,8 @@
 //! What is counted in a net.
 
-ghost use Rattle.std.specs.Prelude.{◌≡◌, length, min, filter, sum_by, IfOk};
+ghost use Rattle.std.specs.Prelude.{◌≡◌, length, min, sum_by, IfOk};
 ghost use Rattle.sc_hosts.specs.Runs.{live_count, waiting_count};
-ghost use Rattle.sc_switch.specs.Counting.{busy_at, busy_count, is_busy_client, is_busy_server};
+ghost use Rattle.sc_switch.specs.Counting.{busy_at, busy_count};
 ghost use Rattle.sc_switch.specs.Stepping.{waiting_at};
 
 use crate::readied::Readied;

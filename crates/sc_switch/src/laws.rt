@@ -1,5 +1,4 @@
-ghost use Rattle.std.specs.Prelude.{ℕ, ◌+◌, List, [], length};
-ghost use Rattle.sc_value.specs.declared.ids.AppId.{AppId};
+ghost use Rattle.std.specs.Prelude.{ℕ, ◌+◌, [], length};
 ghost use Rattle.sc_terms.specs.declared.steps.Step.{Step};
 ghost use Rattle.sc_parts.specs.declared.setup.Setup.{Setup};
 ghost use Rattle.sc_servlets.specs.declared.done.Done.{Done};

@@ -1,6 +1,6 @@
 //! Lending out turns, and whether a lease still shows what there is.
 
-ghost use Rattle.std.specs.Prelude.{◌≡◌, ◌≤◌, ◌<◌, ◌^◌, ◌↔◌, IfOk, IfSome, IsTrue, Option, Some, is_some, length, option_map, slice_get, false, true};
+ghost use Rattle.std.specs.Prelude.{◌≡◌, ◌≤◌, ◌<◌, ◌^◌, ◌++◌, ◌∷◌, [], IfOk, OnErr, OnOk, IfSome, IsTrue, Option, Some, is_some, length, slice_get, false, true};
 ghost use Rattle.std.specs.Option.{option_copied};
 ghost use Rattle.sc_hosts.specs.Histories.{as_session};
 ghost use Rattle.sc_hosts.specs.Runs.{shown};
@@ -8,7 +8,6 @@ ghost use Rattle.sc_hosts.specs.Nets.{host_at};
 ghost use Rattle.sc_hosts.specs.Steps.{live_at, ringing_at};
 ghost use Rattle.sc_model.specs.Settings.{app_of};
 ghost use Rattle.sc_servlets.specs.Ranges.{is_numbered_below};
-ghost use Rattle.sc_leases.specs.Leases.{IsLeaseOf, ShowsFirst, IsTimely, IsShown};
 ghost use Rattle.sc_switch.specs.Beginnings.{BeginsAnyhow, IsOfferBegun, OffersBegun, is_branch_timer};
 ghost use Rattle.sc_switch.specs.Offering.{Offers, IsOffer, IsMade};
 
@@ -19,7 +18,7 @@ use sc_servlets::Lease;
 use sc_state::{Live, Net, Prepared, Queued, Session, Waiting};
 use sc_steps::{live_at, ringing_at};
 use sc_terms::{AppEntry, Event, SessionView, View};
-use sc_value::{AppId, CloneIn, List, NoMemory, Same, Shared};
+use sc_value::{AppId, Boxed, CloneIn, List, NoMemory, Same, Shared};
 use std::alloc::Global;
 
 /// A lease that is offered, and what its turn begins with, where the session and its event alone
@@ -27,7 +26,7 @@ use std::alloc::Global;
 #[derive(Drop)]
 pub struct Offered {
     pub lease: Lease,
-    pub begun: Option<Prepared>,
+    pub begun: Option<Boxed<Prepared>>,
 }
 
 /// The application of a host.
@@ -92,6 +91,23 @@ fn shown(
     )
 }
 
+/// The same, on the heap: it is handed from call to call until its turn.
+fn shown_kept(
+    alloc: Global,
+    setup: &Setup,
+    net: &Net<Session>,
+    app: AppId,
+    live: &Live<Session>,
+    waiting: &Waiting,
+    now: u64,
+) -> Result<Boxed<Prepared>, NoMemory>
+    ensures { IfOk result
+        (λ p. p ≡ shown as_session setup.now net.now app live.now waiting.now now) }
+{
+    let shown = shown(alloc, setup, net, app, live, waiting, now)?;
+    Boxed::new(alloc, shown)
+}
+
 /// Whether the number of each SipSession is below 2^31.
 #[tactic(auto, unfolding(sc_servlets::specs::Ranges::is_numbered_below))]
 fn are_small(sessions: &[SessionView]) -> bool
@@ -153,12 +169,12 @@ fn lease_of(
     })
 }
 
-fn let_go(shown: Prepared) {
+fn let_go(shown: Boxed<Prepared>) {
     drop(shown);
 }
 
 /// What is shown, but for the timer of a branch.
-fn begun_of(event: &Queued, shown: Prepared) -> Option<Prepared>
+fn begun_of(event: &Queued, shown: Boxed<Prepared>) -> Option<Boxed<Prepared>>
     ensures { IfSome result (λ begun. (begun ≡ shown) × (is_branch_timer event.now ≡ false)) }
 {
     if is_branch_timer(event) {
@@ -254,8 +270,8 @@ fn offer_waiting(
     requires kind { is_some (app_of setup.now.config app.host) ≡ true }
     ensures { IfOk result (λ offered. IsOfferBegun setup.now net.now app number offered) }
 {
-    let shown = shown(alloc, setup, net, app, live, waiting, net.moment)?;
-    match offer_first(alloc, setup, net, app, live, waiting, number, &shown) {
+    let shown = shown_kept(alloc, setup, net, app, live, waiting, net.moment)?;
+    match offer_first(alloc, setup, net, app, live, waiting, number, shown.get()) {
         Ok(lease) => {
             let begun = begun_of(&waiting.event, shown);
             Ok(Offered { lease, begun })
@@ -290,4 +306,14 @@ fn offer_first(
         None => unreachable!(),
     };
     lease_of(alloc, number, app, kind, waiting.number, net.moment, begun)
+}
+
+/// A copy of the lease is kept behind those that are.
+pub fn keep_copy(alloc: Global, lease: &Lease, kept: &mut List<Lease>) -> Result<(), NoMemory>
+    ensures ok { OnOk result (kept.new ≡ kept.old ++ lease.now ∷ []) }
+    ensures err { OnErr result (kept.new ≡ kept.old) }
+{
+    let copy = lease.clone_in(alloc)?;
+    kept.push(copy)?;
+    Ok(())
 }

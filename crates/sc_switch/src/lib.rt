@@ -2,6 +2,7 @@
 //! commits what they bring. Each accepted step stands in its journal.
 #![tactic(auto)]
 
+mod brought;
 mod called;
 mod copying;
 mod counting;

@@ -1,10 +1,9 @@
 //! The event that is lent out next.
 
 ghost use Rattle.std.specs.Prelude.{◌≡◌, None, Some, IfOk};
-ghost use Rattle.std.specs.List.{list_any};
 ghost use Rattle.sc_runs.specs.Next.{earlier};
 ghost use Rattle.sc_hosts.specs.Transacting.{is_same_app};
-ghost use Rattle.sc_leases.specs.Leases.{is_leased, is_of, next_free};
+ghost use Rattle.sc_leases.specs.Leases.{is_leased, next_free};
 ghost use Rattle.sc_switch.specs.Offering.{better, leased_at, with_host, with_hosts};
 
 use crate::readied::Readied;

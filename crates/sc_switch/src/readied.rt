@@ -1,12 +1,14 @@
 //! A net, and what the turn that was lent out last begins with.
 
-ghost use Rattle.std.specs.Prelude.{◌≡◌, [], map, IfSome};
+ghost use Rattle.std.specs.Prelude.{◌≡◌, [], map, IfSome, is_some};
 ghost use Rattle.sc_hosts.specs.Runs.{quiet_host};
+ghost use Rattle.sc_hosts.specs.Steps.{live_at};
 ghost use Rattle.sc_switch.specs.Beginnings.{BeginsAnyhow};
 
 use crate::starting::quiet_net;
 use sc_state::{Host, Net, Prepared, Session};
-use sc_value::AppId;
+use sc_steps::live_at;
+use sc_value::{AppId, Boxed};
 use std::alloc::Global;
 use std::marker::Model;
 use std::mem::replace;
@@ -17,7 +19,7 @@ pub struct Begun {
     pub app: AppId,
     /// The moment of the turn, in milliseconds.
     pub now: u64,
-    pub shown: Prepared,
+    pub shown: Boxed<Prepared>,
 }
 
 /// A net with what the turn that was lent out last begins with, for as long as no step is taken. A
@@ -65,7 +67,7 @@ impl Readied {
 
     /// Keeps what the turn of this session at this moment begins with, where it is known.
     #[tactic(auto, unfolding(crate::specs::Beginnings::IsBegun))]
-    pub fn keep(&mut self, app: AppId, now: u64, shown: Option<Prepared>)
+    pub fn keep(&mut self, app: AppId, now: u64, shown: Option<Boxed<Prepared>>)
         requires { IfSome shown (λ shown. BeginsAnyhow self.old app now shown) }
         ensures { self.new ≡ self.old }
     {
@@ -76,7 +78,7 @@ impl Readied {
 
     /// Hands out what the turn of this session at this moment begins with, where it is known.
     #[tactic(auto, using(crate::proofs::Beginnings::begun_of))]
-    pub fn begun(&mut self, app: AppId, now: u64) -> Option<Prepared>
+    pub fn begun(&mut self, app: AppId, now: u64) -> Option<Boxed<Prepared>>
         ensures begun { IfSome result (λ shown. BeginsAnyhow self.old app now shown) }
         ensures same { self.new ≡ self.old }
     {
@@ -116,7 +118,7 @@ impl Readied {
 }
 
 // What was kept, where it is of this session and this moment.
-fn shown_of(app: AppId, now: u64, begun: Begun) -> Option<Prepared>
+fn shown_of(app: AppId, now: u64, begun: Begun) -> Option<Boxed<Prepared>>
     ensures { IfSome result (λ shown. begun ≡ record { app = app; now = now; shown = shown }) }
 {
     if begun.app != app || begun.now != now {
@@ -133,4 +135,33 @@ fn settle_all(alloc: Global, hosts: &mut [Host<Session>])
     for host in hosts {
         host.settle(alloc);
     }
+}
+
+/// Whether the application session lives in a net.
+pub fn lives_in(app: AppId, net: &Readied) -> bool
+    ensures { result ≡ is_some (live_at app net.now) }
+{
+    live_at(app, net.get()).is_some()
+}
+
+/// Another net takes the place of the one that is kept.
+pub fn set_net(alloc: Global, net: &mut Readied, next: Net<Session>)
+    ensures { net.new ≡ next }
+{
+    net.set(alloc, next);
+}
+
+/// Hosts without sessions take the place of those that are kept, in this epoch.
+pub fn begin_net(epoch: u32, net: &mut Readied)
+    ensures { net.new
+        ≡ record {
+          hosts = map (λ host. quiet_host) net.old.hosts;
+          wire = [];
+          epoch = epoch;
+          moment = net.old.moment;
+          count = 0;
+          sent = [];
+        } }
+{
+    net.begin_epoch(epoch);
 }

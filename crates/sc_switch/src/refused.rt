@@ -1,6 +1,11 @@
+//! Why a step was refused, what became of a turn, and why an epoch goes on.
+
+ghost use Rattle.std.specs.Prelude.{◌≡◌, Ok, IfErr, IsErr, OnErr, OnOk};
+
 use sc_journal::Journal;
 use sc_servlets::Done;
 use sc_terms::Step;
+use sc_value::Discard;
 use std::alloc::AllocError;
 
 /// Why a step was refused. Nothing is changed and no message is sent.
@@ -11,6 +16,13 @@ pub enum StepRefused {
     JournalFull { steps: u64, bytes: u64 },
     /// Want of memory.
     NoMemory,
+}
+
+/// A step that was refused, handed back.
+#[derive(Drop)]
+pub struct Untaken {
+    pub step: Step,
+    pub cause: StepRefused,
 }
 
 /// What became of a turn that was brought.
@@ -75,5 +87,20 @@ impl From<sc_value::NoMemory> for StepRefused {
 
     fn from(_cause: sc_value::NoMemory) -> StepRefused {
         StepRefused::NoMemory
+    }
+}
+
+/// Lets go of a step that was refused.
+pub fn told(taken: Result<(), Untaken>) -> Result<(), StepRefused>
+    ensures ok { OnOk result (taken ≡ Ok tt) }
+    ensures err { IfErr result (λ cause. IfErr taken (λ untaken. untaken.cause ≡ cause)) }
+    ensures is_err { OnErr result (IsErr taken) }
+{
+    match taken {
+        Ok(()) => Ok(()),
+        Err(Untaken { step, cause }) => {
+            step.discard();
+            Err(cause)
+        }
     }
 }

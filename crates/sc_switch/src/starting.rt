@@ -1,6 +1,6 @@
 //! What a switch begins with.
 
-ghost use Rattle.std.specs.Prelude.{◌≡◌, ◌∷◌, [], ◌++◌, map, Option, option_map, IfOk, OnOk};
+ghost use Rattle.std.specs.Prelude.{◌≡◌, [], ◌++◌, map, Option, option_map, IfOk, OnOk};
 ghost use Rattle.sc_servlets.specs.Stated.{both_charters};
 ghost use Rattle.sc_state.specs.Hosts.{Host};
 ghost use Rattle.sc_state.specs.declared.session.Session.{Session};

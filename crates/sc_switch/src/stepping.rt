@@ -19,7 +19,7 @@ use sc_servlets::Done;
 use sc_state::{Net, Prepared, Session};
 use sc_steps::{after_begun, after_step};
 use sc_terms::Step;
-use sc_value::{List, NoMemory, Sent};
+use sc_value::{Boxed, List, NoMemory, Sent};
 use std::alloc::Global;
 use std::collections::VecDeque;
 
@@ -158,7 +158,7 @@ fn turned_net(
     alloc: Global,
     setup: &Setup,
     net: &Net<Session>,
-    begun: Option<Prepared>,
+    begun: Option<Boxed<Prepared>>,
     done: &Done,
 ) -> Result<Net<Session>, NoMemory>
     requires { IfSome begun
@@ -179,7 +179,7 @@ fn turned_net(
 fn turned_copy(
     alloc: Global,
     setup: &Setup,
-    begun: Option<Prepared>,
+    begun: Option<Boxed<Prepared>>,
     done: &Done,
     net: Net<Session>,
 ) -> Result<Net<Session>, NoMemory>

@@ -1,6 +1,6 @@
 //! The switch itself.
 
-ghost use Rattle.std.specs.Prelude.{◌≡◌, ◌+◌, ◌<◌, ◌≤◌, ◌^◌, ◌∷◌, [], ◌++◌, Ok, List, map, min, length, Option, Some, option_map, IfOk, IfErr, OnOk, OnErr, IfSome, IfNone, IsErr, is_some, true, false};
+ghost use Rattle.std.specs.Prelude.{◌≡◌, ◌+◌, ◌<◌, ◌≤◌, ◌^◌, ◌∷◌, [], ◌++◌, Ok, List, map, min, length, Option, Some, option_map, IfOk, IfErr, OnOk, OnErr, IfSome, IfNone, is_some, true, false};
 ghost use Rattle.sc_servlets.specs.Stated.{both_charters};
 ghost use Rattle.sc_value.specs.declared.message.Sent.{Sent};
 ghost use Rattle.sc_grammar.specs.Written.{written};
@@ -9,30 +9,27 @@ ghost use Rattle.sc_model.specs.Settings.{IsSetup};
 ghost use Rattle.sc_hosts.specs.Histories.{as_session};
 ghost use Rattle.sc_hosts.specs.Steps.{live_at};
 ghost use Rattle.sc_hosts.specs.Runs.{HasVia, IsAllowed, IsLawful, all_sent, live_count, waiting_count};
-ghost use Rattle.sc_leases.specs.Leases.{AreLeases, IsLeaseOf, is_leased, next_free};
+ghost use Rattle.sc_leases.specs.Leases.{IsLeaseOf, is_leased, next_free};
 ghost use Rattle.sc_switch.specs.Standing.{Known, AreKept, net_of, whole, Fits, step_of};
 ghost use Rattle.sc_switch.specs.Answers.{IsGiven, Leased, LeasedOf, Received, RefusesRight, RefusesTurn, IsFullFor, Withdraws, with_step, LAST_LEASE, IsListing, IsReady, IsTurned, LAST_EPOCH, RefusesEpoch, handing};
-ghost use Rattle.sc_hosts.specs.Runs.{quiet_host};
 ghost use Rattle.sc_switch.specs.Offering.{Judges, Offers};
 
+use crate::brought::{gone, number_of, step_of};
 use crate::called::{Judged, end_lease, end_leases, end_own, judge};
 use crate::counting::busy_count;
-use crate::leasing::offer;
+use crate::leasing::{keep_copy, offer};
 use crate::listing::list_net;
 use crate::next::{Next, is_leased, next_free};
-use crate::readied::Readied;
-use crate::refused::{CommitRefused, Committed, Epoch, EpochRefused, StepRefused};
-use crate::sizes::total;
+use crate::readied::{Readied, begin_net, lives_in, set_net};
+use crate::refused::{CommitRefused, Committed, Epoch, EpochRefused, StepRefused, Untaken, told};
+use crate::sizes::{text_size, total};
 use crate::starting::{kinds_of, start_net};
 use crate::stepping::{Stepped, plan_step, plan_turn, send_all};
 use sc_edge::Listing;
 use sc_handed::Handed;
 use sc_journal::Journal;
-use sc_message_text::text_of;
 use sc_parts::Setup;
 use sc_servlets::{Catalogue, Done, Lease};
-use sc_state::{Net, Session};
-use sc_steps::live_at;
 use sc_terms::{Bad, Config, Dar, End, Step};
 use sc_value::{AppId, CloneIn, Discard, List, Message, NoMemory, Place, Sent};
 use std::alloc::Global;
@@ -102,13 +99,6 @@ impl Model for Switch {
 
 /// The number of the last lease that is given.
 const LAST: u64 = 9_223_372_036_854_775_807;
-
-/// A step that was refused, handed back.
-#[derive(Drop)]
-struct Untaken {
-    step: Step,
-    cause: StepRefused,
-}
 
 impl Switch {
     /// A switch over these settings, this table and the charters of the catalogue's kinds, with an
@@ -682,103 +672,6 @@ impl Switch {
         drop(kept);
         journal
     }
-}
-
-/// Whether the application session lives in a net.
-fn lives_in(app: AppId, net: &Readied) -> bool
-    ensures { result ≡ is_some (live_at app net.now) }
-{
-    live_at(app, net.get()).is_some()
-}
-
-/// How many bytes the written text of a message has.
-fn text_size(alloc: Global, message: &Message) -> Result<u64, NoMemory>
-    ensures { IfOk result (λ size. size ≡ min (length (written message.now)) u64.MAX) }
-{
-    let text = text_of(alloc, message)?;
-    Ok(text.len() as u64)
-}
-
-/// Lets go of a step that was refused.
-fn told(taken: Result<(), Untaken>) -> Result<(), StepRefused>
-    ensures ok { OnOk result (taken ≡ Ok tt) }
-    ensures err { IfErr result (λ cause. IfErr taken (λ untaken. untaken.cause ≡ cause)) }
-    ensures is_err { OnErr result (IsErr taken) }
-{
-    match taken {
-        Ok(()) => Ok(()),
-        Err(Untaken { step, cause }) => {
-            step.discard();
-            Err(cause)
-        }
-    }
-}
-
-fn set_net(alloc: Global, net: &mut Readied, next: Net<Session>)
-    ensures { net.new ≡ next }
-{
-    net.set(alloc, next);
-}
-
-fn begin_net(epoch: u32, net: &mut Readied)
-    ensures { net.new
-        ≡ record {
-          hosts = map (λ host. quiet_host) net.old.hosts;
-          wire = [];
-          epoch = epoch;
-          moment = net.old.moment;
-          count = 0;
-          sent = [];
-        } }
-{
-    net.begin_epoch(epoch);
-}
-
-fn keep_copy(alloc: Global, lease: &Lease, kept: &mut List<Lease>) -> Result<(), NoMemory>
-    ensures ok { OnOk result (kept.new ≡ kept.old ++ lease.now ∷ []) }
-    ensures err { OnErr result (kept.new ≡ kept.old) }
-{
-    let copy = lease.clone_in(alloc)?;
-    kept.push(copy)?;
-    Ok(())
-}
-
-/// The step of a turn that was made.
-#[tactic(auto, unfolding(crate::specs::Standing::step_of))]
-fn step_of(done: Done) -> Step
-    ensures { result ≡ step_of done }
-{
-    let Done {
-        lease,
-        calls,
-        end,
-        ..
-    } = done;
-    let step = Step::Turn {
-        app: lease.app,
-        event: lease.event_number,
-        now: lease.shown.get().now,
-        calls,
-        end,
-    };
-    lease.discard();
-    step
-}
-
-/// Lets a turn go whose lease isn't live.
-fn gone(done: Done) -> Committed
-    ensures { result ≡ Committed.Gone done.lease.number }
-{
-    Committed::Gone(number_of(done))
-}
-
-/// Lets a turn go; the number of its lease.
-fn number_of(done: Done) -> u64
-    ensures { result ≡ done.lease.number }
-{
-    let number = done.lease.number;
-    done.discard();
-    number
 }
 
 fn switch_of(alloc: Global, setup: Setup) -> Result<Switch, NoMemory>

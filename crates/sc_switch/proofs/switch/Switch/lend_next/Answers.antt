@@ -1,4 +1,4 @@
-use Rattle.sc_switch.specs.Offering.{IsOffer, Offers}
+use Rattle.sc_switch.specs.Offering.{Offers}
 use Rattle.sc_switch.proofs.Names.{offer_free, offer_number, offer_some}
 use Rattle.sc_switch.proofs.Sames.{given, given_next}
 use Rattle.sc_switch.proofs.switch.Switch.lend_next.Goals as goal
