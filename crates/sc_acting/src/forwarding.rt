@@ -4,8 +4,7 @@ ghost use Rattle.std.specs.Prelude.{◌≡◌, None, Some, is_some, IfOk, OnOk};
 ghost use Rattle.std.specs.Option.{option_copied};
 ghost use Rattle.sc_value.specs.Lists.{change_first};
 ghost use Rattle.sc_model.specs.BestResponses.{best_response};
-ghost use Rattle.sc_model.specs.Dialogs.{tag_of};
-ghost use Rattle.sc_hosts.specs.Looking.{is_session, change_session};
+ghost use Rattle.sc_hosts.specs.Looking.{is_session};
 ghost use Rattle.sc_hosts.specs.Acting.{forwarded_view, moved_on, subscribed_tag, with_subscribed, forwards, passes, forwards_best, chooses};
 
 use crate::changing::{give, note_forwarded};

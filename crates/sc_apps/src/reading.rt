@@ -1,11 +1,9 @@
 //! What an application reads of its turn: parameters, attributes, numbers and URIs.
 
-ghost use Rattle.std.specs.Prelude.{◌≡◌, ◌<◌, ◌^◌, [], false, decimal, IfOk, slice_get, option_and_then, position};
+ghost use Rattle.std.specs.Prelude.{◌≡◌, ◌<◌, [], false, decimal, IfOk, slice_get, position};
 ghost use Rattle.std.specs.List.{find};
 ghost use Rattle.std.specs.Option.{option_copied};
-ghost use Rattle.sc_tokens.specs.Names.{same_bytes};
 ghost use Rattle.sc_hosts.specs.Scripting.{attribute, param_at, readable, small_number, uri_param};
-ghost use Rattle.sc_turn.specs.Working.{play_of};
 ghost use Rattle.sc_apps.specs.Scripted.{is_field};
 
 use sc_ascii::read_u64;

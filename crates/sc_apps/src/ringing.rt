@@ -6,7 +6,7 @@ ghost use Rattle.sc_tokens.specs.Names.{same_bytes};
 ghost use Rattle.sc_terms.specs.declared.charters.Charter.{Charter};
 ghost use Rattle.sc_terms.specs.declared.views.Period.TheVariants.{Once};
 ghost use Rattle.sc_hosts.specs.Charters.{drop_word, drops, ring, ringer_script, ringing_time};
-ghost use Rattle.sc_hosts.specs.Scripting.{only, param_at, reply, small_number, then_make, where_some};
+ghost use Rattle.sc_hosts.specs.Scripting.{only, param_at, reply, small_number, where_some};
 ghost use Rattle.sc_model.specs.SessionStates.{invite};
 ghost use Rattle.sc_hosts.specs.RefusalParts.{MOST_CALLS};
 ghost use Rattle.sc_hosts.specs.Words.{ok};

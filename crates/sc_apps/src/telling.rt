@@ -1,6 +1,5 @@
 //! What a call answers that was refused.
 
-ghost use Rattle.std.specs.Prelude.{◌≡◌};
 ghost use Rattle.sc_apps.specs.Scripted.{IsTold};
 
 use sc_terms::{CallAnswer, Refusal};

@@ -1,8 +1,7 @@
 //! The ends of tokens and of quoted strings.
 
-ghost use Rattle.std.specs.Prelude.{◌≡◌, ◌≤◌, not, length, drop, ◌+◌, ◌<◌, IfSome, IsTrue};
+ghost use Rattle.std.specs.Prelude.{◌≡◌, ◌≤◌, not, length, ◌+◌, ◌<◌, IfSome, IsTrue};
 ghost use Rattle.std.specs.List.{position_or_len};
-ghost use Rattle.std.specs.Option.{option_map};
 ghost use Rattle.sc_tokens.specs.Tokens.{is_token_byte};
 ghost use Rattle.sc_tokens.specs.Quoted.{closing, is_quote_at, quoted_end, token_end};
 

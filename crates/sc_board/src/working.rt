@@ -1,6 +1,6 @@
 //! The work of one thread: it takes jobs, makes their turns and brings the results.
 
-ghost use Rattle.std.specs.Prelude.{◌≡◌, ◌<◌, ◌≤◌, IfSome, IfNone, Some, length, map, option_map};
+ghost use Rattle.std.specs.Prelude.{◌≡◌, ◌<◌, IfSome, IfNone, Some, length, map, option_map};
 ghost use Rattle.sc_servlets.specs.Stated.{both_charters};
 ghost use Rattle.sc_servlets.specs.declared.lease.Lease.{Lease};
 ghost use Rattle.sc_servlets.specs.declared.done.Done.{Done};

@@ -6,9 +6,8 @@ ghost use Rattle.std.specs.List.Sorted.{IsStrictlySortedBy};
 ghost use Rattle.std.specs.Map.{values_of};
 ghost use Rattle.std.specs.Option.{option_copied};
 ghost use Rattle.std.specs.Ordering.{nat_cmp};
-ghost use Rattle.std.specs.FinMap.Entries.{is_sorted};
 ghost use Rattle.sc_book.specs.Words.{belongs, is_before};
-ghost use Rattle.sc_book.specs.Gathering.{is_wanted, gathered, picked, one_of, with_all, Covers};
+ghost use Rattle.sc_book.specs.Gathering.{is_wanted, gathered, picked, one_of, Covers};
 
 use crate::Item;
 use crate::book::Book;

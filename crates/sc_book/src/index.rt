@@ -1,4 +1,4 @@
-ghost use Rattle.std.specs.Prelude.{◌≡◌, ◌==◌, ◌<◌, ℕ, [], OnOk, IfOk, true, not};
+ghost use Rattle.std.specs.Prelude.{◌≡◌, ◌==◌, ◌<◌, ℕ, [], OnOk, true, not};
 ghost use Rattle.sc_book.specs.Pairs.{has_pair, Grown, KeptBut};
 ghost use Rattle.sc_book.specs.Gathering.{has_place, MorePlaces, with_places, pairs_below, pairs_from, pairs_up};
 

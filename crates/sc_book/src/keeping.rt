@@ -1,8 +1,6 @@
 //! Items that go because they don't pass a test.
 
 ghost use Rattle.std.specs.Prelude.{◌≡◌, false, not, OnOk};
-ghost use Rattle.std.specs.List.Sorted.{IsStrictlySortedBy};
-ghost use Rattle.std.specs.Ordering.{nat_cmp};
 ghost use Rattle.sc_book.specs.Places.{passes_at};
 ghost use Rattle.sc_book.specs.Gathering.{left_once, left_at};
 ghost use Rattle.sc_book.specs.Keys.{AreFewer};

@@ -3,7 +3,6 @@
 ghost use Rattle.std.specs.Prelude.{◌≡◌, ◌++◌, IfOk, OnOk};
 ghost use Rattle.std.specs.List.{flat_map, list_any};
 ghost use Rattle.std.specs.Option.{option_copied};
-ghost use Rattle.sc_tokens.specs.Names.{same_bytes};
 ghost use Rattle.sc_grammar.specs.Written.{uri_text};
 ghost use Rattle.sc_model.specs.Dialogs.{contact_uri};
 ghost use Rattle.sc_hosts.specs.RefusalParts.{MOST_BRANCHES};

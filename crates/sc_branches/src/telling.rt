@@ -1,10 +1,9 @@
 //! What the application is told of a response on a branch, and the timer of a branch (RFC 3261
 //! section 16.8).
 
-ghost use Rattle.std.specs.Prelude.{◌≡◌, ◌==◌, ◌&&◌, not, false, length, IfOk};
-ghost use Rattle.std.specs.List.{list_any};
+ghost use Rattle.std.specs.Prelude.{◌≡◌, ◌==◌, ◌&&◌, not, false, IfOk};
 ghost use Rattle.std.specs.Option.{option_map_or};
-ghost use Rattle.sc_hosts.specs.Branches.{is_branch, is_open, branch_in, has_open, ends_search, ended_branch, leaves_target, ends_last, is_told_whole, is_timed_out, to_cancel};
+ghost use Rattle.sc_hosts.specs.Branches.{is_open, branch_in, has_open, ends_search, ended_branch, leaves_target, ends_last, is_told_whole, is_timed_out, to_cancel};
 
 use crate::changing::{cancel_in, end_in};
 use crate::hearing::is_global;

@@ -1,6 +1,6 @@
 //! The address and the port that the container listens at.
 
-ghost use Rattle.std.specs.Prelude.{◌≡◌, position};
+ghost use Rattle.std.specs.Prelude.{◌≡◌};
 ghost use Rattle.std.specs.List.{list_all};
 ghost use Rattle.std.specs.Char.{is_ascii_digit};
 ghost use Rattle.sc_config.specs.KeyValues.{ip_of, port_of, listen_text};

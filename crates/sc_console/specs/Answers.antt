@@ -1,5 +1,5 @@
 -- What the console writes.
-use Rattle.std.specs.Prelude.{◌≡◌, ℕ, ◌++◌, ◌∷◌, [], List, codes, decimal, length}
+use Rattle.std.specs.Prelude.{◌++◌, ◌∷◌, [], List, codes, decimal, length}
 use Rattle.std.specs.List.{flat_map}
 use Rattle.sc_tokens.specs.Bytes.{Bytes}
 use Rattle.sc_value.specs.declared.ids.AppId.{AppId}

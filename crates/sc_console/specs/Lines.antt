@@ -1,5 +1,5 @@
 -- What a line of the console asks for: `list`, or `drop H S` with decimals as in scripts.
-use Rattle.std.specs.Prelude.{ℕ, ◌^◌, Option, None, Some, codes, if◌then◌else◌}
+use Rattle.std.specs.Prelude.{ℕ, Option, None, Some, codes, if◌then◌else◌}
 use Rattle.sc_tokens.specs.Bytes.{Bytes}
 use Rattle.sc_tokens.specs.Cuts.{before, after}
 use Rattle.sc_tokens.specs.Names.{same_bytes}

@@ -1,6 +1,6 @@
 //! What the console writes of a listing.
 
-ghost use Rattle.std.specs.Prelude.{◌≡◌, ◌++◌, [], ◌∷◌, decimal, OnErr, OnOk};
+ghost use Rattle.std.specs.Prelude.{◌≡◌, ◌++◌, decimal, OnOk};
 ghost use Rattle.sc_console.specs.Answers.{app_text, apps_text, counts_text, list_text};
 
 use sc_edge::Listing;

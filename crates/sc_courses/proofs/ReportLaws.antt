@@ -1,6 +1,6 @@
 -- What a notice is told of how far a run came, as it is told more.
-use Rattle.std.proofs.Common.{◌≡◌, ℕ, ◌+◌, zero, suc, Option, None, Some, List, [], ◌∷◌, ◌++◌, refl, sym, ap, ◌∙◌, subst, append_assoc, inl, inr, arith}
-use Rattle.std.specs.Prelude.{◌⊎◌, length, map, min}
+use Rattle.std.proofs.Common.{◌≡◌, ℕ, ◌+◌, suc, Option, None, Some, List, [], ◌∷◌, ◌++◌, refl, sym, ap, ◌∙◌, subst, append_assoc, inl, inr, arith}
+use Rattle.std.specs.Prelude.{◌⊎◌, length, min}
 use Rattle.std.proofs.lemmas.List.{append-nil, append_cancel_left, length-append, map-append}
 use Rattle.std.proofs.lemmas.List.Sums.{fold-append}
 use Rattle.sc_journal.specs.Kept.{Kept}
@@ -13,7 +13,6 @@ use Rattle.sc_edge.specs.declared.notice.Noted.TheVariants as noted
 use Rattle.sc_hosts.specs.Runs.{Epoch}
 use Rattle.sc_courses.specs.Courses.{Telling, TellsEpochs, Told, told_by, with_item}
 use Rattle.sc_courses.specs.Listings.{IsListingAt}
-use Rattle.sc_courses.specs.Ordering.{beginning_point}
 use Rattle.sc_courses.specs.Reports.{AreCounted, Counts, Reports, Shows, ShowsEnd, TellsLast, TellsLengths, TellsSuch, Untold, counted_by, last_listing, last_stepped, lengths, lengths_of, or_epoch, or_listing, with_count}
 
 abbrev Items : Type 0

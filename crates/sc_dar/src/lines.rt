@@ -2,7 +2,7 @@
 
 ghost use Rattle.std.specs.Prelude.{◌≡◌, ◌≤◌, ◌<◌, ◌+◌, ◌++◌, ◌∷◌, IfOk, length};
 ghost use Rattle.sc_tokens.specs.Hosts.{begins};
-ghost use Rattle.sc_dar.specs.Lines.{Line, without_cr, rows, lines, is_comment};
+ghost use Rattle.sc_dar.specs.Lines.{without_cr, rows, lines, is_comment};
 
 use crate::cuts::{begins, cut, drop_blanks, ends, without_last};
 use sc_value::{NoMemory, Text};

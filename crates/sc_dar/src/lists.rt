@@ -1,10 +1,10 @@
 //! The list of a line: its method, and its tuples.
 
-ghost use Rattle.std.specs.Prelude.{◌≡◌, ◌<◌, ◌++◌, ◌||◌, IsTrue, not, length};
+ghost use Rattle.std.specs.Prelude.{◌≡◌, ◌<◌, ◌++◌, ◌||◌, IsTrue, length};
 ghost use Rattle.sc_tokens.specs.Hosts.{begins};
 ghost use Rattle.sc_tokens.specs.Quoted.{token_end};
 ghost use Rattle.sc_terms.specs.RoutingTables.{is_listed};
-ghost use Rattle.sc_dar.specs.Tables.{behind_method, has_separator, list_in, list_of};
+ghost use Rattle.sc_dar.specs.Tables.{has_separator, list_in, list_of};
 ghost use Rattle.sc_dar.specs.Answers.{IsRead};
 
 use crate::cuts::{begins, drop_blanks};

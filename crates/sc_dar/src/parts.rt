@@ -1,6 +1,6 @@
 //! The parts of a line between its commas, six to a tuple, and the texts in their quotes.
 
-ghost use Rattle.std.specs.Prelude.{◌≡◌, ◌<◌, ◌≤◌, ◌==◌, ◌&&◌, ◌∷◌, [], IfSome, if◌then◌else◌, not, false, length, option_map};
+ghost use Rattle.std.specs.Prelude.{◌≡◌, ◌<◌, ◌==◌, ◌&&◌, ◌∷◌, IfSome, if◌then◌else◌, not, false, length, option_map};
 ghost use Rattle.std.specs.Option.{option_copied};
 ghost use Rattle.sc_dar.specs.Lines.{is_blank_text};
 ghost use Rattle.sc_dar.specs.Tuples.{parts, parts_after, first_six, closed, quoted, is_closing, behind_tuple, is_parted, opening, unquoted};

@@ -1,7 +1,6 @@
 //! The tuples of a line.
 
-ghost use Rattle.std.specs.Prelude.{◌≡◌, ◌<◌, ◌++◌, ◌∷◌, [], IfOk, OnOk, false};
-ghost use Rattle.std.specs.Option.{option_copied};
+ghost use Rattle.std.specs.Prelude.{◌≡◌, ◌<◌, ◌++◌, ◌∷◌, [], OnOk, false};
 ghost use Rattle.sc_dar.specs.Tuples.{parts, tuple_of, tuple_at, tuples_in};
 ghost use Rattle.sc_dar.specs.Answers.{IsRead};
 

@@ -1,5 +1,5 @@
 -- Each step of a pass keeps the rule of the queue of orders.
-use Rattle.std.proofs.Common.{◌≡◌, ◌≢◌, ℕ, zero, suc, ◌+◌, ◌<◌, Bool, true, false, true≢false, List, [], ◌∷◌, ◌++◌, length, set, sym, refl, ap, ◌∙◌, subst, ⊎_elim, append-nil, append_assoc, arith}
+use Rattle.std.proofs.Common.{◌≡◌, ◌≢◌, ℕ, zero, suc, ◌+◌, ◌<◌, true, true≢false, List, [], ◌∷◌, ◌++◌, length, set, sym, refl, ap, ◌∙◌, subst, ⊎_elim, append-nil, append_assoc, arith}
 use Rattle.std.specs.List.{AllByRecursion}
 use mathlib.Core.Option.{some, some-ne-none, some-injective}
 use lib.ListN.{get_elem?}
@@ -8,7 +8,7 @@ use Rattle.sc_edge.specs.declared.orders.Order.{Order}
 use Rattle.sc_desk.specs.declared.posted.Posted.{Posted}
 use Rattle.sc_desk.specs.declared.desk_queue.DeskView.{DeskView}
 use Rattle.sc_desk.specs.declared.desk_queue.Ended.{Ended}
-use Rattle.sc_desk.specs.DeskRules.{AreOne, BothPost, BothTake, DeskKept, IsBegun, IsEnded, IsPoster, IsTaker, IsTakenUpTo, IsWaiting, IsWhole, Took, after_post, after_take, first_view, joined_view, one_made, orders_by, poster_view, spent_view}
+use Rattle.sc_desk.specs.DeskRules.{BothPost, BothTake, DeskKept, IsBegun, IsEnded, IsPoster, IsTaker, IsTakenUpTo, IsWaiting, IsWhole, Took, after_post, after_take, first_view, joined_view, one_made, orders_by, poster_view, spent_view}
 use Rattle.sc_desk.proofs.Orders.{by_append, by_mine, by_none, by_other}
 use Rattle.sc_desk.proofs.Views.{all_both, all_more, all_snoc, at_end, one_more, one_set, there}
 

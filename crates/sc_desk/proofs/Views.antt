@@ -3,7 +3,7 @@ use Rattle.std.proofs.Common.{◌≡◌, ◌≢◌, ◌⊎◌, ℕ, zero, suc, �
 use Rattle.std.specs.List.{AllByRecursion}
 use mathlib.Core.Option.{some, some-ne-none, some-injective}
 use lib.ListN.{get_elem?}
-use Rattle.crossbeam_queue.proofs.Lists.{at_set, at_snoc}
+use Rattle.crossbeam_queue.proofs.Lists.{at_set}
 use Rattle.sc_desk.specs.declared.desk_queue.DeskView.{DeskView}
 use Rattle.sc_desk.specs.DeskRules.{AreOne}
 

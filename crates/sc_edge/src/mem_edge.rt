@@ -1,8 +1,8 @@
-ghost use Rattle.std.specs.Prelude.{◌≡◌, ◌<◌, ◌≤◌, ◌+◌, ◌-◌, ◌++◌, ◌∷◌, [], Some, true, false, length, vec_capacity, take, min, max, IfOk, option_map};
+ghost use Rattle.std.specs.Prelude.{◌≡◌, ◌<◌, ◌≤◌, ◌-◌, Some, true, false, length, vec_capacity, take, IfOk, option_map};
 ghost use Rattle.sc_edge.specs.EdgeCalls.{Answers, Ends, IsNoPoll, IsPart, Leaves, Names, PollBlames, PutTells, Shuts, StaysPolled, Took, cut_after};
 ghost use Rattle.sc_edge.specs.EdgeComing.{next_answer};
-ghost use Rattle.sc_edge.specs.EdgeMemory.{after_close, after_poll, after_put, IsPut, closes_after, edge_state, made, faults_after, next_got, next_put, places_after, places_put, put_share, share_at, taken_put, told_closes};
-ghost use Rattle.sc_edge.specs.EdgePlaces.{ended, failed, known_at, served, shut, with_known};
+ghost use Rattle.sc_edge.specs.EdgeMemory.{after_close, after_poll, after_put, IsPut, edge_state, made, next_got, next_put, told_closes};
+ghost use Rattle.sc_edge.specs.EdgePlaces.{ended, failed, known_at, shut};
 ghost use Rattle.sc_edge.specs.EdgeTaken.{kept_of};
 ghost use Rattle.sc_edge.specs.Edges.{CountsOn, IsWithin, Stands, Stays, is_back, polled_of};
 ghost use Rattle.sc_edge.specs.Faults.{one_more};

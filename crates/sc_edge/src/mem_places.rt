@@ -1,4 +1,4 @@
-ghost use Rattle.std.specs.Prelude.{◌≡◌, ◌<◌, ◌≤◌, ◌+◌, ◌++◌, ◌∷◌, [], IfOk, OnOk, None, option_copied};
+ghost use Rattle.std.specs.Prelude.{◌≡◌, ◌<◌, ◌≤◌, ◌+◌, ◌++◌, IfOk, OnOk, None, option_copied};
 ghost use Rattle.std.specs.List.{find, flat_map, position};
 ghost use Rattle.sc_edge.specs.EdgePlaces.{ended, failed, fresh, is_of, known_at, named, places_of, served, shut, stored, with_known};
 ghost use Rattle.sc_edge.specs.Edges.{is_back};

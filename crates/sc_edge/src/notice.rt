@@ -1,4 +1,4 @@
-ghost use Rattle.std.specs.Prelude.{◌≡◌, List, Option, None};
+ghost use Rattle.std.specs.Prelude.{List, Option, None};
 ghost use Rattle.sc_edge.specs.Telling.{Notes};
 
 use crate::Listing;

@@ -1,7 +1,6 @@
 //! What a response to a request leaves of a view.
 
 ghost use Rattle.std.specs.Prelude.{◌≡◌, Some, is_none, ◌&&◌, IfOk, OnOk};
-ghost use Rattle.std.specs.Option.{option_copied};
 ghost use Rattle.sc_value.specs.Lists.{change_first};
 ghost use Rattle.sc_hosts.specs.Looking.{is_request, is_session, request_in};
 ghost use Rattle.sc_hosts.specs.Refusals.{begun_by};

@@ -1,13 +1,9 @@
 //! What each accepted call leaves, and what a call answers.
 
-ghost use Rattle.std.specs.Prelude.{◌≡◌, ◌+◌, Option, Some, None, IfOk, OnOk};
+ghost use Rattle.std.specs.Prelude.{◌≡◌, ◌+◌, Some, None, IfOk, OnOk};
 ghost use Rattle.std.specs.List.{fold};
-ghost use Rattle.sc_value.specs.Lists.{remove_first};
-ghost use Rattle.sc_tokens.specs.Names.{same_bytes};
 ghost use Rattle.sc_model.specs.Settings.{moment_after};
-ghost use Rattle.sc_hosts.specs.Looking.{is_timer, request_in};
-ghost use Rattle.sc_hosts.specs.Refusals.{begun_by, refusal};
-ghost use Rattle.sc_hosts.specs.RefusalParts.{draft_in};
+ghost use Rattle.sc_hosts.specs.Refusals.{refusal};
 ghost use Rattle.sc_hosts.specs.Effects.{after_call, accepted, answer_by, answer_of, played_by, after_listed, begun, after_calls};
 
 use crate::answering::{answered_begun, answered_by};

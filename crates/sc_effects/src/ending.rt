@@ -1,8 +1,7 @@
 //! What an application's end of a SipSession leaves of a view.
 
 ghost use Rattle.std.specs.Prelude.{◌≡◌, map};
-ghost use Rattle.sc_value.specs.Lists.{change_first};
-ghost use Rattle.sc_hosts.specs.Looking.{change_request, is_request};
+ghost use Rattle.sc_hosts.specs.Looking.{change_request};
 ghost use Rattle.sc_hosts.specs.ViewChanges.{invalidated, is_owed, settled_request, settled_requests, tidy, with_answer};
 
 use crate::answering::answer_in;

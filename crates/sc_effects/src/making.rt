@@ -1,10 +1,9 @@
 //! SipSessions and drafts that calls make.
 
-ghost use Rattle.std.specs.Prelude.{◌≡◌, ◌+◌, ◌++◌, ◌∷◌, [], ◌-◌, length, Some, IfOk, OnOk};
-ghost use Rattle.std.specs.Option.{option_copied};
+ghost use Rattle.std.specs.Prelude.{◌≡◌, ◌-◌, Some, IfOk, OnOk};
 ghost use Rattle.sc_hosts.specs.Looking.{request_in};
 ghost use Rattle.sc_hosts.specs.ViewChanges.{new_call_id, new_tag, new_session, own_session, with_own_session};
-ghost use Rattle.sc_hosts.specs.Effects.{with_draft, with_view, created, created_later, created_leg};
+ghost use Rattle.sc_hosts.specs.Effects.{with_draft, created, created_later, created_leg};
 
 use crate::answering::request_copy;
 use crate::looking::linked;

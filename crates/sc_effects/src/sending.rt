@@ -8,7 +8,7 @@ ghost use Rattle.sc_hosts.specs.Looking.{same_session, removed};
 ghost use Rattle.sc_hosts.specs.RefusalParts.{draft_in};
 ghost use Rattle.sc_hosts.specs.Refusals.{awaits_ack};
 ghost use Rattle.sc_hosts.specs.ViewChanges.{tidy};
-ghost use Rattle.sc_hosts.specs.Effects.{sent_view, with_view, sent, discarded, without_session, acked};
+ghost use Rattle.sc_hosts.specs.Effects.{sent_view, sent, discarded, without_session, acked};
 
 use crate::looking::removed;
 use crate::tidying::tidy;

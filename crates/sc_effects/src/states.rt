@@ -4,10 +4,9 @@
 ghost use Rattle.std.specs.Prelude.{◌≡◌, ◌&&◌, not, if◌then◌else◌, position};
 ghost use Rattle.std.specs.List.{find, prefix_len, take_while};
 ghost use Rattle.std.specs.Option.{option_copied};
-ghost use Rattle.sc_tokens.specs.Names.{same_bytes, same_name};
+ghost use Rattle.sc_tokens.specs.Names.{same_name};
 ghost use Rattle.sc_tokens.specs.Tokens.{is_token_byte};
-ghost use Rattle.sc_model.specs.Dialogs.{subscribe, notify};
-ghost use Rattle.sc_model.specs.SessionStates.{bye, is_final, ended_state};
+ghost use Rattle.sc_model.specs.SessionStates.{is_final, ended_state};
 ghost use Rattle.sc_model.specs.Transactions.{is_success, is_failure};
 ghost use Rattle.sc_hosts.specs.States.{failed_state, is_ringing, invited_state, subscribed_state, after_initial, unsubscribed_state, after_later, after_response, subscription_state, terminated_word, begins_token, ends_subscription};
 

@@ -1,8 +1,6 @@
 //! Which requests a view shows.
 
-ghost use Rattle.std.specs.Prelude.{◌≡◌, map, filter, not};
-ghost use Rattle.std.specs.List.{find};
-ghost use Rattle.std.specs.Option.{option_copied};
+ghost use Rattle.std.specs.Prelude.{◌≡◌, map, filter};
 ghost use Rattle.sc_hosts.specs.ViewChanges.{tidy};
 ghost use Rattle.sc_effects.specs.Tidied.{is_there, with_there_in, stands_in, tidied};
 

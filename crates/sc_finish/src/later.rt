@@ -1,12 +1,10 @@
 //! A later request on a proxied dialog is passed on.
 
-ghost use Rattle.std.specs.Prelude.{◌≡◌, ◌∷◌, [], None, Some, IfOk, OnOk, option_and_then};
+ghost use Rattle.std.specs.Prelude.{◌≡◌, None, Some, IfOk, OnOk};
 ghost use Rattle.sc_hosts.specs.Branches.{new_proxy};
-ghost use Rattle.sc_hosts.specs.Looking.{request_in};
 ghost use Rattle.sc_hosts.specs.Messages.{bare_answer, on_branch, passed_request};
 ghost use Rattle.sc_hosts.specs.Preparing.{kept_of};
 ghost use Rattle.sc_hosts.specs.Words.{too_many_hops};
-ghost use Rattle.sc_hosts.specs.Giving.{giving};
 ghost use Rattle.sc_hosts.specs.Working.{next_branch, event_of};
 ghost use Rattle.sc_hosts.specs.Acting.{hops_spent, sent_proxy, passed_on, passed_later, passed_request_of, is_request_event, passes_later};
 ghost use Rattle.sc_finish.specs.Passing.{answers_alone, passed, sends_on};

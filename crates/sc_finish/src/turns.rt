@@ -1,7 +1,7 @@
 //! The whole turn of an application session.
 
 ghost use Rattle.std.specs.Prelude.{◌≡◌, IfOk, OnOk};
-ghost use Rattle.sc_hosts.specs.Finishing.{is_expiry, is_ready_event, session_in_play, finished, outcome_of, outcome};
+ghost use Rattle.sc_hosts.specs.Finishing.{is_expiry, is_ready_event, finished, outcome_of, outcome};
 ghost use Rattle.sc_finish.specs.Ends.{ends, left_by, outcome_from};
 
 use crate::faults::{drafts_ended, faulted};

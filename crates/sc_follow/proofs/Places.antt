@@ -1,6 +1,6 @@
 -- What is kept of each place, as streams are added, changed and emptied.
-use Rattle.std.proofs.Common.{◌≡◌, ℕ, Bool, true, false, ◌&&◌, Option, None, Some, List, [], ◌∷◌, ◌++◌, get_or, refl, sym, ap, ◌∙◌, subst, set, cond, if◌then◌else◌, arith}
-use Rattle.std.specs.Prelude.{position, is_some, ◌==◌}
+use Rattle.std.proofs.Common.{◌≡◌, ℕ, Bool, true, false, Option, None, Some, List, [], ◌∷◌, ◌++◌, get_or, refl, sym, ap, ◌∙◌, subst, set, cond, if◌then◌else◌}
+use Rattle.std.specs.Prelude.{position, is_some}
 use Rattle.std.specs.List.{find}
 use Rattle.std.proofs.lemmas.Bool.{false≢true}
 use Rattle.sc_value.specs.declared.ids.Place.{Place}

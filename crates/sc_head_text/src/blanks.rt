@@ -1,6 +1,6 @@
 //! Blanks round the parts of a text (RFC 3261 section 25.1).
 
-ghost use Rattle.std.specs.Prelude.{◌≡◌, ◌≤◌, ◌-◌, length, take};
+ghost use Rattle.std.specs.Prelude.{◌≡◌, ◌≤◌, ◌-◌, length};
 ghost use Rattle.std.specs.List.{prefix_len, suffix_len, position_or_len};
 ghost use Rattle.sc_tokens.specs.Tokens.{is_blank};
 ghost use Rattle.sc_tokens.specs.Blanks.{trimmed, trimmed_back, trimmed_front, first_word, behind_word};

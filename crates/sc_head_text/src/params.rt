@@ -1,6 +1,6 @@
 //! Header parameters (RFC 3261 section 25.1).
 
-ghost use Rattle.std.specs.Prelude.{◌≡◌, ◌==◌, Some, length, true};
+ghost use Rattle.std.specs.Prelude.{◌≡◌, ◌==◌, Some, true};
 ghost use Rattle.std.specs.List.{list_all};
 ghost use Rattle.std.specs.Option.{option_copied, option_map_or};
 ghost use Rattle.sc_syntax.specs.declared.scan.Scan.TheVariants.{Params};

@@ -1,6 +1,6 @@
 //! Values that begin with a number (RFC 3261 sections 20.14, 20.16 and 20.22).
 
-ghost use Rattle.std.specs.Prelude.{◌≡◌, ◌^◌, ◌<◌, IfOk, IfSome};
+ghost use Rattle.std.specs.Prelude.{◌≡◌, ◌^◌, ◌<◌, IfOk};
 ghost use Rattle.sc_tokens.specs.Numbers.{number_below, number_of};
 ghost use Rattle.sc_syntax.specs.Sequences.{cseq_in, cseq_of, hops_of};
 ghost use Rattle.sc_syntax.specs.SpelledSequences.{IsCSeqSpelled};

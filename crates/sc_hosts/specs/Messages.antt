@@ -1,10 +1,9 @@
 -- The messages that a host makes (RFC 3261 sections 8, 9.1, 12.2, 16.6 and 17.1.1.3).
-use Rattle.std.specs.Prelude.{ℕ, ◌-◌, List, [], ◌∷◌, ◌++◌, Bool, not, ◌&&◌, ◌||◌, Option, None, Some, option_map, unwrap_or, nat_lt, if◌then◌else◌, codes, map, filter, slice_get, drop}
+use Rattle.std.specs.Prelude.{ℕ, ◌-◌, List, [], ◌∷◌, Bool, ◌&&◌, ◌||◌, Option, None, Some, option_map, unwrap_or, nat_lt, if◌then◌else◌, codes, map, slice_get, drop}
 use Rattle.sc_value.specs.declared.ids.AppId.{AppId}
 use Rattle.sc_value.specs.declared.parts.Address.{Address}
 use Rattle.sc_value.specs.declared.parts.Contact.{Contact}
 use Rattle.sc_value.specs.declared.parts.Contact.TheVariants.{At}
-use Rattle.sc_value.specs.declared.parts.Param.{Param}
 use Rattle.sc_value.specs.declared.parts.SipUri.{SipUri}
 use Rattle.sc_value.specs.declared.parts.Uri.{Uri}
 use Rattle.sc_value.specs.declared.parts.Uri.TheVariants.{Sip}
@@ -12,7 +11,7 @@ use Rattle.sc_value.specs.declared.parts.Via.{Via}
 use Rattle.sc_value.specs.declared.message.Request.{Request}
 use Rattle.sc_value.specs.declared.message.Response.{Response}
 use Rattle.sc_tokens.specs.Names.{same_bytes}
-use Rattle.sc_value.specs.Params.{branch_name, tag_name, is_named}
+use Rattle.sc_value.specs.Params.{branch_name}
 use Rattle.sc_terms.specs.declared.settings.Config.{Config}
 use Rattle.sc_terms.specs.declared.calls.Answer.{Answer}
 use Rattle.sc_terms.specs.declared.calls.Ask.{Ask}

@@ -8,7 +8,7 @@ use Rattle.sc_value.specs.declared.ids.SessId.{SessId}
 use Rattle.sc_value.specs.declared.parts.Field.{Field}
 use Rattle.sc_tokens.specs.HeaderNames.{is_system_name}
 use Rattle.sc_tokens.specs.Names.{same_bytes}
-use Rattle.sc_tokens.specs.Tokens.{is_token, is_value, is_one_line}
+use Rattle.sc_tokens.specs.Tokens.{is_token, is_one_line}
 use Rattle.sc_terms.specs.declared.views.View.{View}
 use Rattle.sc_terms.specs.declared.calls.Answer.{Answer}
 use Rattle.sc_terms.specs.declared.calls.Ask.{Ask}

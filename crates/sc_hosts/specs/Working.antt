@@ -1,7 +1,7 @@
 -- What the accepted calls of a turn do beside what they leave of the view: what is sent, and what
 -- the application session knows of it (RFC 3261 sections 8.1, 9.1, 12.2 and 16, JSR 289 sections 10
 -- and 12).
-use Rattle.std.specs.Prelude.{ℕ, ◌+◌, List, [], ◌∷◌, ◌++◌, Bool, true, not, ◌&&◌, Option, None, Some, is_some, is_none, option_and_then, nat_le, if◌then◌else◌, map, filter}
+use Rattle.std.specs.Prelude.{ℕ, ◌+◌, List, [], ◌∷◌, ◌++◌, Bool, true, ◌&&◌, Option, None, Some, is_some, option_and_then, nat_le, if◌then◌else◌, map, filter}
 use Rattle.std.specs.List.{find, flat_map, fold}
 use Rattle.sc_value.specs.declared.ids.Directive.{Directive}
 use Rattle.sc_value.specs.declared.ids.Directive.TheVariants.{New, Continue, Reverse}
@@ -35,7 +35,7 @@ use Rattle.sc_state.specs.declared.working.Written.{Written}
 use Rattle.sc_grammar.specs.Written.{Bytes}
 use Rattle.sc_model.specs.DialogRequests.{next_request, ack_request}
 use Rattle.sc_model.specs.Dialogs.{DialogState, By_self}
-use Rattle.sc_model.specs.SessionStates.{invite, ack}
+use Rattle.sc_model.specs.SessionStates.{invite}
 use Rattle.sc_hosts.specs.Branches.{new_proxy, with_targets, stopped, is_invite}
 use Rattle.sc_hosts.specs.Effects.{begun, after_listed}
 use Rattle.sc_hosts.specs.Legs.{leg_of, change_leg, in_dialog}

@@ -1,5 +1,5 @@
 -- Sessions and transactions that are changed where they stand.
-use Rattle.std.proofs.Common.{◌≡◌, ◌∙◌, ℕ, Option, Some, None, Result, Ok, Err, refl, ap}
+use Rattle.std.proofs.Common.{◌≡◌, ◌∙◌, ℕ, Some, None, Result, Ok, Err, refl, ap}
 use Rattle.std.specs.Prelude.{OnOk}
 use Rattle.std.specs.List.{find}
 use Rattle.sc_value.specs.declared.message.Request.{Request}

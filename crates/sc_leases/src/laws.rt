@@ -1,8 +1,6 @@
-ghost use Rattle.std.specs.Prelude.{◌≡◌, ◌≤◌, ◌+◌, ◌++◌, ℕ, List, [], ◌∷◌, false, Some, length, slice_get};
+ghost use Rattle.std.specs.Prelude.{◌≡◌, ◌+◌, ◌++◌, ℕ, List, [], ◌∷◌, false, Some, slice_get};
 ghost use Rattle.std.specs.List.{All, find};
 ghost use Rattle.sc_value.specs.declared.ids.AppId.{AppId};
-ghost use Rattle.sc_terms.specs.declared.calls.CallRecord.{CallRecord};
-ghost use Rattle.sc_terms.specs.declared.calls.End.{End};
 ghost use Rattle.sc_terms.specs.declared.settings.Config.{Config};
 ghost use Rattle.sc_terms.specs.declared.steps.Step.{Step};
 ghost use Rattle.sc_terms.specs.declared.steps.Step.TheVariants as steps;
@@ -18,7 +16,7 @@ ghost use Rattle.sc_hosts.specs.Runs.{IsAllowed, IsLawful, IsLawfulFrom, after_s
 ghost use Rattle.sc_hosts.specs.Sessions.{Form};
 ghost use Rattle.sc_hosts.specs.Steps.{live_at};
 ghost use Rattle.sc_runs.specs.Next.{Next};
-ghost use Rattle.sc_leases.specs.Leases.{AreLeases, IsLeaseOf, has_number, is_leased, is_own, kept_after, next_free, without_app, without_number};
+ghost use Rattle.sc_leases.specs.Leases.{AreLeases, IsLeaseOf, has_number, is_leased, is_own, kept_after, next_free, without_number};
 ghost use Rattle.sc_leases.specs.Staying.{StillFirst};
 
 /// A step that is no turn and no withdrawal of an application session leaves its first event first:

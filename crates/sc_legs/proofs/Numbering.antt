@@ -1,5 +1,5 @@
 -- A response that has its request's number is its answer as it stands.
-use Rattle.std.proofs.Common.{◌≡◌, ℕ, refl, ap, sym}
+use Rattle.std.proofs.Common.{◌≡◌, ℕ, ap, sym}
 use Rattle.sc_value.specs.declared.message.Request.{Request}
 use Rattle.sc_value.specs.declared.message.Response.{Response}
 use Rattle.sc_state.specs.declared.session.Leg.{Leg}

@@ -1,7 +1,7 @@
 //! The turns of a round: those that are due are lent to the workers, and what they brought is
 //! taken.
 
-ghost use Rattle.std.specs.Prelude.{◌≡◌, IfErr, OnOk, OnErr};
+ghost use Rattle.std.specs.Prelude.{IfErr, OnOk, OnErr};
 ghost use Rattle.sc_rounds.specs.Dues.{HasDue};
 ghost use Rattle.sc_rounds.specs.Moving.{Breaks, Moves};
 

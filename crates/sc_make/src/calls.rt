@@ -1,6 +1,6 @@
 ghost use Rattle.std.specs.Prelude.{◌≡◌, ◌++◌, ◌+◌, ◌-◌, ◌*◌, ◌≤◌, IfOk, OnOk, OnErr};
 ghost use Rattle.std.specs.List.{flat_map, range_with_len};
-ghost use Rattle.sc_model.specs.Generated.{arrives, invite_of, ack_of, bye_of, tick_line, run_line, call_text, generated};
+ghost use Rattle.sc_model.specs.Generated.{invite_of, ack_of, bye_of, tick_line, run_line, call_text, generated};
 
 use crate::lines::{put_arrival, put_end, put_run, put_tick};
 use crate::messages::{ack_of, bye_of, invite_of};

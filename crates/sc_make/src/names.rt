@@ -1,6 +1,6 @@
 //! The names and URIs in the script's messages.
 
-ghost use Rattle.std.specs.Prelude.{◌≡◌, ◌++◌, ◌∷◌, [], None, Some, IfOk, OnOk, decimal, true, false};
+ghost use Rattle.std.specs.Prelude.{◌≡◌, ◌∷◌, [], None, Some, IfOk, true, false};
 ghost use Rattle.sc_tokens.specs.Bytes.{is_open};
 ghost use Rattle.sc_tokens.specs.Cuts.{has};
 ghost use Rattle.sc_tokens.specs.Hosts.{is_host};

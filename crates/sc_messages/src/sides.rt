@@ -1,6 +1,6 @@
 //! The two sides of a message, with and without a tag (RFC 3261 section 19.3).
 
-ghost use Rattle.std.specs.Prelude.{◌≡◌, ◌++◌, ◌∷◌, [], not, filter, IfOk, true};
+ghost use Rattle.std.specs.Prelude.{◌≡◌, ◌++◌, ◌∷◌, [], not, filter, IfOk};
 ghost use Rattle.sc_value.specs.ParamRules.{AreHeaderParams};
 ghost use Rattle.sc_model.specs.Responses.{is_tag, tag_param, tagged, untagged, with_tag};
 

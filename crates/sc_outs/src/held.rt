@@ -1,6 +1,6 @@
 //! What is left to be put to one place.
 
-ghost use Rattle.std.specs.Prelude.{◌≡◌, ◌≤◌, ◌++◌, ◌==◌, drop, length, IfOk, OnOk, OnErr};
+ghost use Rattle.std.specs.Prelude.{◌≡◌, ◌≤◌, ◌++◌, drop, length, IfOk, OnOk, OnErr};
 
 use sc_value::{NoMemory, Place, Text};
 use std::marker::Model;

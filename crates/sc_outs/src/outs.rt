@@ -1,6 +1,6 @@
 //! What is left to be put to each place.
 
-ghost use Rattle.std.specs.Prelude.{◌≡◌, ◌==◌, [], ℕ, true, false, not, length, option_map, slice_get, OnOk, OnErr};
+ghost use Rattle.std.specs.Prelude.{◌≡◌, ◌==◌, [], true, false, not, length, option_map, slice_get, OnOk, OnErr};
 ghost use Rattle.sc_value.specs.declared.ids.Place.{Place};
 ghost use Rattle.sc_edge.specs.Edges.{CountsOn};
 ghost use Rattle.sc_edge.specs.EdgeCalls.{IsNoPoll};

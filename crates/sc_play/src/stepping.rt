@@ -1,6 +1,6 @@
 //! One step of a recording, taken again on a switch.
 
-ghost use Rattle.std.specs.Prelude.{◌≡◌, OnOk, OnErr};
+ghost use Rattle.std.specs.Prelude.{◌≡◌, OnOk};
 ghost use Rattle.sc_play.specs.Played.{Lent, Took};
 
 use crate::early::Early;

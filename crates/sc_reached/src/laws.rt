@@ -1,4 +1,3 @@
-ghost use Rattle.std.specs.Prelude.{◌≡◌};
 ghost use Rattle.sc_value.specs.declared.ids.AppId.{AppId};
 ghost use Rattle.sc_value.specs.declared.ids.Place.{Place};
 ghost use Rattle.sc_value.specs.declared.message.Message.TheVariants as messages;

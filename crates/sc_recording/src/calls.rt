@@ -1,8 +1,7 @@
 //! The calls of a turn.
 
-ghost use Rattle.std.specs.Prelude.{◌≡◌, ◌++◌, ◌∷◌, [], codes, IfOk, OnOk};
-ghost use Rattle.std.specs.List.{flat_map};
-ghost use Rattle.sc_recording.specs.CallTexts.{create_in_dialog_word, create_request_word, set_attribute_word, set_ready_flag_word, acting_on, answer_text, ask_text, call_line, call_text, calls_text, directive_text, flag_text, flags_text, given_text, inside_text, number_or, numbered, numbered_or, options_text, origin_of, period_text, routed_text, signed, sized, target_text, uri_or, uris_text};
+ghost use Rattle.std.specs.Prelude.{◌≡◌, ◌++◌, codes, IfOk, OnOk};
+ghost use Rattle.sc_recording.specs.CallTexts.{create_in_dialog_word, create_request_word, set_attribute_word, set_ready_flag_word, acting_on, ask_text, call_line, call_text, calls_text, directive_text, flag_text, flags_text, given_text, inside_text, number_or, numbered, numbered_or, options_text, origin_of, period_text, routed_text, signed, sized, target_text, uri_or, uris_text};
 
 use crate::answers::put_answer;
 use crate::forms::{Form, put_items};

@@ -1,7 +1,6 @@
 //! The headers of a text that is no message, from which it is answered (RFC 3261 section 8.2.6.2).
 
-ghost use Rattle.std.specs.Prelude.{◌≡◌, ◌++◌, ◌∷◌, [], length, IfOk, OnOk};
-ghost use Rattle.std.specs.List.{flat_map};
+ghost use Rattle.std.specs.Prelude.{◌≡◌, ◌++◌, ◌∷◌, [], IfOk, OnOk};
 ghost use Rattle.sc_tokens.specs.HeaderNames.{call_id_name, cseq_name, from_name, to_name, via_name};
 ghost use Rattle.sc_grammar.specs.Written.{address_text, crlf, cseq_text, line, params_text, port_text, version, via_line, via_text};
 ghost use Rattle.sc_recording.specs.StepTexts.{heads_or, heads_text, peers_text};

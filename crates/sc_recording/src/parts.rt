@@ -1,7 +1,6 @@
 //! The parts of a line, each behind a blank.
 
-ghost use Rattle.std.specs.Prelude.{◌≡◌, ◌++◌, ◌∷◌, [], decimal, length, OnOk};
-ghost use Rattle.std.specs.List.{flat_map};
+ghost use Rattle.std.specs.Prelude.{◌≡◌, ◌++◌, OnOk};
 ghost use Rattle.sc_grammar.specs.Written.{address_text, contact_text};
 ghost use Rattle.sc_recording.specs.CallTexts.{acting_on, contact_part, contacts_text, field_part, fields_text, flag_text, number_or, numbered, numbered_or, signed, sized, uri_or, uri_part, uris_text};
 

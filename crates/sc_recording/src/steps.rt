@@ -1,6 +1,6 @@
 //! The steps of a journal.
 
-ghost use Rattle.std.specs.Prelude.{◌≡◌, ◌++◌, ◌∷◌, [], codes, decimal, length, slice_index, IfOk, OnOk};
+ghost use Rattle.std.specs.Prelude.{◌≡◌, ◌++◌, ◌∷◌, [], codes, decimal, IfOk, OnOk};
 ghost use Rattle.sc_grammar.specs.Written.{written};
 ghost use Rattle.sc_model.specs.Records.{ip_text, place_text};
 ghost use Rattle.sc_recording.specs.CallTexts.{calls_text, numbered};

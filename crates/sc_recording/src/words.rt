@@ -1,6 +1,6 @@
 //! Longer words of recordings.
 
-ghost use Rattle.std.specs.Prelude.{◌≡◌, codes};
+ghost use Rattle.std.specs.Prelude.{◌≡◌};
 ghost use Rattle.sc_recording.specs.CallTexts.{b2b_respond_word, create_in_dialog_word, create_request_word, invalidate_application_word, invalidate_session_word, set_attribute_word, set_ready_flag_word, wrong_state_word};
 
 #[tactic(auto, unfolding(crate::specs::CallTexts::create_request_word))]

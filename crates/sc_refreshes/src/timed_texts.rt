@@ -1,8 +1,6 @@
 //! Session timers that run, as their attributes tell them (RFC 4028).
 
-ghost use Rattle.std.specs.Prelude.{◌≡◌, ◌≤◌, ◌∷◌, [], IfOk, IfSome, slice_get, filter_map, option_and_then};
-ghost use Rattle.std.specs.Option.{option_copied};
-ghost use Rattle.sc_tokens.specs.Cuts.{pieces};
+ghost use Rattle.std.specs.Prelude.{◌≡◌, ◌≤◌, ◌∷◌, [], IfOk, IfSome, slice_get, filter_map};
 ghost use Rattle.sc_hosts.specs.SessionTimers.{named_timed, side_of, side_text, timed_in, timed_name, timed_of, timed_text};
 
 use sc_helpers::{numbered, session_after, strict_number, three_pieces};

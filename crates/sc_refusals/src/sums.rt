@@ -1,8 +1,7 @@
 //! Sums that are compared with a limit: they stop at the greatest number, which is past every
 //! limit.
 
-ghost use Rattle.std.specs.Prelude.{◌≡◌, ◌+◌, ℕ, Bool, not, nat_lt, length, filter, sum_by, min};
-ghost use Rattle.sc_tokens.specs.Names.{same_bytes};
+ghost use Rattle.std.specs.Prelude.{◌≡◌, ◌+◌, nat_lt, length, sum_by, min};
 ghost use Rattle.sc_hosts.specs.Refusals.{attribute_bytes, branch_count};
 ghost use Rattle.sc_refusals.specs.AttributeSums.{bytes_beside};
 

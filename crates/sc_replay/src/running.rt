@@ -1,6 +1,6 @@
 //! Running a script on a new switch, and writing what it sent.
 
-ghost use Rattle.std.specs.Prelude.{◌≡◌, [], ◌∷◌, Some, map, option_map, slice_get, IfErr, OnOk};
+ghost use Rattle.std.specs.Prelude.{◌≡◌, [], map, option_map, IfErr, OnOk};
 ghost use Rattle.sc_servlets.specs.Stated.{both_charters};
 ghost use Rattle.sc_edge.specs.Faults.{Rose};
 ghost use Rattle.sc_edge.specs.Taking.{Takes};

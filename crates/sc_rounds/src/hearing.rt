@@ -5,7 +5,6 @@ ghost use Rattle.sc_hosts.specs.Runs.{HasVia};
 ghost use Rattle.sc_tokens.specs.Bytes.{Bytes};
 ghost use Rattle.sc_edge.specs.Edges.{EdgeState};
 ghost use Rattle.sc_runs.specs.Following.{IsKept};
-ghost use Rattle.sc_runs.specs.Hearing.{IsBad};
 ghost use Rattle.sc_courses.specs.Courses.{Beginning};
 ghost use Rattle.sc_rounds.specs.Dues.{HasDue};
 ghost use Rattle.sc_rounds.specs.GivingUp.{GaveUp};

@@ -1,6 +1,6 @@
 //! Where an initial request goes.
 
-ghost use Rattle.std.specs.Prelude.{◌≡◌, ◌≤◌, ◌<◌, take, ◌+◌, ◌++◌, ◌∷◌, [], length, position, IfOk, IfSome, OnOk};
+ghost use Rattle.std.specs.Prelude.{◌≡◌, ◌≤◌, ◌<◌, take, ◌+◌, ◌++◌, ◌∷◌, [], length, position, IfOk, OnOk};
 ghost use Rattle.std.specs.Option.{option_copied};
 ghost use Rattle.sc_parts.specs.declared.choice.Choice.TheVariants.{Send};
 ghost use Rattle.sc_model.specs.Choices.{tuples_of, is_opposite, next_order, app_of, by_route, routed, exhausted, choice_at, choice_in, choice_of};

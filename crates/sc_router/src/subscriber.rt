@@ -1,7 +1,7 @@
 //! The subscriber that a tuple names: a text, or `DAR:` and the name of a header that gives it.
 
-ghost use Rattle.std.specs.Prelude.{◌≡◌, ◌≤◌, length, IsTrue, IfOk, position, nat_eq, if◌then◌else◌, drop};
-ghost use Rattle.std.specs.List.{find, starts_with};
+ghost use Rattle.std.specs.Prelude.{◌≡◌, ◌≤◌, length, IsTrue, IfOk, position, nat_eq};
+ghost use Rattle.std.specs.List.{starts_with};
 ghost use Rattle.sc_tokens.specs.HeaderNames.{from_name, to_name, contact_name};
 ghost use Rattle.sc_tokens.specs.Names.{same_name};
 ghost use Rattle.sc_model.specs.Routing.{dar_prefix, request_uri_name, first_contact_text, field_value, header_text, subscriber_of};

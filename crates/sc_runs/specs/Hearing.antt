@@ -1,7 +1,7 @@
 -- What the bytes that come from a place make: a step of each message of its stream (RFC 3261
 -- section 18.3). Text that is no message is a step of its own, and the place is then lost; so it is
 -- where a message is too long. What of the bytes stands behind that is dropped.
-use Rattle.std.specs.Prelude.{◌≡◌, ℕ, List, [], ◌∷◌, Option, drop}
+use Rattle.std.specs.Prelude.{◌≡◌, ℕ, List, [], ◌∷◌, drop}
 use Rattle.sc_value.specs.declared.ids.Place.{Place}
 use Rattle.sc_terms.specs.declared.steps.Bad.{Bad}
 use Rattle.sc_terms.specs.declared.steps.Step.{Step}

@@ -1,7 +1,6 @@
 //! The records of a run.
 
-ghost use Rattle.std.specs.Prelude.{◌≡◌, ◌++◌, [], ◌∷◌, decimal, length, IfOk, OnErr, OnOk, slice_index};
-ghost use Rattle.sc_grammar.specs.Written.{written};
+ghost use Rattle.std.specs.Prelude.{◌≡◌, ◌++◌, [], ◌∷◌, decimal, length, IfOk, OnErr, OnOk};
 ghost use Rattle.sc_model.specs.Records.{end_text, end_word, ip_text, out_word, place_text, record_line, record_text};
 
 use sc_message_text::text_of;

@@ -1,9 +1,7 @@
 //! What drafts are written with.
 
-ghost use Rattle.std.specs.Prelude.{◌≡◌, ◌+◌, ◌++◌, ◌∷◌, [], ◌==◌, position, Some, None, IfOk, OnOk};
-ghost use Rattle.std.specs.List.{find};
-ghost use Rattle.std.specs.Option.{option_copied};
-ghost use Rattle.sc_value.specs.Lists.{change_first, remove_first};
+ghost use Rattle.std.specs.Prelude.{◌≡◌, ◌+◌, ◌==◌, position, Some, None, IfOk, OnOk};
+ghost use Rattle.sc_value.specs.Lists.{change_first};
 ghost use Rattle.sc_value.specs.declared.ids.Directive.{Directive};
 ghost use Rattle.sc_state.specs.declared.working.Asked.{Asked};
 ghost use Rattle.sc_hosts.specs.ViewChanges.{new_call_id, new_tag};

@@ -1,14 +1,12 @@
 //! Proxies, and CANCEL.
 
-ghost use Rattle.std.specs.Prelude.{◌≡◌, ◌++◌, ◌∷◌, [], Some, IfOk, OnOk};
-ghost use Rattle.std.specs.Option.{option_copied};
+ghost use Rattle.std.specs.Prelude.{◌≡◌, Some, IfOk, OnOk};
 ghost use Rattle.sc_value.specs.Lists.{change_first};
 ghost use Rattle.sc_state.specs.declared.proxy.Proxy.{Proxy};
 ghost use Rattle.sc_hosts.specs.Branches.{new_proxy, with_targets};
 ghost use Rattle.sc_hosts.specs.Looking.{same_request};
 ghost use Rattle.sc_hosts.specs.PreparingResponses.{change_proxy};
 ghost use Rattle.sc_hosts.specs.Preparing.{kept_of};
-ghost use Rattle.sc_hosts.specs.Giving.{giving};
 ghost use Rattle.sc_hosts.specs.Working.{cancels, event_of, proxies, proxies_first};
 
 use sc_branches::{new_proxy, with_targets};

@@ -1,6 +1,6 @@
 //! How a call begins: its settings are read, and a switch is made.
 
-ghost use Rattle.std.specs.Prelude.{◌≡◌, ℕ, [], None, map, option_map, string_bytes, IfErr, IfOk};
+ghost use Rattle.std.specs.Prelude.{◌≡◌, [], None, map, option_map, string_bytes, IfErr, IfOk};
 ghost use Rattle.sc_servlets.specs.Stated.{both_charters};
 ghost use Rattle.sc_edge.specs.Edges.{EdgeState};
 ghost use Rattle.sc_edge.specs.Faults.{Rose};

@@ -1,6 +1,5 @@
 //! Closing places that gave what is no message.
 
-ghost use Rattle.std.specs.Prelude.{◌≡◌};
 ghost use Rattle.sc_value.specs.declared.ids.Place.{Place};
 ghost use Rattle.sc_edge.specs.Edges.{CountsOn, EdgeState};
 ghost use Rattle.sc_serve.specs.Closing.{Closes, Rests};

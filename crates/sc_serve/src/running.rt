@@ -1,6 +1,6 @@
 //! The run of a server, by itself or beside its workers.
 
-ghost use Rattle.std.specs.Prelude.{◌≡◌, ◌≤◌, length, true, IfErr, OnOk, OnErr};
+ghost use Rattle.std.specs.Prelude.{◌≡◌, length, true, IfErr, OnOk, OnErr};
 ghost use Rattle.std.specs.List.{All};
 ghost use Rattle.sc_edge.specs.Edges.{CountsOn};
 ghost use Rattle.sc_board.specs.Boards.{IsOf, MayWork, jobs_of};

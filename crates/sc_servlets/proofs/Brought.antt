@@ -8,7 +8,7 @@ use Rattle.sc_terms.specs.declared.calls.CallRecord.{CallRecord}
 use Rattle.sc_terms.specs.declared.calls.End.{End}
 use Rattle.sc_terms.specs.declared.calls.End.TheVariants as ends
 use Rattle.sc_hosts.specs.Scripting.{IsAnswered}
-use Rattle.sc_hosts.specs.Bringing.{IsSilent, Plays, is_listened, servlet_script, listener_script, Called, Allowed}
+use Rattle.sc_hosts.specs.Bringing.{IsSilent, is_listened, Called, Allowed}
 use Rattle.sc_servlets.specs.Brought.{Meets, Promises, ListenerPromises, ServletAllowed, ListenerAllowed, CalledAllowed, IsBrought, called_servlet, called_listener}
 use Rattle.sc_turn.specs.Working.{end_of}
 

@@ -1,6 +1,6 @@
 //! An INVITE that the view shows no more, as a 2xx brings it back (RFC 3261 section 13.2.2.4).
 
-ghost use Rattle.std.specs.Prelude.{◌≡◌, false, nat_lt, position, IfOk, OnOk};
+ghost use Rattle.std.specs.Prelude.{◌≡◌, false, position, IfOk, OnOk};
 ghost use Rattle.std.specs.Option.{option_map_or};
 ghost use Rattle.sc_hosts.specs.Looking.{same_request};
 ghost use Rattle.sc_hosts.specs.PreparingResponses.{has_begun, insert_request, shown_again, with_request_again};

@@ -1,7 +1,6 @@
 //! The time of a running server.
 
-ghost use Rattle.std.specs.Prelude.{◌≡◌, ◌≤◌, ◌^◌};
-ghost use Rattle.sc_edge.specs.Faults.{one_more};
+ghost use Rattle.std.specs.Prelude.{◌≤◌, ◌^◌};
 
 use crate::counts::counted;
 use sc_edge::Clock;

@@ -1,7 +1,7 @@
 //! Timers by the moment at which they began, in milliseconds.
 
 ghost use Rattle.std.specs.Prelude.{◌≡◌, IfOk};
-ghost use Rattle.sc_model.specs.Transactions.{is_reached, is_success};
+ghost use Rattle.sc_model.specs.Transactions.{is_reached};
 ghost use Rattle.sc_stages.specs.Stages.{due_since};
 
 use sc_value::{NoMemory, sum};

@@ -1,5 +1,5 @@
 -- Lists of which all pass a test.
-use Rattle.std.proofs.Common.{◌≡◌, Bool, true, false, not, cond, ◌&&◌, ◌||◌, T, List, [], ◌∷◌, ◌++◌, Option, Some, None, is_some, refl, ap, sym, subst, ◌∙◌}
+use Rattle.std.proofs.Common.{◌≡◌, Bool, true, false, not, cond, ◌&&◌, ◌||◌, T, List, [], ◌∷◌, ◌++◌, Some, is_some, refl, ap, sym, subst, ◌∙◌}
 use Rattle.std.specs.List.{filter, find, list_any, list_all}
 use Rattle.sc_value.specs.Lists.{change_first, remove_first}
 

@@ -1,7 +1,7 @@
 -- What is known to be kept stays so.
-use Rattle.std.proofs.Common.{◌≡◌, ◌==◌, ℕ, Bool, true, false, not, cond, ◌&&◌, ◌||◌, T, List, [], ◌∷◌, ◌++◌, Option, Some, None, is_some, refl, ap, sym, subst, ◌∙◌, arith}
+use Rattle.std.proofs.Common.{◌≡◌, ◌==◌, ℕ, Bool, true, false, not, cond, ◌&&◌, ◌||◌, T, List, [], ◌∷◌, ◌++◌, Some, None, is_some, refl, ap, sym, subst, ◌∙◌, arith}
 use Rattle.std.proofs.lemmas.Bool.Decides.{nat_tests}
-use Rattle.std.specs.List.{filter, find, list_any, list_all}
+use Rattle.std.specs.List.{filter, find, list_all}
 use Rattle.sc_value.specs.declared.ids.AppId.{AppId}
 use Rattle.sc_value.specs.Lists.{change_first, remove_first}
 use Rattle.sc_book.specs.Words.{belongs}
@@ -12,7 +12,7 @@ use Rattle.sc_stages.specs.States.{is_over}
 use Rattle.sc_state.specs.Groups.{branch_number, groups_of_client, groups_of_server}
 use Rattle.sc_state.specs.Hosts.{Host}
 use Rattle.sc_state.specs.Keeping.{is_live, lives_here, is_kept_client, is_kept_server, tidied, lives_among, kept_client, kept_server, AllKept, is_same_client}
-use Rattle.sc_state.specs.Standing.{is_client, is_cancel_client, is_same_app, is_server, is_invite_client, is_invite_server, state_of_client, state_of_server}
+use Rattle.sc_state.specs.Standing.{is_client, is_same_app, is_server, is_invite_client, is_invite_server, state_of_client, state_of_server}
 use Rattle.sc_state.proofs.AllLaws.{found_any, filter_all, all_filter, all_pushed, all_weaker, all_changed, kept_without, kept_outside, any_pushed}
 
 left : (a b : Bool) → (a && b) ≡ true → a ≡ true

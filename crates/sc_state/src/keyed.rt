@@ -1,6 +1,6 @@
 //! What transactions and sessions tell of themselves, by which a host finds them.
 
-ghost use Rattle.std.specs.Prelude.{◌≡◌, None, length};
+ghost use Rattle.std.specs.Prelude.{None, length};
 ghost use Rattle.sc_state.specs.Entries.{least_due};
 ghost use Rattle.sc_state.specs.Groups.{groups_of_client, groups_of_server, groups_of_live};
 ghost use Rattle.sc_state.specs.Keeping.{first_number};

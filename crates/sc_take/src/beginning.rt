@@ -5,7 +5,6 @@ ghost use Rattle.sc_tokens.specs.Names.{same_bytes};
 ghost use Rattle.sc_state.specs.declared.queue.Queued.{Queued};
 ghost use Rattle.sc_model.specs.Dialogs.{update};
 ghost use Rattle.sc_model.specs.Names.{tag_text};
-ghost use Rattle.sc_model.specs.SessionStates.{bye};
 ghost use Rattle.sc_hosts.specs.Histories.{as_session};
 ghost use Rattle.sc_hosts.specs.Taking.{begun_live, begun, take_initial, is_never_initial, take_begun};
 ghost use Rattle.sc_hosts.specs.Transacting.{method_of};

@@ -1,10 +1,10 @@
 //! Serving with a recorder.
 
-ghost use Rattle.std.specs.Prelude.{◌≡◌, ◌++◌, [], ◌∷◌, Some, map, option_map, string_bytes};
+ghost use Rattle.std.specs.Prelude.{◌≡◌, ◌++◌, [], Some, map, option_map, string_bytes};
 ghost use Rattle.sc_edge.specs.Edges.{CountsOn};
 ghost use Rattle.sc_edge.specs.Faults.{Rose};
 ghost use Rattle.sc_edge.specs.Telling.{IsTold};
-ghost use Rattle.sc_recorder.specs.Recorded.{IsRecorded, told_text};
+ghost use Rattle.sc_recorder.specs.Recorded.{told_text};
 ghost use Rattle.sc_serve.specs.Served.{ServesWords, served_names};
 ghost use Rattle.sc_servlets.specs.Stated.{both_charters};
 ghost use Rattle.sc_tape.specs.Taped.{IsTaped, kept_text, status_after};

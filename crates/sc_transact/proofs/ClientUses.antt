@@ -1,10 +1,9 @@
 -- Client transactions that are found by the numbers of their groups.
-use Rattle.std.proofs.Common.{◌≡◌, ◌==◌, ℕ, Bool, true, false, not, ◌&&◌, ◌||◌, T, Option, Some, None, refl, ap, sym, subst, ◌∙◌, arith, map}
+use Rattle.std.proofs.Common.{◌≡◌, ◌==◌, ℕ, Bool, true, false, not, ◌&&◌, ◌||◌, T, Some, None, refl, ap, sym, subst, ◌∙◌, arith, map}
 use Rattle.std.specs.List.{find, filter}
 use Rattle.std.specs.Option.{option_map_or}
 use Rattle.std.proofs.lemmas.Bool.Decides.{nat_tests}
 use Rattle.sc_value.specs.declared.ids.AppId.{AppId}
-use Rattle.sc_value.specs.declared.parts.Via.{Via}
 use Rattle.sc_value.specs.declared.message.Response.{Response}
 use Rattle.sc_value.specs.Lists.{change_first}
 use Rattle.sc_tokens.specs.Names.{same_bytes}

@@ -1,6 +1,6 @@
 //! The client transactions of a host.
 
-ghost use Rattle.std.specs.Prelude.{◌≡◌, ◌++◌, ℕ, true, false, filter, map, IfOk, OnOk};
+ghost use Rattle.std.specs.Prelude.{◌≡◌, ℕ, true, false, filter, map, IfOk, OnOk};
 ghost use Rattle.std.specs.Option.{option_copied, option_map_or};
 ghost use Rattle.sc_value.specs.declared.ids.AppId.{AppId};
 ghost use Rattle.sc_tokens.specs.Names.{same_bytes};

@@ -1,9 +1,8 @@
 //! The calls of a turn.
 
-ghost use Rattle.std.specs.Prelude.{◌≡◌};
 ghost use Rattle.sc_terms.specs.declared.calls.CallAnswer.{CallAnswer};
 ghost use Rattle.sc_hosts.specs.Effects.{accepted};
-ghost use Rattle.sc_turn.specs.Working.{play_of, Answers};
+ghost use Rattle.sc_turn.specs.Working.{Answers};
 
 use crate::Turn;
 use sc_terms::{Answer, Ask, Call, Inside, Period, ProxyOptions, Refusal, Target};

@@ -1,10 +1,9 @@
 //! Client transactions (RFC 3261 section 17.1, RFC 6026 section 7.2).
 
-ghost use Rattle.std.specs.Prelude.{◌≡◌, ◌==◌, ◌≤◌, ◌^◌, ◌+◌, ◌∷◌, [], ℕ, Bool, List, Option, true, false, not, ◌&&◌, if◌then◌else◌};
+ghost use Rattle.std.specs.Prelude.{◌≡◌, ◌==◌, ◌≤◌, ◌^◌, ◌+◌, [], ℕ, Bool, List, Option, true, false, not, ◌&&◌, if◌then◌else◌};
 ghost use Rattle.sc_parts.specs.declared.transactions.ClientItem.{ClientItem};
-ghost use Rattle.sc_model.specs.SessionStates.{is_final};
-ghost use Rattle.sc_model.specs.Transactions.{client_state, client_due, client_out, is_undecided, is_success, is_failure, is_reached, told_accepted, NOTHING};
-ghost use Rattle.sc_model.specs.TransactionTables.{decided_state, decided_due, provisional_due, is_calling, is_proceeding, sends_cancel, output};
+ghost use Rattle.sc_model.specs.Transactions.{client_state, client_due, is_undecided, is_success, is_failure, is_reached, told_accepted, NOTHING};
+ghost use Rattle.sc_model.specs.TransactionTables.{decided_state, decided_due, provisional_due, is_calling, is_proceeding, output};
 ghost use Rattle.sc_txn.specs.Stands.{ClientStands, ClientTakes, ClientDoes};
 
 use crate::codes::{TIMEOUT, is_reached, is_undecided};

@@ -1,7 +1,7 @@
 //! Response codes, states and moments.
 
 ghost use Rattle.std.specs.Prelude.{◌≡◌};
-ghost use Rattle.sc_model.specs.Transactions.{is_success, is_reached, is_undecided};
+ghost use Rattle.sc_model.specs.Transactions.{is_reached, is_undecided};
 
 use sc_parts::TxnState;
 

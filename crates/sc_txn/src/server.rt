@@ -1,8 +1,7 @@
 //! Server transactions (RFC 3261 section 17.2, RFC 6026 section 7.1).
 
-ghost use Rattle.std.specs.Prelude.{◌≡◌, ◌≤◌, ◌^◌, ◌+◌, ◌∷◌, [], ℕ, Bool, List, true, false, not, ◌&&◌, ◌||◌, if◌then◌else◌};
+ghost use Rattle.std.specs.Prelude.{◌≡◌, ◌≤◌, ◌^◌, ◌+◌, [], Bool, List, true, false, not, ◌&&◌, if◌then◌else◌};
 ghost use Rattle.sc_parts.specs.declared.transactions.ServerItem.{ServerItem};
-ghost use Rattle.sc_model.specs.SessionStates.{is_final};
 ghost use Rattle.sc_model.specs.Transactions.{is_undecided, is_success, is_reached};
 ghost use Rattle.sc_model.specs.ServerTransactions.{server_state, server_due, is_sent, is_sent_again, is_absorbed, sends_in, repeats_in, absorbs_in};
 ghost use Rattle.sc_model.specs.TransactionTables.{answered_state, answered_due};

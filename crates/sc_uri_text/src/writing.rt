@@ -1,7 +1,6 @@
 //! URIs as text.
 
 ghost use Rattle.std.specs.Prelude.{◌≡◌, ◌++◌, OnOk, OnErr};
-ghost use Rattle.std.specs.List.{flat_map};
 ghost use Rattle.sc_grammar.specs.Written.{param_text, params_text, sip_uri_text, uri_text};
 
 use crate::pieces::{put_byte, put_ended, put_port, put_scheme, put_signed};

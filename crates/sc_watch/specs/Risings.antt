@@ -1,5 +1,5 @@
 -- Which listing is before which, and what a thread knows of those that were put.
-use Rattle.std.specs.Prelude.{◌≡◌, ◌<◌, ◌≤◌, ◌⊎◌, ℕ, List, [], ◌∷◌, ◌++◌}
+use Rattle.std.specs.Prelude.{◌≡◌, ◌<◌, ◌≤◌, ◌⊎◌, List, [], ◌∷◌, ◌++◌}
 use Rattle.std.specs.List.{AllByRecursion}
 use Rattle.sc_edge.specs.declared.listing.Listing.{Listing}
 use Rattle.sc_watch.specs.declared.note.Note.{Note}

@@ -1,4 +1,4 @@
-use Rattle.std.proofs.Common.{◌≡◌, ap, sym, ◌∙◌}
+use Rattle.std.proofs.Common.{ap, sym, ◌∙◌}
 use Rattle.sc_value.specs.Lists.{remove_first}
 use Rattle.sc_state.specs.Keeping.{kept_server}
 use Rattle.sc_state.specs.Standing.{is_server}

@@ -1,4 +1,4 @@
-use Rattle.std.proofs.Common.{◌≡◌, ap, sym, ◌∙◌}
+use Rattle.std.proofs.Common.{ap, sym, ◌∙◌}
 use Rattle.std.specs.Option.{option_copied}
 use Rattle.sc_state.proofs.KeptLaws.{lives_some, lives_none}
 use Rattle.sc_state.proofs.probes.lives_among.Goals as goal

@@ -1,6 +1,4 @@
-use Rattle.std.proofs.Common.{◌≡◌, [], ◌∷◌, ap, ◌∙◌}
-use Rattle.std.specs.List.{flat_map}
-use Rattle.sc_state.specs.Entries.{branch_entry, least_due}
+use Rattle.sc_state.specs.Entries.{branch_entry}
 use Rattle.sc_state.proofs.LeastDue.{due_next}
 use Rattle.sc_state.proofs.timed.branches_due.Goals as goal
 

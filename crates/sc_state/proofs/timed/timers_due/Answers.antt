@@ -1,6 +1,5 @@
-use Rattle.std.proofs.Common.{◌≡◌, [], ◌∷◌, ap, ◌∙◌}
-use Rattle.std.specs.List.{flat_map}
-use Rattle.sc_state.specs.Entries.{timer_entry, least_due}
+use Rattle.std.proofs.Common.{[], ◌∷◌}
+use Rattle.sc_state.specs.Entries.{timer_entry}
 use Rattle.sc_state.proofs.LeastDue.{due_more}
 use Rattle.sc_state.proofs.timed.timers_due.Goals as goal
 

@@ -1,4 +1,4 @@
-use Rattle.std.proofs.Common.{◌≡◌, ap, sym, ◌∙◌}
+use Rattle.std.proofs.Common.{ap, sym, ◌∙◌}
 use Rattle.std.specs.Option.{option_copied}
 use Rattle.sc_hosts.specs.Transacting.{server_passed}
 use Rattle.sc_transact.proofs.ServerUses.{passed_found}

@@ -1,4 +1,4 @@
-use Rattle.std.proofs.Common.{◌≡◌, drop, fold, ap, ◌∙◌}
+use Rattle.std.proofs.Common.{drop, fold, ap, ◌∙◌}
 use Rattle.std.specs.Arc.{arc_value}
 use Rattle.sc_edge.specs.declared.listing.Listing.{Listing}
 use Rattle.sc_watch.proofs.Histories.{both_ok, last_shown, newest_of, of_ok, puts_newest}

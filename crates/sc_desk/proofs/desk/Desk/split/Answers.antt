@@ -1,4 +1,4 @@
-use Rattle.std.proofs.Common.{◌≡◌, ◌+◌, ℕ, true, false, true≢false, ap, sym, ◌∙◌}
+use Rattle.std.proofs.Common.{◌+◌, ℕ, true≢false, ap, sym, ◌∙◌}
 use Rattle.sc_desk.specs.declared.desk_queue.DeskView.{DeskView}
 use Rattle.sc_desk.proofs.desk.Desk.split.Goals as goal
 

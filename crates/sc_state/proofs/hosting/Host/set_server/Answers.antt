@@ -1,4 +1,4 @@
-use Rattle.std.proofs.Common.{◌≡◌, ap, sym, ◌∙◌}
+use Rattle.std.proofs.Common.{ap, sym, ◌∙◌}
 use Rattle.sc_state.specs.Keeping.{kept_server}
 use Rattle.sc_state.proofs.KeptLaws.{server_changed}
 use Rattle.sc_state.proofs.hosting.Host.set_server.Goals as goal
