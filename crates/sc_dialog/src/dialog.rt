@@ -11,24 +11,30 @@ use crate::sides::{called_sides, calling_sides};
 use crate::targets::{request_target, response_target};
 use sc_terms::Inside;
 use sc_value::{
-    Address, CSeq, CloneIn, Discard, HeaderValue, List, NoMemory, Request, Response, Text, Uri,
+    Address, CSeq, CloneIn, Discard, HeaderValue, List, NoMemory, Request, Response, Shared, Text,
+    Uri,
 };
 use std::alloc::Global;
 use std::marker::Model;
-use std::mem;
 
 /// A dialog, seen from the own side (RFC 3261 section 12). A contract sees the dialog's state,
 /// which is that of the dialog's messages.
 #[derive(Drop)]
 pub struct Dialog {
-    pub(crate) call_id: HeaderValue,
-    pub(crate) local: Address,
-    pub(crate) remote: Address,
-    pub(crate) route_set: List<Address>,
-    pub(crate) target: Uri,
-    pub(crate) sent: u32,
-    pub(crate) received: u32,
-    pub(crate) begun_by: Option<CSeq>,
+    lasting: Shared<Lasting>,
+    target: Shared<Uri>,
+    sent: u32,
+    received: u32,
+}
+
+/// What stays as it is for as long as a dialog lives: copies of the dialog share it.
+#[derive(Drop)]
+struct Lasting {
+    call_id: HeaderValue,
+    local: Address,
+    remote: Address,
+    route_set: List<Address>,
+    begun_by: Option<CSeq>,
 }
 
 impl Model for Dialog {
@@ -38,20 +44,31 @@ impl Model for Dialog {
 
     ghost view = { λ d.
         record {
-          call_id = d.call_id;
-          local = d.local;
-          remote = d.remote;
-          route_set = d.route_set;
+          call_id = d.lasting.call_id;
+          local = d.lasting.local;
+          remote = d.lasting.remote;
+          route_set = d.lasting.route_set;
           target = d.target;
           sent = d.sent;
           received = d.received;
-          begun_by = d.begun_by;
+          begun_by = d.lasting.begun_by;
         } };
 }
 
 impl Discard for Dialog {
     fn discard(self) {
         drop(self);
+    }
+}
+
+impl CloneIn for Dialog {
+    fn clone_in(&self, alloc: Global) -> Result<Dialog, NoMemory> {
+        Ok(Dialog {
+            lasting: self.lasting.clone_in(alloc)?,
+            target: self.target.clone_in(alloc)?,
+            sent: self.sent,
+            received: self.received,
+        })
     }
 }
 
@@ -66,16 +83,14 @@ impl Dialog {
         let route_set = request.head.record_route.clone_in(alloc)?;
         let sides = called_sides(alloc, &request.head, tag.as_bytes())?;
         let target = uas_target(alloc, request)?;
-        Ok(Dialog {
+        let lasting = Lasting {
             call_id,
             local: sides.local,
             remote: sides.remote,
             route_set,
-            target,
-            sent: 0,
-            received: request.head.cseq.number,
             begun_by: None,
-        })
+        };
+        shared(alloc, lasting, target, 0, request.head.cseq.number)
     }
 
     /// The dialog of the calling side: the own request and the response that gave the peer's tag
@@ -93,51 +108,49 @@ impl Dialog {
         let route_set = reversed(alloc, &response.head.record_route)?;
         let sides = calling_sides(alloc, &request.head, &response.head)?;
         let target = uac_target(alloc, &begun_by, request, response)?;
-        Ok(Dialog {
+        let lasting = Lasting {
             call_id,
             local: sides.local,
             remote: sides.remote,
             route_set,
-            target,
-            sent: request.head.cseq.number,
-            received: 0,
             begun_by,
-        })
+        };
+        shared(alloc, lasting, target, request.head.cseq.number, 0)
     }
 
     /// The Call-ID of all its messages.
     pub fn call_id(&self) -> &HeaderValue
         ensures { result.now ≡ self.now.call_id }
     {
-        &self.call_id
+        &self.lasting.get().call_id
     }
 
     /// The own side, as its requests write it in From: the URI and the tag alone.
     pub fn local(&self) -> &Address
         ensures { result.now ≡ self.now.local }
     {
-        &self.local
+        &self.lasting.get().local
     }
 
     /// The peer's side, as requests to it write it in To: the URI and the tag alone.
     pub fn remote(&self) -> &Address
         ensures { result.now ≡ self.now.remote }
     {
-        &self.remote
+        &self.lasting.get().remote
     }
 
     /// The Routes of a request to the peer, in order.
     pub fn route_set(&self) -> &List<Address>
         ensures { result.now ≡ self.now.route_set }
     {
-        &self.route_set
+        &self.lasting.get().route_set
     }
 
     /// The Request-URI of a request to the peer.
     pub fn target(&self) -> &Uri
         ensures { result.now ≡ self.now.target }
     {
-        &self.target
+        self.target.get()
     }
 
     /// The greatest sequence number of the own requests in the dialog, 0 where there was none.
@@ -224,7 +237,7 @@ impl Dialog {
             (Follows self.old (Passed.By_peer (Message.Response response.now)) self.new) }
         ensures err { OnErr result (self.new ≡ self.old) }
     {
-        let target = response_target(&self.begun_by, response);
+        let target = response_target(&self.lasting.get().begun_by, response);
         self.set_target(alloc, target)
     }
 
@@ -265,7 +278,7 @@ impl Dialog {
                   self.old.target;
             }) }
     {
-        let target = response_target(&self.begun_by, response);
+        let target = response_target(&self.lasting.get().begun_by, response);
         self.set_target(alloc, target)
     }
 
@@ -287,12 +300,44 @@ impl Dialog {
         match target {
             Some(uri) => {
                 let uri = uri.clone_in(alloc)?;
-                mem::replace(&mut self.target, uri).discard();
+                self.target = Shared::new(alloc, uri)?;
                 Ok(())
             }
             None => Ok(()),
         }
     }
+}
+
+// The dialog of these parts, which its copies share.
+fn shared(
+    alloc: Global,
+    lasting: Lasting,
+    target: Uri,
+    sent: u32,
+    received: u32,
+) -> Result<Dialog, NoMemory>
+    ensures { IfOk result
+        (λ d.
+        d
+        ≡ record {
+          call_id = lasting.call_id;
+          local = lasting.local;
+          remote = lasting.remote;
+          route_set = lasting.route_set;
+          target = target;
+          sent = sent;
+          received = received;
+          begun_by = lasting.begun_by;
+        }) }
+{
+    let target = Shared::new(alloc, target)?;
+    let lasting = Shared::new(alloc, lasting)?;
+    Ok(Dialog {
+        lasting,
+        target,
+        sent,
+        received,
+    })
 }
 
 fn begun_by(alloc: Global, cseq: &CSeq) -> Result<Option<CSeq>, NoMemory>

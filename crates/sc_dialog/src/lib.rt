@@ -5,7 +5,6 @@
 //! a dialog stands for, which list it stands for after a call.
 #![tactic(auto)]
 
-mod copies;
 mod dialog;
 mod refused;
 mod requests;
