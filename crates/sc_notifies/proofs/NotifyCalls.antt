@@ -1,5 +1,5 @@
 -- The calls of event notification at any point of a turn, by what was read before the first of them.
-use Rattle.std.proofs.Common.{◌≡◌, ◌≤◌, ℕ, Bool, true, false, Option, None, Some, Result, Ok, Err, inl, inr, option_map, refl, ap, subst, ◌∙◌, arith}
+use Rattle.std.proofs.Common.{◌≡◌, Bool, true, false, Option, None, Some, Result, Ok, Err, inl, inr, option_map, refl, ap, subst, ◌∙◌}
 use Rattle.std.specs.Prelude.{◌++◌, codes}
 use Rattle.sc_value.specs.declared.ids.ReqId.{ReqId}
 use Rattle.sc_value.specs.declared.ids.SessId.{SessId}
@@ -15,11 +15,10 @@ use Rattle.sc_turn.specs.Working.{Working, play_of}
 use Rattle.sc_helpers.specs.Stopping.{Goes, GoesThrough, IsCarried, StopsAfter}
 use Rattle.sc_helpers.specs.declared.stopping.Stopped.{Stopped}
 use Rattle.sc_helpers.proofs.Steps.{goes_stopped}
-use Rattle.sc_notifies.specs.Notifying.{IsActivated, IsAtMost, IsByState, IsCarriedOut, IsEnded, IsFailed, IsOfPending, IsOfSubscription, IsRefusedAs, IsTurned, accepted_by, activates, asked_of, ends, fired_of, live_activated, live_by, live_ended, live_failed, live_of, live_told, next_of, over_by, over_script, read_of}
+use Rattle.sc_notifies.specs.Notifying.{IsActivated, IsByState, IsCarriedOut, IsEnded, IsFailed, IsOfPending, IsOfSubscription, IsRefusedAs, IsTurned, accepted_by, activates, asked_of, ends, fired_of, live_activated, live_by, live_ended, live_failed, live_of, live_told, next_of, over_by, over_script, read_of}
 use Rattle.sc_notifies.specs.declared.accepting.Read.{Read}
 use Rattle.sc_notifies.specs.declared.ending.Over.{Over}
 use Rattle.sc_notifies.specs.declared.refused.Asked.{Asked}
-use Rattle.sc_notifies.specs.declared.refused.Asked.TheVariants as asked
 use Rattle.sc_notifies.specs.declared.refused.NotifyRefused.{NotifyRefused}
 use Rattle.sc_notifies.specs.declared.refused.NotifyRefused.TheVariants as refused
 use Rattle.sc_notifies.specs.declared.standing.Live.{Live}
@@ -260,12 +259,6 @@ pub fire_wanting : (script : Script) (answer : Option ReqId) (old : Working) (st
 fire_wanting script answer old stop refusal wants is fed = rw (wants_is stop refusal wants is) (wants_carried script answer old)
 
 -- ## A SUBSCRIBE
-
-pub at_most : (most : ℕ) (asks : Asked) → IsAtMost most asks → most ≤ 4000000 → IsAtMost 4000000 asks
-unfolding IsAtMost
-at_most most asked.BadEvent is below = tt
-at_most most asked.Brief is below = tt
-at_most most (asked.For seconds) is below = omega (arith, is, below)
 
 pub accept_carried : (rule : Rule) (req : ReqId) (sess : SessId) (request : Request) (pending : Bool) (old new : Working) (seen : View) (asks : Asked) (read : Read) (result : Result Asked NotifyRefused) → (old.starved ≡ false → seen ≡ (play_of old).view)
     → asks ≡ asked_of rule request → read ≡ read_of seen sess request asks pending → IsCarriedOut (accepted_by rule req sess asks read) asks old result new

@@ -1,5 +1,5 @@
 -- What the calls of event notification answer, and what they leave (RFC 6665).
-use Rattle.std.specs.Prelude.{◌≡◌, ◌≤◌, ◌⊎◌, ◌++◌, ◌+◌, ◌*◌, ◌&&◌, ℕ, [], ◌∷◌, Bool, true, false, not, min, nat_lt, Option, None, Some, Result, Ok, Err, if◌then◌else◌, option_map, codes, decimal, slice_get, filter_map}
+use Rattle.std.specs.Prelude.{◌≡◌, ◌≤◌, ◌⊎◌, ◌++◌, ◌+◌, ◌*◌, ◌&&◌, ◌||◌, ℕ, [], ◌∷◌, Bool, true, false, not, min, nat_lt, Option, None, Some, Result, Ok, Err, if◌then◌else◌, option_map, codes, decimal, slice_get, filter_map}
 use Rattle.sc_value.specs.declared.ids.ReqId.{ReqId}
 use Rattle.sc_value.specs.declared.ids.SessId.{SessId}
 use Rattle.sc_value.specs.declared.ids.TimerId.{TimerId}
@@ -22,6 +22,8 @@ use Rattle.sc_notifies.specs.declared.refused.Asked.{Asked}
 use Rattle.sc_notifies.specs.declared.refused.Asked.TheVariants as asked
 use Rattle.sc_notifies.specs.declared.refused.NotifyRefused.{NotifyRefused}
 use Rattle.sc_notifies.specs.declared.refused.NotifyRefused.TheVariants as refused
+use Rattle.sc_notifies.specs.declared.refused.RuleRefused.{RuleRefused}
+use Rattle.sc_notifies.specs.declared.refused.RuleRefused.TheVariants as rules
 use Rattle.sc_notifies.specs.declared.standing.Live.{Live}
 
 -- ## How a call ends
@@ -99,6 +101,15 @@ unfoldable pub fired_of : View → TimerId → Option NamedSub
 fired_of view id = slice_get (filter_map (named_sub id) view.attributes) 0
 
 -- ## A SUBSCRIBE (RFC 6665 section 4.2.1)
+
+-- a rule, where its least time is 1 s to an hour, and its longest no shorter and 4,000,000 s at
+-- most; or which of the two isn't so (RFC 6665 section 4.2.1.1)
+unfoldable pub rule_of : Bytes → ℕ → ℕ → Bytes → Result Rule RuleRefused
+rule_of event_package least longest body =
+    if nat_lt least 1 || nat_lt 3600 least then Err rules.Least
+    else (if nat_lt longest least || nat_lt 4000000 longest then Err rules.Longest
+    else Ok
+    (record { event_package = event_package; least = least; longest = longest; body = body }))
 
 -- what it asks for, by a rule
 unfoldable pub asked_of : Rule → Request → Asked

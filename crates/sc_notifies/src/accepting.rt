@@ -266,11 +266,9 @@ fn accept_by(
     ensures goes { Goes 0 (accepted_by rule.now req sess asked read.now) turn.old result turn.new }
 {
     match asked {
-        Asked::BadEvent => refuse_event(turn, req, rule.event_package.as_bytes()),
-        Asked::Brief => refuse_brief(turn, req, rule.least),
-        Asked::For(seconds) => {
-            answer_and_begin(turn, req, sess, seconds, read, rule.body.as_bytes())
-        }
+        Asked::BadEvent => refuse_event(turn, req, rule.event_package()),
+        Asked::Brief => refuse_brief(turn, req, rule.least()),
+        Asked::For(seconds) => { answer_and_begin(turn, req, sess, seconds, read, rule.body()) }
     }
 }
 
@@ -314,7 +312,7 @@ fn accept_as(
 /// made behind it, and what the accepted ones did stays. For want of memory it is `Turn` with
 /// `NoMemory`; where a call of this turn wanted memory before, the turn is over, and nothing is
 /// said.
-#[tactic(auto, using(crate::proofs::NotifyCalls::at_most, crate::proofs::NotifyCalls::accept_carried, crate::proofs::NotifyCalls::accept_wanting))]
+#[tactic(auto, using(crate::proofs::NotifyCalls::accept_carried, crate::proofs::NotifyCalls::accept_wanting))]
 pub fn accept(
     turn: &mut Turn,
     req: ReqId,
@@ -323,7 +321,6 @@ pub fn accept(
     rule: &Rule,
     pending: bool,
 ) -> Result<Asked, NotifyRefused>
-    requires rule { rule.now.longest ≤ 4000000 }
     ensures same { turn.new.shown ≡ turn.old.shown }
     ensures carried { turn.old.starved ≡ false
         → IsCarriedOut
@@ -370,7 +367,7 @@ fn play_accept(
 }
 
 /// Answers a SUBSCRIBE as the servlet's charter says.
-#[tactic(auto, using(sc_apps::proofs::Playing::begun_room, crate::proofs::NotifyCalls::at_most, crate::proofs::NotifyPlays::accepts_played))]
+#[tactic(auto, using(sc_apps::proofs::Playing::begun_room, crate::proofs::NotifyPlays::accepts_played))]
 pub fn accept_subscribe(
     t: &mut Turn,
     rule: &Rule,
@@ -380,7 +377,6 @@ pub fn accept_subscribe(
 ) -> Result<(), NoMemory>
     requires calls { t.old.calls ≡ [] }
     requires memory { t.old.starved ≡ false }
-    requires rule { rule.now.longest ≤ 4000000 }
     ensures same { t.new.shown ≡ t.old.shown }
     ensures played { OnOk result
         (IsPlayed (accepts t.old.shown rule.now req sess request.now) t.old t.new) }

@@ -1,6 +1,6 @@
 //! The application that notifies of an event package.
 
-ghost use Rattle.std.specs.Prelude.{◌≡◌, ◌≤◌, ◌&&◌, [], false, if◌then◌else◌, IfSome, OnOk};
+ghost use Rattle.std.specs.Prelude.{◌≡◌, ◌&&◌, [], false, if◌then◌else◌, OnOk};
 ghost use Rattle.sc_tokens.specs.Names.{same_bytes};
 ghost use Rattle.sc_terms.specs.declared.charters.Charter.{Charter};
 ghost use Rattle.sc_model.specs.Dialogs.{notify, subscribe};
@@ -97,7 +97,6 @@ fn begin_by(
 ) -> Result<(), NoMemory>
     requires calls { t.old.calls ≡ [] }
     requires memory { t.old.starved ≡ false }
-    requires rule { IfSome rule (λ rule. rule.longest ≤ 4000000) }
     ensures same { t.new.shown ≡ t.old.shown }
     ensures played { OnOk result
         (IsPlayed (accepts_by t.old.shown rule (reply req 500 server_error) req sess request.now)
@@ -119,7 +118,6 @@ fn accept_or_answer(
 ) -> Result<(), NoMemory>
     requires calls { t.old.calls ≡ [] }
     requires memory { t.old.starved ≡ false }
-    requires rule { rule.now.longest ≤ 4000000 }
     ensures same { t.new.shown ≡ t.old.shown }
     ensures played { OnOk result
         (IsPlayed
@@ -156,7 +154,6 @@ fn renew_by(
 ) -> Result<(), NoMemory>
     requires calls { t.old.calls ≡ [] }
     requires memory { t.old.starved ≡ false }
-    requires rule { IfSome rule (λ rule. rule.longest ≤ 4000000) }
     ensures same { t.new.shown ≡ t.old.shown }
     ensures played { OnOk result
         (IsPlayed (accepts_by t.old.shown rule (reply req 200 ok) req sess request.now) t.old

@@ -1,4 +1,4 @@
-//! What SUBSCRIBEs ask for, and how the calls of event notification are refused.
+//! What SUBSCRIBEs ask for, and how rules and the calls of event notification are refused.
 
 ghost use Rattle.std.specs.Prelude.{◌≡◌};
 ghost use Rattle.sc_notifies.specs.Notifying.{IsTold};
@@ -16,6 +16,15 @@ pub enum Asked {
     Brief,
     /// A subscription of so many seconds, at most the rule's longest; 0 ends it.
     For(u32),
+}
+
+/// Why there is no such rule.
+#[derive(Clone, Copy, Debug, PartialEq, Eq)]
+pub enum RuleRefused {
+    /// Its least time isn't 1 to 3,600 seconds.
+    Least,
+    /// Its longest time is shorter than the least, or more than 4,000,000 seconds.
+    Longest,
 }
 
 /// Why a call of event notification was refused.

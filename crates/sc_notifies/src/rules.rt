@@ -1,7 +1,7 @@
 //! The package that an application notifies of (RFC 6665 sections 4.2 and 7.2), by its parameters,
 //! and what a SUBSCRIBE asks of it.
 
-ghost use Rattle.std.specs.Prelude.{◌≡◌, ◌≤◌, ◌&&◌, [], codes, min, nat_le, position, option_and_then, unwrap_or, IfOk, IfSome};
+ghost use Rattle.std.specs.Prelude.{◌≡◌, ◌≤◌, ◌&&◌, [], codes, min, nat_le, position, option_and_then, unwrap_or, IfOk};
 ghost use Rattle.std.specs.List.{find};
 ghost use Rattle.std.specs.Option.{option_copied};
 ghost use Rattle.sc_tokens.specs.Blanks.{trimmed};
@@ -10,9 +10,9 @@ ghost use Rattle.sc_tokens.specs.Numbers.{number_of};
 ghost use Rattle.sc_tokens.specs.Names.{same_bytes};
 ghost use Rattle.sc_hosts.specs.HelperParts.{field_of};
 ghost use Rattle.sc_hosts.specs.Subscriptions.{asked_seconds, event_value, is_event, names_package, rule_in, rule_with};
-ghost use Rattle.sc_notifies.specs.Notifying.{asked_of, IsAtMost};
+ghost use Rattle.sc_notifies.specs.Notifying.{IsAtMost, asked_of, rule_of};
 
-use crate::refused::Asked;
+use crate::refused::{Asked, RuleRefused};
 use sc_apps::small_number;
 use sc_ascii::{read_u64, same_name};
 use sc_helpers::{cut, field_of};
@@ -21,20 +21,20 @@ use sc_value::{Field, NoMemory, Request, Text};
 use std::alloc::Global;
 use std::marker::Model;
 
-/// What an application notifies of.
+/// What an application notifies of: an event package, for how many seconds at least and at most,
+/// and the body that tells the state. The least time is 1 to 3,600 seconds, as no notifier may refuse
+/// a longer one for its shortness; the longest is no shorter and at most 4,000,000 (RFC 6665 section
+/// 4.2.1.1).
 #[derive(Drop)]
 pub struct Rule {
-    /// The name of the event package.
-    pub event_package: Text,
-    /// The least time of a subscription in seconds, 1 to 3,600.
-    pub least: u32,
-    /// The longest one, at least that and at most 4,000,000.
-    pub longest: u32,
-    /// The body that tells the state.
-    pub body: Text,
+    event_package: Text,
+    least: u32,
+    longest: u32,
+    body: Text,
 }
 
 impl Model for Rule {
+    ghost use Rattle.std.specs.Prelude.{◌≤◌};
     ghost use Rattle.sc_hosts.specs.Subscriptions.{Rule as Told};
 
     ghost Value = { Told };
@@ -46,6 +46,73 @@ impl Model for Rule {
           longest = r.longest;
           body = r.body;
         } };
+
+    ghost invariant = { λ r.
+        (1 ≤ r.least) × (r.least ≤ 3600) × (r.least ≤ r.longest) × (r.longest ≤ 4000000) };
+}
+
+impl Rule {
+    /// The rule of this event package, with these times in seconds and this body.
+    ///
+    /// # Errors
+    ///
+    /// The first of these that holds:
+    /// - `Least`: the least time isn't 1 to 3,600.
+    /// - `Longest`: the longest time is shorter than the least, or more than 4,000,000.
+    #[tactic(auto, unfolding(crate::specs::Notifying::rule_of))]
+    pub fn new(
+        event_package: Text,
+        least: u32,
+        longest: u32,
+        body: Text,
+    ) -> Result<Rule, RuleRefused>
+        ensures { result ≡ rule_of event_package least longest body }
+    {
+        if least < 1 || 3600 < least {
+            return Err(RuleRefused::Least);
+        }
+        if longest < least || 4_000_000 < longest {
+            return Err(RuleRefused::Longest);
+        }
+        Ok(Rule {
+            event_package,
+            least,
+            longest,
+            body,
+        })
+    }
+
+    /// The name of the event package.
+    pub fn event_package(&self) -> &[u8]
+        ensures { result.now ≡ self.now.event_package }
+    {
+        self.event_package.as_bytes()
+    }
+
+    /// The least time of a subscription in seconds, 1 to 3,600.
+    pub fn least(&self) -> u32
+        ensures same { result ≡ self.now.least }
+        ensures low { 1 ≤ result }
+        ensures high { result ≤ 3600 }
+    {
+        self.least
+    }
+
+    /// The longest one, at least that and at most 4,000,000.
+    pub fn longest(&self) -> u32
+        ensures same { result ≡ self.now.longest }
+        ensures low { self.now.least ≤ result }
+        ensures high { result ≤ 4000000 }
+    {
+        self.longest
+    }
+
+    /// The body that tells the state.
+    pub fn body(&self) -> &[u8]
+        ensures { result.now ≡ self.now.body }
+    {
+        self.body.as_bytes()
+    }
 }
 
 fn is_range(least: u32, longest: u32) -> bool
@@ -63,9 +130,7 @@ fn rule_with(
     longest: Option<u32>,
     body: &[u8],
 ) -> Result<Option<Rule>, NoMemory>
-    ensures exact { IfOk result
-        (λ rule. rule ≡ rule_with event_package.now least longest body.now) }
-    ensures within { IfOk result (λ rule. IfSome rule (λ rule. rule.longest ≤ 4000000)) }
+    ensures { IfOk result (λ rule. rule ≡ rule_with event_package.now least longest body.now) }
 {
     let Some(least) = least else {
         return Ok(None);
@@ -84,12 +149,16 @@ fn rule_with(
     }))
 }
 
-/// The rule that an application's parameters make: the package, its least and its longest time, and
-/// perhaps the body. None where they make none.
+/// The rule that an application's parameters make: the package, its least and its longest time as
+/// decimals, and perhaps the body; more parameters are of no account. None where there are fewer
+/// than three, or the times are none that a rule has.
+///
+/// # Errors
+///
+/// `NoMemory` alone.
 #[tactic(auto, unfolding(sc_hosts::specs::Subscriptions::rule_in))]
 pub fn rule_in(alloc: Global, params: &[Text]) -> Result<Option<Rule>, NoMemory>
-    ensures exact { IfOk result (λ rule. rule ≡ rule_in params.now) }
-    ensures within { IfOk result (λ rule. IfSome rule (λ rule. rule.longest ≤ 4000000)) }
+    ensures { IfOk result (λ rule. rule ≡ rule_in params.now) }
 {
     match params {
         [event_package, least, longest] => {
@@ -169,7 +238,7 @@ fn names_package(rule: &Rule, request: &Request) -> bool
     ensures { result ≡ names_package rule.now request.now }
 {
     match event_value(request) {
-        Some(value) => is_package(value.as_bytes(), rule.event_package.as_bytes()),
+        Some(value) => is_package(value.as_bytes(), rule.event_package()),
         None => false,
     }
 }
@@ -188,7 +257,7 @@ fn expires_of(request: &Request) -> Option<u64>
 fn asked_seconds(rule: &Rule, request: &Request) -> u64
     ensures { result ≡ asked_seconds rule.now request.now }
 {
-    expires_of(request).unwrap_or(u64::from(rule.longest))
+    expires_of(request).unwrap_or(u64::from(rule.longest()))
 }
 
 fn seconds_of(asked: u64, longest: u32) -> u32
@@ -210,13 +279,14 @@ fn seconds_of(asked: u64, longest: u32) -> u32
 pub fn asked_for(request: &Request, rule: &Rule) -> Asked
     ensures exact { result ≡ asked_of rule.now request.now }
     ensures within { IsAtMost rule.now.longest result }
+    ensures most { IsAtMost 4000000 result }
 {
     if !names_package(rule, request) {
         return Asked::BadEvent;
     }
     let asked = asked_seconds(rule, request);
-    if 0 < asked && asked < u64::from(rule.least) {
+    if 0 < asked && asked < u64::from(rule.least()) {
         return Asked::Brief;
     }
-    Asked::For(seconds_of(asked, rule.longest))
+    Asked::For(seconds_of(asked, rule.longest()))
 }

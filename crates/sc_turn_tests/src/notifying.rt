@@ -1,28 +1,35 @@
 //! The calls of event notification.
 
-ghost use Rattle.std.specs.Prelude.{◌≡◌, IfOk};
-
 use crate::helping::{request_of, written};
 use crate::reading::{number, word};
 use sc_notifies::{
-    Asked, NotifyRefused, Rule, accept, activate, asked_for, change, end, failed, fire,
+    Asked, NotifyRefused, Rule, RuleRefused, accept, activate, asked_for, change, end, failed, fire,
 };
 use sc_turn::Turn;
-use sc_value::{NoMemory, ReqId, Request, SessId, Text, TimerId};
+use sc_value::{ReqId, Request, SessId, Text, TimerId};
 use std::alloc::Global;
 
-// The package presence, for one minute to one hour.
-fn rule(alloc: Global) -> Result<Rule, NoMemory>
-    ensures { IfOk result (λ rule. rule.longest ≡ 3600) }
-{
-    let event_package = Text::from_slice(alloc, b"presence")?;
-    let body = Text::from_slice(alloc, b"open")?;
-    Ok(Rule {
-        event_package,
-        least: 60,
-        longest: 3600,
-        body,
-    })
+// The package presence, for so many seconds at least and at most.
+fn rule_of(alloc: Global, least: u32, longest: u32) -> Option<Result<Rule, RuleRefused>> {
+    let event_package = Text::from_slice(alloc, b"presence").ok()?;
+    let body = Text::from_slice(alloc, b"open").ok()?;
+    Some(Rule::new(event_package, least, longest, body))
+}
+
+// The same for one minute to one hour.
+fn rule(alloc: Global) -> Option<Rule> {
+    rule_of(alloc, 60, 3600)?.ok()
+}
+
+// The least time of a rule and its longest, in seconds.
+fn rule_row(alloc: Global, row: &str) -> Option<String> {
+    match rule_of(alloc, number(row, 1), number(row, 2))? {
+        Ok(rule) => {
+            let longest = rule.longest();
+            written(format!(in alloc; "{longest}"))
+        }
+        Err(refused) => written(format!(in alloc; "{refused:?}")),
+    }
 }
 
 fn accepted(alloc: Global, answered: Result<Asked, NotifyRefused>) -> Option<String> {
@@ -36,11 +43,11 @@ fn accept_by(t: &mut Turn, alloc: Global, row: &str, request: &Request) -> Optio
     let req = ReqId(number(row, 1));
     let sess = SessId(number(row, 2));
     match rule(alloc) {
-        Ok(rule) => accepted(
+        Some(rule) => accepted(
             alloc,
             accept(t, req, sess, request, &rule, word(row, 3) == "pending"),
         ),
-        Err(NoMemory) => None,
+        None => None,
     }
 }
 
@@ -54,11 +61,11 @@ fn accept_row(t: &mut Turn, alloc: Global, row: &str) -> Option<String> {
 
 fn asked_by(alloc: Global, request: &Request) -> Option<String> {
     match rule(alloc) {
-        Ok(rule) => {
+        Some(rule) => {
             let asked = asked_for(request, &rule);
             written(format!(in alloc; "{asked:?}"))
         }
-        Err(NoMemory) => None,
+        None => None,
     }
 }
 
@@ -97,6 +104,9 @@ fn gone(alloc: Global, answered: Result<(), NotifyRefused>) -> Option<String> {
 pub fn help_notifying(t: &mut Turn, alloc: Global, row: &str) -> Option<String> {
     let name = word(row, 0);
     let sess = SessId(number(row, 1));
+    if name == "rule" {
+        return rule_row(alloc, row);
+    }
     if name == "asked" {
         return asked_row(alloc, row);
     }

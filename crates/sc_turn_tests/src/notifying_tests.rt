@@ -21,6 +21,22 @@ fn judges_a_subscribe(rt: HostRuntime) {
 }
 
 #[test]
+fn makes_a_rule_of_its_ranges(rt: HostRuntime) {
+    play(
+        &rt,
+        rt.alloc(),
+        "
+        rule 1 1 = 1
+        rule 3600 4000000 = 4000000
+        rule 0 60 = Least
+        rule 3601 4000000 = Least
+        rule 60 59 = Longest
+        rule 60 4000001 = Longest
+        rule 0 4000001 = Least  # the first one counts",
+    );
+}
+
+#[test]
 fn refuses_a_subscribe(rt: HostRuntime) {
     play(
         &rt,
