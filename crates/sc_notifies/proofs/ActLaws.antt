@@ -13,6 +13,7 @@ use Rattle.sc_helpers.proofs.Plays.{through_accepted}
 use Rattle.sc_notifies.specs.Notifying.{IsByState, IsCarriedOut, IsEnded, IsFailed, IsOfPending, IsOfSubscription, IsRefusedAs, accepted_by, activates, asked_of, ends, fired_of, next_of, read_of}
 use Rattle.sc_notifies.specs.States.{Accepts, Activates, Changes, Ends, Fails, Fires, IsActed, activates_by, script_of}
 use Rattle.sc_notifies.specs.declared.refused.Asked.{Asked}
+use Rattle.sc_notifies.specs.declared.refused.Grant.{Grant}
 
 of_some : {X : Type 0} (o : Option Subscription) (script : Subscription → Script) (answer given : X) (old new : Working) → IsOfSubscription o script answer old (Ok given) new → GoesThrough (where_some o script) old new
 unfolding IsOfSubscription IsRefusedAs IsCarriedOut where_some
@@ -39,10 +40,10 @@ of_failed None script given old new (inl is, same) = cc
 of_failed None script given old new (inr is, same) = cc
 of_failed (Some sub) script given old new through = through
 
-pub accept_acts : (sess : SessId) (rule : Rule) (req : ReqId) (request : Request) (pending : Bool) (old new : Working) (given : Asked)
-    → IsCarriedOut (accepted_by rule req sess (asked_of rule request) (read_of (play_of old).view sess request (asked_of rule request) pending)) (asked_of rule request) old (Ok given) new → IsActed sess (Accepts rule req request pending) old new
+pub accept_acts : (sess : SessId) (rule : Rule) (req : ReqId) (request : Request) (grant : Grant) (old new : Working) (given : Asked)
+    → IsCarriedOut (accepted_by rule req sess (asked_of rule request) (read_of (play_of old).view sess request (asked_of rule request) grant)) (asked_of rule request) old (Ok given) new → IsActed sess (Accepts rule req request grant) old new
 unfolding IsCarriedOut IsActed script_of
-accept_acts sess rule req request pending old new given (is, through) = through_accepted _ old new through
+accept_acts sess rule req request grant old new given (is, through) = through_accepted _ old new through
 
 pub change_acts : (sess : SessId) (body : Bytes) (old new : Working) (given : ReqId) → IsOfSubscription (subscription_of (play_of old).view sess) (changes (play_of old).view sess body) (next_of (play_of old).view) old (Ok given) new
     → IsActed sess (Changes body) old new

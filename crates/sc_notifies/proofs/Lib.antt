@@ -1,4 +1,5 @@
 pub mod ActLaws
+pub mod ChangePlays
 pub mod Kept
 pub mod NotifyCalls
 pub mod NotifyPlays

@@ -19,6 +19,7 @@ use Rattle.sc_notifies.specs.Notifying.{IsActivated, IsByState, IsCarriedOut, Is
 use Rattle.sc_notifies.specs.declared.accepting.Read.{Read}
 use Rattle.sc_notifies.specs.declared.ending.Over.{Over}
 use Rattle.sc_notifies.specs.declared.refused.Asked.{Asked}
+use Rattle.sc_notifies.specs.declared.refused.Grant.{Grant}
 use Rattle.sc_notifies.specs.declared.refused.NotifyRefused.{NotifyRefused}
 use Rattle.sc_notifies.specs.declared.refused.NotifyRefused.TheVariants as refused
 use Rattle.sc_notifies.specs.declared.standing.Live.{Live}
@@ -260,12 +261,12 @@ fire_wanting script answer old stop refusal wants is fed = rw (wants_is stop ref
 
 -- ## A SUBSCRIBE
 
-pub accept_carried : (rule : Rule) (req : ReqId) (sess : SessId) (request : Request) (pending : Bool) (old new : Working) (seen : View) (asks : Asked) (read : Read) (result : Result Asked NotifyRefused) → (old.starved ≡ false → seen ≡ (play_of old).view)
-    → asks ≡ asked_of rule request → read ≡ read_of seen sess request asks pending → IsCarriedOut (accepted_by rule req sess asks read) asks old result new
-    → old.starved ≡ false → IsCarriedOut (accepted_by rule req sess (asked_of rule request) (read_of (play_of old).view sess request (asked_of rule request) pending)) (asked_of rule request) old result new
-accept_carried rule req sess request pending old new seen asks read result sees same is carried fed =
-    subst (λ (v : View). IsCarriedOut (accepted_by rule req sess (asked_of rule request) (read_of v sess request (asked_of rule request) pending)) (asked_of rule request) old result new) (sees fed)
-    (subst (λ (a : Asked). IsCarriedOut (accepted_by rule req sess a (read_of seen sess request a pending)) a old result new) same
+pub accept_carried : (rule : Rule) (req : ReqId) (sess : SessId) (request : Request) (grant : Grant) (old new : Working) (seen : View) (asks : Asked) (read : Read) (result : Result Asked NotifyRefused) → (old.starved ≡ false → seen ≡ (play_of old).view)
+    → asks ≡ asked_of rule request → read ≡ read_of seen sess request asks grant → IsCarriedOut (accepted_by rule req sess asks read) asks old result new
+    → old.starved ≡ false → IsCarriedOut (accepted_by rule req sess (asked_of rule request) (read_of (play_of old).view sess request (asked_of rule request) grant)) (asked_of rule request) old result new
+accept_carried rule req sess request grant old new seen asks read result sees same is carried fed =
+    subst (λ (v : View). IsCarriedOut (accepted_by rule req sess (asked_of rule request) (read_of v sess request (asked_of rule request) grant)) (asked_of rule request) old result new) (sees fed)
+    (subst (λ (a : Asked). IsCarriedOut (accepted_by rule req sess a (read_of seen sess request a grant)) a old result new) same
     (subst (λ (r : Read). IsCarriedOut (accepted_by rule req sess asks r) asks old result new) is carried))
 
 pub accept_wanting : (script : Script) (answer : Asked) (old : Working) (stop : Stopped) (refusal : NotifyRefused) → stop ≡ record { refusal = NoMemory; made = 0 } → refusal ≡ refused.Turn stop.refusal stop.made

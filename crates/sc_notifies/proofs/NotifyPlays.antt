@@ -1,5 +1,5 @@
 -- The charter of the servlet, from what its helper's calls leave.
-use Rattle.std.proofs.Common.{◌≡◌, ◌<◌, ℕ, ◌+◌, ◌==◌, ◌&&◌, Bool, true, false, not, Option, None, Some, [], Result, Ok, Err, OnOk, inl, inr, refl, ap, sym, subst, arith}
+use Rattle.std.proofs.Common.{◌≡◌, ◌≤◌, ℕ, ◌+◌, ◌==◌, ◌&&◌, Bool, true, false, not, Option, None, Some, [], Result, Ok, Err, OnOk, inl, inr, refl, ap, sym, subst, ◌∙◌, arith}
 use Rattle.std.specs.Prelude.{nat_lt}
 use Rattle.sc_value.specs.declared.ids.ReqId.{ReqId}
 use Rattle.sc_value.specs.declared.ids.SessId.{SessId}
@@ -15,38 +15,25 @@ use Rattle.sc_hosts.specs.Subscriptions.{NamedSub, Rule, Subscription, accepts, 
 use Rattle.sc_turn.specs.Working.{Working, play_of}
 use Rattle.sc_apps.specs.Scripted.{IsPlayed}
 use Rattle.sc_apps.proofs.Playing.{begun_room, begun_view, played_done}
-use Rattle.sc_helpers.specs.Stopping.{Goes, IsHeard}
-use Rattle.sc_helpers.specs.declared.stopping.Stopped.{Stopped}
 use Rattle.sc_helpers.proofs.FoundLaws.{as_is}
-use Rattle.sc_helpers.proofs.Shorts.{Short, goes_heard, goes_through, heard_played, short_cancel, short_either, short_more, short_number, short_only, short_remove, short_send, short_then, short_where, through_played}
-use Rattle.sc_notifies.specs.Notifying.{IsCarriedOut, IsEnded, IsFailed, IsRefusedAs, IsTold, IsTurned, accepted_by, asked_of, fired_of, live_told, read_by, read_of, seconds_in}
+use Rattle.sc_helpers.proofs.Shorts.{Short, heard_played, short_cancel, short_either, short_more, short_number, short_only, short_remove, short_send, short_then, short_where, through_played}
+use Rattle.sc_notifies.specs.Notifying.{IsCarriedOut, IsEnded, IsFailed, IsRefusedAs, IsTold, IsTurned, accepted_by, asked_of, fired_of, is_remembered_active, is_settled, read_by, read_of, seconds_in}
 use Rattle.sc_notifies.specs.SubScripts.{begun_noted, begun_timed, begun_told, cleared, subscribed_by, unnamed}
 use Rattle.sc_notifies.specs.declared.accepting.Read.{Read}
 use Rattle.sc_notifies.specs.declared.refused.Asked.{Asked}
 use Rattle.sc_notifies.specs.declared.refused.Asked.TheVariants as asked
+use Rattle.sc_notifies.specs.declared.refused.Grant.TheVariants as grants
 use Rattle.sc_notifies.specs.declared.refused.NotifyRefused.{NotifyRefused}
 use Rattle.sc_notifies.specs.declared.refused.NotifyRefused.TheVariants as refused
-use Rattle.sc_notifies.specs.declared.standing.Live.{Live}
 use Rattle.sc_notifies.specs.declared.standing.Standing.{Standing}
 use Rattle.sc_notifies.specs.declared.subscribing.Term.{Term}
 use Rattle.sc_notifies.proofs.SubLaws.{ended_is, subscribed_is}
 
 -- ## How short
 
-notifies_short : (sess : SessId) (event state body : Bytes) → Short (notifies sess event state body) 2
+pub notifies_short : (sess : SessId) (event state body : Bytes) → Short (notifies sess event state body) 2
 unfolding notifies Short
 notifies_short sess event state body = short_send _ _ _ _ Done 0 tt
-
-told_short : (sess : SessId) (body : Bytes) (live : Live) → Short (live_told sess body live) 2
-unfolding live_told
-told_short sess body live = notifies_short _ _ _ _
-
-pub told_played : (sess : SessId) (body : Bytes) (live : Live) (old new : Working) (x : Unit {0}) → Goes 0 (live_told sess body live) old (Ok x) new → IsPlayed (live_told sess body live) old new
-told_played sess body live old new x goes = goes_through (live_told sess body live) old new x goes
-
-pub told_heard : (sess : SessId) (body : Bytes) (live : Live) (old new : Working) (stop : Stopped) (out : Result (Unit {0}) no.NoMemory) → (play_of old).listed + 1 < MOST_CALLS → Goes 0 (live_told sess body live) old (Err stop) new → IsHeard stop out
-    → OnOk out (IsPlayed (live_told sess body live) old new)
-told_heard sess body live old new stop out room goes heard = goes_heard (live_told sess body live) 2 old new stop out (told_short sess body live) (omega (arith, room)) goes heard
 
 cleared_short : (standing : Standing) (sess : SessId) (script : Script) → Short script 2 → Short (cleared standing sess script) 5
 unfolding cleared unnamed
@@ -67,51 +54,46 @@ accepted_short rule req sess asked.BadEvent read = short_only _ 6
 accepted_short rule req sess asked.Brief read = short_only _ 6
 accepted_short rule req sess (asked.For seconds) read = short_then _ _ 6 (subscribed_short read.standing read.term sess read.event rule.body)
 
-pub accept_played : (rule : Rule) (req : ReqId) (sess : SessId) (asks : Asked) (read : Read) (old new : Working) (x : Unit {0}) → Goes 0 (accepted_by rule req sess asks read) old (Ok x) new
-    → IsPlayed (accepted_by rule req sess asks read) old new
-accept_played rule req sess asks read old new x goes = goes_through (accepted_by rule req sess asks read) old new x goes
+-- ## A turn that comes with no calls
 
-pub accept_heard : (rule : Rule) (req : ReqId) (sess : SessId) (asks : Asked) (read : Read) (old new : Working) (stop : Stopped) (out : Result (Unit {0}) no.NoMemory) → (play_of old).listed + 7 < MOST_CALLS
-    → Goes 0 (accepted_by rule req sess asks read) old (Err stop) new → IsHeard stop out → OnOk out (IsPlayed (accepted_by rule req sess asks read) old new)
-accept_heard rule req sess asks read old new stop out room goes heard =
-    goes_heard (accepted_by rule req sess asks read) 7 old new stop out (accepted_short rule req sess asks read) (omega (arith, room)) goes heard
+pub told_by : (script : Script) (n : ℕ) (old new : Working) (refusal : NotifyRefused) (out : Result (Unit {0}) no.NoMemory) → Short script n → (play_of old).listed + n ≤ MOST_CALLS → IsTurned script old refusal new → IsTold refusal out → OnOk out (IsPlayed script old new)
+unfolding IsTurned IsTold
+told_by script n old new refused.NotSubscribed out short room stops told = absurd stops
+told_by script n old new refused.NotPending out short room stops told = absurd stops
+told_by script n old new (refused.Turn refusal made) out short room stops told = heard_played script n old new _ out short (omega (arith, room)) stops told
 
--- ## A SUBSCRIBE, as the charter has it
-
--- remembered as active
-abbrev lettered : Read → Read
-lettered read = record read { term = record read.term { letter = true } }
-
+-- a SUBSCRIBE, as the charter has it
 accepts_if : (view : View) (rule : Rule) (req : ReqId) (sess : SessId) (request : Request) (other brief : Bool) → not (names_package rule request) ≡ other
     → (nat_lt 0 (asked_seconds rule request) && nat_lt (asked_seconds rule request) rule.least) ≡ brief
-    → accepts view rule req sess request ≡ accepted_by rule req sess (asked_of rule request) (lettered (read_of view sess request (asked_of rule request) false))
-unfolding accepts accepted_by asked_of read_of read_by seconds_in
+    → accepts view rule req sess request ≡ accepted_by rule req sess (asked_of rule request) (read_of view sess request (asked_of rule request) grants.Settled)
+unfolding accepts accepted_by asked_of read_of read_by seconds_in is_remembered_active is_settled
 accepts_if view rule req sess request true brief is has = rw is refl
 accepts_if view rule req sess request false true is has = rw (is, has) refl
 accepts_if view rule req sess request false false is has = rw (is, has) (ap (accepted_then _) (subscribed_is view rule sess _ _ (subscription_of view sess)))
 
 accepts_is : (view : View) (rule : Rule) (req : ReqId) (sess : SessId) (request : Request)
-    → accepts view rule req sess request ≡ accepted_by rule req sess (asked_of rule request) (lettered (read_of view sess request (asked_of rule request) false))
+    → accepts view rule req sess request ≡ accepted_by rule req sess (asked_of rule request) (read_of view sess request (asked_of rule request) grants.Settled)
 accepts_is view rule req sess request =
     accepts_if view rule req sess request (not (names_package rule request)) (nat_lt 0 (asked_seconds rule request) && nat_lt (asked_seconds rule request) rule.least) refl refl
 
-pub accepts_played : (rule : Rule) (req : ReqId) (sess : SessId) (request : Request) (old new : Working) (seen : View) (asks : Asked) (read lettered : Read) (out : Result (Unit {0}) no.NoMemory) → seen ≡ old.shown → asks ≡ asked_of rule request
-    → read ≡ read_of seen sess request asks false → lettered ≡ record read { term = record read.term { letter = true } }
-    → OnOk out (IsPlayed (accepted_by rule req sess asks lettered) old new) → OnOk out (IsPlayed (accepts old.shown rule req sess request) old new)
-accepts_played rule req sess request old new seen asks read lettered out same asked is has played =
-    subst (λ (v : View). OnOk out (IsPlayed (accepts v rule req sess request) old new)) same
-    (subst (λ (s : Script). OnOk out (IsPlayed s old new)) (sym (accepts_is seen rule req sess request))
-    (subst (λ (a : Asked). OnOk out (IsPlayed (accepted_by rule req sess a (record (read_of seen sess request a false) { term = record (read_of seen sess request a false).term { letter = true } })) old new)) asked
-    (subst (λ (r : Read). OnOk out (IsPlayed (accepted_by rule req sess asks (record r { term = record r.term { letter = true } })) old new)) is
-    (subst (λ (r : Read). OnOk out (IsPlayed (accepted_by rule req sess asks r) old new)) has played))))
+pub accepts_through : (rule : Rule) (req : ReqId) (sess : SessId) (request : Request) (answer given : Asked) (old new : Working) → old.calls ≡ [] → old.starved ≡ false
+    → (old.starved ≡ false → IsCarriedOut (accepted_by rule req sess (asked_of rule request) (read_of (play_of old).view sess request (asked_of rule request) grants.Settled)) answer old (Ok given) new)
+    → IsPlayed (accepts old.shown rule req sess request) old new
+unfolding IsCarriedOut
+accepts_through rule req sess request answer given old new none fed carried =
+    as_is _ _ old new (ap (λ (v : View). accepts v rule req sess request) (sym (begun_view old none)) ∙ accepts_is (play_of old).view rule req sess request)
+    (through_played (accepted_by rule req sess (asked_of rule request) (read_of (play_of old).view sess request (asked_of rule request) grants.Settled)) old new (carried fed).1)
 
--- ## A turn that comes with no calls
-
-told_by : (script : Script) (n : ℕ) (old new : Working) (refusal : NotifyRefused) (out : Result (Unit {0}) no.NoMemory) → Short script n → (play_of old).listed + n < MOST_CALLS → IsTurned script old refusal new → IsTold refusal out → OnOk out (IsPlayed script old new)
-unfolding IsTurned IsTold
-told_by script n old new refused.NotSubscribed out short room stops told = absurd stops
-told_by script n old new refused.NotPending out short room stops told = absurd stops
-told_by script n old new (refused.Turn refusal made) out short room stops told = heard_played script n old new _ out short (omega (arith, room)) stops told
+pub accepts_told : (rule : Rule) (req : ReqId) (sess : SessId) (request : Request) (answer : Asked) (old new : Working) (refusal : NotifyRefused) (out : Result (Unit {0}) no.NoMemory) → old.calls ≡ [] → old.starved ≡ false
+    → (old.starved ≡ false → IsCarriedOut (accepted_by rule req sess (asked_of rule request) (read_of (play_of old).view sess request (asked_of rule request) grants.Settled)) answer old (Err refusal) new) → IsTold refusal out
+    → OnOk out (IsPlayed (accepts old.shown rule req sess request) old new)
+unfolding IsCarriedOut
+accepts_told rule req sess request answer old new refusal out none fed carried told =
+    let room = begun_room old none in
+    let read : Read = read_of (play_of old).view sess request (asked_of rule request) grants.Settled in
+    subst (λ (v : View). OnOk out (IsPlayed (accepts v rule req sess request) old new)) (begun_view old none)
+    (subst (λ (s : Script). OnOk out (IsPlayed s old new)) (sym (accepts_is (play_of old).view rule req sess request))
+    (told_by (accepted_by rule req sess (asked_of rule request) read) 7 old new refusal out (accepted_short rule req sess (asked_of rule request) read) (omega (arith, room)) (carried fed) told))
 
 ended_short : (view : View) (named : NamedSub) → Short (ended_sub view named) 5
 unfolding ended_sub

@@ -32,12 +32,14 @@ use Rattle.sc_promised.specs.Refreshing.{IsAccepted}
 use Rattle.sc_promised.proofs.Attributes.{same-self, set-attribute}
 use Rattle.sc_promised.proofs.Endings.{strict-fits}
 use Rattle.sc_promised.proofs.Texts.{decimal-lacks}
-use Rattle.sc_notifies.specs.Notifying.{IsAtMost, accepted_by, activates, asked_of, ends, fired_of, is_active, read_by, read_of, seconds_in}
-use Rattle.sc_notifies.specs.States.{Accepts, Absent, Act, Activates, Active, Changes, Ends, Fails, Fires, Happened, IsOf, IsOnce, IsSound, IsTrace, Pending, State, activated, activates_by, last_state, next_state, over, renewed, script_of, settles, state_at, state_by, state_of, subscribed, table_state, unsubscribes, view_after}
+use Rattle.sc_notifies.specs.Notifying.{IsAtMost, accepted_by, activates, asked_of, begins_active, ends, fired_of, is_active, is_remembered_active, is_settled, read_by, read_of, seconds_in}
+use Rattle.sc_notifies.specs.States.{Accepts, Absent, Act, Activates, Active, Changes, Ends, Fails, Fires, Happened, IsOf, IsOnce, IsSound, IsTrace, Pending, State, activated, activates_by, is_settling, last_state, next_state, over, renewed, script_of, settles, state_at, state_by, state_of, subscribed, table_state, view_after}
 use Rattle.sc_notifies.specs.SubScripts.{begun_noted, begun_timed, begun_told, cleared, letter_word, standing_of, sub_words, subscribed_by, unnamed}
 use Rattle.sc_notifies.specs.declared.accepting.Read.{Read}
 use Rattle.sc_notifies.specs.declared.refused.Asked.{Asked}
 use Rattle.sc_notifies.specs.declared.refused.Asked.TheVariants as asked
+use Rattle.sc_notifies.specs.declared.refused.Grant.{Grant}
+use Rattle.sc_notifies.specs.declared.refused.Grant.TheVariants as grants
 use Rattle.sc_notifies.specs.declared.standing.Standing.{Standing}
 use Rattle.sc_notifies.specs.declared.subscribing.Term.{Term}
 use Rattle.sc_notifies.proofs.Kept.{Empties, Keeps, KeepsCall, behind_call, behind_number, cancel_empties, created_keeps, done_keeps, invalidated_keeps, number_keeps, only_keeps, remove_empties, remove_keeps, responded_keeps, sent_keeps, set_keeps, then_keeps}
@@ -277,14 +279,25 @@ answered_same : (play : Play) (req : ReqId) (code : ℕ) (reason : Bytes) (field
 unfolding after_listed answer_with
 answered_same play req code reason fields = answered_by play req _ (refusal play _)
 
-renewed_is : (pending : Bool) (o : Option Subscription) → state_by (is_active pending o) ≡ renewed pending (state_of o)
-unfolding is_active renewed state_of state_by
-renewed_is pending None = refl
-renewed_is pending (Some sub) = by sub.active
-  where
-    by : (active : Bool) → state_by active ≡ renewed pending (state_by active)
-    by true = refl
-    by false = refl
+begins_is : (grant : Grant) → state_by (is_settled grant || begins_active grant) ≡ state_by (begins_active grant)
+unfolding is_settled begins_active
+begins_is grants.Active = refl
+begins_is grants.Pending = refl
+begins_is grants.Settled = refl
+
+goes_on : (grant : Grant) (active : Bool) → state_by (is_settled grant || active) ≡ renewed grant (state_by active)
+unfolding is_settled renewed state_by
+goes_on grants.Active true = refl
+goes_on grants.Active false = refl
+goes_on grants.Pending true = refl
+goes_on grants.Pending false = refl
+goes_on grants.Settled true = refl
+goes_on grants.Settled false = refl
+
+renewed_is : (grant : Grant) (o : Option Subscription) → state_by (is_remembered_active grant o) ≡ renewed grant (state_of o)
+unfolding is_remembered_active is_active renewed state_of
+renewed_is grant None = begins_is grant
+renewed_is grant (Some sub) = goes_on grant sub.active
 
 -- behind the 200
 behind_answer : (play : Play) (rule : Rule) (req : ReqId) (sess : SessId) (seconds : ℕ) (read : Read) (fields : List Field) → read.standing.told ≡ is_some (attribute (sub_name sess) play.view) → IsOnce (sub_name sess) play.view.attributes
@@ -299,17 +312,17 @@ behind_answer play rule req sess seconds read fields told once d_in t_in reason 
     ∙ subscribed_state one read.standing read.term sess read.event rule.body
     (ap is_some (answered_keeps (sub_name sess) req 200 reason fields play) ∙ sym told) (subst (λ (fields : List Field). IsOnce (sub_name sess) fields) (sym left.0) once) d_in (subst (λ (n : ℕ). n < 2 ^ 64) (sym left.1) t_in) rest
 
-accepted_state : (play : Play) (rule : Rule) (req : ReqId) (sess : SessId) (request : Request) (pending : Bool) (asks : Asked) → IsAtMost 4000000 asks → IsOnce (sub_name sess) play.view.attributes
-    → play.view.now + 4000000000 < 2 ^ 64 → play.view.next_timer < 2 ^ 64 → IsAccepted play (accepted_by rule req sess asks (read_of play.view sess request asks pending))
-    → state_at (play_after play (accepted_by rule req sess asks (read_of play.view sess request asks pending))).view sess ≡ subscribed pending asks (state_at play.view sess)
+accepted_state : (play : Play) (rule : Rule) (req : ReqId) (sess : SessId) (request : Request) (grant : Grant) (asks : Asked) → IsAtMost 4000000 asks → IsOnce (sub_name sess) play.view.attributes
+    → play.view.now + 4000000000 < 2 ^ 64 → play.view.next_timer < 2 ^ 64 → IsAccepted play (accepted_by rule req sess asks (read_of play.view sess request asks grant))
+    → state_at (play_after play (accepted_by rule req sess asks (read_of play.view sess request asks grant))).view sess ≡ subscribed grant asks (state_at play.view sess)
 unfolding accepted_by subscribed IsAtMost read_of read_by seconds_in standing_of state_at
-accepted_state play rule req sess request pending asked.BadEvent most once moment timer ok = state_same sess _ play.view (only_keeps (sub_name sess) _ (answered_keeps (sub_name sess) req 489 _ _) play ok)
-accepted_state play rule req sess request pending asked.Brief most once moment timer ok = state_same sess _ play.view (only_keeps (sub_name sess) _ (answered_keeps (sub_name sess) req 423 _ _) play ok)
-accepted_state play rule req sess request pending (asked.For seconds) most once moment timer ok =
+accepted_state play rule req sess request grant asked.BadEvent most once moment timer ok = state_same sess _ play.view (only_keeps (sub_name sess) _ (answered_keeps (sub_name sess) req 489 _ _) play ok)
+accepted_state play rule req sess request grant asked.Brief most once moment timer ok = state_same sess _ play.view (only_keeps (sub_name sess) _ (answered_keeps (sub_name sess) req 423 _ _) play ok)
+accepted_state play rule req sess request grant (asked.For seconds) most once moment timer ok =
     let small : seconds ≤ 4000000 = most in
     let due : play.view.now + seconds * 1000 < 2 ^ 64 = omega (arith, small, moment) in
-    behind_answer play rule req sess seconds (read_by play.view sess request seconds pending (subscription_of play.view sess)) _ refl once due timer _ ok
-    ∙ ap (cond (seconds == 0) Absent) (renewed_is pending (subscription_of play.view sess))
+    behind_answer play rule req sess seconds (read_by play.view sess request seconds grant (subscription_of play.view sess)) _ refl once due timer _ ok
+    ∙ ap (cond (seconds == 0) Absent) (renewed_is grant (subscription_of play.view sess))
 
 asked_if : (other brief : Bool) (n longest : ℕ) → longest ≤ 4000000 → IsAtMost 4000000 (cond other asked.BadEvent (cond brief asked.Brief (asked.For (min n longest))))
 unfolding IsAtMost
@@ -326,7 +339,7 @@ asked_most rule request most = asked_if (not (names_package rule request)) (nat_
 act_state : (sess : SessId) (play : Play) (act : Act) → IsOf sess play.view act → IsAccepted play (script_of play.view sess act) → IsOnce (sub_name sess) play.view.attributes → play.view.now + 4000000000 < 2 ^ 64 → play.view.next_timer < 2 ^ 64
     → state_at (play_after play (script_of play.view sess act)).view sess ≡ next_state play.view act (state_at play.view sess)
 unfolding script_of next_state IsOf state_at state_of
-act_state sess play (Accepts rule req request pending) own ok once moment timer = accepted_state play rule req sess request pending (asked_of rule request) (asked_most rule request own) once moment timer ok
+act_state sess play (Accepts rule req request grant) own ok once moment timer = accepted_state play rule req sess request grant (asked_of rule request) (asked_most rule request own) once moment timer ok
 act_state sess play (Changes body) own ok once moment timer = state_same sess _ play.view (changed play sess body (subscription_of play.view sess) ok)
 act_state sess play (Activates body) own ok once moment timer = activated_at play sess body (subscription_of play.view sess) refl ok
 act_state sess play (Ends reason) own ok once moment timer = ended_at play sess reason (subscription_of play.view sess) refl once ok
@@ -345,11 +358,11 @@ by_table sess state (h ∷ acts) (sound, is, rest) =
 
 -- ## A pending one
 
-asks_pending : (pending : Bool) (asks : Asked) → unsubscribes asks ≡ false → subscribed pending asks Pending ≡ Pending
-unfolding unsubscribes subscribed renewed
-asks_pending pending asked.BadEvent left = refl
-asks_pending pending asked.Brief left = refl
-asks_pending pending (asked.For seconds) left = rw left refl
+asks_pending : (grant : Grant) (asks : Asked) → is_settling grant asks ≡ false → subscribed grant asks Pending ≡ Pending
+unfolding is_settling subscribed renewed state_by
+asks_pending grant asked.BadEvent left = refl
+asks_pending grant asked.Brief left = refl
+asks_pending grant (asked.For seconds) left = rw (either_first (seconds == 0) (is_settled grant) left, either_second (seconds == 0) (is_settled grant) left) refl
 
 fires_pending : (o : Option NamedSub) → is_some o ≡ false → over o Pending ≡ Pending
 unfolding over
@@ -358,7 +371,7 @@ fires_pending (Some named) left = cc
 
 act_pending : (play : Play) (act : Act) → settles (record { play = play; act = act }) ≡ false → next_state play.view act Pending ≡ Pending
 unfolding settles next_state
-act_pending play (Accepts rule req request pending) left = asks_pending pending (asked_of rule request) left
+act_pending play (Accepts rule req request grant) left = asks_pending grant (asked_of rule request) left
 act_pending play (Changes body) left = refl
 act_pending play (Activates body) left = cc
 act_pending play (Ends reason) left = cc

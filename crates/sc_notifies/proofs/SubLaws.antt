@@ -3,19 +3,17 @@ use Rattle.std.proofs.Common.{◌≡◌, ℕ, ◌+◌, ◌*◌, ◌==◌, Bool, 
 use Rattle.std.specs.Prelude.{◌++◌, codes, decimal, is_some}
 use Rattle.sc_value.specs.declared.ids.SessId.{SessId}
 use Rattle.sc_terms.specs.declared.views.View.{View}
-use Rattle.sc_terms.specs.declared.calls.Call.{Call}
 use Rattle.sc_terms.specs.declared.calls.Call.TheVariants as calls
 use Rattle.sc_terms.specs.declared.views.Period.TheVariants.{Once}
 use Rattle.sc_grammar.specs.Written.{Bytes}
 use Rattle.sc_hosts.specs.HelperParts.{accepted_then, cancel_then, remove_then}
-use Rattle.sc_hosts.specs.Scripting.{Script, Make, attribute, where_some, then_make, with_number}
-use Rattle.sc_hosts.specs.Subscriptions.{Rule, Subscription, changes, ev_name, is_pending, notifies, state_word, sub_name, sub_text, subscribed_for, subscription_of, timeout_state, without_timer}
-use Rattle.sc_turn.specs.Working.{Working}
-use Rattle.sc_apps.specs.Scripted.{IsPlayed}
+use Rattle.sc_hosts.specs.Scripting.{Script, Make, attribute, with_number}
+use Rattle.sc_hosts.specs.Subscriptions.{Rule, Subscription, ev_name, is_pending, notifies, state_word, sub_name, sub_text, subscribed_for, timeout_state, without_timer}
 use Rattle.sc_helpers.specs.Leading.{cancel_some, remove_if, timer_named}
-use Rattle.sc_notifies.specs.Notifying.{is_active, live_by, live_of, live_told}
+use Rattle.sc_notifies.specs.Notifying.{begins_active, is_active}
 use Rattle.sc_notifies.specs.SubScripts.{begun_noted, begun_timed, begun_told, cleared, letter_word, standing_of, sub_words, subscribed_by, timer_of_sub, unnamed}
-use Rattle.sc_helpers.proofs.FoundLaws.{as_is, cancel_is, remove_is}
+use Rattle.sc_notifies.specs.declared.refused.Grant.TheVariants as grants
+use Rattle.sc_helpers.proofs.FoundLaws.{cancel_is, remove_is}
 
 without_is : (view : View) (old : Option Subscription) (script : Script) → without_timer view old script ≡ cancel_some (timer_of_sub view old) script
 unfolding without_timer timer_of_sub cancel_some
@@ -37,8 +35,8 @@ pub ended_is : (view : View) (sess : SessId) (sub : Subscription) (script : Scri
 unfolding cleared unnamed standing_of timer_of_sub
 ended_is view sess sub script = cancel_is sub.timer view _ ∙ ap (cancel_some (timer_named view sub.timer)) (removed_is view sess script)
 
-actives : (o : Option Subscription) → is_active false o ≡ not (is_pending o)
-unfolding is_active is_pending
+actives : (o : Option Subscription) → is_active grants.Settled o ≡ not (is_pending o)
+unfolding is_active begins_active is_pending
 actives None = refl
 actives (Some old) = twice old.active
   where
@@ -59,25 +57,15 @@ told_is sess event seconds due body true false is = refl
 told_is sess event seconds due body false true is = refl
 told_is sess event seconds due body false false is = cc
 
--- the charter's script, with a subscription that is remembered as active
+-- the charter's script: each subscription is remembered as active
 pub subscribed_is : (view : View) (rule : Rule) (sess : SessId) (event : Bytes) (seconds : ℕ) (o : Option Subscription)
     → subscribed_for view rule sess event seconds o
-    ≡ subscribed_by (standing_of view sess o) (record { seconds = seconds; due = view.now + seconds * 1000; active = is_active false o; letter = true }) sess event rule.body
+    ≡ subscribed_by (standing_of view sess o) (record { seconds = seconds; due = view.now + seconds * 1000; active = is_active grants.Settled o; letter = true }) sess event rule.body
 unfolding subscribed_for subscribed_by begun_timed begun_noted begun_told standing_of sub_words sub_text letter_word
 subscribed_is view rule sess event seconds o =
     both (seconds == 0) (cleared_is view sess o (notifies sess event timeout_state []))
-    (without_is view o _ ∙ ap (cancel_some (timer_of_sub view o)) (told_is sess event seconds (view.now + seconds * 1000) rule.body (is_pending o) (is_active false o) (actives o)))
+    (without_is view o _ ∙ ap (cancel_some (timer_of_sub view o)) (told_is sess event seconds (view.now + seconds * 1000) rule.body (is_pending o) (is_active grants.Settled o) (actives o)))
   where
     both : (over : Bool) {a b c d : Script} → a ≡ b → c ≡ d → (if over then a else c) ≡ (if over then b else d)
     both true one other = one
     both false one other = other
-
-change_by : (view : View) (sess : SessId) (body : Bytes) (o : Option Subscription) → subscription_of view sess ≡ o
-    → where_some (subscription_of view sess) (changes view sess body) ≡ where_some (live_of view sess) (live_told sess body)
-unfolding where_some changes live_of live_by live_told
-change_by view sess body None e = rw e refl
-change_by view sess body (Some sub) e = rw e refl
-
-pub played_change : (call : Call) (view : View) (sess : SessId) (body : Bytes) (old new : Working)
-    → IsPlayed (then_make call (where_some (live_of view sess) (live_told sess body))) old new → IsPlayed (then_make call (where_some (subscription_of view sess) (changes view sess body))) old new
-played_change call view sess body old new is = as_is _ _ old new (ap (then_make call) (change_by view sess body (subscription_of view sess) refl)) is

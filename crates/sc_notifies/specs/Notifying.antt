@@ -20,6 +20,8 @@ use Rattle.sc_notifies.specs.declared.accepting.Read.{Read}
 use Rattle.sc_notifies.specs.declared.ending.Over.{Over}
 use Rattle.sc_notifies.specs.declared.refused.Asked.{Asked}
 use Rattle.sc_notifies.specs.declared.refused.Asked.TheVariants as asked
+use Rattle.sc_notifies.specs.declared.refused.Grant.{Grant}
+use Rattle.sc_notifies.specs.declared.refused.Grant.TheVariants as grants
 use Rattle.sc_notifies.specs.declared.refused.NotifyRefused.{NotifyRefused}
 use Rattle.sc_notifies.specs.declared.refused.NotifyRefused.TheVariants as refused
 use Rattle.sc_notifies.specs.declared.refused.RuleRefused.{RuleRefused}
@@ -131,24 +133,44 @@ seconds_in asked.BadEvent = 0
 seconds_in asked.Brief = 0
 seconds_in (asked.For seconds) = seconds
 
--- a subscription that is there stays active or pending; a new one is as the servlet says
-unfoldable pub is_active : Bool → Option Subscription → Bool
-is_active pending None = not pending
-is_active pending (Some old) = old.active
+-- a new subscription is active, unless it is granted as a pending one
+unfoldable pub begins_active : Grant → Bool
+begins_active grants.Active = true
+begins_active grants.Pending = false
+begins_active grants.Settled = true
+
+-- a pending one is active behind the SUBSCRIBE
+unfoldable pub is_settled : Grant → Bool
+is_settled grants.Active = false
+is_settled grants.Pending = false
+is_settled grants.Settled = true
+
+-- a subscription that is there is told as what it is, active or pending; a new one as granted
+unfoldable pub is_active : Grant → Option Subscription → Bool
+is_active grant None = begins_active grant
+is_active grant (Some old) = old.active
+
+-- and it is remembered as that, or as active where the grant settles it
+unfoldable pub is_remembered_active : Grant → Option Subscription → Bool
+is_remembered_active grant old = is_settled grant || is_active grant old
 
 -- how the subscription goes on from this moment
-unfoldable pub read_by : View → SessId → Request → ℕ → Bool → Option Subscription → Read
-read_by view sess request seconds pending old = record {
+unfoldable pub read_by : View → SessId → Request → ℕ → Grant → Option Subscription → Read
+read_by view sess request seconds grant old = record {
   standing = standing_of view sess old;
   event = notified_event view sess request seconds old;
-  term =
-      record { seconds = seconds; due = view.now + seconds * 1000; active = is_active pending old; letter = is_active pending old };
+  term = record {
+    seconds = seconds;
+    due = view.now + seconds * 1000;
+    active = is_active grant old;
+    letter = is_remembered_active grant old;
+  };
 }
 
 -- that of a SipSession's subscription
-unfoldable pub read_of : View → SessId → Request → Asked → Bool → Read
-read_of view sess request asks pending =
-    read_by view sess request (seconds_in asks) pending (subscription_of view sess)
+unfoldable pub read_of : View → SessId → Request → Asked → Grant → Read
+read_of view sess request asks grant =
+    read_by view sess request (seconds_in asks) grant (subscription_of view sess)
 
 -- 489 for another package, 423 for too short a time, and else 200 and what follows it
 unfoldable pub accepted_by : Rule → ReqId → SessId → Asked → Read → Script

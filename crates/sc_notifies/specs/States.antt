@@ -1,6 +1,6 @@
 -- What any list of the calls of event notification makes of a SipSession's subscription (RFC 6665
 -- sections 4.1.2 and 4.2).
-use Rattle.std.specs.Prelude.{◌≡◌, ◌≤◌, ◌<◌, ◌+◌, ◌^◌, ◌==◌, List, [], ◌∷◌, Bool, true, false, not, Option, None, Some, if◌then◌else◌, is_some}
+use Rattle.std.specs.Prelude.{◌≡◌, ◌≤◌, ◌<◌, ◌+◌, ◌^◌, ◌==◌, List, [], ◌∷◌, Bool, true, false, ◌||◌, Option, None, Some, if◌then◌else◌, is_some}
 use Rattle.std.specs.List.{find, fold}
 use Rattle.sc_value.specs.Lists.{remove_first}
 use Rattle.sc_value.specs.declared.ids.ReqId.{ReqId}
@@ -17,16 +17,17 @@ use Rattle.sc_hosts.specs.Subscriptions.{NamedSub, Rule, Subscription, changes, 
 use Rattle.sc_turn.specs.Working.{Working, play_of}
 use Rattle.sc_promised.specs.Reliable.{play_after}
 use Rattle.sc_promised.specs.Refreshing.{IsAccepted}
-use Rattle.sc_notifies.specs.Notifying.{accepted_by, activates, asked_of, ends, fired_of, read_of}
+use Rattle.sc_notifies.specs.Notifying.{accepted_by, activates, asked_of, begins_active, ends, fired_of, is_settled, read_of}
 use Rattle.sc_notifies.specs.declared.refused.Asked.{Asked}
 use Rattle.sc_notifies.specs.declared.refused.Asked.TheVariants as asked
+use Rattle.sc_notifies.specs.declared.refused.Grant.{Grant}
 
 -- ## Any list of calls
 
 -- one of the calls for a SipSession's subscription: a SUBSCRIBE is accepted, a new state told, a
 -- pending one made active, one ended for a reason, a timer fired, a NOTIFY failed
 pub data Act : Type 0 where
-  Accepts : Rule → ReqId → Request → Bool → Act
+  Accepts : Rule → ReqId → Request → Grant → Act
   Changes : Bytes → Act
   Activates : Bytes → Act
   Ends : Bytes → Act
@@ -40,9 +41,9 @@ activates_by false script = script
 
 -- the calls of the turn that an act makes
 unfoldable pub script_of : View → SessId → Act → Script
-script_of view sess (Accepts rule req request pending) =
+script_of view sess (Accepts rule req request grant) =
     accepted_by rule req sess (asked_of rule request)
-    (read_of view sess request (asked_of rule request) pending)
+    (read_of view sess request (asked_of rule request) grant)
 script_of view sess (Changes body) =
     where_some (subscription_of view sess) (changes view sess body)
 script_of view sess (Activates body) =
@@ -90,19 +91,20 @@ state_of (Some sub) = state_by sub.active
 unfoldable pub state_at : View → SessId → State
 state_at view sess = state_of (subscription_of view sess)
 
--- a new subscription is pending or active as the servlet says; one that is there stays what it is
-unfoldable pub renewed : Bool → State → State
-renewed pending Absent = state_by (not pending)
-renewed pending Pending = Pending
-renewed pending Active = Active
+-- a new subscription is pending or active as it is granted; one that is there stays what it is,
+-- unless a pending one is settled
+unfoldable pub renewed : Grant → State → State
+renewed grant Absent = state_by (begins_active grant)
+renewed grant Pending = state_by (is_settled grant)
+renewed grant Active = Active
 
 -- a SUBSCRIBE for some seconds begins or renews one, for 0 it ends one; one that was answered 489
 -- or 423 changes nothing
-unfoldable pub subscribed : Bool → Asked → State → State
-subscribed pending asked.BadEvent state = state
-subscribed pending asked.Brief state = state
-subscribed pending (asked.For seconds) state =
-    if seconds == 0 then Absent else renewed pending state
+unfoldable pub subscribed : Grant → Asked → State → State
+subscribed grant asked.BadEvent state = state
+subscribed grant asked.Brief state = state
+subscribed grant (asked.For seconds) state =
+    if seconds == 0 then Absent else renewed grant state
 
 -- a pending subscription becomes active
 unfoldable pub activated : State → State
@@ -117,8 +119,8 @@ over (Some named) state = Absent
 
 -- the state after an act
 unfoldable pub next_state : View → Act → State → State
-next_state view (Accepts rule req request pending) state =
-    subscribed pending (asked_of rule request) state
+next_state view (Accepts rule req request grant) state =
+    subscribed grant (asked_of rule request) state
 next_state view (Changes body) state = state
 next_state view (Activates body) state = activated state
 next_state view (Ends reason) state = Absent
@@ -135,18 +137,18 @@ unfoldable pub last_state : SessId → State → List Happened → State
 last_state sess state acts =
     fold (λ state happened. state_at (view_after sess happened) sess) state acts
 
--- the SUBSCRIBE ends a subscription
-unfoldable pub unsubscribes : Asked → Bool
-unsubscribes asked.BadEvent = false
-unsubscribes asked.Brief = false
-unsubscribes (asked.For seconds) = seconds == 0
+-- the SUBSCRIBE makes a pending subscription active, or ends it
+unfoldable pub is_settling : Grant → Asked → Bool
+is_settling grant asked.BadEvent = false
+is_settling grant asked.Brief = false
+is_settling grant (asked.For seconds) = seconds == 0 || is_settled grant
 
 -- the act makes a pending subscription active, or ends it
 unfoldable pub settles : Happened → Bool
 settles happened = settles_by happened.play.view happened.act
   where
     settles_by : View → Act → Bool
-    settles_by view (Accepts rule req request pending) = unsubscribes (asked_of rule request)
+    settles_by view (Accepts rule req request grant) = is_settling grant (asked_of rule request)
     settles_by view (Changes body) = false
     settles_by view (Activates body) = true
     settles_by view (Ends reason) = true
@@ -164,7 +166,7 @@ IsOnce name fields =
 -- the act is of this SipSession: the timer that fires is that of its subscription, or of none; and
 -- a rule's longest time is 4,000,000 s at most
 unfoldable pub IsOf : SessId → View → Act → Type 0
-IsOf sess view (Accepts rule req request pending) = rule.longest ≤ 4000000
+IsOf sess view (Accepts rule req request grant) = rule.longest ≤ 4000000
 IsOf sess view (Changes body) = Unit {0}
 IsOf sess view (Activates body) = Unit {0}
 IsOf sess view (Ends reason) = Unit {0}

@@ -1,24 +1,22 @@
 //! Which answer a SUBSCRIBE gets, and what follows it (RFC 6665 section 4.2.1).
 
-ghost use Rattle.std.specs.Prelude.{◌≡◌, ◌≤◌, ◌*◌, ◌+◌, ◌<◌, ◌∷◌, [], false, true, codes, decimal, IfOk, OnOk};
+ghost use Rattle.std.specs.Prelude.{◌≡◌, ◌≤◌, ◌*◌, ◌+◌, ◌∷◌, [], false, codes, decimal, IfOk};
 ghost use Rattle.sc_hosts.specs.HelperParts.{accepted_then, answer_with, field};
-ghost use Rattle.sc_hosts.specs.RefusalParts.{MOST_CALLS};
 ghost use Rattle.sc_hosts.specs.Scripting.{only};
-ghost use Rattle.sc_hosts.specs.Subscriptions.{accepts, notified_event};
+ghost use Rattle.sc_hosts.specs.Subscriptions.{notified_event};
 ghost use Rattle.sc_hosts.specs.Words.{ok};
 ghost use Rattle.sc_turn.specs.Working.{play_of};
-ghost use Rattle.sc_apps.specs.Scripted.{IsPlayed};
 ghost use Rattle.sc_helpers.specs.Stopping.{Goes, Leads};
-ghost use Rattle.sc_notifies.specs.Notifying.{IsAtMost, IsCarriedOut, accepted_by, asked_of, is_active, read_by, read_of, seconds_in};
+ghost use Rattle.sc_notifies.specs.Notifying.{IsAtMost, IsCarriedOut, accepted_by, asked_of, begins_active, is_active, is_remembered_active, is_settled, read_by, read_of, seconds_in};
 ghost use Rattle.sc_notifies.specs.SubScripts.{subscribed_by};
 
-use crate::refused::{Asked, NotifyRefused, turned};
+use crate::refused::{Asked, Grant, NotifyRefused, turned};
 use crate::rules::{Rule, asked_for, event_of};
 use crate::standing::{self, Standing, standing_of, subscription_of};
 use crate::sub_texts::Subscribed;
 use crate::subscribing::{Term, subscribed_by};
-use sc_apps::{memory_of, shown};
-use sc_helpers::{Stopped, field, heard, number_field, one, try_answer, wanting};
+use sc_apps::memory_of;
+use sc_helpers::{Stopped, field, number_field, one, try_answer, wanting};
 use sc_terms::View;
 use sc_turn::Turn;
 use sc_value::{Field, List, NoMemory, ReqId, Request, SessId, Text, sum};
@@ -48,14 +46,43 @@ fn seconds_in(asked: Asked) -> u32
     }
 }
 
+#[tactic(auto, unfolding(crate::specs::Notifying::begins_active))]
+fn begins_active(grant: Grant) -> bool
+    ensures { result ≡ begins_active grant }
+{
+    match grant {
+        Grant::Active => true,
+        Grant::Pending => false,
+        Grant::Settled => true,
+    }
+}
+
+#[tactic(auto, unfolding(crate::specs::Notifying::is_settled))]
+fn is_settled(grant: Grant) -> bool
+    ensures { result ≡ is_settled grant }
+{
+    match grant {
+        Grant::Active => false,
+        Grant::Pending => false,
+        Grant::Settled => true,
+    }
+}
+
 #[tactic(auto, unfolding(crate::specs::Notifying::is_active))]
-fn is_active(pending: bool, old: &Option<Subscribed>) -> bool
-    ensures { result ≡ is_active pending old.now }
+fn is_active(grant: Grant, old: &Option<Subscribed>) -> bool
+    ensures { result ≡ is_active grant old.now }
 {
     match old {
         Some(old) => old.active,
-        None => !pending,
+        None => begins_active(grant),
     }
+}
+
+#[tactic(auto, unfolding(crate::specs::Notifying::is_remembered_active))]
+fn is_remembered_active(grant: Grant, old: &Option<Subscribed>) -> bool
+    ensures { result ≡ is_remembered_active grant old.now }
+{
+    is_settled(grant) || is_active(grant, old)
 }
 
 // The Event of the NOTIFY that follows the answer.
@@ -77,7 +104,7 @@ fn notified_event(
     Text::from_slice(alloc, event_of(request))
 }
 
-fn term_of(moment: u64, seconds: u32, active: bool) -> Result<Term, NoMemory>
+fn term_of(moment: u64, seconds: u32, active: bool, letter: bool) -> Result<Term, NoMemory>
     requires within { seconds ≤ 4000000 }
     ensures exact { IfOk result
         (λ term.
@@ -86,7 +113,7 @@ fn term_of(moment: u64, seconds: u32, active: bool) -> Result<Term, NoMemory>
           seconds = seconds;
           due = moment + seconds * 1000;
           active = active;
-          letter = active;
+          letter = letter;
         }) }
     ensures within { IfOk result (λ term. term.seconds ≤ 4000000) }
 {
@@ -95,7 +122,7 @@ fn term_of(moment: u64, seconds: u32, active: bool) -> Result<Term, NoMemory>
         seconds,
         due,
         active,
-        letter: active,
+        letter,
     })
 }
 
@@ -106,16 +133,17 @@ fn read_by(
     sess: SessId,
     request: &Request,
     seconds: u32,
-    pending: bool,
+    grant: Grant,
     old: &Option<Subscribed>,
 ) -> Result<Read, NoMemory>
     requires within { seconds ≤ 4000000 }
     ensures exact { IfOk result
-        (λ read. read ≡ read_by view.entry.now sess request.now seconds pending old.now) }
+        (λ read. read ≡ read_by view.entry.now sess request.now seconds grant old.now) }
     ensures within { IfOk result (λ read. read.term.seconds ≤ 4000000) }
 {
     let standing = standing_of(alloc, view, sess, old)?;
-    let term = term_of(view.now, seconds, is_active(pending, old))?;
+    let active = is_active(grant, old);
+    let term = term_of(view.now, seconds, active, is_remembered_active(grant, old))?;
     let event = notified_event(alloc, view, sess, request, seconds, old)?;
     Ok(Read {
         standing,
@@ -131,15 +159,15 @@ fn read_of(
     sess: SessId,
     request: &Request,
     asked: Asked,
-    pending: bool,
+    grant: Grant,
 ) -> Result<Read, NoMemory>
     requires within { IsAtMost 4000000 asked }
     ensures exact { IfOk result
-        (λ read. read ≡ read_of view.entry.now sess request.now asked pending) }
+        (λ read. read ≡ read_of view.entry.now sess request.now asked grant) }
     ensures within { IfOk result (λ read. read.term.seconds ≤ 4000000) }
 {
     let old = subscription_of(alloc, view, sess)?;
-    read_by(alloc, view, sess, request, seconds_in(asked), pending, &old)
+    read_by(alloc, view, sess, request, seconds_in(asked), grant, &old)
 }
 
 #[tactic(auto, using(sc_helpers::proofs::Steps::last_on, sc_helpers::proofs::Steps::last_off))]
@@ -293,15 +321,14 @@ fn accept_as(
 }
 
 /// Answers a SUBSCRIBE, which began this SipSession or came in its dialog, and tells the state (RFC
-/// 6665 section 4.2.1). Gives what it asked for, as [`asked_for`](crate::asked_for) says. A new
-/// subscription is pending where `pending` says so, and else active; one that is there stays what
-/// it is.
+/// 6665 section 4.2.1). Gives what it asked for, as [`asked_for`](crate::asked_for) says. Whether
+/// the subscription is pending or active, `grant` says.
 ///
 /// It makes these calls, each where the one before was accepted. `BadEvent`: `respond` 489 `Bad
 /// Event` with `Allow-Events`. `Brief`: `respond` 423 `Interval Too Brief` with `Min-Expires`.
 /// `For` some seconds: `respond` 200 `OK` with `Expires`; `cancel_timer` of the old timer, where it
 /// runs; `start_timer` of those seconds; `set_attribute` of `sub` with the SipSession's number to
-/// `A DUE TIMER`, or `P DUE TIMER` where it is pending; `set_attribute` of `ev` with that number to
+/// `A DUE TIMER`, or `P DUE TIMER` where it stays pending; `set_attribute` of `ev` with that number to
 /// the Event; for 0 seconds `remove_attribute` of the two that are set in place of these three; and
 /// last a NOTIFY (`create_in_dialog`, `send`) with `Event`, `Subscription-State` and, where it is
 /// active, the rule's body.
@@ -319,69 +346,18 @@ pub fn accept(
     sess: SessId,
     request: &Request,
     rule: &Rule,
-    pending: bool,
+    grant: Grant,
 ) -> Result<Asked, NotifyRefused>
     ensures same { turn.new.shown ≡ turn.old.shown }
     ensures carried { turn.old.starved ≡ false
         → IsCarriedOut
         (accepted_by rule.now req sess (asked_of rule.now request.now)
         (read_of (play_of turn.old).view sess request.now (asked_of rule.now request.now)
-        pending)) (asked_of rule.now request.now) turn.old result turn.new }
+        grant)) (asked_of rule.now request.now) turn.old result turn.new }
 {
     let asked = asked_for(request, rule);
-    match read_of(memory_of(turn), turn.view(), sess, request, asked, pending) {
+    match read_of(memory_of(turn), turn.view(), sess, request, asked, grant) {
         Ok(read) => accept_as(turn, rule, req, sess, asked, &read),
         Err(NoMemory) => Err(turned(wanting(0))),
     }
-}
-
-/// The same for a servlet that remembers every subscription as active.
-fn as_active(read: Read) -> Read
-    ensures exact { result ≡ record read { term = record read.term { letter = true } } }
-    ensures seconds { result.term.seconds ≡ read.term.seconds }
-{
-    let mut read = read;
-    read.term.letter = true;
-    read
-}
-
-#[tactic(auto, using(crate::proofs::NotifyPlays::accept_played, crate::proofs::NotifyPlays::accept_heard))]
-fn play_accept(
-    t: &mut Turn,
-    rule: &Rule,
-    req: ReqId,
-    sess: SessId,
-    asked: Asked,
-    read: &Read,
-) -> Result<(), NoMemory>
-    requires room { (play_of t.old).listed + 7 < MOST_CALLS }
-    requires within { read.now.term.seconds ≤ 4000000 }
-    ensures same { t.new.shown ≡ t.old.shown }
-    ensures played { OnOk result
-        (IsPlayed (accepted_by rule.now req sess asked read.now) t.old t.new) }
-{
-    match accept_by(t, rule, req, sess, asked, read) {
-        Ok(()) => Ok(()),
-        Err(stop) => heard(stop),
-    }
-}
-
-/// Answers a SUBSCRIBE as the servlet's charter says.
-#[tactic(auto, using(sc_apps::proofs::Playing::begun_room, crate::proofs::NotifyPlays::accepts_played))]
-pub fn accept_subscribe(
-    t: &mut Turn,
-    rule: &Rule,
-    req: ReqId,
-    sess: SessId,
-    request: &Request,
-) -> Result<(), NoMemory>
-    requires calls { t.old.calls ≡ [] }
-    requires memory { t.old.starved ≡ false }
-    ensures same { t.new.shown ≡ t.old.shown }
-    ensures played { OnOk result
-        (IsPlayed (accepts t.old.shown rule.now req sess request.now) t.old t.new) }
-{
-    let asked = asked_for(request, rule);
-    let read = read_of(memory_of(t), shown(t), sess, request, asked, false)?;
-    play_accept(t, rule, req, sess, asked, &as_active(read))
 }

@@ -1,13 +1,9 @@
 //! Changes of a subscription, which its subscriber is told (RFC 6665 section 4.2.2).
 
-ghost use Rattle.std.specs.Prelude.{◌≡◌, ◌++◌, ◌<◌, ◌+◌, [], true, false, codes, decimal, IfOk, OnOk};
+ghost use Rattle.std.specs.Prelude.{◌≡◌, ◌++◌, ◌<◌, ◌+◌, true, false, codes, decimal, IfOk};
 ghost use Rattle.sc_hosts.specs.HelperParts.{accepted_then};
-ghost use Rattle.sc_hosts.specs.RefusalParts.{MOST_CALLS};
-ghost use Rattle.sc_hosts.specs.Scripting.{reply, then_make, where_some};
 ghost use Rattle.sc_hosts.specs.Subscriptions.{changes, notifies, state_word, sub_name, sub_text, subscription_of};
-ghost use Rattle.sc_hosts.specs.Words.{ok};
 ghost use Rattle.sc_turn.specs.Working.{play_of};
-ghost use Rattle.sc_apps.specs.Scripted.{IsPlayed};
 ghost use Rattle.sc_helpers.specs.Stopping.{Goes, Leads};
 ghost use Rattle.sc_notifies.specs.Notifying.{IsActivated, IsCarriedOut, IsOfPending, IsOfSubscription, activates, live_activated, live_told, next_of};
 ghost use Rattle.sc_notifies.specs.SubScripts.{sub_words};
@@ -16,11 +12,11 @@ use crate::notifying::{notify, tell_live};
 use crate::refused::{NotifyRefused, turned};
 use crate::standing::{Live, live_of};
 use crate::sub_texts::{state_text, sub_name, sub_words};
-use sc_apps::{memory_of, reply_first_200, shown};
-use sc_helpers::{Stopped, heard, try_set_attribute, wanting};
+use sc_apps::memory_of;
+use sc_helpers::{Stopped, try_set_attribute, wanting};
 use sc_terms::Call;
 use sc_turn::Turn;
-use sc_value::{NoMemory, ReqId, Request, SessId, Text};
+use sc_value::{NoMemory, ReqId, SessId, Text};
 use std::alloc::Global;
 
 #[tactic(auto, using(crate::proofs::NotifyCalls::sent_through, crate::proofs::NotifyCalls::sent_stopped))]
@@ -188,70 +184,5 @@ pub fn activate(turn: &mut Turn, sess: SessId, body: &[u8]) -> Result<ReqId, Not
         Ok(Some(live)) => activate_by(turn, sess, body, &live),
         Ok(None) => Err(NotifyRefused::NotSubscribed),
         Err(NoMemory) => Err(turned(wanting(0))),
-    }
-}
-
-/// Answers a request that brings a new state 200 `OK`, and tells of it where there is a
-/// subscription.
-#[tactic(auto, using(sc_apps::proofs::Playing::begun_room, crate::proofs::SubLaws::played_change))]
-pub fn answer_and_change(
-    t: &mut Turn,
-    req: ReqId,
-    sess: SessId,
-    request: &Request,
-) -> Result<(), NoMemory>
-    requires calls { t.old.calls ≡ [] }
-    requires memory { t.old.starved ≡ false }
-    ensures same { t.new.shown ≡ t.old.shown }
-    ensures played { OnOk result
-        (IsPlayed
-        (then_make (reply req 200 ok)
-        (where_some (subscription_of t.old.shown sess)
-        (changes t.old.shown sess request.now.head.body))) t.old t.new) }
-{
-    let live = live_of(memory_of(t), shown(t), sess)?;
-    answer_and_tell(t, req, sess, request.head.body.as_bytes(), &live)
-}
-
-#[tactic(auto, using(sc_apps::proofs::Playing::played_then))]
-fn answer_and_tell(
-    t: &mut Turn,
-    req: ReqId,
-    sess: SessId,
-    body: &[u8],
-    live: &Option<Live>,
-) -> Result<(), NoMemory>
-    requires { (play_of t.old).listed + 2 < MOST_CALLS }
-    ensures same { t.new.shown ≡ t.old.shown }
-    ensures played { OnOk result
-        (IsPlayed (then_make (reply req 200 ok) (where_some live.now (live_told sess body.now)))
-        t.old t.new) }
-{
-    reply_first_200(t, req)?;
-    tell_some(t, sess, body, live)
-}
-
-#[tactic(auto, unfolding(sc_hosts::specs::Scripting::where_some), using(sc_apps::proofs::Playing::played_done))]
-fn tell_some(t: &mut Turn, sess: SessId, body: &[u8], live: &Option<Live>) -> Result<(), NoMemory>
-    requires { (play_of t.old).listed + 1 < MOST_CALLS }
-    ensures same { t.new.shown ≡ t.old.shown }
-    ensures played { OnOk result
-        (IsPlayed (where_some live.now (live_told sess body.now)) t.old t.new) }
-{
-    match live {
-        Some(live) => play_told(t, sess, body, live),
-        None => Ok(()),
-    }
-}
-
-#[tactic(auto, using(crate::proofs::NotifyPlays::told_played, crate::proofs::NotifyPlays::told_heard))]
-fn play_told(t: &mut Turn, sess: SessId, body: &[u8], live: &Live) -> Result<(), NoMemory>
-    requires { (play_of t.old).listed + 1 < MOST_CALLS }
-    ensures same { t.new.shown ≡ t.old.shown }
-    ensures played { OnOk result (IsPlayed (live_told sess body.now live.now) t.old t.new) }
-{
-    match tell_live(t, sess, body, live) {
-        Ok(()) => Ok(()),
-        Err(stop) => heard(stop),
     }
 }

@@ -1,24 +1,26 @@
 //! The application that notifies of an event package.
 
-ghost use Rattle.std.specs.Prelude.{◌≡◌, ◌&&◌, [], false, if◌then◌else◌, OnOk};
+ghost use Rattle.std.specs.Prelude.{◌≡◌, ◌&&◌, ◌+◌, ◌<◌, [], false, if◌then◌else◌, OnOk};
 ghost use Rattle.sc_tokens.specs.Names.{same_bytes};
 ghost use Rattle.sc_terms.specs.declared.charters.Charter.{Charter};
 ghost use Rattle.sc_model.specs.Dialogs.{notify, subscribe};
 ghost use Rattle.sc_model.specs.Transactions.{is_failure};
 ghost use Rattle.sc_hosts.specs.Charters.{reply_ok};
-ghost use Rattle.sc_hosts.specs.Scripting.{Done, only, reply, where_some};
-ghost use Rattle.sc_hosts.specs.Subscriptions.{accepts, accepts_by, ended_sub, failed_sub, info_word, notify_request, notify_script, rule_in, subscription_of};
+ghost use Rattle.sc_hosts.specs.RefusalParts.{MOST_CALLS};
+ghost use Rattle.sc_hosts.specs.Scripting.{Done, only, reply, then_make, where_some};
+ghost use Rattle.sc_hosts.specs.Subscriptions.{accepts, accepts_by, changes, ended_sub, failed_sub, info_word, notify_request, notify_script, rule_in, subscription_of};
 ghost use Rattle.sc_hosts.specs.Words.{ok};
+ghost use Rattle.sc_turn.specs.Working.{play_of};
 ghost use Rattle.sc_apps.specs.Scripted.{IsPlayed};
 ghost use Rattle.sc_notifies.specs.Notifying.{fired_of};
 ghost use Rattle.sc_model.specs.BestResponses.{server_error};
 
-use crate::accepting::accept_subscribe;
-use crate::changing::answer_and_change;
+use crate::accepting::accept;
+use crate::changing::change;
 use crate::ending::{failed, fire};
-use crate::refused::told;
+use crate::refused::{Grant, told};
 use crate::rules::{Rule, rule_in};
-use sc_apps::{ended, memory_of, reply_200, reply_500, reply_ok, shown};
+use sc_apps::{ended, memory_of, reply_200, reply_500, reply_first_200, reply_ok, shown};
 use sc_methods::{is_failure, is_notify, is_subscribe};
 use sc_servlets::SipServlet;
 use sc_terms::{Call, Charter, End, Event};
@@ -131,6 +133,27 @@ fn accept_or_answer(
     reply_200(t, req)
 }
 
+// Remembers every subscription as active.
+#[tactic(auto, using(crate::proofs::NotifyPlays::accepts_through, crate::proofs::NotifyPlays::accepts_told))]
+fn accept_subscribe(
+    t: &mut Turn,
+    rule: &Rule,
+    req: ReqId,
+    sess: SessId,
+    request: &Request,
+) -> Result<(), NoMemory>
+    requires calls { t.old.calls ≡ [] }
+    requires memory { t.old.starved ≡ false }
+    ensures same { t.new.shown ≡ t.old.shown }
+    ensures played { OnOk result
+        (IsPlayed (accepts t.old.shown rule.now req sess request.now) t.old t.new) }
+{
+    match accept(t, req, sess, request, rule, Grant::Settled) {
+        Ok(_) => Ok(()),
+        Err(refused) => told(refused),
+    }
+}
+
 fn renew(t: &mut Turn, req: ReqId, sess: SessId, request: &Request) -> Result<(), NoMemory>
     requires calls { t.old.calls ≡ [] }
     requires memory { t.old.starved ≡ false }
@@ -188,6 +211,42 @@ fn take_later(t: &mut Turn, req: ReqId, sess: SessId, request: &Request) -> Resu
         return answer_and_change(t, req, sess, request);
     }
     reply_ok(t, req, request)
+}
+
+#[tactic(auto, using(sc_apps::proofs::Playing::begun_room, crate::proofs::ChangePlays::answered_fed, crate::proofs::ChangePlays::answered_then))]
+fn answer_and_change(
+    t: &mut Turn,
+    req: ReqId,
+    sess: SessId,
+    request: &Request,
+) -> Result<(), NoMemory>
+    requires calls { t.old.calls ≡ [] }
+    requires memory { t.old.starved ≡ false }
+    ensures same { t.new.shown ≡ t.old.shown }
+    ensures played { OnOk result
+        (IsPlayed
+        (then_make (reply req 200 ok)
+        (where_some (subscription_of t.old.shown sess)
+        (changes t.old.shown sess request.now.head.body))) t.old t.new) }
+{
+    reply_first_200(t, req)?;
+    tell_change(t, sess, request.head.body.as_bytes())
+}
+
+#[tactic(auto, using(crate::proofs::ChangePlays::change_through, crate::proofs::ChangePlays::change_told))]
+fn tell_change(t: &mut Turn, sess: SessId, body: &[u8]) -> Result<(), NoMemory>
+    requires room { (play_of t.old).listed + 1 < MOST_CALLS }
+    requires memory { t.old.starved ≡ false }
+    ensures same { t.new.shown ≡ t.old.shown }
+    ensures played { OnOk result
+        (IsPlayed
+        (where_some (subscription_of (play_of t.old).view sess)
+        (changes (play_of t.old).view sess body.now)) t.old t.new) }
+{
+    match change(t, sess, body) {
+        Ok(_) => Ok(()),
+        Err(refused) => told(refused),
+    }
 }
 
 fn is_failed_notify(response: &Response) -> bool

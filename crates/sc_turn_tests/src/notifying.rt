@@ -3,7 +3,8 @@
 use crate::helping::{request_of, written};
 use crate::reading::{number, word};
 use sc_notifies::{
-    Asked, NotifyRefused, Rule, RuleRefused, accept, activate, asked_for, change, end, failed, fire,
+    Asked, Grant, NotifyRefused, Rule, RuleRefused, accept, activate, asked_for, change, end,
+    failed, fire,
 };
 use sc_turn::Turn;
 use sc_value::{ReqId, Request, SessId, Text, TimerId};
@@ -32,6 +33,14 @@ fn rule_row(alloc: Global, row: &str) -> Option<String> {
     }
 }
 
+fn grant(word: &str) -> Grant {
+    match word {
+        "pending" => Grant::Pending,
+        "settled" => Grant::Settled,
+        _ => Grant::Active,
+    }
+}
+
 fn accepted(alloc: Global, answered: Result<Asked, NotifyRefused>) -> Option<String> {
     match answered {
         Ok(asked) => written(format!(in alloc; "{asked:?}")),
@@ -45,13 +54,13 @@ fn accept_by(t: &mut Turn, alloc: Global, row: &str, request: &Request) -> Optio
     match rule(alloc) {
         Some(rule) => accepted(
             alloc,
-            accept(t, req, sess, request, &rule, word(row, 3) == "pending"),
+            accept(t, req, sess, request, &rule, grant(word(row, 3))),
         ),
         None => None,
     }
 }
 
-// A SUBSCRIBE, its SipSession, and the word `pending` or another one.
+// A SUBSCRIBE, its SipSession, and the word `pending`, `settled` or `active`.
 fn accept_row(t: &mut Turn, alloc: Global, row: &str) -> Option<String> {
     match request_of(alloc, row) {
         Some(request) => accept_by(t, alloc, row, request.get()),

@@ -69,6 +69,19 @@ fn keeps_a_pending_subscription(rt: HostRuntime) {
 }
 
 #[test]
+fn settles_a_pending_subscription(rt: HostRuntime) {
+    play(
+        &rt,
+        rt.alloc(),
+        "
+        accept 1 2 pending % Event:presence Expires:600 = For(600)
+        accept 8 2 settled % Event:presence Expires:60 = For(60)
+        attribute sub2 = A 60000 3
+        activate 2 = NotPending",
+    );
+}
+
+#[test]
 fn keeps_an_active_subscription(rt: HostRuntime) {
     play(
         &rt,

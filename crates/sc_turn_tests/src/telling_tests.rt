@@ -35,6 +35,27 @@ fn tells_each_state_of_a_subscription(rt: HostRuntime) {
     assert!(rt; tell(rt.alloc(), rows, "Expires", "600, 60"));
 }
 
+fn settled() -> &'static str {
+    "
+        accept 1 2 pending % Event:presence Expires:600 = For(600)
+        accept 8 2 settled % Event:presence Expires:60 = For(60)
+        change 2 = 17"
+}
+
+#[test]
+fn tells_a_settled_subscription_as_active_next(rt: HostRuntime) {
+    let rows = settled();
+    assert!(rt;
+        tell(
+            rt.alloc(),
+            rows,
+            "Subscription-State",
+            "pending;expires=600, pending;expires=60, active;expires=60"
+        )
+    );
+    assert!(rt; tell(rt.alloc(), rows, "body", "-, -, closed"));
+}
+
 fn ended() -> &'static str {
     "
         accept 1 2 active % Event:presence Expires:600 = For(600)
