@@ -12,3 +12,8 @@ mod SentCalls
 mod SentEnds
 mod SentTurns
 mod KeptAsCame
+mod AnswerFields
+mod AnswerEvents
+mod AnswerOrders
+mod AnswerShown
+mod AnswerTurns

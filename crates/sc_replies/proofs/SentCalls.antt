@@ -65,7 +65,7 @@ pub record IsOwed (request : RequestView) : Type 0 where
   pub received : request.received ≡ true
   pub lacks : lacks_final request ≡ true
 
-respond-owed : (request : RequestView) (answer : Answer) → respond_refusal request answer ≡ None → IsOwed request
+pub respond-owed : (request : RequestView) (answer : Answer) → respond_refusal request answer ≡ None → IsOwed request
 unfolding respond_refusal lacks_final
 respond-owed request answer is =
     let one = first-passed (not request.received || same_bytes request.method ack) _ _ (or-left _ _ is) in
@@ -93,12 +93,12 @@ linked-by : (b : Bool) (refused : Refusal) (later : Option Refusal) → cond b (
 linked-by true refused later is = cc
 linked-by false refused later is = is
 
-respond-passed : (play : Play) (req : ReqId) (answer : Answer) → refusal play (calls.Respond req answer) ≡ None
+pub respond-passed : (play : Play) (req : ReqId) (answer : Answer) → refusal play (calls.Respond req answer) ≡ None
     → option_map_or (λ (r : RequestView). respond_refusal r answer) (request_in play.view req) (Some NotYours) ≡ None
 unfolding own_refusal
 respond-passed play req answer is = own-passed play (calls.Respond req answer) is
 
-b2b-passed : (play : Play) (sess : SessId) (answer : Answer) → refusal play (calls.B2bRespond sess answer) ≡ None
+pub b2b-passed : (play : Play) (sess : SessId) (answer : Answer) → refusal play (calls.B2bRespond sess answer) ≡ None
     → option_map_or (λ (r : RequestView). respond_refusal r answer) (begun_by play.view sess) (Some NotYours) ≡ None
 unfolding own_refusal b2b_respond_refusal
 b2b-passed play sess answer is = linked-by _ _ _ (own-passed play (calls.B2bRespond sess answer) is)

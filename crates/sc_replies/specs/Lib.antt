@@ -1,2 +1,3 @@
 pub mod Replies
 pub mod Came
+pub mod Fields

@@ -12,6 +12,7 @@ ghost use Rattle.sc_hosts.specs.Steps.{live_at};
 ghost use Rattle.sc_lived.specs.Lived.{told};
 ghost use Rattle.sc_answered.specs.Happened.{at_moment, happened_by};
 ghost use Rattle.sc_replies.specs.Came.{AreAsTheyCame, AreSingle, HasKept, HaveKept, came_of};
+ghost use Rattle.sc_replies.specs.Fields.{AnswersAll, HasAnsweredAll};
 ghost use Rattle.sc_replies.specs.Replies.{GaveAll, HasGivenAll, came, gave};
 
 /// What a turn tells of its SipSessions is what it gave, and before it what came with its event, a
@@ -63,4 +64,27 @@ pub fn requests_are_kept_as_they_came()
         (live : Live Session) → IsLawful as_session setup epoch began journal
         → live_at app (chained as_session setup epoch began journal) ≡ Some live
         → HasKept setup app (told app journal) live.session live.inbox }
+{}
+
+/// Each response that a turn of an application session gives to send answers the request that the
+/// event of its number brought, in this turn or before, or the session proxies that request and
+/// forwards the response. Where it answers it, its Via, From, Call-ID and CSeq are those of the
+/// request, and so is its To, but for a tag where that of the request has none (RFC 3261 section
+/// 8.2.6.2); its Record-Route is that of the request where this is an initial INVITE or SUBSCRIBE
+/// and the answer makes a dialog or may, and else it has none (section 12.1.1). So it is of what the
+/// application answers, by a call or for its second leg, of what the container answers by itself
+/// and after a fault, and of what it answers as a SipSession is invalidated. So it is in every
+/// history, and of the turns of a live session after a lawful journal, for each form in which
+/// sessions are kept. The contract is the law, and the call does nothing.
+pub fn answers_have_the_fields_of_their_requests()
+    ensures life { (config : Config) (history : History)
+        → AnswersAll config history history.turns }
+    ensures history { (setup : Setup) (epoch began : ℕ) (journal : List Step) (app : AppId)
+        (live : Live History) → IsLawful (as_history setup.config) setup epoch began journal
+        → live_at app (chained (as_history setup.config) setup epoch began journal) ≡ Some live
+        → AnswersAll setup.config live.session live.session.turns }
+    ensures session { (setup : Setup) (epoch began : ℕ) (journal : List Step) (app : AppId)
+        (live : Live Session) → IsLawful as_session setup epoch began journal
+        → live_at app (chained as_session setup epoch began journal) ≡ Some live
+        → HasAnsweredAll setup app (told app journal) live.session live.inbox }
 {}

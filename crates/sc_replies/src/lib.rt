@@ -3,4 +3,7 @@
 
 mod laws;
 
-pub use laws::{answers_are_given, live_answers_are_given, requests_are_kept_as_they_came};
+pub use laws::{
+    answers_are_given, answers_have_the_fields_of_their_requests, live_answers_are_given,
+    requests_are_kept_as_they_came,
+};
