@@ -1,11 +1,12 @@
 -- Each response that a turn of a history gives to send answers the request that its event brought, or is forwarded to one that is proxied.
-use Rattle.std.proofs.Common.{◌≡◌, inl, inr, ℕ, ◌+◌, ◌++◌, ◌==◌, Bool, true, false, Option, None, Some, List, [], ◌∷◌, refl, sym, subst, arith}
+use Rattle.std.proofs.Common.{◌≡◌, inl, inr, ℕ, ◌+◌, ◌++◌, ◌==◌, Bool, true, false, Option, None, Some, List, [], ◌∷◌, refl, sym, ap, subst, arith}
 use Rattle.std.specs.Prelude.{◌&&◌, ◌||◌, cond, is_some, not, option_and_then}
-use Rattle.std.specs.List.{fold, list_any}
+use Rattle.std.specs.List.{find, fold, list_any}
 use Rattle.std.proofs.lemmas.Bool.Decides.{nat_tests}
 use Rattle.sc_tokens.specs.Names.{same_bytes}
 use Rattle.sc_value.specs.declared.ids.AppId.{AppId}
 use Rattle.sc_value.specs.declared.ids.ReqId.{ReqId}
+use Rattle.sc_value.specs.declared.message.Request.{Request}
 use Rattle.sc_value.specs.declared.parts.Uri.{Uri}
 use Rattle.sc_terms.specs.declared.calls.CallRecord.{CallRecord}
 use Rattle.sc_terms.specs.declared.calls.End.{End}
@@ -49,14 +50,19 @@ use Rattle.sc_walked.proofs.WalkCalls.{worked_all-walks}
 use Rattle.sc_walked.proofs.WalkEnds.{all_act-goes, done-any, drafts_ended-goes, faulted-goes}
 use Rattle.sc_walked.proofs.WalkParts.{answered-walks, each-first, tidy-walks}
 use Rattle.sc_lasting.specs.Lasting.{All}
-use Rattle.sc_lasting.proofs.Parts.{all-map, each-weaker, removed-only}
+use Rattle.sc_lasting.proofs.Began.{same-number, test-found}
+use Rattle.sc_lasting.proofs.Parts.{all-found, all-map, each-weaker, removed-only}
 use Rattle.sc_lived.specs.Lived.{told, turned_events}
 use Rattle.sc_lived.proofs.Sayings.{session-lived}
-use Rattle.sc_replies.specs.Fields.{Answers, AnswersAll, HasAnsweredAll, Incoming, WasBrought, incoming, is_proxied}
+use Rattle.sc_replies.specs.Fields.{Answers, AnswersAll, HasAnsweredAll, Incoming, IsProxied, WasBrought, incoming}
+use Rattle.sc_replies.specs.Came.{Came, brought, came_of}
 use Rattle.sc_replies.specs.Replies.{orders_of}
 use Rattle.sc_replies.proofs.AnswerEvents.{AreOf, GoesOn, dropped, events-law, forgotten, more-of, shown-on}
-use Rattle.sc_replies.proofs.AnswerOrders.{AllGive, Gives, IsPassed, calls-give, finished-gives}
+use Rattle.sc_replies.proofs.AnswerOrders.{AllGive, Gives, IsPassed, all-more, calls-give, finished-gives}
 use Rattle.sc_replies.proofs.AnswerShown.{first-gives, shown-of}
+use Rattle.sc_replies.proofs.Brought.{ProxyBy, ProxyFits}
+use Rattle.sc_replies.proofs.CameProxies.{ProxyCame}
+use Rattle.sc_replies.proofs.Fine.{FineAt, lives-fine}
 
 -- as proxies begin to act
 abbrev pub told_at : Config → Session → Turn → Working
@@ -386,26 +392,99 @@ lives-of [] config history = (tt, tt, tt, tt, tt)
 lives-of (turn ∷ earlier) config history =
     turn-of (BroughtIn (turn ∷ earlier)) config turn (session_after config history earlier) (own-brought turn earlier) (before-of config history turn earlier (lives-of earlier config history))
 
+-- what is proxied an event brought
+
+abbrev CameBy : List Turn → Came → Type 0
+CameBy turns one = (initial : Bool) × BroughtIn turns one.event (record { initial = initial; request = one.request })
+
+new-came : (turn : Turn) (earlier : List Turn) (x : Session) (event : Queued) → event ≡ turn.waiting.event → All (CameBy (turn ∷ earlier)) (brought x turn.waiting.number event)
+unfolding brought All incoming
+new-came turn earlier x (queued.Initial region subscriber popped request) is = ((true, own-brought turn earlier (record { initial = true; request = request }) (ap incoming (sym is))), tt)
+new-came turn earlier x (queued.Request request) is = ((false, own-brought turn earlier (record { initial = false; request = request }) (ap incoming (sym is))), tt)
+new-came turn earlier x (queued.Response branch response) is = tt
+new-came turn earlier x (queued.Cancelled event) is = tt
+new-came turn earlier x (queued.Timer id) is = tt
+new-came turn earlier x (queued.BranchTimer branch due) is = tt
+new-came turn earlier x queued.Expired is = tt
+new-came turn earlier x queued.Ready is = tt
+
+old-came : (turn : Turn) (earlier : List Turn) (one : Came) → CameBy earlier one → CameBy (turn ∷ earlier) one
+unfolding turned_events
+old-came turn earlier one by = (by.0, brought-first (turned_events earlier) (turn.waiting ∷ []) one.event (record { initial = by.0; request = one.request }) by.1)
+
+all-came : (turns : List Turn) (config : Config) (history : History) → All (CameBy turns) (came_of config history turns)
+unfolding came_of All
+all-came [] config history = tt
+all-came (turn ∷ earlier) config history =
+    let x : Session = session_after config history earlier in
+    all-more (CameBy (turn ∷ earlier)) (came_of config history earlier) (brought x turn.waiting.number turn.waiting.event)
+    (all-map (CameBy earlier) (CameBy (turn ∷ earlier)) (came_of config history earlier) (old-came turn earlier) (all-came earlier config history)) (new-came turn earlier x turn.waiting.event refl)
+
+abbrev ProxiedBy : List Turn → Proxy → Type 0
+ProxiedBy turns proxy = (initial : Bool) × BroughtIn turns proxy.event (record { initial = initial; request = proxy.request })
+
+one-proxied : (turns : List Turn) (came : List Came) (next : ℕ) (proxy : Proxy) → All (CameBy turns) came → ProxyFits next came proxy → ProxyCame came proxy → ProxiedBy turns proxy
+one-proxied turns came next proxy all fits has =
+    let test : Came → Bool = λ other. other.id.0 == proxy.req.0 in
+    let by : CameBy turns has.0 = all-found (CameBy turns) test came has.0 has.1 all in
+    let is : ProxyBy proxy has.0 = all-found (λ (one : Came). one.id.0 ≡ proxy.req.0 → ProxyBy proxy one) test came has.0 has.1 fits.1 (same-number has.0.id.0 proxy.req.0 (test-found test came has.0 has.1)) in (
+      by.0,
+      subst (λ (request : Request). BroughtIn turns proxy.event (record { initial = by.0; request = request })) is.1
+          (subst (λ (event : ℕ). BroughtIn turns event (record { initial = by.0; request = has.0.request })) is.0 by.1),
+    )
+
+all-proxied : (turns : List Turn) (came : List Came) (next : ℕ) (all : List Proxy) → All (CameBy turns) came → All (ProxyFits next came) all → All (ProxyCame came) all → All (ProxiedBy turns) all
+unfolding All
+all-proxied turns came next [] by fits has = tt
+all-proxied turns came next (proxy ∷ all) by fits has = (one-proxied turns came next proxy by fits.0 has.0, all-proxied turns came next all by fits.1 has.1)
+
+pub lives-proxied : (turns : List Turn) (config : Config) (history : History) → All (ProxiedBy turns) (session_after config history turns).known.proxies
+lives-proxied turns config history =
+    let x : Session = session_after config history turns in
+    let fine : FineAt (came_of config history turns) x = lives-fine turns config history in
+    all-proxied turns (came_of config history turns) x.view.next_request x.known.proxies (all-came turns config history) fine.0.3 fine.2
+
 -- ## The laws
 
 abbrev Proxied : Session → ℕ → Type 0
-Proxied session number = is_proxied session number ≡ true
+Proxied session number = goes_by number session.known.proxies ≡ true
 
-order-answers : (turns : List Turn) (session : Session) (order : Order) → Gives (BroughtIn turns) (Proxied session) order → Answers (turned_events turns) session order
+first-if : (b c : Bool) (test : Proxy → Bool) (p : Proxy) (ps : List Proxy) → test p ≡ b → list_any test ps ≡ c → (b || c) ≡ true → (c ≡ true → (q : Proxy) × (find test ps ≡ Some q))
+    → (q : Proxy) × (cond b (Some p) (find test ps) ≡ Some q)
+first-if true c test p ps has any is later = (p, refl)
+first-if false c test p ps has any is later = later is
+
+any-found : (test : Proxy → Bool) (ps : List Proxy) → list_any test ps ≡ true → (q : Proxy) × (find test ps ≡ Some q)
+any-found test [] is = cc
+any-found test (p ∷ ps) is = first-if (test p) (list_any test ps) test p ps refl refl is (any-found test ps)
+
+is-proxied : (turns : List Turn) (session : Session) (number : ℕ) → All (ProxiedBy turns) session.known.proxies → Proxied session number → IsProxied (turned_events turns) session number
+is-proxied turns session number all is =
+    let test : Proxy → Bool = λ p. p.event == number in
+    let found = any-found test session.known.proxies is in
+    let by : ProxiedBy turns found.0 = all-found (ProxiedBy turns) test session.known.proxies found.0 found.1 all in
+    record {
+      proxy = found.0;
+      found = found.1;
+      initial = by.0;
+      brought = subst (λ (event : ℕ). BroughtIn turns event (record { initial = by.0; request = found.0.request })) (same-number found.0.event number (test-found test session.known.proxies found.0 found.1)) by.1;
+    }
+
+order-answers : (turns : List Turn) (session : Session) (order : Order) → All (ProxiedBy turns) session.known.proxies → Gives (BroughtIn turns) (Proxied session) order
+    → Answers (turned_events turns) session order
 unfolding Gives Answers
-order-answers turns session (orders.Respond number response) (inl one) = inl (record { came = one.0; brought = one.1; answers = one.2 })
-order-answers turns session (orders.Respond number response) (inr passed) = inr passed
-order-answers turns session (orders.Begin branch directive region state request) gives = tt
-order-answers turns session (orders.Send branch request) gives = tt
-order-answers turns session (orders.Acknowledge request) gives = tt
-order-answers turns session (orders.Cancel branch) gives = tt
-order-answers turns session (orders.CancelNow branch) gives = tt
+order-answers turns session (orders.Respond number response) all (inl one) = inl (record { came = one.0; brought = one.1; answers = one.2 })
+order-answers turns session (orders.Respond number response) all (inr passed) = inr (is-proxied turns session number all passed)
+order-answers turns session (orders.Begin branch directive region state request) all gives = tt
+order-answers turns session (orders.Send branch request) all gives = tt
+order-answers turns session (orders.Acknowledge request) all gives = tt
+order-answers turns session (orders.Cancel branch) all gives = tt
+order-answers turns session (orders.CancelNow branch) all gives = tt
 
 told-proxied : (config : Config) (x : Session) (turn : Turn) → All (λ (p : Proxy). Proxied (after_turn config turn x) p.event) (told_at config x turn).known.proxies
-unfolding is_proxied
 told-proxied config x turn =
     let ps : List Proxy = (told_at config x turn).known.proxies in
-    all-map (λ (p : Proxy). goes_by p.event ps ≡ true) (λ (p : Proxy). goes_by p.event (after_turn config turn x).known.proxies ≡ true) ps (λ p is. told-stays config x turn p.event is) (each-goes ps)
+    all-map (λ (p : Proxy). goes_by p.event ps ≡ true) (λ (p : Proxy). Proxied (after_turn config turn x) p.event) ps (λ p is. told-stays config x turn p.event is) (each-goes ps)
 
 turns-answer : (turns : List Turn) (config : Config) (history : History) → AnswersAll config history turns
 unfolding AnswersAll session_after
@@ -413,7 +492,7 @@ turns-answer [] config history = tt
 turns-answer (turn ∷ earlier) config history =
     let x : Session = session_after config history earlier in
     let after : Session = after_turn config turn x in (
-      all-map (Gives (BroughtIn (turn ∷ earlier)) (Proxied after)) (Answers (turned_events (turn ∷ earlier)) after) (orders_of config x turn) (λ order gives. order-answers (turn ∷ earlier) after order gives)
+      all-map (Gives (BroughtIn (turn ∷ earlier)) (Proxied after)) (Answers (turned_events (turn ∷ earlier)) after) (orders_of config x turn) (λ order gives. order-answers (turn ∷ earlier) after order (lives-proxied (turn ∷ earlier) config history) gives)
           (turn-gives (BroughtIn (turn ∷ earlier)) (Proxied after) config turn x (own-brought turn earlier) (before-of config history turn earlier (lives-of earlier config history)) (told-proxied config x turn)),
       turns-answer earlier config history,
     )

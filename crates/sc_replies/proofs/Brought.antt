@@ -81,22 +81,34 @@ event-of (Sent branch) event is = cc
 
 -- ## One number
 
--- the number was drawn, and each request that came under it was brought by an event of which this is so
-abbrev pub Fits : ℕ → List Came → ReqId → (ℕ → Type 0) → Type 0
-Fits next came req By = (req.0 < next) × All (λ (one : Came). one.id.0 ≡ req.0 → By one.event) came
+-- the number was drawn, and each request that came under it is so
+abbrev pub Fits : ℕ → List Came → ReqId → (Came → Type 0) → Type 0
+Fits next came req By = (req.0 < next) × All (λ (one : Came). one.id.0 ≡ req.0 → By one) came
 
 abbrev pub IsBelow : ℕ → Came → Type 0
 IsBelow next one = one.id.0 < next
 
+-- this is kept of it
+abbrev pub KeptBy : Kept → Came → Type 0
+KeptBy kept one = (kept.way ≡ Received one.event) × (kept.request ≡ one.request)
+
+-- it can be cancelled as this
+abbrev pub InvitedBy : Invited → Came → Type 0
+InvitedBy invited one = one.event ≡ invited.event
+
+-- it is proxied as this
+abbrev pub ProxyBy : Proxy → Came → Type 0
+ProxyBy proxy one = (one.event ≡ proxy.event) × (one.request ≡ proxy.request)
+
 -- what is kept under the number came by that event
 abbrev pub KeptFits : ℕ → List Came → Kept → Type 0
-KeptFits next came kept = Fits next came kept.id (λ (event : ℕ). kept.way ≡ Received event)
+KeptFits next came kept = Fits next came kept.id (KeptBy kept)
 
 abbrev pub InvitedFits : ℕ → List Came → Invited → Type 0
-InvitedFits next came invited = Fits next came invited.req (λ (event : ℕ). event ≡ invited.event)
+InvitedFits next came invited = Fits next came invited.req (InvitedBy invited)
 
 abbrev pub ProxyFits : ℕ → List Came → Proxy → Type 0
-ProxyFits next came proxy = Fits next came proxy.req (λ (event : ℕ). event ≡ proxy.event)
+ProxyFits next came proxy = Fits next came proxy.req (ProxyBy proxy)
 
 -- so it is of all that a session knows
 abbrev pub AllFit : ℕ → List Came → Known → Type 0
@@ -113,41 +125,41 @@ FitsIn came working = AllFit working.play.view.next_request came working.known
 
 -- ## A number is drawn
 
-fits-up : (next : ℕ) (came : List Came) (req : ReqId) (By : ℕ → Type 0) → Fits next came req By → Fits (next + 1) came req By
+fits-up : (next : ℕ) (came : List Came) (req : ReqId) (By : Came → Type 0) → Fits next came req By → Fits (next + 1) came req By
 fits-up next came req By fits = (more req.0 next fits.0, fits.1)
 
 all-up : (next : ℕ) (came : List Came) (known : Known) → AllFit next came known → AllFit (next + 1) came known
 all-up next came known fit = (
   all-map (IsBelow next) (IsBelow (next + 1)) came (λ one. more one.id.0 next) fit.0,
-  all-map (KeptFits next came) (KeptFits (next + 1) came) known.kept (λ kept. fits-up next came kept.id (λ (event : ℕ). kept.way ≡ Received event)) fit.1,
-  all-map (InvitedFits next came) (InvitedFits (next + 1) came) known.invited (λ invited. fits-up next came invited.req (λ (event : ℕ). event ≡ invited.event)) fit.2,
-  all-map (ProxyFits next came) (ProxyFits (next + 1) came) known.proxies (λ proxy. fits-up next came proxy.req (λ (event : ℕ). event ≡ proxy.event)) fit.3,
+  all-map (KeptFits next came) (KeptFits (next + 1) came) known.kept (λ kept. fits-up next came kept.id (KeptBy kept)) fit.1,
+  all-map (InvitedFits next came) (InvitedFits (next + 1) came) known.invited (λ invited. fits-up next came invited.req (InvitedBy invited)) fit.2,
+  all-map (ProxyFits next came) (ProxyFits (next + 1) came) known.proxies (λ proxy. fits-up next came proxy.req (ProxyBy proxy)) fit.3,
 )
 
 -- nothing came under a number that is new
-none-came : (next : ℕ) (came : List Came) (req : ReqId) (By : ℕ → Type 0) → req.0 ≡ next → All (IsBelow next) came → Fits (next + 1) came req By
+none-came : (next : ℕ) (came : List Came) (req : ReqId) (By : Came → Type 0) → req.0 ≡ next → All (IsBelow next) came → Fits (next + 1) came req By
 none-came next came req By is below =
-    (own-is req.0 next is, all-map (IsBelow next) (λ (one : Came). one.id.0 ≡ req.0 → By one.event) came (λ one less same. absurd (not-lower one.id.0 next less (same ∙ is))) below)
+    (own-is req.0 next is, all-map (IsBelow next) (λ (one : Came). one.id.0 ≡ req.0 → By one) came (λ one less same. absurd (not-lower one.id.0 next less (same ∙ is))) below)
 
 -- ## A request comes
 
-fits-more : (next : ℕ) (came : List Came) (one : Came) (req : ReqId) (By : ℕ → Type 0) → one.id.0 ≡ next → Fits next came req By → Fits (next + 1) (came ++ one ∷ []) req By
+fits-more : (next : ℕ) (came : List Came) (one : Came) (req : ReqId) (By : Came → Type 0) → one.id.0 ≡ next → Fits next came req By → Fits (next + 1) (came ++ one ∷ []) req By
 fits-more next came one req By is fits = (
   more req.0 next fits.0,
-  all-append (λ (other : Came). other.id.0 ≡ req.0 → By other.event) came one fits.1 (λ same. absurd (not-lower req.0 next fits.0 (sym same ∙ is))),
+  all-append (λ (other : Came). other.id.0 ≡ req.0 → By other) came one fits.1 (λ same. absurd (not-lower req.0 next fits.0 (sym same ∙ is))),
 )
 
-fits-own : (next : ℕ) (came : List Came) (one : Came) (req : ReqId) (By : ℕ → Type 0) → req.0 ≡ next → All (IsBelow next) came → By one.event → Fits (next + 1) (came ++ one ∷ []) req By
+fits-own : (next : ℕ) (came : List Came) (one : Came) (req : ReqId) (By : Came → Type 0) → req.0 ≡ next → All (IsBelow next) came → By one → Fits (next + 1) (came ++ one ∷ []) req By
 fits-own next came one req By is below by =
     let none : Fits (next + 1) came req By = none-came next came req By is below in
-    (none.0, all-append (λ (other : Came). other.id.0 ≡ req.0 → By other.event) came one none.1 (λ same. by))
+    (none.0, all-append (λ (other : Came). other.id.0 ≡ req.0 → By other) came one none.1 (λ same. by))
 
 all-more : (next : ℕ) (came : List Came) (one : Came) (known : Known) → one.id.0 ≡ next → AllFit next came known → AllFit (next + 1) (came ++ one ∷ []) known
 all-more next came one known is fit = (
   all-append (IsBelow (next + 1)) came one (all-map (IsBelow next) (IsBelow (next + 1)) came (λ other. more other.id.0 next) fit.0) (own-is one.id.0 next is),
-  all-map (KeptFits next came) (KeptFits (next + 1) (came ++ one ∷ [])) known.kept (λ kept. fits-more next came one kept.id (λ (event : ℕ). kept.way ≡ Received event) is) fit.1,
-  all-map (InvitedFits next came) (InvitedFits (next + 1) (came ++ one ∷ [])) known.invited (λ invited. fits-more next came one invited.req (λ (event : ℕ). event ≡ invited.event) is) fit.2,
-  all-map (ProxyFits next came) (ProxyFits (next + 1) (came ++ one ∷ [])) known.proxies (λ proxy. fits-more next came one proxy.req (λ (event : ℕ). event ≡ proxy.event) is) fit.3,
+  all-map (KeptFits next came) (KeptFits (next + 1) (came ++ one ∷ [])) known.kept (λ kept. fits-more next came one kept.id (KeptBy kept) is) fit.1,
+  all-map (InvitedFits next came) (InvitedFits (next + 1) (came ++ one ∷ [])) known.invited (λ invited. fits-more next came one invited.req (InvitedBy invited) is) fit.2,
+  all-map (ProxyFits next came) (ProxyFits (next + 1) (came ++ one ∷ [])) known.proxies (λ proxy. fits-more next came one proxy.req (ProxyBy proxy) is) fit.3,
 )
 
 if-fit : (next : ℕ) (came : List Came) (b : Bool) (y z : Known) → AllFit next came y → AllFit next came z → AllFit next came (cond b y z)
@@ -168,23 +180,26 @@ received-fits came x number sess initial passed request fit =
     let invited : Invited = record { event = number; req = next_id x; sess = sess } in
     let all : AllFit (next + 1) (came ++ one ∷ []) x.known = all-more next came one x.known refl fit in
     let kept : All (KeptFits (next + 1) (came ++ one ∷ [])) (x.known.kept ++ new ∷ []) =
-    all-append (KeptFits (next + 1) (came ++ one ∷ [])) x.known.kept new all.1 (fits-own next came one (next_id x) (λ (event : ℕ). ◌≡◌ {A = Way} (Received number) (Received event)) refl fit.0 refl) in
+    all-append (KeptFits (next + 1) (came ++ one ∷ [])) x.known.kept new all.1 (fits-own next came one (next_id x) (KeptBy new) refl fit.0 (refl, refl)) in
     if-fit (next + 1) (came ++ one ∷ []) (same_bytes request.method invite) _ _
-    (all.0, kept, all-append (InvitedFits (next + 1) (came ++ one ∷ [])) x.known.invited invited all.2 (fits-own next came one (next_id x) (λ (event : ℕ). event ≡ number) refl fit.0 refl), all.3)
+    (all.0, kept, all-append (InvitedFits (next + 1) (came ++ one ∷ [])) x.known.invited invited all.2 (fits-own next came one (next_id x) (InvitedBy invited) refl fit.0 refl), all.3)
     (all.0, kept, all.2, all.3)
 
 -- ## What is proxied
 
 -- under the number of a request that is kept, by the event of its way
-proxy-of-kept : (next : ℕ) (came : List Came) (kept : Kept) (req : ReqId) → kept.id.0 ≡ req.0 → KeptFits next came kept → Fits next came req (λ (event : ℕ). event ≡ event_of kept.way)
+abbrev AsKept : Kept → Came → Type 0
+AsKept kept one = (one.event ≡ event_of kept.way) × (one.request ≡ kept.request)
+
+proxy-of-kept : (next : ℕ) (came : List Came) (kept : Kept) (req : ReqId) → kept.id.0 ≡ req.0 → KeptFits next came kept → Fits next came req (AsKept kept)
 proxy-of-kept next came kept req is fits = (
   subst (λ (n : ℕ). n < next) is fits.0,
-  all-map (λ (one : Came). one.id.0 ≡ kept.id.0 → kept.way ≡ Received one.event) (λ (one : Came). one.id.0 ≡ req.0 → one.event ≡ event_of kept.way) came
-      (λ one by same. event-of kept.way one.event (by (same ∙ sym is))) fits.1,
+  all-map (λ (one : Came). one.id.0 ≡ kept.id.0 → KeptBy kept one) (λ (one : Came). one.id.0 ≡ req.0 → AsKept kept one) came
+      (λ one by same. (event-of kept.way one.event (by (same ∙ sym is)).0, sym (by (same ∙ sym is)).1)) fits.1,
 )
 
 kept-fits : (next : ℕ) (came : List Came) (known : Known) (req : ReqId) (kept : Kept) → kept_of known req ≡ Some kept → AllFit next came known
-    → Fits next came req (λ (event : ℕ). event ≡ event_of kept.way)
+    → Fits next came req (AsKept kept)
 kept-fits next came known req kept found fit =
     let test : Kept → Bool = λ k. same_request k.id req in
     proxy-of-kept next came kept req (same-number kept.id.0 req.0 (test-found test known.kept kept found)) (all-found (KeptFits next came) test known.kept kept found fit.1)
@@ -222,7 +237,7 @@ passed-fits next came known req kept branch found fit = (
 )
 
 same-fits : (next : ℕ) (came : List Came) (p q : Proxy) → IsKeptProxy p q → ProxyFits next came p → ProxyFits next came q
-same-fits next came p q kept fits = rw (kept.same.req, kept.same.event) fits
+same-fits next came p q kept fits = rw (kept.same.req, kept.same.event, kept.same.request) fits
 
 -- ## Each change
 
@@ -259,9 +274,9 @@ module _ (came : List Came) where
       → AllFit (x.view.next_request + 1) came (record x.known { kept = x.known.kept ++ sent_kept x.view draft request ∷ [] })
   sent-on x draft request fit =
       let up : AllFit (x.view.next_request + 1) came x.known = all-up x.view.next_request came x.known fit in
-      let way : Way = Sent (x.view.counter + 1) in (
+      let new : Kept = sent_kept x.view draft request in (
         up.0,
-        all-append (KeptFits (x.view.next_request + 1) came) x.known.kept (sent_kept x.view draft request) up.1 (none-came x.view.next_request came (record { 0 = x.view.next_request }) (λ (event : ℕ). way ≡ Received event) refl fit.0),
+        all-append (KeptFits (x.view.next_request + 1) came) x.known.kept (sent_kept x.view draft request) up.1 (none-came x.view.next_request came (record { 0 = x.view.next_request }) (KeptBy new) refl fit.0),
         up.2,
         up.3,
       )
@@ -521,11 +536,11 @@ pub by-kept : (next : ℕ) (came : List Came) (kepts : List Kept) (req : ReqId) 
 by-kept next came kepts req kept event found way all =
     let test : Kept → Bool = λ k. same_request k.id req in
     let is : kept.id.0 ≡ req.0 = same-number kept.id.0 req.0 (test-found test kepts kept found) in
-    all-map (λ (one : Came). one.id.0 ≡ kept.id.0 → kept.way ≡ Received one.event) (λ (one : Came). one.id.0 ≡ req.0 → one.event ≡ event) came
-    (λ one by same. one-event kept.way one.event event (by (same ∙ sym is)) way) (all-found (KeptFits next came) test kepts kept found all).1
+    all-map (λ (one : Came). one.id.0 ≡ kept.id.0 → KeptBy kept one) (λ (one : Came). one.id.0 ≡ req.0 → one.event ≡ event) came
+    (λ one by same. one-event kept.way one.event event (by (same ∙ sym is)).0 way) (all-found (KeptFits next came) test kepts kept found all).1
 
 -- one that the event of the turn brings
 pub by-turn : (came : List Came) (x : Session) (number : ℕ) (request : Request) (req : ReqId) → req.0 ≡ x.view.next_request → FitsAt came x
     → GoesBy (came ++ record { id = next_id x; event = number; request = request } ∷ []) req number
 by-turn came x number request req is fit =
-    (fits-own x.view.next_request came (one_of x number request) req (λ (event : ℕ). event ≡ number) is fit.0 refl).1
+    (fits-own x.view.next_request came (one_of x number request) req (λ (one : Came). one.event ≡ number) is fit.0 refl).1

@@ -21,12 +21,21 @@ use Rattle.sc_walked.proofs.WalkParts.{if-is}
 use Rattle.sc_lasting.specs.Lasting.{All}
 use Rattle.sc_lasting.proofs.Parts.{all-first, all-found, all-map}
 use Rattle.sc_replies.specs.Came.{Came}
-use Rattle.sc_replies.proofs.Brought.{FitsIn, GoesBy, ProxyFits}
+use Rattle.sc_replies.proofs.Brought.{FitsIn, GoesBy, ProxyBy, ProxyFits}
 use Rattle.sc_replies.proofs.CameProxies.{ProxiesCame, ProxyCame}
+
+-- what came under the number of a proxied request is that request, by its event
+abbrev pub ProxyIs : List Came → Proxy → Type 0
+ProxyIs came proxy = All (λ (one : Came). one.id.0 ≡ proxy.req.0 → ProxyBy proxy one) came
 
 -- a proxied request came, and goes by the event that brought it
 abbrev pub IsBrought : List Came → Proxy → Type 0
-IsBrought came proxy = GoesBy came proxy.req proxy.event × ProxyCame came proxy
+IsBrought came proxy = ProxyIs came proxy × ProxyCame came proxy
+
+-- by the event alone
+pub goes-by : (came : List Came) (proxy : Proxy) → IsBrought came proxy → GoesBy came proxy.req proxy.event
+goes-by came proxy by =
+    all-map (λ (one : Came). one.id.0 ≡ proxy.req.0 → ProxyBy proxy one) (λ (one : Came). one.id.0 ≡ proxy.req.0 → one.event ≡ proxy.event) came (λ one is same. (is same).0) by.0
 
 -- so do all
 abbrev pub AreBrought : List Came → Known → Type 0

@@ -16,4 +16,4 @@ mod AnswerFields
 mod AnswerEvents
 mod AnswerOrders
 mod AnswerShown
-mod AnswerTurns
+pub mod AnswerTurns

@@ -46,7 +46,7 @@ use Rattle.sc_lasting.proofs.Parts.{all-found}
 use Rattle.sc_replies.proofs.Brought.{GoesBy}
 use Rattle.sc_replies.proofs.Fine.{FineIn, acted-fine, brought-is, drafts-fine, faulted-fine}
 use Rattle.sc_replies.proofs.ShownCame.{HasCome, IsCome}
-use Rattle.sc_replies.proofs.BroughtProxies.{AreBrought, IsBrought, acts-brought, all-brought, now-brought, pass-brought, start-brought}
+use Rattle.sc_replies.proofs.BroughtProxies.{AreBrought, IsBrought, acts-brought, all-brought, goes-by, now-brought, pass-brought, start-brought}
 use Rattle.sc_replies.proofs.Owed.{IsKept}
 use Rattle.sc_replies.proofs.OwedCalls.{InTurn}
 use Rattle.sc_replies.proofs.OwedEnds.{all-hold, drafts-hold, faulted-holds}
@@ -138,10 +138,10 @@ unfolding forwarded_to
 forwarded-given came proxy sess None response view is by =
     if-given came (is_some proxy.options) _ (orders.Respond proxy.event response ∷ [])
     (one-given came (session_in view sess) (initial_of proxy) (is_some (tag_of response.head.to)) response.code proxy.event response refl refl
-    (brought-is came proxy.req proxy.event by.0 by.1))
+    (brought-is came proxy.req proxy.event (goes-by came proxy by) by.1))
 forwarded-given came proxy sess (Some request) response view is by =
     one-given came (session_in view sess) (asked_of request) (is_some (tag_of response.head.to)) response.code proxy.event response refl refl
-    (found-brought came proxy.req request.id proxy.event (sym (same-number request.id.0 proxy.req.0 (test-found (is_request proxy.req) view.requests request is))) by.0 by.1)
+    (found-brought came proxy.req request.id proxy.event (sym (same-number request.id.0 proxy.req.0 (test-found (is_request proxy.req) view.requests request is))) (goes-by came proxy by) by.1)
 
 forward-sends : (came : List Came) (proxy : Proxy) (sess : SessId) (response : Response) (working : Working) → IsBrought came proxy → Sends came (forwarded proxy sess response working) working.orders (forwards proxy sess response working).orders
 unfolding forwards

@@ -1,7 +1,7 @@
 -- The fields of an answer: they are those of the request that came with the event by whose number
 -- it goes (RFC 3261 sections 8.2.6.2 and 12.1.1).
 use Rattle.std.specs.Prelude.{◌≡◌, ◌⊎◌, ℕ, ◌==◌, List, [], ◌∷◌, Bool, true, false, ◌&&◌, Option, None, Some, if◌then◌else◌}
-use Rattle.std.specs.List.{list_any}
+use Rattle.std.specs.List.{find}
 use Rattle.sc_value.specs.declared.ids.AppId.{AppId}
 use Rattle.sc_value.specs.declared.message.Request.{Request}
 use Rattle.sc_value.specs.declared.message.Response.{Response}
@@ -10,6 +10,7 @@ use Rattle.sc_terms.specs.declared.settings.Config.{Config}
 use Rattle.sc_parts.specs.declared.setup.Setup.{Setup}
 use Rattle.sc_state.specs.declared.orders.Order.{Order}
 use Rattle.sc_state.specs.declared.orders.Order.TheVariants as orders
+use Rattle.sc_state.specs.declared.proxy.Proxy.{Proxy}
 use Rattle.sc_state.specs.declared.queue.Queued.{Queued}
 use Rattle.sc_state.specs.declared.queue.Queued.TheVariants as queued
 use Rattle.sc_state.specs.declared.queue.Waiting.{Waiting}
@@ -76,14 +77,17 @@ pub record IsAnswer (events : List Waiting) (number : ℕ) (response : Response)
   pub brought : WasBrought events number came
   pub answers : IsAnswerTo came response
 
--- the session proxies the request of the event of this number
-unfoldable pub is_proxied : Session → ℕ → Bool
-is_proxied session number = list_any (λ proxy. proxy.event == number) session.known.proxies
+-- the session proxies the request that the event of this number, one of these, brought
+pub record IsProxied (events : List Waiting) (session : Session) (number : ℕ) : Type 0 where
+  pub proxy : Proxy
+  pub found : find (λ (proxy : Proxy). proxy.event == number) session.known.proxies ≡ Some proxy
+  pub initial : Bool
+  pub brought : WasBrought events number (record { initial = initial; request = proxy.request })
 
 -- what the order responds answers the request of its event, or the session proxies that request
 unfoldable pub Answers : List Waiting → Session → Order → Type 0
 Answers events session (orders.Respond number response) =
-    IsAnswer events number response ⊎ (is_proxied session number ≡ true)
+    IsAnswer events number response ⊎ IsProxied events session number
 Answers events session order = Unit {0}
 
 -- ## A life
