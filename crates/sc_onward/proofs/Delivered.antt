@@ -95,7 +95,7 @@ module _ {S : Type 0} (form : Form S) (setup : Setup) where
   entry-numbered None net numbered = numbered
   entry-numbered (Some entry) net numbered = at-numbered entry _ _ (host_at-numbered entry.receiver net numbered) numbered
 
-  first-numbered : (net : Net S) → AreNumbered net → AreNumbered (deliver_first form setup net)
+  pub first-numbered : (net : Net S) → AreNumbered net → AreNumbered (deliver_first form setup net)
   unfolding deliver_first
   first-numbered net numbered = entry-numbered _ net numbered
 
@@ -109,7 +109,7 @@ module _ {S : Type 0} (form : Form S) (setup : Setup) where
   entry-hosts None net = refl
   entry-hosts (Some entry) net = at-hosts entry _ (record net { wire = drop 1 net.wire })
 
-  first-hosts : (net : Net S) → length (deliver_first form setup net).hosts ≡ length net.hosts
+  pub first-hosts : (net : Net S) → length (deliver_first form setup net).hosts ≡ length net.hosts
   unfolding deliver_first
   first-hosts net = entry-hosts _ net
 
@@ -186,7 +186,7 @@ and-both : (a b c : Bool) → a ≡ false → (a && b && c) ≡ false
 and-both true b c is = cc
 and-both false b c is = refl
 
-unclaimed-is : {S : Type 0} (sender : ℕ) (sent : Request) (host : Host S) → same_bytes (method_of sent) cancel ≡ false → All (Free sent) host.servers → is_claimed (claim_of (peers.Inside sender) sent host) ≡ false
+pub unclaimed-is : {S : Type 0} (sender : ℕ) (sent : Request) (host : Host S) → same_bytes (method_of sent) cancel ≡ false → All (Free sent) host.servers → is_claimed (claim_of (peers.Inside sender) sent host) ≡ false
 unfolding claim_of claim_by is_claimed
 unclaimed-is sender sent host other free = rw other (by (same_bytes (method_of sent) ack))
   where
@@ -201,7 +201,7 @@ unclaimed-is sender sent host other free = rw other (by (same_bytes (method_of s
 some-more : (n : ℕ) → (suc n == 0) ≡ false
 some-more n = grind (arith, nat_tests)
 
-busy-is : (net : Net Session) (entry : Entry) (rest : List Entry) → net.wire ≡ entry ∷ rest → is_busy net ≡ true
+pub busy-is : (net : Net Session) (entry : Entry) (rest : List Entry) → net.wire ≡ entry ∷ rest → is_busy net ≡ true
 unfolding is_busy
 busy-is net entry rest is = rw is (turned (suc (length rest) == 0) (some-more (length rest)))
   where
@@ -215,7 +215,7 @@ under a b c p q = omega (arith, p, q)
 over : (a b c : ℕ) → a ≤ b → b < c → a < c
 over a b c p q = omega (arith, p, q)
 
-next-more : (n : ℕ) → n < n + 1
+pub next-more : (n : ℕ) → n < n + 1
 next-more n = omega arith
 
 length-more : (xs ys : List Waiting) → length xs ≤ length (xs ++ ys)
@@ -226,7 +226,7 @@ room-before : (n m : ℕ) → n ≤ m → nat_le 64 m ≡ false → nat_le 64 n 
 room-before n m less room = grind (arith, nat_tests, less, room)
 
 -- what waits there once it was delivered
-delivered-events : (to : AppId) (live : Live Session) (event : Queued) (answers : List Entry) (net next : Net Session) → IsDeliveredAlone to live event answers net next
+pub delivered-events : (to : AppId) (live : Live Session) (event : Queued) (answers : List Entry) (net next : Net Session) → IsDeliveredAlone to live event answers net next
     → events_in to next ≡ live.inbox ++ record { number = net.count + 1; event = event } ∷ []
 delivered-events to live event answers net next alone = events-live to next alone.later alone.lives ∙ alone.inbox
 
@@ -234,7 +234,7 @@ none-some : (found : Option (Live Session)) (last : Live Session) → found ≡ 
 none-some found last p q = cc
 
 -- an event that was the last stands between what was before it and what is new
-grown-list : (first more xs ys : List Waiting) (waiting : Waiting) → xs ≡ first ++ waiting ∷ [] → ys ≡ xs ++ more → ys ≡ first ++ waiting ∷ more
+pub grown-list : (first more xs ys : List Waiting) (waiting : Waiting) → xs ≡ first ++ waiting ∷ [] → ys ≡ xs ++ more → ys ≡ first ++ waiting ∷ more
 grown-list first more xs ys waiting p q = q ∙ (ap (λ (ws : List Waiting). ws ++ more) p ∙ append_assoc first (waiting ∷ []) more)
 
 -- the request waits in this session, with a number above this one
@@ -258,16 +258,16 @@ module _ (setup : Setup) (epoch sender : ℕ) (sent : Request) (to : AppId) (uri
     pub known : KnownIn to.serial (host_at to.host net)
     pub clean : CleanNet sent net
 
-  abbrev Next : Net Session → Net Session
+  abbrev pub Next : Net Session → Net Session
   Next net = deliver_first as_session setup net
 
-  abbrev End : Net Session → Net Session
+  abbrev pub End : Net Session → Net Session
   End net = delivered as_session setup net
 
   counts-first : (net : Net Session) → NetCounts to net (Next net)
   counts-first net = first-walks (λ number now. CountGrows {S = Session} to.serial) (NetCounts to) (count-hosts to.serial) (count-nets to) as_session tt setup net
 
-  stands-next : (net : Net Session) (entry : Entry) (rest : List Entry) → net.wire ≡ entry ∷ rest → IsOnWay (IsApartFrom sent) entry.message → Stands net → Stands (Next net)
+  pub stands-next : (net : Net Session) (entry : Entry) (rest : List Entry) → net.wire ≡ entry ∷ rest → IsOnWay (IsApartFrom sent) entry.message → Stands net → Stands (Next net)
   stands-next net entry rest is way stands = record {
     numbered = first-numbered as_session setup net stands.numbered;
     within = (first-walks RisesAt Rises rise-hosts rise-nets as_session tt setup net).within stands.within;
@@ -277,10 +277,10 @@ module _ (setup : Setup) (epoch sender : ℕ) (sent : Request) (to : AppId) (uri
     clean = (first-goes sent as_session setup entry rest net is way).clean stands.clean;
   }
 
-  grows : (net : Net Session) → NetGrows to net (End net)
+  pub grows : (net : Net Session) → NetGrows to net (End net)
   grows net = delivered-walks (λ number now. HostGrows {S = Session} to.serial) (NetGrows to) (grow-hosts to.serial) (grow-nets to) as_session tt setup net
 
-  rises : (net : Net Session) → Rises net (End net)
+  pub rises : (net : Net Session) → Rises net (End net)
   rises net = delivered-walks RisesAt Rises rise-hosts rise-nets as_session tt setup net
 
   -- it lives now where it does in the end

@@ -66,10 +66,10 @@ one-up n = omega arith
 not-self : (a n : ℕ) → a < n → a ≡ n → ⊥
 not-self a n less is = omega (arith, less, is)
 
-zero-suc : (n : ℕ) → zero ≡ suc n → ⊥
+pub zero-suc : (n : ℕ) → zero ≡ suc n → ⊥
 zero-suc n is = omega (arith, is)
 
-hops-more : (n : ℕ) → (n == 0) ≡ false → (h : ℕ) × (n ≡ suc h)
+pub hops-more : (n : ℕ) → (n == 0) ≡ false → (h : ℕ) × (n ≡ suc h)
 hops-more zero is = absurd (self-not 0 is)
   where
     self-not : (n : ℕ) → (n == n) ≡ false → ⊥
@@ -83,20 +83,20 @@ same-test : (a b : ℕ) → a ≡ b → (a == b) ≡ true
 same-test a b is = grind (arith, nat_tests, is)
 
 module _ (number : ℕ) (sess : SessId) (event : ℕ) (request : Request) where
-  abbrev View-at : View → Type 0
+  abbrev pub View-at : View → Type 0
   View-at view = ShownAt number sess event request view
 
-  abbrev Known-at : Known → Type 0
+  abbrev pub Known-at : Known → Type 0
   Known-at known = Knows number sess event request known
 
   -- the SipSession was not ended by a call
-  abbrev Valid : List Leg → Type 0
+  abbrev pub Valid : List Leg → Type 0
   Valid legs = option_map_or (λ leg. leg.invalidated) (slice_get legs (sess.0 - 1)) false ≡ false
 
-  record Stays (working : Working) : Type 0 where
-    view : View-at working.play.view
-    known : Known-at working.known
-    legs : Valid working.known.legs
+  pub record Stays (working : Working) : Type 0 where
+    pub view : View-at working.play.view
+    pub known : Known-at working.known
+    pub legs : Valid working.known.legs
 
   if-stays : (b : Bool) (x y : Working) → Stays x → Stays y → Stays (cond b x y)
   if-stays true x y p q = p
@@ -263,7 +263,7 @@ module _ (number : ℕ) (sess : SessId) (event : ℕ) (request : Request) where
   unfolding all_act
   all_act-stays config working stays = all-stay working.known.proxies config working stays.known.2 stays
 
-  before-stays : (config : Config) (req : Option ReqId) (end : End) (working : Working) → View-at working.play.view → Known-at working.known → Valid working.known.legs
+  pub before-stays : (config : Config) (req : Option ReqId) (end : End) (working : Working) → View-at working.play.view → Known-at working.known → Valid working.known.legs
       → Stays (all_act config (faulted config req end (drafts_ended working)))
   before-stays config req end working shown known legs = all_act-stays config _ (faulted-stays config req end _ (drafts-stay working shown known legs))
 
@@ -283,7 +283,7 @@ module _ (number : ℕ) (sess : SessId) (event : ℕ) (request : Request) where
       by true rest = (x, refl)
       by false rest = rest
 
-  found-kept : (id : ReqId) (all : List Kept) → id.0 ≡ number → Keeps number sess event request all → (k : Kept) × (find (λ (kept : Kept). same_request kept.id id) all ≡ Some k)
+  pub found-kept : (id : ReqId) (all : List Kept) → id.0 ≡ number → Keeps number sess event request all → (k : Kept) × (find (λ (kept : Kept). same_request kept.id id) all ≡ Some k)
   unfolding Keeps
   found-kept id [] here has = absurd has
   found-kept id (x ∷ xs) here (inl is) = by (x.id.0 == id.0) (same-test x.id.0 id.0 (is ∙ sym here))
@@ -298,15 +298,15 @@ module _ (number : ℕ) (sess : SessId) (event : ℕ) (request : Request) where
       by false rest = rest
 
   -- what the turn has of the request before it is passed on
-  record HasAll (working : Working) : Type 0 where
-    q : RequestView
-    shown : request_in working.play.view (record { 0 = number }) ≡ Some q
-    fine : Fine number sess request.hops request.method q
-    k : Kept
-    kept : kept_of working.known q.id ≡ Some k
-    is : k.request ≡ request
-    way : k.way ≡ Received event
-    valid : is_invalid working.known q.sess ≡ false
+  pub record HasAll (working : Working) : Type 0 where
+    pub q : RequestView
+    pub shown : request_in working.play.view (record { 0 = number }) ≡ Some q
+    pub fine : Fine number sess request.hops request.method q
+    pub k : Kept
+    pub kept : kept_of working.known q.id ≡ Some k
+    pub is : k.request ≡ request
+    pub way : k.way ≡ Received event
+    pub valid : is_invalid working.known q.sess ≡ false
 
   invalid-is : (known : Known) (s : SessId) → ◌≡◌ {A = SessId} s sess → Valid known.legs → is_invalid known s ≡ false
   unfolding is_invalid leg_of
@@ -316,7 +316,7 @@ module _ (number : ℕ) (sess : SessId) (event : ℕ) (request : Request) where
   unfolding is_invalid leg_of
   valid-is known is = is
 
-  has-all : (working : Working) → Stays working → HasAll working
+  pub has-all : (working : Working) → Stays working → HasAll working
   has-all working stays =
       let found = found-shown working.play.view.requests stays.view.2 in
       let here : found.0.id.0 ≡ number = same-number found.0.id.0 number (test-found (is_request (record { 0 = number })) working.play.view.requests found.0 found.1) in
@@ -357,7 +357,7 @@ module _ (number : ℕ) (sess : SessId) (event : ℕ) (request : Request) where
     sends = Is_send (next_branch working) (ap (λ (r : Request). orders.Send (next_branch working) (on_branch config working.play.view (next_branch working) (passed_request r))) same);
   }
 
-  passed_on-goes : (config : Config) (kept : Kept) (working : Working) → kept.request ≡ request → PassesLast config request (passed_on config kept working).orders
+  pub passed_on-goes : (config : Config) (kept : Kept) (working : Working) → kept.request ≡ request → PassesLast config request (passed_on config kept working).orders
   unfolding passed_on
   passed_on-goes config kept working same =
       goes-by config kept working (record working { known = record working.known { proxies = working.known.proxies ++ sent_proxy kept (next_branch working) ∷ [] } }) (drawn working.play.view)
@@ -386,7 +386,7 @@ module _ (number : ℕ) (sess : SessId) (event : ℕ) (request : Request) where
   chosen-orders config working has P goes stops =
       subst (λ (kept : Option Kept). P (passed_later config has.q kept working).orders) (sym has.kept) (some-orders config working has P goes stops)
 
-  later-orders : (config : Config) (working : Working) (has : HasAll working) (P : List Order → Type 0) → ((h : ℕ) → request.hops ≡ suc h → P (passed_on config has.k working).orders)
+  pub later-orders : (config : Config) (working : Working) (has : HasAll working) (P : List Order → Type 0) → ((h : ℕ) → request.hops ≡ suc h → P (passed_on config has.k working).orders)
       → (request.hops ≡ zero → P (hops_spent config has.q working).orders) → P (passes_later config (queued.Request request) (Some (record { 0 = number })) working).orders
   unfolding passes_later passed_request_of is_request_event
   later-orders config working has P goes stops = rw has.shown (chosen-orders config working has P goes stops)
@@ -401,16 +401,16 @@ module _ (number : ℕ) (sess : SessId) (event : ℕ) (request : Request) where
   code-routes true came response = refl
   code-routes false came response = refl
 
-  given-code : (config : Config) (view : View) (tag : Bytes) (initial : Bool) (came : Request) (answer : Answer) → (given_response config view tag initial came answer).code ≡ answer.code
+  pub given-code : (config : Config) (view : View) (tag : Bytes) (initial : Bool) (came : Request) (answer : Answer) → (given_response config view tag initial came answer).code ≡ answer.code
   unfolding given_response with_routes answered_here response_to
   given-code config view tag initial came answer = code-routes _ came _ ∙ code-here config view _ _
 
-  answers-are : (config : Config) (view : View) (answer : Answer) (kept : Option Kept) (k : Kept) (initial : Bool) → kept ≡ Some k → k.way ≡ Received event
+  pub answers-are : (config : Config) (view : View) (answer : Answer) (kept : Option Kept) (k : Kept) (initial : Bool) → kept ≡ Some k → k.way ≡ Received event
       → answers config answer view kept initial ≡ orders.Respond event (given_response config view (own_tag_of view k.sess) initial k.request answer) ∷ []
   unfolding answers answer_order
   answers-are config view answer kept k initial is way = rw (is, way) refl
 
-  spent-orders : (config : Config) (working : Working) (has : HasAll working) → AnswersLast event 483 request (hops_spent config has.q working).orders
+  pub spent-orders : (config : Config) (working : Working) (has : HasAll working) → AnswersLast event 483 request (hops_spent config has.q working).orders
   unfolding hops_spent is_owed answering AnswersLast bare_answer
   spent-orders config working has = by (same_bytes has.q.method ack) refl
     where
@@ -427,7 +427,7 @@ module _ (number : ℕ) (sess : SessId) (event : ℕ) (request : Request) where
 
 -- ## The whole turn
 
-abbrev dated : Session → ℕ → Session
+abbrev pub dated : Session → ℕ → Session
 dated x now = record x { view = record x.view { now = now } }
 
 requested : (y : Session) (event : ℕ) (sess : SessId) (found : SessionView) (request : Request) → session_in y.view sess ≡ Some found → is_low (leg_of y.known sess) request ≡ false
@@ -435,7 +435,7 @@ requested : (y : Session) (event : ℕ) (sess : SessId) (found : SessionView) (r
 unfolding prepared_request taken_in
 requested y event sess found request there high = rw (there, high) refl
 
-shown-is : (config : Config) (ringing : List ℕ) (x : Session) (event now : ℕ) (request : Request) (sess : SessId) (found : SessionView) → session_for x request ≡ Some sess
+pub shown-is : (config : Config) (ringing : List ℕ) (x : Session) (event now : ℕ) (request : Request) (sess : SessId) (found : SessionView) → session_for x request ≡ Some sess
     → session_in x.view sess ≡ Some found → is_low (leg_of x.known sess) request ≡ false
     → prepared config ringing x (record { number = event; event = queued.Request request }) now ≡ taken (dated x now) event found request
 unfolding prepared prepared_for session_for
@@ -443,7 +443,7 @@ shown-is config ringing x event now request sess found for there high =
     ap (λ (which : Option SessId). prepared_request (dated x now) event request which) for ∙ requested (dated x now) event sess found request there high
 
 -- what is shown at first
-taken-view : (x : Session) (event : ℕ) (found : SessionView) (request : Request) → AreCounted x → is_proxy found.role ≡ true
+pub taken-view : (x : Session) (event : ℕ) (found : SessionView) (request : Request) → AreCounted x → is_proxy found.role ≡ true
     → ShownAt x.view.next_request found.id event request (taken x event found request).view
 unfolding taken showing request_view All
 taken-view x event found request counted proxy =
@@ -456,7 +456,7 @@ taken-view x event found request counted proxy =
       has-last x.view.next_request found.id request.hops request.method x.view.requests _ refl,
     ))
 
-taken-known : (x : Session) (event : ℕ) (found : SessionView) (request : Request) → AreCounted x
+pub taken-known : (x : Session) (event : ℕ) (found : SessionView) (request : Request) → AreCounted x
     → Knows x.view.next_request found.id event request (taken x event found request).known
 unfolding taken showing change_leg
 taken-known x event found request counted =
@@ -469,7 +469,7 @@ taken-known x event found request counted =
       all-map (λ (p : Proxy). p.req.0 < x.view.next_request) (Other x.view.next_request found.id event request) x.known.proxies (λ p less is. not-self p.req.0 x.view.next_request less is) counted.proxied,
     ))
 
-taken-req : (x : Session) (event : ℕ) (found : SessionView) (request : Request) → (taken x event found request).req ≡ Some (next_id x)
+pub taken-req : (x : Session) (event : ℕ) (found : SessionView) (request : Request) → (taken x event found request).req ≡ Some (next_id x)
 unfolding taken showing
 taken-req x event found request = refl
 

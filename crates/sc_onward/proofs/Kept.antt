@@ -204,7 +204,7 @@ module _ (number : ℕ) (sess : SessId) (event : ℕ) (request : Request) where
   abbrev pub Leaves : CallRecord → Type 0
   Leaves made = made.call ≡ calls.InvalidateSession sess → ⊥
 
-  worked-holds : (config : Config) (working : Working) (call : Call) → (call ≡ calls.InvalidateSession sess → ⊥) → ShownAt working.play.view → Knows working.known
+  pub worked-holds : (config : Config) (working : Working) (call : Call) → (call ≡ calls.InvalidateSession sess → ⊥) → ShownAt working.play.view → Knows working.known
       → ShownAt (worked config working call).play.view × Knows (worked config working call).known
   unfolding worked
   worked-holds config working call keeps shown ok =

@@ -66,16 +66,16 @@ Item app waiting = record { app = app; waiting = waiting }
 
 -- ## The orders
 
-at-end : (xs : List Order) (y : Order) → slice_get (xs ++ y ∷ []) (length xs) ≡ Some y
+pub at-end : (xs : List Order) (y : Order) → slice_get (xs ++ y ∷ []) (length xs) ≡ Some y
 at-end [] y = refl
 at-end (x ∷ xs) y = at-end xs y
 
-before-others : (xs : List Order) (y : Order) (sent : Request) → AreOtherBranches sent (xs ++ y ∷ []) (length xs) → All (IsOtherBranch sent) xs
+pub before-others : (xs : List Order) (y : Order) (sent : Request) → AreOtherBranches sent (xs ++ y ∷ []) (length xs) → All (IsOtherBranch sent) xs
 unfolding AreOtherBranches All
 before-others [] y sent others = tt
 before-others (x ∷ xs) y sent others = (others.0, before-others xs y sent others.1)
 
-later-is : (order : Order) (sent : Request) → Sends sent order → later_in order ≡ Some sent
+pub later-is : (order : Order) (sent : Request) → Sends sent order → later_in order ≡ Some sent
 unfolding later_in
 later-is order sent (Is_send branch is) = rw is refl
 later-is order sent (Is_ack is) = rw is refl
@@ -87,19 +87,19 @@ sends-in order sent (Is_ack is) = rw is refl
 
 -- ## The request as it is passed on
 
-passed-next : (config : Config) (view : View) (branch : ℕ) (request : Request) → next_uri (on_branch config view branch (passed_request request)) ≡ next_uri request
+pub passed-next : (config : Config) (view : View) (branch : ℕ) (request : Request) → next_uri (on_branch config view branch (passed_request request)) ≡ next_uri request
 unfolding next_uri on_branch passed_request
 passed-next config view branch request = refl
 
-passed-method : (config : Config) (view : View) (branch : ℕ) (request : Request) → method_of (on_branch config view branch (passed_request request)) ≡ method_of request
+pub passed-method : (config : Config) (view : View) (branch : ℕ) (request : Request) → method_of (on_branch config view branch (passed_request request)) ≡ method_of request
 unfolding on_branch passed_request
 passed-method config view branch request = refl
 
-passed-to : (config : Config) (view : View) (branch : ℕ) (request : Request) → (on_branch config view branch (passed_request request)).head.to ≡ request.head.to
+pub passed-to : (config : Config) (view : View) (branch : ℕ) (request : Request) → (on_branch config view branch (passed_request request)).head.to ≡ request.head.to
 unfolding on_branch passed_request
 passed-to config view branch request = refl
 
-passed-vias : (config : Config) (view : View) (branch : ℕ) (request : Request) → drop 1 (on_branch config view branch (passed_request request)).head.via ≡ request.head.via
+pub passed-vias : (config : Config) (view : View) (branch : ℕ) (request : Request) → drop 1 (on_branch config view branch (passed_request request)).head.via ≡ request.head.via
 unfolding on_branch passed_request
 passed-vias config view branch request = refl
 
@@ -125,7 +125,7 @@ got-item moment to last waiting first rest lives inbox above =
     (subst (λ (all : List Got). IsItem (Item to waiting) all) (sym (live-inbox to moment.after last lives))
     (in-map (λ (w : Waiting). Item to w) waiting last.inbox (subst (λ (ws : List Waiting). IsItem waiting ws) (sym inbox) (in-right waiting first (waiting ∷ rest) (item-here waiting rest))))))
 
-has-passed : (config : Config) (got next : Got) (request sent : Request) → got.waiting.event ≡ queued.Request request → next.waiting.event ≡ queued.Request (unrouted config sent)
+pub has-passed : (config : Config) (got next : Got) (request sent : Request) → got.waiting.event ≡ queued.Request request → next.waiting.event ≡ queued.Request (unrouted config sent)
     → drop 1 sent.head.via ≡ request.head.via → is_passed_on got next ≡ true
 unfolding is_passed_on has_vias later_vias
 has-passed config got next request sent is comes vias = rw (is, comes, unrouted-vias config sent, vias) (vias-self request.head.via)

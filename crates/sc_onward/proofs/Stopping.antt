@@ -43,7 +43,7 @@ same-call x y is = cc
 other-call : (x y : SessId) → (x.0 == y.0) ≡ false → calls.InvalidateSession x ≡ calls.InvalidateSession y → ⊥
 other-call x y other is = not-self y.0 (subst (λ (z : SessId). (z.0 == y.0) ≡ false) (same-call x y is) other)
 
-one-call : (sess : SessId) (call : Call) → (call ≡ calls.InvalidateSession sess) ⊎ (call ≡ calls.InvalidateSession sess → ⊥)
+pub one-call : (sess : SessId) (call : Call) → (call ≡ calls.InvalidateSession sess) ⊎ (call ≡ calls.InvalidateSession sess → ⊥)
 one-call sess (calls.InvalidateSession s) = by (s.0 == sess.0) refl
   where
     by : (b : Bool) → (s.0 == sess.0) ≡ b → (calls.InvalidateSession s ≡ calls.InvalidateSession sess) ⊎ (calls.InvalidateSession s ≡ calls.InvalidateSession sess → ⊥)
@@ -103,7 +103,7 @@ self-of x s is = subst (λ (y : SessionView). is_session y.id x ≡ true) (same 
     same : (x s : SessionView) → Some x ≡ Some s → x ≡ s
     same x s is = cc
 
-found-again : (test : SessionView → Bool) (sessions : List SessionView) (s : SessionView) → find test sessions ≡ Some s → (found : SessionView) × (find (is_session s.id) sessions ≡ Some found)
+pub found-again : (test : SessionView → Bool) (sessions : List SessionView) (s : SessionView) → find test sessions ≡ Some s → (found : SessionView) × (find (is_session s.id) sessions ≡ Some found)
 found-again test [] s is = cc
 found-again test (x ∷ xs) s is = by (test x) (is_session s.id x) refl is (found-again test xs s)
   where
@@ -117,7 +117,7 @@ same : (a b : SessionView) → Some a ≡ Some b → a ≡ b
 same a b is = cc
 
 -- the one that is found by a name has it
-named : (sess : SessId) (sessions : List SessionView) (found : SessionView) → find (is_session sess) sessions ≡ Some found → found.id ≡ sess
+pub named : (sess : SessId) (sessions : List SessionView) (found : SessionView) → find (is_session sess) sessions ≡ Some found → found.id ≡ sess
 named sess [] found is = cc
 named sess (x ∷ xs) found is = by (is_session sess x) refl is (named sess xs found)
   where

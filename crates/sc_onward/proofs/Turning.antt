@@ -79,13 +79,13 @@ unfolding same_top kin
 kin-branch sent method to other is =
     subst (λ (top : Option Via). option_map_or (λ x. option_map_or (same_via x) top false) (top_via sent.head.via) false ≡ true) (kin-top other.head.via) is
 
-abbrev Never : Request → Type 0
+abbrev pub Never : Request → Type 0
 Never request = ⊥
 
-abbrev Any : Request → Type 0
+abbrev pub Any : Request → Type 0
 Any request = Unit {0}
 
-apart-kinds : (sent : Request) → AreKinds (IsApartFrom sent) (IsApartFrom sent) Never Any
+pub apart-kinds : (sent : Request) → AreKinds (IsApartFrom sent) (IsApartFrom sent) Never Any
 apart-kinds sent = record {
   kin_way = λ method to other sound is. sound (kin-branch sent method to other is);
   kin_sound = λ method to other sound is. sound (kin-branch sent method to other is);
@@ -105,7 +105,7 @@ order-apart config sent (orders.Acknowledge request) other = λ own. other
 order-apart config sent (orders.Cancel branch) other = tt
 order-apart config sent (orders.CancelNow branch) other = tt
 
-orders-apart : (given : List Order) (config : Config) (sent : Request) → All (IsOtherBranch sent) given → All (IsOrdered config (IsApartFrom sent) (IsApartFrom sent)) given
+pub orders-apart : (given : List Order) (config : Config) (sent : Request) → All (IsOtherBranch sent) given → All (IsOrdered config (IsApartFrom sent) (IsApartFrom sent)) given
 unfolding All
 orders-apart [] config sent others = tt
 orders-apart (order ∷ given) config sent others = (order-apart config sent order others.0, orders-apart given config sent others.1)
@@ -126,19 +126,19 @@ unfolding All
 inbox-fits setup epoch base app [] = tt
 inbox-fits setup epoch base app (waiting ∷ inbox) = (λ above. never-fits setup epoch app waiting.event, inbox-fits setup epoch base app inbox)
 
-lives-fit : (setup : Setup) (epoch base number : ℕ) (lives : List (Live Session)) → AreFit (FitsIn Never Any setup epoch) base number lives
+pub lives-fit : (setup : Setup) (epoch base number : ℕ) (lives : List (Live Session)) → AreFit (FitsIn Never Any setup epoch) base number lives
 unfolding All
 lives-fit setup epoch base number [] = tt
 lives-fit setup epoch base number (live ∷ lives) = (inbox-fits setup epoch base (record { host = number; serial = live.serial }) live.inbox, lives-fit setup epoch base number lives)
 
-clients-of : (sent : Request) (net : Net Session) → HasNoClient sent net → (number : ℕ) (host : Host Session) → host_at number net ≡ Some host → All (λ (client : Client). IsApartFrom sent client.request) host.clients
+pub clients-of : (sent : Request) (net : Net Session) → HasNoClient sent net → (number : ℕ) (host : Host Session) → host_at number net ≡ Some host → All (λ (client : Client). IsApartFrom sent client.request) host.clients
 unfolding HasNoClient
 clients-of sent net none number host at = none number host at
 
 -- ## Names
 
 -- where its next URI is own it comes by that
-own-next : (config : Config) (sent : Request) → is_own config (next_uri sent) ≡ true → own_uri config sent ≡ Some (next_uri sent)
+pub own-next : (config : Config) (sent : Request) → is_own config (next_uri sent) ≡ true → own_uri config sent ≡ Some (next_uri sent)
 unfolding own_uri next_uri
 own-next config sent own = by (slice_get sent.head.route 0) own
   where
@@ -150,7 +150,7 @@ own-next config sent own = by (slice_get sent.head.route 0) own
 
 -- ## Lists and hosts
 
-obeyed-both : (xs ys : List Order) (setup : Setup) (app : AppId) (net : Net Session) → obeyed setup app (xs ++ ys) net ≡ obeyed setup app ys (obeyed setup app xs net)
+pub obeyed-both : (xs ys : List Order) (setup : Setup) (app : AppId) (net : Net Session) → obeyed setup app (xs ++ ys) net ≡ obeyed setup app ys (obeyed setup app xs net)
 unfolding obeyed
 obeyed-both [] ys setup app net = refl
 obeyed-both (x ∷ xs) ys setup app net = obeyed-both xs ys setup app (obey setup app net x)
@@ -194,7 +194,7 @@ module _ (to : AppId) where
       by None is = tt
       by (Some h) is = each h is
 
-  change-known : (number : ℕ) (change : Host Session → Host Session) (net : Net Session) → ((host : Host Session) → (change host).last ≡ host.last) → KnownIn to.serial (host_at to.host net)
+  pub change-known : (number : ℕ) (change : Host Session → Host Session) (net : Net Session) → ((host : Host Session) → (change host).last ≡ host.last) → KnownIn to.serial (host_at to.host net)
       → KnownIn to.serial (host_at to.host (change_host number change net))
   change-known number change net same known =
       at-known (change_host number change net)
@@ -226,7 +226,7 @@ module _ (to : AppId) where
       (λ h there ok is. (subst (λ (m : ℕ). to.serial ≤ m) (sym (same h)) (ok is).0, none h (ok is).1))
       (λ n h there is. gone-at net gone h (subst (λ (m : ℕ). host_at m net ≡ Some h) is there)) to.host host (to.host == number) refl at refl)
 
-  obeyed-counts : (setup : Setup) (app : AppId) (given : List Order) (net : Net Session) → NetCounts to net (obeyed setup app given net)
+  pub obeyed-counts : (setup : Setup) (app : AppId) (given : List Order) (net : Net Session) → NetCounts to net (obeyed setup app given net)
   obeyed-counts setup app given net = obeyed-walks (λ number now. CountGrows {S = Session} to.serial) (NetCounts to) (count-hosts to.serial) (count-nets to) setup app given net
 
   without-keeps : (app : AppId) (net : Net Session) → GoneIn to.serial (host_at to.host net) → GoneIn to.serial (host_at to.host (without_live app net))
@@ -238,7 +238,7 @@ module _ (to : AppId) where
   without-known app net known = change-known app.host _ net (λ host. refl) known
 
   -- a turn that closes brings none back, and forgets none
-  closed-gone : (setup : Setup) (app : AppId) (done : Outcome) (ends : Bool) (net : Net Session) → GoneIn to.serial (host_at to.host net) → GoneIn to.serial (host_at to.host (closed_turn setup app done ends net))
+  pub closed-gone : (setup : Setup) (app : AppId) (done : Outcome) (ends : Bool) (net : Net Session) → GoneIn to.serial (host_at to.host net) → GoneIn to.serial (host_at to.host (closed_turn setup app done ends net))
   unfolding closed_turn invalidated
   closed-gone setup app done true net gone =
       let given = goodbye setup.config done.session (inbox_of (live_at app net)) in
@@ -246,7 +246,7 @@ module _ (to : AppId) where
   closed-gone setup app done false net gone =
       (with_ready-walks (λ number now. CountGrows {S = Session} to.serial) (NetCounts to) (count-hosts to.serial) (count-nets to) app done (live_at app net) net).gone gone
 
-  closed-known : (setup : Setup) (app : AppId) (done : Outcome) (ends : Bool) (net : Net Session) → KnownIn to.serial (host_at to.host net) → KnownIn to.serial (host_at to.host (closed_turn setup app done ends net))
+  pub closed-known : (setup : Setup) (app : AppId) (done : Outcome) (ends : Bool) (net : Net Session) → KnownIn to.serial (host_at to.host net) → KnownIn to.serial (host_at to.host (closed_turn setup app done ends net))
   unfolding closed_turn invalidated
   closed-known setup app done true net known =
       let given = goodbye setup.config done.session (inbox_of (live_at app net)) in
@@ -254,7 +254,7 @@ module _ (to : AppId) where
   closed-known setup app done false net known =
       (with_ready-walks (λ number now. CountGrows {S = Session} to.serial) (NetCounts to) (count-hosts to.serial) (count-nets to) app done (live_at app net) net).known known
 
-  closed-numbered : (setup : Setup) (app : AppId) (done : Outcome) (ends : Bool) (net : Net Session) → AreNumbered net → AreNumbered (closed_turn setup app done ends net)
+  pub closed-numbered : (setup : Setup) (app : AppId) (done : Outcome) (ends : Bool) (net : Net Session) → AreNumbered net → AreNumbered (closed_turn setup app done ends net)
   unfolding closed_turn invalidated without_live tidied with_ready
   closed-numbered setup app done true net numbered =
       change_host-numbered app.host _ (obeyed setup app (goodbye setup.config done.session (inbox_of (live_at app net))) net) (λ host rising. remove-rising host.sessions 0 host.last (is_live app.serial) rising)
@@ -265,7 +265,7 @@ module _ (to : AppId) where
       by None = numbered
       by (Some live) = if-net _ (queue_for app queued.Ready net) net (queue_for-numbered app queued.Ready net numbered) numbered
 
-  closed-hosts : (setup : Setup) (app : AppId) (done : Outcome) (ends : Bool) (net : Net Session) → length (closed_turn setup app done ends net).hosts ≡ length net.hosts
+  pub closed-hosts : (setup : Setup) (app : AppId) (done : Outcome) (ends : Bool) (net : Net Session) → length (closed_turn setup app done ends net).hosts ≡ length net.hosts
   unfolding closed_turn invalidated without_live with_ready
   closed-hosts setup app done true net =
       change_host-hosts app.host _ (obeyed setup app (goodbye setup.config done.session (inbox_of (live_at app net))) net) ∙ obeyed-hosts setup app (goodbye setup.config done.session (inbox_of (live_at app net))) net
@@ -275,10 +275,10 @@ module _ (to : AppId) where
       by None = refl
       by (Some live) = if-hosts _ (length net.hosts) (queue_for app queued.Ready net) net (queue_for-hosts app queued.Ready net) refl
 
-over : (a b c : ℕ) → a ≤ b → b < c → a < c
+pub over : (a b c : ℕ) → a ≤ b → b < c → a < c
 over a b c p q = omega (arith, p, q)
 
-more : (a b c : ℕ) → a ≤ b → b ≤ c → a ≤ c
+pub more : (a b c : ℕ) → a ≤ b → b ≤ c → a ≤ c
 more a b c p q = omega (arith, p, q)
 
 -- ## The turn
@@ -293,20 +293,20 @@ module _ (setup : Setup) (net : Net Session) (app : AppId) (live : Live Session)
   abbrev pub Done : Outcome
   Done = outcome_by as_session setup.config live.session TurnOf
 
-  abbrev Change : Host Session → Host Session
+  abbrev pub Change : Host Session → Host Session
   Change host = record host { sessions = change_first (is_live app.serial) (turned_live as_session setup.config net.moment TurnOf Done) host.sessions }
 
-  abbrev Changed : Net Session
+  abbrev pub Changed : Net Session
   Changed = change_host app.host Change Start
 
   abbrev After : Net Session
   After = after_step as_session setup net (steps.Turn app event now made end)
 
-  after-is : live_at app net ≡ Some live → slice_get live.inbox 0 ≡ Some waiting → After ≡ delivered as_session setup (closed_turn setup app Done Done.ends (obeyed setup app Done.orders Changed))
+  pub after-is : live_at app net ≡ Some live → slice_get live.inbox 0 ≡ Some waiting → After ≡ delivered as_session setup (closed_turn setup app Done Done.ends (obeyed setup app Done.orders Changed))
   unfolding after_step stepped turns turns_first turned
   after-is lives first = rw (lives, first) refl
 
-  changed-numbered : AreNumbered net → AreNumbered Changed
+  pub changed-numbered : AreNumbered net → AreNumbered Changed
   unfolding turned_live
   changed-numbered numbered = change_host-numbered app.host Change Start (λ host rising. change-rising host.sessions 0 host.last (is_live app.serial) _ (λ one. refl) rising) numbered
 

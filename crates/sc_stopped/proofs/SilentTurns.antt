@@ -151,12 +151,12 @@ passed-none config event working = by (is_request_event event)
 -- ## A turn for which nobody is called
 
 -- what the event shows
-record IsQuiet (base : List Order) (shown : Prepared) : Type 0 where
-  event : shown.event ≡ None
-  req : shown.req ≡ None
-  given : shown.orders ≡ base
+pub record IsQuiet (base : List Order) (shown : Prepared) : Type 0 where
+  pub event : shown.event ≡ None
+  pub req : shown.req ≡ None
+  pub given : shown.orders ≡ base
 
-silent-calls : (charters : Option Charters) (shown : Prepared) (made : List CallRecord) (end : End) → shown.event ≡ None → AllowedBy charters shown made end → (made ≡ []) × (end ≡ ends.Fine)
+pub silent-calls : (charters : Option Charters) (shown : Prepared) (made : List CallRecord) (end : End) → shown.event ≡ None → AllowedBy charters shown made end → (made ≡ []) × (end ≡ ends.Fine)
 unfolding AllowedBy Allowed IsSilent
 silent-calls None shown made end none allowed = absurd allowed
 silent-calls (Some charters) shown made end none allowed = subst (λ (event : Option Event). Allowed charters.0 charters.1 shown.view event made end) none allowed
@@ -197,14 +197,14 @@ none-shown : (y : Session) (number : ℕ) (request : Request) → IsQuiet (refus
 unfolding prepared_request silent
 none-shown y number request = record { event = refl; req = refl; given = refl }
 
-quiet-none : (config : Config) (ringing : List ℕ) (x : Session) (number now : ℕ) (request : Request) → session_for x request ≡ None
+pub quiet-none : (config : Config) (ringing : List ℕ) (x : Session) (number now : ℕ) (request : Request) → session_for x request ≡ None
     → IsQuiet (refused number 481 does_not_exist request) (prepared config ringing x (record { number = number; event = queued.Request request }) now)
 unfolding prepared prepared_for session_for
 quiet-none config ringing x number now request none =
     subst (λ (found : Option SessId). IsQuiet (refused number 481 does_not_exist request) (prepared_request (dated x now) number request found)) (sym none)
     (none-shown (dated x now) number request)
 
-abbrev low_answer : ℕ → Request → List Order
+abbrev pub low_answer : ℕ → Request → List Order
 low_answer number request = refused number 500 server_error request
 
 low-shown : (y : Session) (number : ℕ) (sess : SessId) (found : SessionView) (request : Request) (b : Bool) → b ≡ true
@@ -224,7 +224,7 @@ unfolding prepared_request
 low-requested y number sess found request there is =
     subst (λ (which : Option SessionView). IsQuiet (low_answer number request) (taken_in y number sess which request)) (sym there) (low-taken y number sess found request is)
 
-quiet-low : (config : Config) (ringing : List ℕ) (x : Session) (number now : ℕ) (request : Request) (sess : SessId) (found : SessionView) → session_for x request ≡ Some sess
+pub quiet-low : (config : Config) (ringing : List ℕ) (x : Session) (number now : ℕ) (request : Request) (sess : SessId) (found : SessionView) → session_for x request ≡ Some sess
     → session_in x.view sess ≡ Some found → is_low (leg_of x.known sess) request ≡ true
     → IsQuiet (low_answer number request) (prepared config ringing x (record { number = number; event = queued.Request request }) now)
 unfolding prepared prepared_for session_for

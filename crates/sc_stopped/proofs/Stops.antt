@@ -62,7 +62,7 @@ module _ {S : Type 0} (epoch : ℕ) (app : AppId) (uri : Uri) (within : IsOf64 e
       let at : named_live epoch app.host uri host ≡ Some live = subst (λ (n : ℕ). named_live epoch n uri host ≡ Some live) here is in
       absurd (none-some (find (is_live app.serial) host.sessions) live (gone here) (sym (named_live-is epoch app.host app.serial uri host within small named) ∙ at))
 
-  none-from : (hosts : List (Host S)) (k : ℕ) → k + length hosts ≤ 2 ^ 64 → AllSmall hosts
+  pub none-from : (hosts : List (Host S)) (k : ℕ) → k + length hosts ≤ 2 ^ 64 → AllSmall hosts
       → ((i : ℕ) (host : Host S) → slice_get hosts i ≡ Some host → k + i ≡ app.host → find (is_live app.serial) host.sessions ≡ None) → named_from epoch uri k hosts ≡ None
   unfolding named_from has_named
   none-from [] k under small gone = refl
@@ -70,7 +70,7 @@ module _ {S : Type 0} (epoch : ℕ) (app : AppId) (uri : Uri) (within : IsOf64 e
       rw (not-named k host (under-place k (length hosts) _ under) small.0 (λ here. gone 0 host refl (this-is k app.host here)) (named_live epoch k uri host) refl)
       (none-from hosts (k + 1) (next-place k (length hosts) _ under) small.1 (λ i h at is. gone (suc i) h at (next-is k i app.host is)))
 
-gone-at : {S : Type 0} (app : AppId) (net : Net S) → live_at app net ≡ None → (i : ℕ) (host : Host S) → host_at i net ≡ Some host → 0 + i ≡ app.host → find (is_live app.serial) host.sessions ≡ None
+pub gone-at : {S : Type 0} (app : AppId) (net : Net S) → live_at app net ≡ None → (i : ℕ) (host : Host S) → host_at i net ≡ Some host → 0 + i ≡ app.host → find (is_live app.serial) host.sessions ≡ None
 gone-at {S = S} app net gone i host at is =
     let same : i ≡ app.host = zero-more i app.host is in
     let there : host_at app.host net ≡ Some host = subst (λ (n : ℕ). host_at n net ≡ Some host) same at in

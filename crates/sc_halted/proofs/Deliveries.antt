@@ -1,0 +1,177 @@
+-- A request on the wire whose own URI names a session comes to it in that step, or is answered by the host that it comes to.
+use Rattle.std.proofs.Common.{◌++◌, ◌+◌, ◌<◌, ◌^◌, ◌∙◌, ◌∷◌, ◌≡◌, ◌≤◌, ◌⊎◌, Bool, List, None, Option, Some, [], ap, append_assoc, arith, false, inl, inr, length, refl, slice_get, subst, suc, sym, true, zero, ℕ}
+use Rattle.std.specs.Prelude.{is_some}
+use Rattle.sc_value.specs.declared.ids.AppId.{AppId}
+use Rattle.sc_value.specs.declared.message.Request.{Request}
+use Rattle.sc_value.specs.declared.parts.Uri.{Uri}
+use Rattle.sc_tokens.specs.Names.{same_bytes}
+use Rattle.sc_parts.specs.declared.setup.Setup.{Setup}
+use Rattle.sc_state.specs.declared.host.Live.{Live}
+use Rattle.sc_state.specs.declared.net.Entry.{Entry}
+use Rattle.sc_state.specs.declared.net.Net.{Net}
+use Rattle.sc_state.specs.declared.queue.Queued.TheVariants as queued
+use Rattle.sc_state.specs.declared.queue.Waiting.{Waiting}
+use Rattle.sc_state.specs.declared.session.Session.{Session}
+use Rattle.sc_grammar.specs.Written.{Bytes}
+use Rattle.sc_model.specs.DialogRequests.{cancel}
+use Rattle.sc_model.specs.Dialogs.{tag_of}
+use Rattle.sc_model.specs.Names.{IsOf64}
+use Rattle.sc_hosts.specs.Histories.{as_session}
+use Rattle.sc_hosts.specs.Inboxes.{is_full}
+use Rattle.sc_hosts.specs.Nets.{deliver_first}
+use Rattle.sc_hosts.specs.Runs.{delivered}
+use Rattle.sc_hosts.specs.Steps.{live_at}
+use Rattle.sc_hosts.specs.Taking.{names, own_uri, unrouted}
+use Rattle.sc_hosts.specs.Transacting.{method_of}
+use Rattle.sc_hosts.specs.Words.{does_not_exist, unavailable}
+use Rattle.sc_hosts.proofs.Deliveries.{one-delivery}
+use Rattle.sc_lasting.specs.Lasting.{All}
+use Rattle.sc_waits.specs.Growing.{events_in}
+use Rattle.sc_reached.specs.Reached.{AllSmall, answered_at_once}
+use Rattle.sc_reached.proofs.Delivering.{delivers}
+use Rattle.sc_hops.specs.Hops.{IsOnWay}
+use Rattle.sc_stopped.specs.Stopped.{IsFirstTo}
+use Rattle.sc_stopped.proofs.Stops.{full-back, gone-back}
+use Rattle.sc_ways.proofs.Counts.{H as RisesAt, Rises, hosts as rise-hosts, nets as rise-nets, small-net}
+use Rattle.sc_ways.proofs.Got.{small-sessions}
+use Rattle.sc_onward.proofs.Clean.{IsApartFrom, first-goes}
+use Rattle.sc_onward.proofs.Delivered.{Arrives, Stands, busy-is, delivered-events, first-hosts, first-walks, grown-list, grows, next-more, rises, stands-next, unclaimed-is}
+use Rattle.sc_halted.specs.Halted.{IsAnsweredBack, after_deliveries, entry_of}
+
+-- there is one at each place of a list
+some-at : {A : Type 0} (xs : List A) (n : ℕ) → n < length xs → (x : A) × (slice_get xs n ≡ Some x)
+some-at [] n less = absurd (none n less)
+  where
+    none : (n : ℕ) → n < 0 → ⊥
+    none n less = omega (arith, less)
+some-at (x ∷ xs) zero less = (x, refl)
+some-at (x ∷ xs) (suc n) less = some-at xs n (lower n (length xs) less)
+  where
+    lower : (n m : ℕ) → suc n < suc m → n < m
+    lower n m less = omega (arith, less)
+
+more-count : (a b c : ℕ) → a ≤ b → b < c → a < c
+more-count a b c p q = omega (arith, p, q)
+
+module _ (setup : Setup) (epoch sender : ℕ) (sent : Request) (to : AppId) (uri : Uri) (small : IsOf64 epoch to 0) (no_cancel : same_bytes (method_of sent) cancel ≡ false)
+    (tagged : is_some (tag_of sent.head.to) ≡ true) (by : own_uri setup.config sent ≡ Some uri) (named : names epoch to uri ≡ true) where
+  abbrev It : Entry
+  It = entry_of sender to.host sent
+
+  abbrev Next : Net Session → Net Session
+  Next net = deliver_first as_session setup net
+
+  abbrev End : Net Session → Net Session
+  End net = delivered as_session setup net
+
+  -- what is known of the net while it is on the wire
+  pub record Ready (net : Net Session) : Type 0 where
+    pub stands : Stands setup epoch sender sent to uri small no_cancel tagged by named net
+    pub there : to.host < length net.hosts
+
+  -- it waits in the session, or its host answered it
+  abbrev pub Comes : Net Session → Type 0
+  Comes net = Arrives setup sent to net.count (End net) ⊎ (IsAnsweredBack setup net It sent 481 does_not_exist ⊎ IsAnsweredBack setup net It sent 503 unavailable)
+
+  it-first : (net : Net Session) (back : List Entry) → net.wire ≡ It ∷ back → slice_get net.wire 0 ≡ Some It
+  it-first net back is = ap (λ (wire : List Entry). slice_get wire 0) is
+
+  -- as its host takes it
+  to-host : (net : Net Session) (back : List Entry) → net.wire ≡ It ∷ back → Ready net → (End net).count < 2 ^ 64 → IsFirstTo setup It sent net to
+  to-host net back is ready less =
+      let at = some-at net.hosts to.host ready.there in
+      let all : AllSmall net.hosts = small-net net ready.stands.numbered ready.stands.within (more-count net.count (End net).count _ (rises setup epoch sender sent to uri small no_cancel tagged by named net).count less) in record {
+        first = it-first net back is;
+        message = refl;
+        receiver = refl;
+        no_cancel = no_cancel;
+        tagged = tagged;
+        host = at.0;
+        there = at.1;
+        unclaimed = unclaimed-is sender sent at.0 no_cancel (ready.stands.clean to.host at.0 at.1);
+        uri = uri;
+        by = by;
+        named = subst (λ (e : ℕ). names e to uri ≡ true) (sym ready.stands.at) named;
+        within = subst (λ (e : ℕ). IsOf64 e to 0) (sym ready.stands.at) small;
+        small = small-sessions net.hosts to.host at.0 all at.1;
+      }
+
+  -- in a session that lives and has room
+  first-waits : (net : Net Session) (back : List Entry) → net.wire ≡ It ∷ back → IsFirstTo setup It sent net to → (live : Live Session) → live_at to net ≡ Some live → is_full live ≡ false
+      → Arrives setup sent to net.count (End net)
+  first-waits net back is first live lives room =
+      let alone = delivers as_session setup It sent net to live (record {
+        first = first.first;
+        message = first.message;
+        receiver = first.receiver;
+        no_cancel = first.no_cancel;
+        tagged = first.tagged;
+        host = first.host;
+        there = first.there;
+        unclaimed = first.unclaimed;
+        uri = first.uri;
+        by = first.by;
+        named = first.named;
+        lives = lives;
+        room = room;
+        within = first.within;
+        small = first.small;
+      }) in
+      let next : Net Session = Next net in
+      let on = grows setup epoch sender sent to uri small no_cancel tagged by named next in
+      let waiting : Waiting = record { number = net.count + 1; event = queued.Request (unrouted setup.config sent) } in
+      let here : events_in to next ≡ live.inbox ++ waiting ∷ [] = delivered-events to live waiting.event (answered_at_once It sent) net next alone in
+      let ended : Arrives setup sent to net.count (End next) = record {
+        waiting = waiting;
+        is = refl;
+        above = next-more net.count;
+        held = record { first = live.inbox; rest = on.new; is = grown-list live.inbox on.new (events_in to next) (events_in to (End next)) waiting here on.waits };
+      } in
+      subst (λ (n : Net Session). Arrives setup sent to net.count n) (sym (one-delivery as_session setup net (busy-is net It back is))) ended
+
+  first-comes : (net : Net Session) (back : List Entry) → net.wire ≡ It ∷ back → Ready net → (End net).count < 2 ^ 64 → Comes net
+  unfolding after_deliveries
+  first-comes net back is ready less = by-live (live_at to net) refl
+    where
+      by-room : (live : Live Session) → live_at to net ≡ Some live → (b : Bool) → is_full live ≡ b → Comes net
+      by-room live lives true full =
+          inr (inr (record { count = 0; first = it-first net back is; answered = full-back as_session setup It sent net to live (to-host net back is ready less) lives full }))
+      by-room live lives false room = inl (first-waits net back is (to-host net back is ready less) live lives room)
+
+      by-live : (found : Option (Live Session)) → live_at to net ≡ found → Comes net
+      by-live None none = inr (inl (record { count = 0; first = it-first net back is; answered = gone-back as_session setup It sent net to (to-host net back is ready less) none }))
+      by-live (Some live) lives = by-room live lives (is_full live) refl
+
+  next-ready : (net : Net Session) (entry : Entry) (rest : List Entry) → net.wire ≡ entry ∷ rest → IsOnWay (IsApartFrom sent) entry.message → Ready net → Ready (Next net)
+  next-ready net entry rest is way ready = record {
+    stands = stands-next setup epoch sender sent to uri small no_cancel tagged by named net entry rest is way ready.stands;
+    there = subst (λ (n : ℕ). to.host < n) (sym (first-hosts as_session setup net)) ready.there;
+  }
+
+  one-later : (code : ℕ) (reason : Bytes) (net : Net Session) → IsAnsweredBack setup (Next net) It sent code reason → IsAnsweredBack setup net It sent code reason
+  unfolding after_deliveries
+  one-later code reason net back = record { count = suc back.count; first = back.first; answered = back.answered }
+
+  later-comes : (net : Net Session) → End net ≡ End (Next net) → net.count ≤ (Next net).count → Comes (Next net) → Comes net
+  later-comes net same up (inl comes) =
+      inl (subst (λ (n : Net Session). Arrives setup sent to net.count n) (sym same) (record {
+        waiting = comes.waiting;
+        is = comes.is;
+        above = more-count net.count (Next net).count comes.waiting.number up comes.above;
+        held = comes.held;
+      }))
+  later-comes net same up (inr (inl gone)) = inr (inl (one-later 481 does_not_exist net gone))
+  later-comes net same up (inr (inr full)) = inr (inr (one-later 503 unavailable net full))
+
+  -- behind others on the wire
+  pub comes-or-back : (front : List Entry) (net : Net Session) (back : List Entry) → net.wire ≡ front ++ It ∷ back → All (λ (entry : Entry). IsOnWay (IsApartFrom sent) entry.message) front → Ready net
+      → (End net).count < 2 ^ 64 → Comes net
+  unfolding All
+  comes-or-back [] net back is all ready less = first-comes net back is ready less
+  comes-or-back (entry ∷ front) net back is all ready less =
+      let next : Net Session = Next net in
+      let same : End net ≡ End next = one-delivery as_session setup net (busy-is net entry (front ++ It ∷ back) is) in
+      let goes = first-goes sent as_session setup entry (front ++ It ∷ back) net is all.0 in
+      let wire : next.wire ≡ front ++ It ∷ (back ++ goes.more) = goes.wire ∙ append_assoc front (It ∷ back) goes.more in
+      later-comes net same (first-walks RisesAt Rises rise-hosts rise-nets as_session tt setup net).count
+      (comes-or-back front next (back ++ goes.more) wire all.1 (next-ready net entry (front ++ It ∷ back) is all.0 ready) (subst (λ (n : Net Session). n.count < 2 ^ 64) same less))

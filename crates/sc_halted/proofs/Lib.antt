@@ -1,0 +1,4 @@
+pub mod Ending
+pub mod Deliveries
+pub mod Away
+pub mod Halting
