@@ -9,6 +9,7 @@ use Rattle.sc_value.specs.declared.message.Request.{Request}
 use Rattle.sc_value.specs.declared.message.Response.{Response}
 use Rattle.sc_value.specs.declared.parts.Address.{Address}
 use Rattle.sc_value.specs.declared.parts.Uri.{Uri}
+use Rattle.sc_tokens.specs.Names.{same_bytes}
 use Rattle.sc_terms.specs.declared.settings.Config.{Config}
 use Rattle.sc_parts.specs.declared.choice.Choice.{Choice}
 use Rattle.sc_parts.specs.declared.choice.Choice.TheVariants as choices
@@ -33,6 +34,7 @@ use Rattle.sc_state.specs.declared.queue.Queued.TheVariants as queued
 use Rattle.sc_grammar.specs.Written.{Bytes}
 use Rattle.sc_model.specs.Dialogs.{tag_of}
 use Rattle.sc_model.specs.OwnHosts.{is_own}
+use Rattle.sc_model.specs.DialogRequests.{cancel}
 use Rattle.sc_hosts.specs.Destinations.{next_uri}
 use Rattle.sc_hosts.specs.Messages.{cancel_of}
 use Rattle.sc_hosts.specs.Nets.{host_at, change_host, put, put_reply, placed, queued_at, queue_for, tell_own, send_to, leave_for, leave, begin_by, client_at, named_host, with_routes, send_named, send_later, peer_of_host, peer_of_place, acknowledge, send_cancel, cancel_by, cancel_for, respond_by, obey, obeyed, is_busy, deliver_at, deliver_entry, deliver_first, weight}
@@ -41,7 +43,7 @@ use Rattle.sc_hosts.specs.Sessions.{Form}
 use Rattle.sc_hosts.specs.Settle.{steps, settle}
 use Rattle.sc_hosts.specs.Taking.{named_live, is_named_live, names, own_uri, unrouted, takes}
 use Rattle.sc_hosts.specs.TakingResponses.{cancelling}
-use Rattle.sc_hosts.specs.Transacting.{is_client, tidied, pass_client, with_client}
+use Rattle.sc_hosts.specs.Transacting.{is_client, tidied, pass_client, with_client, method_of}
 use Rattle.sc_lasting.specs.Lasting.{All}
 use Rattle.sc_lasting.proofs.Began.{test-found}
 use Rattle.sc_lasting.proofs.Parts.{all-append, all-filter, all-found}
@@ -280,18 +282,19 @@ module _ {S : Type 0} (Way Sound Told Sent : Request → Type 0) (setup : Setup)
   named-by number uri host live is = test-found (λ (live : Live S). names epoch (record { host = number; serial = live.serial }) uri) host.sessions live is
 
   -- a request that is on its way is right for the session to which it comes
-  comes : (request : Request) → Way request → (number : ℕ) (host : Host S) → is_some (tag_of request.head.to) ≡ true
+  comes : (request : Request) → Way request → (number : ℕ) (host : Host S) → same_bytes (method_of request) cancel ≡ false → is_some (tag_of request.head.to) ≡ true
       → (uri : Uri) → own_uri setup.config request ≡ Some uri → (live : Live S) → named_live epoch number uri host ≡ Some live
       → (FitsIn Told Sent setup epoch) (record { host = number; serial = live.serial }) (queued.Request (unrouted setup.config request))
   unfolding IsFit
-  comes request way number host tagged uri by live is =
-      λ told. record { sent = request; is = kinds.sent setup.config request way tagged told; popped = refl; uri = uri; by = by; named = named-by number uri host live is }
+  comes request way number host no_cancel tagged uri by live is =
+      λ told.
+      record { sent = request; is = kinds.sent setup.config request way tagged told; popped = refl; uri = uri; by = by; named = named-by number uri host live is; tagged = tagged; no_cancel = no_cancel }
 
   takes-ok : (form : Form S) (from : Peer) (number now : ℕ) (noted : Option Note) (message : Message) (count : ℕ) (host : Host S) → IsOnWay Way message
       → Good number host → Took number now (takes form setup.config (record { host = number; epoch = epoch; from = from; now = now; count = count }) noted message host)
   unfolding takes IsOnWay
   takes-ok form from number now noted (messages.Request request) count host way good =
-      take_request-ok Way Sound (FitsIn Told Sent setup epoch) (plain-fit Told Sent setup.config epoch) base number now form setup.config epoch from noted request count host (λ tagged uri by live is. comes request way number host tagged uri by live is) good
+      take_request-ok Way Sound (FitsIn Told Sent setup epoch) (plain-fit Told Sent setup.config epoch) base number now form setup.config epoch from noted request count host (λ no_cancel tagged uri by live is. comes request way number host no_cancel tagged uri by live is) good
   takes-ok form from number now noted (messages.Response response) count host way good =
       take_response-ok Way Sound (FitsIn Told Sent setup epoch) (plain-fit Told Sent setup.config epoch) base number now kinds.kin_way kinds.kin_sound setup.config epoch from response count host good
 

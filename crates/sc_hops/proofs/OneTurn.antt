@@ -164,7 +164,7 @@ undated : (setup : Setup) (epoch : ℕ) (live : Live Session) (request : Request
     → IsFit HasMoreVias (IsPassedBy setup.config live.session request) setup.config epoch app event
 unfolding IsFit
 undated setup epoch live request now app (queued.Request later) fits = λ long. let brought = fits long in
-    record { sent = brought.sent; is = dated-passed setup.config live.session now request brought.sent brought.is; popped = brought.popped; uri = brought.uri; by = brought.by; named = brought.named }
+    record { sent = brought.sent; is = dated-passed setup.config live.session now request brought.sent brought.is; popped = brought.popped; uri = brought.uri; by = brought.by; named = brought.named; tagged = brought.tagged; no_cancel = brought.no_cancel }
 undated setup epoch live request now app (queued.Initial region subscriber popped came) fits = tt
 undated setup epoch live request now app (queued.Response branch response) fits = tt
 undated setup epoch live request now app (queued.Cancelled number) fits = tt

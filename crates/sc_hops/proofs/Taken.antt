@@ -26,6 +26,7 @@ use Rattle.sc_tokens.specs.Names.{same_bytes}
 use Rattle.sc_grammar.specs.Written.{Bytes}
 use Rattle.sc_model.specs.SessionStates.{invite}
 use Rattle.sc_model.specs.Dialogs.{tag_of}
+use Rattle.sc_model.specs.DialogRequests.{cancel}
 use Rattle.sc_hosts.specs.Inboxes.{is_live, live_in, queue, quiet, replying, with_event}
 use Rattle.sc_hosts.specs.Messages.{ack_of, cancel_of, kin, trying_response}
 use Rattle.sc_hosts.specs.Sessions.{Form}
@@ -221,15 +222,24 @@ module _ {S : Type 0} (Way Sound : Request → Type 0) (Fits : AppId → Queued 
   new-by true x y tagged is p q = p is
   new-by false x y tagged is p q = q
 
+  cancel-by : (b : Bool) (x y : Taken S) (cancels : Bool) → cancels ≡ b → Ok x → (cancels ≡ false → Ok y) → Ok (cond b x y)
+  cancel-by true x y cancels is p q = p
+  cancel-by false x y cancels is p q = q is
+
+  -- the same, where the request is no CANCEL
+  abbrev pub ComesNew : Config → ℕ → Request → Host S → Type 0
+  ComesNew config epoch request host = same_bytes (method_of request) cancel ≡ false → Comes config epoch request host
+
   take_unclaimed-ok : (form : Form S) (config : Config) (epoch : ℕ) (from : Peer) (noted : Option Note) (request : Request) (count : ℕ) (host : Host S)
-      → Comes config epoch request host → Good host → Ok (take_unclaimed form config (record { host = number; epoch = epoch; from = from; now = now; count = count }) noted request host)
+      → ComesNew config epoch request host → Good host → Ok (take_unclaimed form config (record { host = number; epoch = epoch; from = from; now = now; count = count }) noted request host)
   unfolding take_unclaimed take_new
   take_unclaimed-ok form config epoch from noted request count host comes good =
-      if-ok _ _ _ (refuse-ok config from 481 _ request count host good)
-      (new-by (is_some (tag_of request.head.to)) _ _ (is_some (tag_of request.head.to)) refl (λ tagged. take_later-ok config epoch from request count host tagged comes good) (take_begun-ok form config epoch from noted request count host good))
+      cancel-by (same_bytes (method_of request) cancel) _ _ (same_bytes (method_of request) cancel) refl (refuse-ok config from 481 _ request count host good)
+      (λ no_cancel. new-by (is_some (tag_of request.head.to)) _ _ (is_some (tag_of request.head.to)) refl (λ tagged. take_later-ok config epoch from request count host tagged (comes no_cancel) good)
+      (take_begun-ok form config epoch from noted request count host good))
 
   take_claimed-ok : (form : Form S) (config : Config) (epoch : ℕ) (from : Peer) (noted : Option Note) (request : Request) (claim : Claim) (count : ℕ) (host : Host S)
-      → Comes config epoch request host → Good host → Ok (take_claimed form config (record { host = number; epoch = epoch; from = from; now = now; count = count }) noted request claim host)
+      → ComesNew config epoch request host → Good host → Ok (take_claimed form config (record { host = number; epoch = epoch; from = from; now = now; count = count }) noted request claim host)
   unfolding take_claimed
   take_claimed-ok form config epoch from noted request (Cancels server) count host comes good = cancelled-ok from server request count host good
   take_claimed-ok form config epoch from noted request (Acks server) count host comes good = quiet-ok _ count (pass_server-good server.event _ host good)
@@ -237,6 +247,6 @@ module _ {S : Type 0} (Way Sound : Request → Type 0) (Fits : AppId → Queued 
   take_claimed-ok form config epoch from noted request Unclaimed count host comes good = take_unclaimed-ok form config epoch from noted request count host comes good
 
   pub take_request-ok : (form : Form S) (config : Config) (epoch : ℕ) (from : Peer) (noted : Option Note) (request : Request) (count : ℕ) (host : Host S)
-      → Comes config epoch request host → Good host → Ok (take_request form config (record { host = number; epoch = epoch; from = from; now = now; count = count }) noted request host)
+      → ComesNew config epoch request host → Good host → Ok (take_request form config (record { host = number; epoch = epoch; from = from; now = now; count = count }) noted request host)
   unfolding take_request
   take_request-ok form config epoch from noted request count host comes good = take_claimed-ok form config epoch from noted request _ count host comes good

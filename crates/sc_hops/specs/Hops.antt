@@ -8,6 +8,7 @@ use Rattle.sc_value.specs.declared.message.Message.TheVariants as messages
 use Rattle.sc_value.specs.declared.message.Request.{Request}
 use Rattle.sc_value.specs.declared.parts.Address.{Address}
 use Rattle.sc_value.specs.declared.parts.Uri.{Uri}
+use Rattle.sc_tokens.specs.Names.{same_bytes}
 use Rattle.sc_terms.specs.declared.calls.CallRecord.{CallRecord}
 use Rattle.sc_terms.specs.declared.calls.End.{End}
 use Rattle.sc_terms.specs.declared.settings.Config.{Config}
@@ -28,6 +29,7 @@ use Rattle.sc_state.specs.declared.session.Session.{Session}
 use Rattle.sc_grammar.specs.Written.{Bytes}
 use Rattle.sc_model.specs.Dialogs.{tag_of}
 use Rattle.sc_model.specs.OwnHosts.{is_own}
+use Rattle.sc_model.specs.DialogRequests.{cancel}
 use Rattle.sc_hosts.specs.Destinations.{next_uri}
 use Rattle.sc_hosts.specs.EventLists.{waiting_in}
 use Rattle.sc_hosts.specs.Histories.{as_session}
@@ -37,7 +39,7 @@ use Rattle.sc_hosts.specs.Messages.{kin, on_branch, passed_request}
 use Rattle.sc_hosts.specs.Nets.{host_at, with_routes}
 use Rattle.sc_hosts.specs.Steps.{live_at, outcome_by, turn_of}
 use Rattle.sc_hosts.specs.Taking.{names, own_uri, unrouted}
-use Rattle.sc_hosts.specs.Transacting.{same_top}
+use Rattle.sc_hosts.specs.Transacting.{same_top, method_of}
 use Rattle.sc_lives.specs.Numbers.{AreNumbered}
 use Rattle.sc_once.specs.Growing.{IsBetween}
 use Rattle.sc_lasting.specs.Lasting.{All, Numbered}
@@ -53,7 +55,7 @@ IsAny request = Unit {0}
 -- ## What is queued
 
 -- it is one of these requests as it came to the session: by an own URI that names the session, the
--- top Route or the Request-URI, and without that Route
+-- top Route or the Request-URI, and without that Route. It has a To tag and is no CANCEL
 pub record IsBrought (Sent : Request → Type 0) (config : Config) (epoch : ℕ) (app : AppId)
     (request : Request) : Type 0 where
   pub sent : Request
@@ -62,6 +64,8 @@ pub record IsBrought (Sent : Request → Type 0) (config : Config) (epoch : ℕ)
   pub uri : Uri
   pub by : own_uri config sent ≡ Some uri
   pub named : names epoch app uri ≡ true
+  pub tagged : is_some (tag_of sent.head.to) ≡ true
+  pub no_cancel : same_bytes (method_of sent) cancel ≡ false
 
 -- where it is a later request of a kind, it is one of these as it came to the session
 unfoldable pub IsFit : (Request → Type 0) → (Request → Type 0) → Config → ℕ → AppId → Queued

@@ -110,7 +110,7 @@ module _ (setup : Setup) (epoch : ℕ) (small : epoch < 2 ^ 64) (call_id : Bytes
       subst (λ (bytes : Bytes). same_bytes bytes call_id ≡ true) (sym same) call
 
   -- as it comes to the next session
-  goes-on : (net after : Net Session) (app : AppId) (request : Request) (next : Got) → same_bytes request.head.call_id call_id ≡ true
+  pub goes-on : (net after : Net Session) (app : AppId) (request : Request) (next : Got) → same_bytes request.head.call_id call_id ≡ true
       → (on : IsNext setup epoch net after app request next) → Goes after next on.later
   goes-on net after app request next call on = record { waits = Held on.held; is = on.is; vias = on.vias; call = next-call net after app request next call on }
 
@@ -135,15 +135,15 @@ module _ (setup : Setup) (epoch : ℕ) (small : epoch < 2 ^ 64) (call_id : Bytes
   end-visits (Some next) app later none = absurd (none next refl)
 
   -- the turn is that of the event
-  record IsTurn (got : Got) (step : Step) : Type 0 where
-    event : ℕ
-    now : ℕ
-    made : List CallRecord
-    end : End
-    number : event ≡ got.waiting.number
-    is : step ≡ steps.Turn got.app event now made end
+  pub record IsTurn (got : Got) (step : Step) : Type 0 where
+    pub event : ℕ
+    pub now : ℕ
+    pub made : List CallRecord
+    pub end : End
+    pub number : event ≡ got.waiting.number
+    pub is : step ≡ steps.Turn got.app event now made end
 
-  turn-of : (got : Got) (step : Step) → is_turn_of got step ≡ true → IsTurn got step
+  pub turn-of : (got : Got) (step : Step) → is_turn_of got step ≡ true → IsTurn got step
   unfolding is_turn_of
   turn-of got (steps.In from message) is = cc
   turn-of got (steps.Bad from bad) is = cc
@@ -158,7 +158,7 @@ module _ (setup : Setup) (epoch : ℕ) (small : epoch < 2 ^ 64) (call_id : Bytes
   At net step = record { before = net; step = step; after = after_step as_session setup net step }
 
   -- what a turn of the event passes on
-  passes : (net : Net Session) (got next : Got) (request : Request) (step : Step) → is_turn_of got step ≡ true → IsFine setup epoch (At net step) → Goes net got request
+  pub passes : (net : Net Session) (got next : Got) (request : Request) (step : Step) → is_turn_of got step ≡ true → IsFine setup epoch (At net step) → Goes net got request
       → find (is_passed_on got) (got_in (At net step)) ≡ Some next → IsNext setup epoch net (after_step as_session setup net step) got.app request next
   passes net got next request step is fine goes found =
       let turn = turn-of got step is in
@@ -166,7 +166,7 @@ module _ (setup : Setup) (epoch : ℕ) (small : epoch < 2 ^ 64) (call_id : Bytes
       (next-of setup net got.app turn.event turn.now turn.made turn.end epoch got next request goes.is goes.vias turn.number
       (subst (λ (s : Step). find (is_passed_on got) (got_in (At net s)) ≡ Some next) turn.is found) small (subst (λ (s : Step). IsFine setup epoch (At net s)) turn.is fine) goes.waits)
 
-  waits-on : (net : Net Session) (got : Got) (request : Request) (step : Step) → is_turn_of got step ≡ false → IsFine setup epoch (At net step) → Goes net got request
+  pub waits-on : (net : Net Session) (got : Got) (request : Request) (step : Step) → is_turn_of got step ≡ false → IsFine setup epoch (At net step) → Goes net got request
       → Goes (after_step as_session setup net step) got request
   waits-on net got request step is fine goes = record {
     waits = wait-step as_session setup got.app got.waiting net fine.numbered (fine.within got.app) step fine.allowed (not-turn got step is) goes.waits;
@@ -199,7 +199,7 @@ module _ (setup : Setup) (epoch : ℕ) (small : epoch < 2 ^ 64) (call_id : Bytes
   abbrev Ends : Option AppId → List Moment → Type 0
   Ends end run = (app : AppId) → end ≡ Some app → EndsAt app run
 
-  named-same : (app other : AppId) (uri way : Uri) (sent : Request) → own_uri setup.config sent ≡ Some uri → own_uri setup.config sent ≡ Some way → names epoch app uri ≡ true
+  pub named-same : (app other : AppId) (uri way : Uri) (sent : Request) → own_uri setup.config sent ≡ Some uri → own_uri setup.config sent ≡ Some way → names epoch app uri ≡ true
       → names epoch other way ≡ true → IsOf64 epoch app 0 → IsOf64 epoch other 0 → app ≡ other
   named-same app other uri way sent by at p q one two =
       names-one epoch app other uri one two p (subst (λ (u : Uri). names epoch other u ≡ true) (sym (some-is uri way (sym by ∙ at))) q)
@@ -212,7 +212,7 @@ module _ (setup : Setup) (epoch : ℕ) (small : epoch < 2 ^ 64) (call_id : Bytes
   unfolding All
   all-ends app all = all.0
 
-  sent-leads : (apps : List AppId) (end : Option AppId) (net after : Net Session) (app : AppId) (request : Request) (next : Got) → leads setup.config epoch apps end request ≡ true
+  pub sent-leads : (apps : List AppId) (end : Option AppId) (net after : Net Session) (app : AppId) (request : Request) (next : Got) → leads setup.config epoch apps end request ≡ true
       → (on : IsNext setup epoch net after app request next) → leads setup.config epoch apps end on.sent ≡ true
   sent-leads apps end net after app request next leads-on on =
       subst (λ (r : Request). leads setup.config epoch apps end r ≡ true) (sym on.by.is) (passed-leads setup.config epoch on.by.view on.by.branch apps end request ∙ leads-on)

@@ -125,13 +125,13 @@ module _ (setup : Setup) (epoch began : ℕ) (journal : List Step) (lawful : IsL
   caller-ends app None is apart = callee-ends app is
   caller-ends app (Some how) is apart = apart (ap (λ (found : Option ProxyOptions). is_some found) is)
 
-  ends : (direction : Direction) → is_made setup Run dialog piece ≡ true → IsApart Run dialog piece → (app : AppId) → end_of direction piece ≡ Some app → All (TakesNoProxy dialog.call_id app) Run
+  pub ends : (direction : Direction) → is_made setup Run dialog piece ≡ true → IsApart Run dialog piece → (app : AppId) → end_of direction piece ≡ Some app → All (TakesNoProxy dialog.call_id app) Run
   unfolding end_of
   ends From_caller made apart app is = callee-ends app (answered-end setup Run dialog piece app is made)
   ends From_callee made apart app is = caller-ends app (proxied_with Run app) refl (apart app is)
 
   -- each later request that a turn sends is on a branch of its own
-  run-own : (occurrence : Occurrence) → epoch < 2 ^ 64 → All (IsFine setup epoch) Run → AreSmallDraws setup Run → HasOwnBranch setup Run occurrence
+  pub run-own : (occurrence : Occurrence) → epoch < 2 ^ 64 → All (IsFine setup epoch) Run → AreSmallDraws setup Run → HasOwnBranch setup Run occurrence
   unfolding moments
   run-own occurrence small fine drawn =
       let keyed = run-each setup epoch began journal lawful (λ (moment : Moment). AllKeyed as_session NoTurn 0 0 moment.before) (λ before step later is allowed. session-keyed setup epoch began before) in

@@ -1,6 +1,6 @@
 -- The turn of a later request: the one request that is queued as it is passed on.
 use Rattle.std.proofs.Common.{◌≡◌, ◌≤◌, ◌<◌, ℕ, ◌^◌, true, false, Some, List, [], ◌∷◌, refl, sym, ap, subst, ◌∙◌, arith}
-use Rattle.std.specs.Prelude.{drop, length, slice_get}
+use Rattle.std.specs.Prelude.{drop, length, slice_get, is_some}
 use Rattle.std.specs.Cmp.Lexicographic.{as_long}
 use Rattle.std.specs.List.{find}
 use Rattle.std.specs.Option.{option_map_or}
@@ -8,6 +8,7 @@ use Rattle.sc_value.specs.declared.ids.AppId.{AppId}
 use Rattle.sc_value.specs.declared.message.Request.{Request}
 use Rattle.sc_value.specs.declared.parts.Uri.{Uri}
 use Rattle.sc_value.specs.declared.parts.Via.{Via}
+use Rattle.sc_tokens.specs.Names.{same_bytes}
 use Rattle.sc_terms.specs.declared.calls.CallRecord.{CallRecord}
 use Rattle.sc_terms.specs.declared.calls.End.{End}
 use Rattle.sc_terms.specs.declared.steps.Step.TheVariants as steps
@@ -21,13 +22,15 @@ use Rattle.sc_state.specs.declared.queue.Queued.TheVariants as queued
 use Rattle.sc_state.specs.declared.queue.Waiting.{Waiting}
 use Rattle.sc_state.specs.declared.session.Session.{Session}
 use Rattle.sc_model.specs.Names.{IsOf64}
+use Rattle.sc_model.specs.Dialogs.{tag_of}
+use Rattle.sc_model.specs.DialogRequests.{cancel}
 use Rattle.sc_hosts.specs.EventLists.{waiting_in}
 use Rattle.sc_hosts.specs.Histories.{as_session}
 use Rattle.sc_hosts.specs.Nets.{host_at}
 use Rattle.sc_hosts.specs.Runs.{IsAllowed, MayTurn, after_step}
 use Rattle.sc_hosts.specs.Steps.{live_at, outcome_by, turn_of}
 use Rattle.sc_hosts.specs.Taking.{names, own_uri, unrouted}
-use Rattle.sc_hosts.specs.Transacting.{same_via}
+use Rattle.sc_hosts.specs.Transacting.{same_via, method_of}
 use Rattle.sc_lives.specs.Numbers.{AreNumbered}
 use Rattle.sc_once.specs.Growing.{IsBetween}
 use Rattle.sc_lasting.specs.Lasting.{All, Numbered}
@@ -73,6 +76,8 @@ pub record IsNext (setup : Setup) (epoch : ℕ) (net after : Net Session) (app :
   pub held : IsHeld next.app next.waiting after
   pub names : IsOf64 epoch next.app 0
   pub vias : 1 ≤ length later.head.via
+  pub tagged : is_some (tag_of sent.head.to) ≡ true
+  pub no_cancel : same_bytes (method_of sent) cancel ≡ false
 
 -- this request as it came to the first session
 pub record IsFirst (setup : Setup) (request : Request) (epoch : ℕ) (after : Net Session) (got : Got) : Type 0 where
@@ -82,6 +87,8 @@ pub record IsFirst (setup : Setup) (request : Request) (epoch : ℕ) (after : Ne
   pub named : names epoch got.app uri ≡ true
   pub held : IsHeld got.app got.waiting after
   pub names : IsOf64 epoch got.app 0
+  pub tagged : is_some (tag_of request.head.to) ≡ true
+  pub no_cancel : same_bytes (method_of request) cancel ≡ false
 
 -- ## Vias
 
@@ -167,6 +174,8 @@ module _ (setup : Setup) (net : Net Session) (app : AppId) (event now : ℕ) (ma
         held = one.0.held;
         names = one.0.names;
         vias = more-vias (length later.later.head.via) long;
+        tagged = brought.tagged;
+        no_cancel = brought.no_cancel;
       }
 
   waiting-is : (waiting : Waiting) (request : Request) → waiting.event ≡ queued.Request request → event ≡ waiting.number

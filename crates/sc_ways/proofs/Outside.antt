@@ -176,10 +176,11 @@ module _ (setup : Setup) (place : Place) (request : Request) where
   unfolding named_live is_named_live
   named-by epoch number uri host live is = test-found (λ (live : Live Session). names epoch (record { host = number; serial = live.serial }) uri) host.sessions live is
 
-  right : (epoch number : ℕ) (host : Host Session) (uri : Uri) → own_uri setup.config request ≡ Some uri → (live : Live Session) → named_live epoch number uri host ≡ Some live
+  right : (epoch number : ℕ) (host : Host Session) → same_bytes (method_of request) cancel ≡ false → is_some (tag_of request.head.to) ≡ true → (uri : Uri) → own_uri setup.config request ≡ Some uri → (live : Live Session) → named_live epoch number uri host ≡ Some live
       → Fits epoch (record { host = number; serial = live.serial }) (queued.Request (unrouted setup.config request))
   unfolding IsFit
-  right epoch number host uri by live is = λ told. record { sent = request; is = refl; popped = refl; uri = uri; by = by; named = named-by epoch number uri host live is }
+  right epoch number host no_cancel tagged uri by live is =
+      λ told. record { sent = request; is = refl; popped = refl; uri = uri; by = by; named = named-by epoch number uri host live is; tagged = tagged; no_cancel = no_cancel }
 
   takes-later : (net : Net Session) (number : ℕ) (host : Host Session) → same_bytes (method_of request) cancel ≡ false → is_some (tag_of request.head.to) ≡ true
       → claim_of (peers.Outside place) request host ≡ Unclaimed
@@ -195,7 +196,7 @@ module _ (setup : Setup) (place : Place) (request : Request) where
   host-arrives net number None at no_cancel tagged fresh arrives = arrives
   host-arrives net number (Some host) at no_cancel tagged fresh arrives =
       let ok = take_later-ok {S = Session} IsAny IsAny (Fits net.epoch) (plain-fit IsAny (Is request) setup.config net.epoch) net.count number net.moment setup.config net.epoch (peers.Outside place) request net.count host tagged
-      (λ tagged uri by live is. right net.epoch number host uri by live is) (arrives.hosts number host at, any-clients host.clients) in
+      (λ tagged uri by live is. right net.epoch number host no_cancel tagged uri by live is) (arrives.hosts number host at, any-clients host.clients) in
       rw (takes-later net number host no_cancel tagged (fresh host at)) (placed-arrives net.epoch net.count number _ net ok.good.0 (take_later-outward setup.config net.epoch number net.moment net.count host) arrives)
 
   at-arrives : (net : Net Session) (found : Option ℕ) → same_bytes (method_of request) cancel ≡ false → is_some (tag_of request.head.to) ≡ true
@@ -264,6 +265,8 @@ module _ (setup : Setup) (place : Place) (request : Request) where
         named = brought.named;
         held = one.0.held;
         names = one.0.names;
+        tagged = tagged;
+        no_cancel = no_cancel;
       }
 
   pub first-of : (epoch : ℕ) (net : Net Session) (vias : List Via) (got : Got) → epoch < 2 ^ 64 → IsFine setup epoch (at net) → same_bytes (method_of request) cancel ≡ false

@@ -256,6 +256,57 @@ pub through : {A B : Type 0} (next : A → Option B) (found : Option A) (b : B) 
 through next None b is = cc
 through next (Some a) b is = (a, refl, is)
 
+-- what is so of each request that sets out of a run, it may come from outside or by a turn
+module _ (setup : Setup) (net : Net Session) (given : List Step) (Goal : SetOut → List Moment → Type 0)
+    (outside : (before : Net Session) (place : Place) (request : Request) (later : List Step)
+    → Goal (record { moment = at setup place request before; sender = peers.Outside place; request = request }) (moments_from setup (at setup place request before).after later))
+    (turned : (before : Net Session) (app : AppId) (event now : ℕ) (made : List CallRecord) (end : End) (order : ℕ) (request : Request) (later : List Step)
+    → (let there : Moment = moment setup before app event now made end in
+    let out : SetOut = record { moment = there; sender = peers.Inside app.host; request = request } in
+    option_and_then later_in (slice_get (given_in setup there) order) ≡ Some request → IsOnOwnBranch setup out order → Goal out (moments_from setup there.after later))) where
+  abbrev Steps : List Moment
+  Steps = moments_from setup net given
+
+  -- from outside
+  out-outside : (place : ℕ) (moment : Moment) (out : SetOut) → slice_get Steps place ≡ Some moment → set_out_by setup moment moment.step None ≡ Some out → Goal out (drop (place + 1) Steps)
+  out-outside place moment out taken by =
+      let from = outside-by setup moment moment.step out by in
+      let cut = cut-at given setup net place moment taken in
+      let step_is : cut.step ≡ steps.In from.place (messages.Request from.request) = sym (ap (λ (m : Moment). m.step) cut.is) ∙ from.step_is in
+      let there : Moment = at setup from.place from.request cut.net in
+      let here : SetOut = record { moment = there; sender = peers.Outside from.place; request = from.request } in
+      let moment_is : ◌≡◌ {A = Moment} moment there = cut.is ∙ ap (λ (s : Step). record { before = cut.net; step = s; after = after_step as_session setup cut.net s }) step_is in
+      let rest_is : drop (place + 1) Steps ≡ moments_from setup there.after cut.later = cut.rest ∙ ap (λ (s : Step). moments_from setup (after_step as_session setup cut.net s) cut.later) step_is in
+      let out_is : ◌≡◌ {A = SetOut} out here = from.out_is ∙ ap (λ (m : Moment). record { moment = m; sender = peers.Outside from.place; request = from.request }) moment_is in
+      subst (λ (o : SetOut). Goal o (drop (place + 1) Steps)) (sym out_is)
+      (subst (λ (r : List Moment). Goal here r) (sym rest_is) (outside cut.net from.place from.request cut.later))
+
+  -- by a turn
+  out-turn : (place order : ℕ) (moment : Moment) (out : SetOut) → slice_get Steps place ≡ Some moment → set_out_by setup moment moment.step (Some order) ≡ Some out → IsOnOwnBranch setup out order
+      → Goal out (drop (place + 1) Steps)
+  out-turn place order there out taken by own =
+      let from = session-by setup there there.step order out by in
+      let cut = cut-at given setup net place there taken in
+      let step_is : cut.step ≡ steps.Turn from.app from.event from.now from.made from.end = sym (ap (λ (m : Moment). m.step) cut.is) ∙ from.step_is in
+      let here : Moment = moment setup cut.net from.app from.event from.now from.made from.end in
+      let moment_is : ◌≡◌ {A = Moment} there here = cut.is ∙ ap (λ (s : Step). record { before = cut.net; step = s; after = after_step as_session setup cut.net s }) step_is in
+      let rest_is : drop (place + 1) Steps ≡ moments_from setup here.after cut.later = cut.rest ∙ ap (λ (s : Step). moments_from setup (after_step as_session setup cut.net s) cut.later) step_is in
+      let out_is : ◌≡◌ {A = SetOut} out (record { moment = here; sender = peers.Inside from.app.host; request = from.request }) =
+      from.out_is ∙ ap (λ (m : Moment). record { moment = m; sender = peers.Inside from.app.host; request = from.request }) moment_is in
+      subst (λ (o : SetOut). Goal o (drop (place + 1) Steps)) (sym out_is)
+      (subst (λ (r : List Moment). Goal (record { moment = here; sender = peers.Inside from.app.host; request = from.request }) r) (sym rest_is)
+      (turned cut.net from.app from.event from.now from.made from.end order from.request cut.later
+      (subst (λ (m : Moment). option_and_then later_in (slice_get (given_in setup m) order) ≡ Some from.request) moment_is from.ordered) (subst (λ (o : SetOut). IsOnOwnBranch setup o order) out_is own)))
+
+  pub out-by : (order : Option ℕ) (place : ℕ) (moment : Moment) (out : SetOut) → slice_get Steps place ≡ Some moment → set_out_by setup moment moment.step order ≡ Some out
+      → ((n : ℕ) → order ≡ Some n → IsOnOwnBranch setup out n) → Goal out (drop (place + 1) Steps)
+  out-by None place moment out taken by own = out-outside place moment out taken by
+  out-by (Some order) place moment out taken by own = out-turn place order moment out taken by (own order refl)
+
+pub moment-of : (setup : Setup) (moment : Moment) (step : Step) (order : Option ℕ) (out : SetOut) → set_out_by setup moment step order ≡ Some out → out.moment ≡ moment
+moment-of setup moment step None out by = ap (λ (o : SetOut). o.moment) (outside-by setup moment step out by).out_is
+moment-of setup moment step (Some order) out by = ap (λ (o : SetOut). o.moment) (session-by setup moment step order out by).out_is
+
 module _ (setup : Setup) (epoch : ℕ) (small : epoch < 2 ^ 64) (net : Net Session) (given : List Step) (dialog : Dialog) (direction : Direction) (piece : Piece) where
   abbrev Run : List Moment
   Run = moments_from setup net given
@@ -266,45 +317,6 @@ module _ (setup : Setup) (epoch : ℕ) (small : epoch < 2 ^ 64) (net : Net Sessi
   abbrev Goal : SetOut → List Moment → Type 0
   Goal out rest = Follow setup epoch small Run dialog direction piece out rest
 
-  -- from outside
-  out-outside : (place : ℕ) (moment : Moment) (out : SetOut) → slice_get Run place ≡ Some moment → set_out_by setup moment moment.step None ≡ Some out → Goal out (drop (place + 1) Run)
-  out-outside place moment out at by =
-      let from = outside-by setup moment moment.step out by in
-      let cut = cut-at given setup net place moment at in
-      let step_is : cut.step ≡ steps.In from.place (messages.Request from.request) = sym (ap (λ (m : Moment). m.step) cut.is) ∙ from.step_is in
-      let here : SetOut = Here setup epoch small Run dialog direction piece cut.net from.place from.request in
-      let moment_is : ◌≡◌ {A = Moment} moment here.moment = cut.is ∙ ap (λ (s : Step). record { before = cut.net; step = s; after = after_step as_session setup cut.net s }) step_is in
-      let rest_is : drop (place + 1) Run ≡ moments_from setup here.moment.after cut.later = cut.rest ∙ ap (λ (s : Step). moments_from setup (after_step as_session setup cut.net s) cut.later) step_is in
-      let out_is : ◌≡◌ {A = SetOut} out here = from.out_is ∙ ap (λ (m : Moment). record { moment = m; sender = peers.Outside from.place; request = from.request }) moment_is in
-      subst (λ (o : SetOut). Goal o (drop (place + 1) Run)) (sym out_is)
-      (subst (λ (r : List Moment). Goal here r) (sym rest_is) (follows-outside setup epoch small Run dialog direction piece cut.net from.place from.request cut.later))
-
-  -- by a turn
-  out-turn : (place order : ℕ) (moment : Moment) (out : SetOut) → slice_get Run place ≡ Some moment → set_out_by setup moment moment.step (Some order) ≡ Some out → IsOnOwnBranch setup out order
-      → Goal out (drop (place + 1) Run)
-  out-turn place order there out at by own =
-      let from = session-by setup there there.step order out by in
-      let cut = cut-at given setup net place there at in
-      let step_is : cut.step ≡ steps.Turn from.app from.event from.now from.made from.end = sym (ap (λ (m : Moment). m.step) cut.is) ∙ from.step_is in
-      let here : Moment = moment setup cut.net from.app from.event from.now from.made from.end in
-      let moment_is : ◌≡◌ {A = Moment} there here = cut.is ∙ ap (λ (s : Step). record { before = cut.net; step = s; after = after_step as_session setup cut.net s }) step_is in
-      let rest_is : drop (place + 1) Run ≡ moments_from setup here.after cut.later = cut.rest ∙ ap (λ (s : Step). moments_from setup (after_step as_session setup cut.net s) cut.later) step_is in
-      let out_is : ◌≡◌ {A = SetOut} out (record { moment = here; sender = peers.Inside from.app.host; request = from.request }) =
-      from.out_is ∙ ap (λ (m : Moment). record { moment = m; sender = peers.Inside from.app.host; request = from.request }) moment_is in
-      subst (λ (o : SetOut). Goal o (drop (place + 1) Run)) (sym out_is)
-      (subst (λ (r : List Moment). Goal (record { moment = here; sender = peers.Inside from.app.host; request = from.request }) r) (sym rest_is)
-      (follows-turn setup epoch small Run dialog direction piece cut.net from.app from.event from.now from.made from.end order from.request cut.later
-      (subst (λ (m : Moment). option_and_then later_in (slice_get (given_in setup m) order) ≡ Some from.request) moment_is from.ordered) (subst (λ (o : SetOut). IsOnOwnBranch setup o order) out_is own)))
-
-  out-by : (order : Option ℕ) (place : ℕ) (moment : Moment) (out : SetOut) → slice_get Run place ≡ Some moment → set_out_by setup moment moment.step order ≡ Some out
-      → ((n : ℕ) → order ≡ Some n → IsOnOwnBranch setup out n) → Goal out (drop (place + 1) Run)
-  out-by None place moment out at by own = out-outside place moment out at by
-  out-by (Some order) place moment out at by own = out-turn place order moment out at by (own order refl)
-
-  moment-of : (moment : Moment) (step : Step) (order : Option ℕ) (out : SetOut) → set_out_by setup moment step order ≡ Some out → out.moment ≡ moment
-  moment-of moment step None out by = ap (λ (o : SetOut). o.moment) (outside-by setup moment step out by).out_is
-  moment-of moment step (Some order) out by = ap (λ (o : SetOut). o.moment) (session-by setup moment step order out by).out_is
-
   visits-by : (occurrence : Occurrence) (found : Option SetOut) → set_out setup Run occurrence ≡ found → HasOwnBranch setup Run occurrence
       → option_map_or (carries_by setup.config Run dialog direction piece) found false ≡ true → All (IsFine setup epoch) Run → EndsIn setup epoch small dialog.call_id (end_of direction piece) Run → Ahead
       → IsPrefix (option_map_or (λ out. visits_from (find (has_vias 0 out.request.head.via) (got_in out.moment)) (drop (occurrence.step + 1) Run)) found []) (ahead Run direction piece)
@@ -312,8 +324,9 @@ module _ (setup : Setup) (epoch : ℕ) (small : epoch < 2 ^ 64) (net : Net Sessi
   visits-by occurrence None is own carries fine ends all = cc
   visits-by occurrence (Some out) is own carries fine ends all =
       let by = through (λ (moment : Moment). set_out_by setup moment moment.step occurrence.order) (slice_get Run occurrence.step) out is in
-      out-by occurrence.order occurrence.step by.0 out by.1 by.2 (λ order at. own order out at is)
-      (subst (λ (m : Moment). IsFine setup epoch m) (sym (moment-of by.0 by.0.step occurrence.order out by.2)) (all-at (IsFine setup epoch) Run occurrence.step by.0 by.1 fine))
+      out-by setup net given Goal (follows-outside setup epoch small Run dialog direction piece) (follows-turn setup epoch small Run dialog direction piece) occurrence.order occurrence.step by.0 out by.1 by.2
+      (λ order at. own order out at is)
+      (subst (λ (m : Moment). IsFine setup epoch m) (sym (moment-of setup by.0 by.0.step occurrence.order out by.2)) (all-at (IsFine setup epoch) Run occurrence.step by.0 by.1 fine))
       (all-behind (IsFine setup epoch) (occurrence.step + 1) Run fine) (λ app end. all-behind _ (occurrence.step + 1) Run (ends app end)) (carried setup.config Run dialog direction piece out carries) all
 
   pub run-follows : (occurrence : Occurrence) → HasOwnBranch setup Run occurrence → carries setup Run dialog direction piece occurrence ≡ true → All (IsFine setup epoch) Run

@@ -148,6 +148,8 @@ module _ (setup : Setup) (net : Net Session) (app : AppId) (event now : ℕ) (ma
           named = brought.named;
           held = one.0.held;
           names = one.0.names;
+          tagged = brought.tagged;
+          no_cancel = brought.no_cancel;
         };
         vias = subst (λ (v : List Via). 1 ≤ length v) (unrouted-vias setup.config brought.sent) (subst (λ (r : Request). 1 ≤ length r.head.via) brought.popped long);
       }
