@@ -102,7 +102,7 @@ some-length : (n : ℕ) → (suc n == 0) ≡ true → ⊥
 some-length n is = grind (arith, nat_tests, is)
 
 -- its next URI is own, and names that session
-abbrev LeadsTo : Config → ℕ → Request → AppId → Type 0
+abbrev pub LeadsTo : Config → ℕ → Request → AppId → Type 0
 LeadsTo config epoch request app = (is_own config (next_uri request) ≡ true) × (names epoch app (next_uri request) ≡ true)
 
 end-leads : (config : Config) (epoch : ℕ) (app : AppId) (request : Request) → leads config epoch [] (Some app) request ≡ true → LeadsTo config epoch request app
@@ -123,7 +123,7 @@ route-leads config epoch app apps end request is = by (slice_get request.head.ro
     by None rest is = cc
     by (Some route) rest is = both (is_own config route.uri) (names epoch app route.uri) (both (is_own config route.uri && names epoch app route.uri) rest is).0
 
-ahead-leads : (config : Config) (epoch : ℕ) (apps : List AppId) (end : Option AppId) (request : Request) (app : AppId) (more : List AppId) → apps ++ listed end ≡ app ∷ more → leads config epoch apps end request ≡ true
+pub ahead-leads : (config : Config) (epoch : ℕ) (apps : List AppId) (end : Option AppId) (request : Request) (app : AppId) (more : List AppId) → apps ++ listed end ≡ app ∷ more → leads config epoch apps end request ≡ true
     → LeadsTo config epoch request app
 ahead-leads config epoch [] None request app more is leading = cc
 ahead-leads config epoch [] (Some end) request app more is leading = subst (λ (a : AppId). LeadsTo config epoch request a) (first-is end app [] more is) (end-leads config epoch end request leading)

@@ -128,7 +128,7 @@ named sess (x ∷ xs) found is = by (is_session sess x) refl is (named sess xs f
 -- ## A turn
 
 module _ (setup : Setup) (moment : Moment) (got : Got) (to : AppId) (turn : TurnsTo setup moment got to) where
-  abbrev Goal : Type 0
+  abbrev pub Goal : Type 0
   Goal = ((un : IsUnstopped setup moment got) × (un.to ≡ to)) ⊎ Stops setup moment got to turn
 
   abbrev Alone : SessionView → Type 0
@@ -215,7 +215,7 @@ module _ (setup : Setup) (moment : Moment) (got : Got) (to : AppId) (turn : Turn
       let there = found-again (takes_request turn.live.session.known turn.request) turn.live.session.view.sessions s is in
       by-role s.id there.0 (ap (λ (x : Option SessionView). option_map (λ y. y.id) x) is) there.1 (is_proxy there.0.role) refl
 
-  goes-or-stops : Goal
+  pub goes-or-stops : Goal
   goes-or-stops = by-found (find (takes_request turn.live.session.known turn.request) turn.live.session.view.sessions) refl
 
 -- in a lawful run

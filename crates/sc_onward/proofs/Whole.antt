@@ -79,7 +79,7 @@ all-sound (moment ∷ run) setup epoch ready steps within less counted = (
 
 -- ## Lists of sessions
 
-prefix-whole : (xs ys : List AppId) → IsPrefix xs ys → length ys ≤ length xs → xs ≡ ys
+pub prefix-whole : (xs ys : List AppId) → IsPrefix xs ys → length ys ≤ length xs → xs ≡ ys
 unfolding IsPrefix
 prefix-whole [] [] begins long = refl
 prefix-whole [] (y ∷ ys) begins long = absurd (none (length ys) long)
@@ -103,7 +103,7 @@ one-more n = omega arith
 next-more : (n m : ℕ) → n ≤ m → suc n ≤ suc m
 next-more n m p = omega (arith, p)
 
-visits-one : (later : List Moment) (got : Got) → 1 ≤ length (visits_from (Some got) later)
+pub visits-one : (later : List Moment) (got : Got) → 1 ≤ length (visits_from (Some got) later)
 unfolding visits_from
 visits-one [] got = one-more 0
 visits-one (moment ∷ later) got =
