@@ -1,5 +1,5 @@
 -- How the journey of a later request ends, in a lawful run.
-use Rattle.std.proofs.Common.{◌≡◌, ◌⊎◌, inl, inr, ℕ, ◌+◌, Bool, true, false, Option, None, Some, List, [], ◌∷◌, refl, sym, ap, subst, ◌∙◌}
+use Rattle.std.proofs.Common.{◌≡◌, ◌⊎◌, inl, inr, ℕ, zero, suc, ◌+◌, Bool, true, false, Option, None, Some, List, [], ◌∷◌, refl, sym, ap, subst, ◌∙◌}
 use Rattle.std.specs.Prelude.{drop, slice_get}
 use Rattle.std.specs.List.{find}
 use Rattle.std.specs.Option.{option_map_or}
@@ -27,17 +27,23 @@ use Rattle.sc_ways.proofs.OwnBranches.{HasOwnBranch}
 use Rattle.sc_ways.proofs.Prefix.{IsCarried, carried, moment-of, outside-by, through}
 use Rattle.sc_ways.proofs.Runs.{all-at, all-behind, run-fine}
 use Rattle.sc_ways.proofs.Sending.{session-by}
-use Rattle.sc_onward.specs.Onward.{AreSmallNumbers, HasNewBranches}
-use Rattle.sc_onward.proofs.OneHop.{IsSound}
+use Rattle.sc_onward.specs.Onward.{AreSmallNumbers}
 use Rattle.sc_onward.proofs.Sent.{sent-first}
-use Rattle.sc_onward.proofs.Whole.{run-new, run-sound}
+use Rattle.sc_halted.proofs.Halting.{goes-on-or-halts}
 use Rattle.sc_journeys.specs.Journeys.{Ends, Halted, Halts, Kept_out, TakesNone, Whole}
 use Rattle.sc_journeys.proofs.Starts.{begins, goes-or-halts}
+use Rattle.sc_journeys.proofs.Walk.{GoesOrHalts}
 
 -- nothing is visited, and a first one is
 never : (visited : List AppId) (app : AppId) (rest : List AppId) → visited ≡ [] → visited ≡ app ∷ rest → ⊥
 never [] app rest none some = cc
 never (first ∷ visited) app rest none some = cc
+
+-- what is so at each place of a run is so of all of it
+each-place : (P : Moment → Type 0) (run : List Moment) → ((place : ℕ) (moment : Moment) → slice_get run place ≡ Some moment → P moment) → All P run
+unfolding All
+each-place P [] each = tt
+each-place P (moment ∷ run) each = (each zero moment refl, each-place P run (λ place other taken. each (suc place) other taken))
 
 module _ (setup : Setup) (epoch began : ℕ) (journal : List Step) (dialog : Dialog) (direction : Direction) (piece : Piece) (occurrence : Occurrence)
     (lawful : IsLawful as_session setup epoch began journal) (piece-is : IsPiece setup epoch (moments setup epoch began journal) dialog piece)
@@ -55,11 +61,11 @@ module _ (setup : Setup) (epoch began : ℕ) (journal : List Step) (dialog : Dia
   fine : All (IsFine setup epoch) Run
   fine = run-fine setup epoch began journal lawful small.hosts small.events
 
-  sound : All (IsSound setup epoch) Run
-  sound = run-sound setup epoch began journal lawful numbers drawn
-
-  new : All (HasNewBranches setup) Run
-  new = run-new setup epoch began journal lawful numbers drawn
+  -- each turn to a later request goes on or stops, with the answer
+  halting : All (GoesOrHalts setup epoch) Run
+  halting =
+      each-place (GoesOrHalts setup epoch) Run
+      (λ place moment taken. record { known = λ got to short turn. goes-on-or-halts setup epoch began journal lawful numbers drawn place moment got to taken short turn })
 
   -- ## Kept out
 
@@ -157,8 +163,8 @@ module _ (setup : Setup) (epoch began : ℕ) (journal : List Step) (dialog : Dia
       let one-fine : IsFine setup epoch out.moment =
       subst (λ (m : Moment). IsFine setup epoch m) (sym (moment-of setup there there.step occurrence.order out by)) (all-at (IsFine setup epoch) Run occurrence.step there taken fine) in
       let one = begins setup epoch small.within Run dialog direction piece (start setup epoch began) journal occurrence.order occurrence.step there out taken by (λ order at. own-branch order out at set) one-fine is got found in
-      end-by (goes-or-halts setup epoch small.within Run dialog direction piece out (drop (occurrence.step + 1) Run) got one one-fine.at (all-behind (IsSound setup epoch) (occurrence.step + 1) Run sound)
-      (all-behind (HasNewBranches setup) (occurrence.step + 1) Run new)
+      end-by (goes-or-halts setup epoch small.within Run dialog direction piece out (drop (occurrence.step + 1) Run) got one one-fine.at (all-behind (IsFine setup epoch) (occurrence.step + 1) Run fine)
+      (all-behind (GoesOrHalts setup epoch) (occurrence.step + 1) Run halting)
       (λ app ending. all-behind _ (occurrence.step + 1) Run (ends setup epoch began journal lawful dialog piece direction piece-is.made apart app ending))
       (ahead-small setup epoch began journal lawful dialog piece direction piece-is small fine) is)
     where

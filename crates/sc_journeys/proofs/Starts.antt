@@ -37,10 +37,8 @@ use Rattle.sc_ways.proofs.Popping.{comes, comes-at-end, leads-same}
 use Rattle.sc_ways.proofs.Prefix.{IsCarried, out-by}
 use Rattle.sc_ways.proofs.Sending.{sent-first}
 use Rattle.sc_ways.proofs.Waits.{Held}
-use Rattle.sc_onward.specs.Onward.{HasNewBranches}
-use Rattle.sc_onward.proofs.OneHop.{IsSound}
 use Rattle.sc_journeys.specs.Journeys.{Halts}
-use Rattle.sc_journeys.proofs.Walk.{Outcome, Travels, end-whole, still-other, still-tagged, travel}
+use Rattle.sc_journeys.proofs.Walk.{GoesOrHalts, Outcome, Travels, end-whole, still-other, still-tagged, travel}
 
 -- the first session has what goes the way of the request, and a run of steps follows
 pub record Begins (setup : Setup) (epoch : ℕ) (out : SetOut) (rest : List Moment) (got : Got) : Type 0 where
@@ -120,11 +118,6 @@ module _ (setup : Setup) (epoch : ℕ) (small : epoch < 2 ^ 64) (call_id : Bytes
   unfolding All
   all-one app all = all.0
 
-  all-fine : (run : List Moment) → All (IsSound setup epoch) run → All (IsFine setup epoch) run
-  unfolding All
-  all-fine [] sound = tt
-  all-fine (one ∷ run) sound = (sound.0.ready.fine, all-fine run sound.1)
-
   -- what is visited from there on
   abbrev pub Visited : List AppId → Got → List Moment → Type 0
   Visited all got later = (visits_from (Some got) later ≡ all) ⊎ Halts setup got later
@@ -132,22 +125,22 @@ module _ (setup : Setup) (epoch : ℕ) (small : epoch < 2 ^ 64) (call_id : Bytes
   named-first : (app other : AppId) (all : List AppId) (got : Got) (later : List Moment) → app ≡ other → visits_from (Some got) later ≡ app ∷ all → visits_from (Some got) later ≡ other ∷ all
   named-first app other all got later same is = is ∙ ap (λ (a : AppId). a ∷ all) same
 
-  pub from-first : (later : List Step) (apps : List AppId) (end : Option AppId) (after : Net Session) (got : Got) → All (IsSound setup epoch) (moments_from setup after later)
-      → All (HasNewBranches setup) (moments_from setup after later) → EndsFor end (moments_from setup after later) → AreOf64 (apps ++ listed end) → leads setup.config epoch apps end request ≡ true
+  pub from-first : (later : List Step) (apps : List AppId) (end : Option AppId) (after : Net Session) (got : Got) → All (IsFine setup epoch) (moments_from setup after later)
+      → All (GoesOrHalts setup epoch) (moments_from setup after later) → EndsFor end (moments_from setup after later) → AreOf64 (apps ++ listed end) → leads setup.config epoch apps end request ≡ true
       → (not (length (apps ++ listed end) == 0) || is_none (own_uri setup.config request)) ≡ true → 1 ≤ length request.head.via → same_bytes request.head.call_id call_id ≡ true
       → IsFirst setup request epoch after got → Visited (apps ++ listed end) got (moments_from setup after later)
   unfolding All
-  from-first later [] None after got sound new ends all leading alone vias call first = absurd (nobody (own_uri setup.config request) first.uri first.way alone)
-  from-first later [] (Some end) after got sound new ends all leading alone vias call first =
+  from-first later [] None after got fine halting ends all leading alone vias call first = absurd (nobody (own_uri setup.config request) first.uri first.way alone)
+  from-first later [] (Some end) after got fine halting ends all leading alone vias call first =
       let at = comes-at-end setup.config epoch end request leading in
       let same : got.app ≡ end = named-same setup epoch small call_id got.app end first.uri at.uri request first.way at.by first.named at.named first.names (all-one end all) in
       inl (named-first got.app end [] got (moments_from setup after later) same
-      (end-whole setup epoch small call_id later after got (unrouted setup.config request) (all-fine (moments_from setup after later) sound)
+      (end-whole setup epoch small call_id later after got (unrouted setup.config request) fine
       (subst (λ (a : AppId). EndsAt setup epoch small call_id a (moments_from setup after later)) (sym same) (ends end refl)) (waits-first after got first vias call).goes))
-  from-first later (app ∷ apps) end after got sound new ends all leading alone vias call first =
+  from-first later (app ∷ apps) end after got fine halting ends all leading alone vias call first =
       let at = comes setup.config epoch app apps end request leading in
       let same : got.app ≡ app = named-same setup epoch small call_id got.app app first.uri at.uri request first.way at.by first.named at.named first.names all.0 in
-      by same (travel setup epoch small call_id later apps end after got (unrouted setup.config request) sound new ends all.1 at.rest (waits-first after got first vias call))
+      by same (travel setup epoch small call_id later apps end after got (unrouted setup.config request) fine halting ends all.1 at.rest (waits-first after got first vias call))
     where
       by : got.app ≡ app → Outcome setup epoch small call_id (apps ++ listed end) got (moments_from setup after later) → Visited (app ∷ (apps ++ listed end)) got (moments_from setup after later)
       by same (inl whole) = inl (named-first got.app app (apps ++ listed end) got (moments_from setup after later) same whole)
@@ -155,17 +148,17 @@ module _ (setup : Setup) (epoch : ℕ) (small : epoch < 2 ^ 64) (call_id : Bytes
 
 -- what becomes of what begins so
 module _ (setup : Setup) (epoch : ℕ) (small : epoch < 2 ^ 64) (run : List Moment) (dialog : Dialog) (direction : Direction) (piece : Piece) where
-  pub goes-or-halts : (out : SetOut) (rest : List Moment) (got : Got) → Begins setup epoch out rest got → out.moment.before.epoch ≡ epoch → All (IsSound setup epoch) rest → All (HasNewBranches setup) rest
+  pub goes-or-halts : (out : SetOut) (rest : List Moment) (got : Got) → Begins setup epoch out rest got → out.moment.before.epoch ≡ epoch → All (IsFine setup epoch) rest → All (GoesOrHalts setup epoch) rest
       → ((app : AppId) → end_of direction piece ≡ Some app → EndsAt setup epoch small dialog.call_id app rest) → All (λ (a : AppId). IsOf64 epoch a 0) (ahead run direction piece)
       → IsCarried setup.config run dialog direction piece out → (visits_from (Some got) rest ≡ ahead run direction piece) ⊎ Halts setup got rest
   unfolding ahead
-  goes-or-halts out rest got one at sound new ends all is =
+  goes-or-halts out rest got one at fine halting ends all is =
       let apps : List AppId = along direction (recorders run piece) in
       let end : Option AppId = end_of direction piece in
       let leading : leads setup.config epoch apps end out.request ≡ true = subst (λ (e : ℕ). leads setup.config e apps end out.request ≡ true) at is.leading in
       subst (λ (r : List Moment). (visits_from (Some got) r ≡ apps ++ listed end) ⊎ Halts setup got r) (sym one.rest_is)
-      (from-first setup epoch small dialog.call_id one.sent one.later apps end one.after got (subst (λ (r : List Moment). All (IsSound setup epoch) r) one.rest_is sound)
-      (subst (λ (r : List Moment). All (HasNewBranches setup) r) one.rest_is new)
+      (from-first setup epoch small dialog.call_id one.sent one.later apps end one.after got (subst (λ (r : List Moment). All (IsFine setup epoch) r) one.rest_is fine)
+      (subst (λ (r : List Moment). All (GoesOrHalts setup epoch) r) one.rest_is halting)
       (λ app ending. subst (λ (r : List Moment). EndsAt setup epoch small dialog.call_id app r) one.rest_is (ends app ending)) all
       (leads-same apps setup.config epoch end one.sent out.request one.goes.route one.goes.uri ∙ leading)
       (subst (λ (own : Option Uri). (not (length (apps ++ listed end) == 0) || is_none own) ≡ true) (sym (same-route setup out.request one.sent one.goes)) is.alone)

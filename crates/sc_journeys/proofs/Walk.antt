@@ -27,15 +27,15 @@ use Rattle.sc_lasting.specs.Lasting.{All}
 use Rattle.sc_paths.specs.LaterRequests.{is_passed_on, is_turn_of, leads, visits_from}
 use Rattle.sc_paths.specs.Moments.{Got, Moment, got_in, moments_from}
 use Rattle.sc_paths.specs.Pieces.{listed}
+use Rattle.sc_ways.proofs.FirstHop.{found-some}
 use Rattle.sc_ways.proofs.Follows.{EndsAt, Goes, IsTurn, end-follows, goes-on, named-same, passes, sent-leads, turn-of, waits-on}
 use Rattle.sc_ways.proofs.OneHop.{IsFine, IsNext, allowed-turn}
 use Rattle.sc_ways.proofs.Popping.{comes, comes-at-end, leads-out}
 use Rattle.sc_ways.proofs.Waits.{turn-is}
-use Rattle.sc_onward.specs.Onward.{HasNewBranches, IsUnstopped, Stops, TurnsTo}
-use Rattle.sc_onward.proofs.OneHop.{IsSound, next-found}
+use Rattle.sc_onward.specs.Onward.{ComesNext, TurnsTo}
 use Rattle.sc_onward.proofs.Sent.{LeadsTo, ahead-leads}
-use Rattle.sc_onward.proofs.Stopping.{goes-or-stops}
 use Rattle.sc_onward.proofs.Whole.{prefix-whole, visits-one}
+use Rattle.sc_halted.specs.Halted.{IsHalted}
 use Rattle.sc_journeys.specs.Journeys.{Halts}
 
 -- ## Without the own Route
@@ -62,11 +62,18 @@ still-tagged config request tagged = subst (λ (to : Address). is_some (tag_of t
 pub still-other : (config : Config) (request : Request) → same_bytes (method_of request) cancel ≡ false → same_bytes (method_of (unrouted config request)) cancel ≡ false
 still-other config request other = subst (λ (method : Bytes). same_bytes method cancel ≡ false) (sym (unrouted-method config request)) other
 
--- ## Where it is found
+-- ## Turns
 
-not-found : (found : Option Got) (next : Got) → found ≡ Some next → found ≡ None → ⊥
-not-found None next is none = cc
-not-found (Some got) next is none = cc
+-- what is known of each turn to a later request that is to go to a session
+pub record GoesOrHalts (setup : Setup) (epoch : ℕ) (moment : Moment) : Type 0 where
+  pub known : (got : Got) (to : AppId) → IsOf64 epoch to 0 → (turn : TurnsTo setup moment got to) → ComesNext moment got to ⊎ IsHalted setup moment got to turn
+
+first-of64 : (epoch : ℕ) (apps : List AppId) (to : AppId) (more : List AppId) → apps ≡ to ∷ more → All (λ (a : AppId). IsOf64 epoch a 0) apps → IsOf64 epoch to 0
+unfolding All
+first-of64 epoch apps to more is all = by (subst (λ (xs : List AppId). All (λ (a : AppId). IsOf64 epoch a 0) xs) is all)
+  where
+    by : All (λ (a : AppId). IsOf64 epoch a 0) (to ∷ more) → IsOf64 epoch to 0
+    by all = all.0
 
 module _ (setup : Setup) (epoch : ℕ) (small : epoch < 2 ^ 64) (call_id : Bytes) where
   abbrev At : Net Session → Step → Moment
@@ -96,17 +103,17 @@ module _ (setup : Setup) (epoch : ℕ) (small : epoch < 2 ^ 64) (call_id : Bytes
 
   -- ## Its turn
 
-  module _ (net : Net Session) (step : Step) (sound : IsSound setup epoch (At net step)) (new : HasNewBranches setup (At net step)) (got : Got) (request : Request) (travels : Travels net got request)
+  module _ (net : Net Session) (step : Step) (fine : IsFine setup epoch (At net step)) (halting : GoesOrHalts setup epoch (At net step)) (got : Got) (request : Request) (travels : Travels net got request)
       (is : is_turn_of got step ≡ true) where
     abbrev turn : IsTurn setup epoch small call_id got step
     turn = turn-of setup epoch small call_id got step is
 
     may : MayTurn as_session setup net got.app turn.event turn.now turn.made turn.end
-    may = allowed-turn setup net got.app turn.event turn.now turn.made turn.end (subst (λ (s : Step). IsAllowed as_session setup net s) turn.is sound.ready.fine.allowed)
+    may = allowed-turn setup net got.app turn.event turn.now turn.made turn.end (subst (λ (s : Step). IsAllowed as_session setup net s) turn.is fine.allowed)
 
     same-event : may.waiting ≡ got.waiting
     same-event =
-        turn-is as_session setup got.app got.waiting net sound.ready.fine.numbered (sound.ready.fine.within got.app) turn.event turn.now turn.made turn.end may turn.number travels.goes.waits
+        turn-is as_session setup got.app got.waiting net fine.numbered (fine.within got.app) turn.event turn.now turn.made turn.end may turn.number travels.goes.waits
 
     turns-to : (to : AppId) → LeadsTo setup.config epoch request to → TurnsTo setup (At net step) got to
     turns-to to leading = record {
@@ -123,19 +130,17 @@ module _ (setup : Setup) (epoch : ℕ) (small : epoch < 2 ^ 64) (call_id : Bytes
       lives = may.live_is;
       first = may.waiting_is ∙ ap (λ (w : Waiting). Some w) same-event;
       own = leading.0;
-      named = subst (λ (e : ℕ). names e to (next_uri request) ≡ true) (sym sound.ready.fine.at) leading.1;
+      named = subst (λ (e : ℕ). names e to (next_uri request) ≡ true) (sym fine.at) leading.1;
     }
 
-    stops-there : (to : AppId) → LeadsTo setup.config epoch request to → find (is_passed_on got) (got_in (At net step)) ≡ None
-        → (turn : TurnsTo setup (At net step) got to) × Stops setup (At net step) got to turn
-    stops-there to leading none = by (goes-or-stops setup (At net step) got to (turns-to to leading))
+    stops-there : (to : AppId) → IsOf64 epoch to 0 → LeadsTo setup.config epoch request to → find (is_passed_on got) (got_in (At net step)) ≡ None
+        → (turn : TurnsTo setup (At net step) got to) × IsHalted setup (At net step) got to turn
+    unfolding ComesNext
+    stops-there to short leading none = by (halting.known got to short (turns-to to leading))
       where
-        by : ((un : IsUnstopped setup (At net step) got) × (un.to ≡ to)) ⊎ Stops setup (At net step) got to (turns-to to leading)
-            → (turn : TurnsTo setup (At net step) got to) × Stops setup (At net step) got to turn
-        by (inl un) =
-            let next = next-found setup epoch small (At net step) sound new got un.0 in
-            absurd (not-found (find (is_passed_on got) (got_in (At net step))) next.0 next.1 none)
-        by (inr stops) = (turns-to to leading, stops)
+        by : ComesNext (At net step) got to ⊎ IsHalted setup (At net step) got to (turns-to to leading) → (turn : TurnsTo setup (At net step) got to) × IsHalted setup (At net step) got to turn
+        by (inl comes) = absurd (found-some (is_passed_on got) comes.0 (got_in (At net step)) comes.2 comes.3 none)
+        by (inr halted) = (turns-to to leading, halted)
 
   -- ## The sessions that it visits
 
@@ -145,7 +150,7 @@ module _ (setup : Setup) (epoch : ℕ) (small : epoch < 2 ^ 64) (call_id : Bytes
   -- what its turn is, where it doesn't go all the way
   abbrev StopsOn : Net Session → Step → Got → List Moment → Type 0
   StopsOn net step got later =
-      ((to : AppId) × (turn : TurnsTo setup (At net step) got to) × Stops setup (At net step) got to turn)
+      ((to : AppId) × (turn : TurnsTo setup (At net step) got to) × IsHalted setup (At net step) got to turn)
       ⊎ ((next : Got) × (is_turn_of got step ≡ true) × (find (is_passed_on got) (got_in (At net step)) ≡ Some next) × Halts setup next later)
 
   abbrev EndsFor : Option AppId → List Moment → Type 0
@@ -163,11 +168,6 @@ module _ (setup : Setup) (epoch : ℕ) (small : epoch < 2 ^ 64) (call_id : Bytes
       → Goes setup epoch small call_id net got request → visits_from (Some got) (Run net given) ≡ got.app ∷ []
   end-whole given net got request fine ends goes =
       prefix-whole (visits_from (Some got) (Run net given)) (got.app ∷ []) (end-follows setup epoch small call_id given net got request fine ends goes) (visits-one (Run net given) got)
-
-  all-fine : (run : List Moment) → All (IsSound setup epoch) run → All (IsFine setup epoch) run
-  unfolding All
-  all-fine [] sound = tt
-  all-fine (one ∷ run) sound = (sound.0.ready.fine, all-fine run sound.1)
 
   -- what is known of the sessions behind
   abbrev Again : Net Session → List Step → Option AppId → Type 0
@@ -200,28 +200,30 @@ module _ (setup : Setup) (epoch : ℕ) (small : epoch < 2 ^ 64) (call_id : Bytes
       by same (inl whole) = inl (named-first next.app first (apps ++ listed end) (visits_from (Some next) (Run net given)) same whole)
       by same (inr halts) = inr halts
 
-  on-none : (net : Net Session) (step : Step) (sound : IsSound setup epoch (At net step)) (new : HasNewBranches setup (At net step)) (got : Got) (request : Request) (travels : Travels net got request)
-      (is : is_turn_of got step ≡ true) (apps : List AppId) (end : Option AppId) (later : List Moment) → leads setup.config epoch apps end request ≡ true
+  on-none : (net : Net Session) (step : Step) (fine : IsFine setup epoch (At net step)) (halting : GoesOrHalts setup epoch (At net step)) (got : Got) (request : Request) (travels : Travels net got request)
+      (is : is_turn_of got step ≡ true) (apps : List AppId) (end : Option AppId) (later : List Moment) → AreOf64 (apps ++ listed end) → leads setup.config epoch apps end request ≡ true
       → find (is_passed_on got) (got_in (At net step)) ≡ None → (◌≡◌ {A = List AppId} [] (apps ++ listed end)) ⊎ StopsOn net step got later
-  on-none net step sound new got request travels is apps end later leading none = by (apps ++ listed end) refl
+  on-none net step fine halting got request travels is apps end later all leading none = by (apps ++ listed end) refl
     where
-      by : (all : List AppId) → apps ++ listed end ≡ all → (◌≡◌ {A = List AppId} [] (apps ++ listed end)) ⊎ StopsOn net step got later
+      by : (ahead : List AppId) → apps ++ listed end ≡ ahead → (◌≡◌ {A = List AppId} [] (apps ++ listed end)) ⊎ StopsOn net step got later
       by [] empty = inl (sym empty)
       by (to ∷ more) first =
-          let stop = stops-there net step sound new got request travels is to (ahead-leads setup.config epoch apps end request to more first leading) none in
+          let stop =
+          stops-there net step fine halting got request travels is to (first-of64 epoch (apps ++ listed end) to more first all)
+          (ahead-leads setup.config epoch apps end request to more first leading) none in
           inr (inl (to, stop.0, stop.1))
 
   on-turn : (found : Option Got) (given : List Step) (apps : List AppId) (end : Option AppId) (net : Net Session) (step : Step) (got : Got) (request : Request)
-      → find (is_passed_on got) (got_in (At net step)) ≡ found → is_turn_of got step ≡ true → Again (after_step as_session setup net step) given end → IsSound setup epoch (At net step)
-      → HasNewBranches setup (At net step) → All (IsFine setup epoch) (Run (after_step as_session setup net step) given) → EndsFor end (Run (after_step as_session setup net step) given)
+      → find (is_passed_on got) (got_in (At net step)) ≡ found → is_turn_of got step ≡ true → Again (after_step as_session setup net step) given end → IsFine setup epoch (At net step)
+      → GoesOrHalts setup epoch (At net step) → All (IsFine setup epoch) (Run (after_step as_session setup net step) given) → EndsFor end (Run (after_step as_session setup net step) given)
       → AreOf64 (apps ++ listed end) → leads setup.config epoch apps end request ≡ true → Travels net got request
       → (visits_from found (Run (after_step as_session setup net step) given) ≡ apps ++ listed end) ⊎ StopsOn net step got (Run (after_step as_session setup net step) given)
   unfolding visits_from
-  on-turn None given apps end net step got request none is again sound new fine ends all leading travels =
-      on-none net step sound new got request travels is apps end (Run (after_step as_session setup net step) given) leading none
-  on-turn (Some next) given apps end net step got request found is again sound new fine ends all leading travels =
+  on-turn None given apps end net step got request none is again here halting fine ends all leading travels =
+      on-none net step here halting got request travels is apps end (Run (after_step as_session setup net step) given) all leading none
+  on-turn (Some next) given apps end net step got request found is again here halting fine ends all leading travels =
       by (on-next given apps end (after_step as_session setup net step) net got.app request next again fine ends all travels.goes.call leading
-      (passes setup epoch small call_id net got next request step is sound.ready.fine travels.goes found))
+      (passes setup epoch small call_id net got next request step is here travels.goes found))
     where
       by : (visits_from (Some next) (Run (after_step as_session setup net step) given) ≡ apps ++ listed end) ⊎ Halts setup next (Run (after_step as_session setup net step) given)
           → (visits_from (Some next) (Run (after_step as_session setup net step) given) ≡ apps ++ listed end) ⊎ StopsOn net step got (Run (after_step as_session setup net step) given)
@@ -246,15 +248,15 @@ module _ (setup : Setup) (epoch : ℕ) (small : epoch < 2 ^ 64) (call_id : Bytes
       by (inr halts) = inr (inl (is, halts))
 
   -- where it waits in a session from where it leads over these, it visits all of them, or stops
-  pub travel : (given : List Step) (apps : List AppId) (end : Option AppId) (net : Net Session) (got : Got) (request : Request) → All (IsSound setup epoch) (Run net given)
-      → All (HasNewBranches setup) (Run net given) → EndsFor end (Run net given) → AreOf64 (apps ++ listed end) → leads setup.config epoch apps end request ≡ true → Travels net got request
+  pub travel : (given : List Step) (apps : List AppId) (end : Option AppId) (net : Net Session) (got : Got) (request : Request) → All (IsFine setup epoch) (Run net given)
+      → All (GoesOrHalts setup epoch) (Run net given) → EndsFor end (Run net given) → AreOf64 (apps ++ listed end) → leads setup.config epoch apps end request ≡ true → Travels net got request
       → Outcome (apps ++ listed end) got (Run net given)
   unfolding moments_from visits_from Halts All
-  travel [] apps end net got request sound new ends all leading travels = inr tt
-  travel (step ∷ given) apps end net got request sound new ends all leading travels =
+  travel [] apps end net got request fine halting ends all leading travels = inr tt
+  travel (step ∷ given) apps end net got request fine halting ends all leading travels =
       let after : Net Session = after_step as_session setup net step in
       travel-step (is_turn_of got step) net step got (apps ++ listed end) (Run after given) refl
       (λ is. on-turn (find (is_passed_on got) (got_in (At net step))) given apps end net step got request refl is
-      (λ apps got request all leading travels. travel given apps end after got request sound.1 new.1 (λ app at. (ends app at).1) all leading travels)
-      sound.0 new.0 (all-fine (Run after given) sound.1) (λ app at. (ends app at).1) all leading travels)
-      (λ is. travel given apps end after got request sound.1 new.1 (λ app at. (ends app at).1) all leading (travels-on net got request step is sound.0.ready.fine travels))
+      (λ apps got request all leading travels. travel given apps end after got request fine.1 halting.1 (λ app at. (ends app at).1) all leading travels)
+      fine.0 halting.0 fine.1 (λ app at. (ends app at).1) all leading travels)
+      (λ is. travel given apps end after got request fine.1 halting.1 (λ app at. (ends app at).1) all leading (travels-on net got request step is fine.0 travels))

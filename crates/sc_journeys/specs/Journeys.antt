@@ -12,16 +12,17 @@ use Rattle.sc_hosts.specs.Steps.{live_at}
 use Rattle.sc_paths.specs.LaterRequests.{Occurrence, SetOut, has_vias, is_passed_on, is_turn_of, set_out, visits}
 use Rattle.sc_paths.specs.Moments.{Got, Moment, got_in}
 use Rattle.sc_paths.specs.Pieces.{Direction, Piece, ahead}
-use Rattle.sc_onward.specs.Onward.{Stops, TurnsTo}
+use Rattle.sc_onward.specs.Onward.{TurnsTo}
+use Rattle.sc_halted.specs.Halted.{IsHalted}
 
 -- it stops in the session where it waits, or in one behind it: its turn doesn't come; or in its
--- turn there is one of the named stops, before the session to which it is to go; or it is passed on
--- there, and stops further on
+-- turn there is one of the named stops, with its answer, before the session to which it is to go; or
+-- it is passed on there, and stops further on
 unfoldable pub Halts : Setup → Got → List Moment → Type 0
 Halts setup got [] = Unit {0}
 Halts setup got (moment ∷ later) =
     ((is_turn_of got moment.step ≡ false) × Halts setup got later)
-    ⊎ (((to : AppId) × (turn : TurnsTo setup moment got to) × Stops setup moment got to turn)
+    ⊎ (((to : AppId) × (turn : TurnsTo setup moment got to) × IsHalted setup moment got to turn)
     ⊎ ((next : Got) × (is_turn_of got moment.step ≡ true)
     × (find (is_passed_on got) (got_in moment) ≡ Some next) × Halts setup next later))
 

@@ -12,8 +12,8 @@ ghost use Rattle.sc_journeys.specs.Journeys.{Ends};
 /// A later request that keeps to the way of the INVITE of its dialog, whether it comes from outside
 /// or a session sends it, visits all of the sessions that stayed on the way and are ahead of it; or
 /// the first of them doesn't take it, since it doesn't live or is full; or it stops in one of them:
-/// its turn doesn't come in the run, or in its turn there is one of the stops that `Stops` of
-/// `sc_onward` lists. Nothing else becomes of it (RFC 3261 sections 12.2.2 and 16.12). The premises
+/// its turn doesn't come in the run, or in its turn there is one of the stops that `IsHalted` of
+/// `sc_halted` lists, with its answer. Nothing else becomes of it (RFC 3261 sections 12.2.2 and 16.12). The premises
 /// are those of `later_requests_keep_to_the_way` of `sc_ways`. The contract is the law, for a
 /// journal that is lawful in either form in which sessions are kept, and the call does nothing.
 pub fn later_requests_go_all_the_way_or_stop()
