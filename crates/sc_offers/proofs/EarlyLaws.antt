@@ -28,7 +28,7 @@ use Rattle.sc_helpers.proofs.Shorts.{Short, goes_heard, goes_through, heard_play
 use Rattle.sc_helpers.proofs.Tails.{IsFine, cancel_stops, cancel_then_on, fine_then, respond_fine, set_fine, stops_then}
 use Rattle.sc_promised.specs.Reliable.{offer_answer, offers}
 use Rattle.sc_offers.specs.OfferScripts.{prack_of}
-use Rattle.sc_offers.specs.Offering.{IsCarriedOut, IsTold, IsTurned, acknowledges, behind_prack, named_by, named_offer, prack_answer, prack_calls}
+use Rattle.sc_offers.specs.Offering.{IsCarriedOut, IsOffered, IsTold, IsTurned, acknowledges, behind_prack, named_by, named_offer, offer_rseq, prack_answer, prack_calls}
 use Rattle.sc_offers.specs.declared.pracks.Named.{Named}
 use Rattle.sc_offers.specs.declared.refused.OfferRefused.{OfferRefused}
 use Rattle.sc_offers.specs.declared.refused.OfferRefused.TheVariants as refused
@@ -69,6 +69,29 @@ told_by script n old new (refused.Turn refusal made) out short room stops told =
 
 first_room : (old : Working) (n : ℕ) → old.calls ≡ [] → n ≤ 8 → (play_of old).listed + n ≤ MOST_CALLS
 first_room old n none few = let e = begun_room old none in omega (arith, e, few)
+
+-- ## The first offer, where nothing is remembered
+
+offered_one : (req : ReqId) (request : Request) (reason body : Bytes) (result : Result ℕ OfferRefused) (old new : Working) → old.calls ≡ [] → old.starved ≡ false → offer_rseq old.shown req request ≡ Ok 1
+    → (old.starved ≡ false → IsOffered (offer_rseq (play_of old).view req request) req request.head.cseq.number 183 reason body old result new)
+    → IsOffered (Ok 1) req request.head.cseq.number 183 reason body old result new
+offered_one req request reason body result old new none fed first offered =
+    subst (λ (j : Result ℕ OfferRefused). IsOffered j req request.head.cseq.number 183 reason body old result new) (ap (λ (v : View). offer_rseq v req request) (begun_view old none) ∙ first) (offered fed)
+
+pub first_through : (req : ReqId) (request : Request) (reason body : Bytes) (given : ℕ) (old new : Working) → old.calls ≡ [] → old.starved ≡ false → offer_rseq old.shown req request ≡ Ok 1
+    → (old.starved ≡ false → IsOffered (offer_rseq (play_of old).view req request) req request.head.cseq.number 183 reason body old (Ok given) new)
+    → IsPlayed (offers req 1 request.head.cseq.number 183 reason body) old new
+unfolding IsOffered IsCarriedOut
+first_through req request reason body given old new none fed first offered =
+    through_played (offers req 1 request.head.cseq.number 183 reason body) old new (offered_one req request reason body (Ok given) old new none fed first offered).1
+
+pub first_stopped : (req : ReqId) (request : Request) (reason body : Bytes) (old new : Working) (refusal : OfferRefused) (out : Result (Unit {0}) no.NoMemory) → old.calls ≡ [] → old.starved ≡ false → offer_rseq old.shown req request ≡ Ok 1
+    → (old.starved ≡ false → IsOffered (offer_rseq (play_of old).view req request) req request.head.cseq.number 183 reason body old (Err refusal) new) → IsTold refusal out
+    → OnOk out (IsPlayed (offers req 1 request.head.cseq.number 183 reason body) old new)
+unfolding IsOffered IsCarriedOut
+first_stopped req request reason body old new refusal out none fed first offered told =
+    told_by (offers req 1 request.head.cseq.number 183 reason body) 4 old new refusal out (offers_short req 1 request.head.cseq.number 183 reason body) (first_room old 4 none (omega (arith)))
+    (offered_one req request reason body (Err refusal) old new none fed first offered) told
 
 -- ## A timer
 

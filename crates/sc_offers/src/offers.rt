@@ -1,6 +1,6 @@
 //! The application that answers INVITEs by reliable provisional responses first.
 
-ghost use Rattle.std.specs.Prelude.{◌≡◌, ◌+◌, ◌<◌, [], codes, false, option_and_then, if◌then◌else◌, IfOk, OnOk};
+ghost use Rattle.std.specs.Prelude.{◌≡◌, ◌+◌, ◌<◌, [], Ok, codes, false, true, option_and_then, if◌then◌else◌, IfOk, OnOk};
 ghost use Rattle.sc_tokens.specs.Names.{same_bytes};
 ghost use Rattle.sc_terms.specs.declared.charters.Charter.{Charter};
 ghost use Rattle.sc_model.specs.SessionStates.{invite};
@@ -14,12 +14,13 @@ ghost use Rattle.sc_turn.specs.Working.{play_of};
 ghost use Rattle.sc_apps.specs.Scripted.{IsPlayed};
 ghost use Rattle.sc_promised.specs.Reliable.{offers};
 ghost use Rattle.sc_offers.specs.OfferScripts.{prack_of};
-ghost use Rattle.sc_offers.specs.Offering.{behind_prack};
+ghost use Rattle.sc_offers.specs.Offering.{behind_prack, offer_rseq};
 
-use crate::offering::give_offer;
+use crate::offering::{give_offer, offer};
 use crate::overdue::{late, request_of};
 use crate::pracks::{invite_of, take_prack};
-use crate::refused::{Prack, told};
+use crate::refused::{OfferRefused, Prack, told};
+use crate::rseqs::offer_rseq;
 use sc_apps::{ended, memory_of, reply_180, reply_200, reply_ok, reply_only, shown};
 use sc_helpers::{heard, lists_option, number_after};
 use sc_methods::is_invite;
@@ -232,9 +233,10 @@ fn begin(t: &mut Turn, req: ReqId, request: &Request) -> Result<(), NoMemory>
     reply_200(t, req)
 }
 
-#[tactic(auto, unfolding(sc_hosts::specs::Offers::rel_option))]
+#[tactic(auto, unfolding(sc_hosts::specs::Offers::rel_option), using(sc_apps::proofs::Playing::begun_room))]
 fn begin_invite(t: &mut Turn, req: ReqId, request: &Request) -> Result<(), NoMemory>
-    requires { (play_of t.old).listed + 3 < MOST_CALLS }
+    requires calls { t.old.calls ≡ [] }
+    requires memory { t.old.starved ≡ false }
     ensures same { t.new.shown ≡ t.old.shown }
     ensures played { OnOk result
         (IsPlayed
@@ -262,27 +264,85 @@ fn no_body(alloc: Global) -> Text
 
 #[tactic(auto, using(crate::proofs::EarlyLaws::first_played))]
 fn first_offer(t: &mut Turn, req: ReqId, request: &Request) -> Result<(), NoMemory>
-    requires { (play_of t.old).listed + 3 < MOST_CALLS }
+    requires calls { t.old.calls ≡ [] }
+    requires memory { t.old.starved ≡ false }
     ensures same { t.new.shown ≡ t.old.shown }
     ensures played { OnOk result (IsPlayed (first_offer req request.now) t.old t.new) }
 {
     match session_progress(memory_of(t)) {
-        Ok(reason) => give_first(t, req, request.head.cseq.number, reason),
+        Ok(reason) => give_first(t, req, request, reason),
         Err(NoMemory) => Err(NoMemory),
     }
 }
 
-fn give_first(t: &mut Turn, req: ReqId, cseq: u32, reason: Text) -> Result<(), NoMemory>
-    requires { (play_of t.old).listed + 3 < MOST_CALLS }
+fn give_first(t: &mut Turn, req: ReqId, request: &Request, reason: Text) -> Result<(), NoMemory>
+    requires calls { t.old.calls ≡ [] }
+    requires memory { t.old.starved ≡ false }
     ensures same { t.new.shown ≡ t.old.shown }
-    ensures played { OnOk result (IsPlayed (offers req 1 cseq 183 reason []) t.old t.new) }
+    ensures played { OnOk result
+        (IsPlayed (offers req 1 request.now.head.cseq.number 183 reason []) t.old t.new) }
 {
     let body = no_body(memory_of(t));
-    play_offer(t, req, cseq, reason, body)
+    let rseq = offer_rseq(memory_of(t), shown(t), req, request)?;
+    give_by(t, is_first(rseq), req, request, reason, body)
+}
+
+fn is_first(rseq: Result<u64, OfferRefused>) -> bool
+    ensures { result ≡ true → rseq ≡ Ok 1 }
+{
+    match rseq {
+        Ok(rseq) => rseq == 1,
+        Err(_) => false,
+    }
+}
+
+// An INVITE that comes is new, so nothing is remembered of it. Where an attribute of that name
+// stands all the same, the first offer is made anew.
+#[tactic(auto, using(sc_apps::proofs::Playing::begun_room))]
+fn give_by(
+    t: &mut Turn,
+    first: bool,
+    req: ReqId,
+    request: &Request,
+    reason: Text,
+    body: Text,
+) -> Result<(), NoMemory>
+    requires calls { t.old.calls ≡ [] }
+    requires memory { t.old.starved ≡ false }
+    requires first { first ≡ true → offer_rseq t.old.shown req request.now ≡ Ok 1 }
+    ensures same { t.new.shown ≡ t.old.shown }
+    ensures played { OnOk result
+        (IsPlayed (offers req 1 request.now.head.cseq.number 183 reason body) t.old t.new) }
+{
+    if first {
+        return offer_first(t, req, request, reason, body);
+    }
+    offer_anew(t, req, request.head.cseq.number, reason, body)
+}
+
+#[tactic(auto, using(crate::proofs::EarlyLaws::first_through, crate::proofs::EarlyLaws::first_stopped))]
+fn offer_first(
+    t: &mut Turn,
+    req: ReqId,
+    request: &Request,
+    reason: Text,
+    body: Text,
+) -> Result<(), NoMemory>
+    requires calls { t.old.calls ≡ [] }
+    requires memory { t.old.starved ≡ false }
+    requires first { offer_rseq t.old.shown req request.now ≡ Ok 1 }
+    ensures same { t.new.shown ≡ t.old.shown }
+    ensures played { OnOk result
+        (IsPlayed (offers req 1 request.now.head.cseq.number 183 reason body) t.old t.new) }
+{
+    match offer(t, req, request, 183, reason, body) {
+        Ok(_) => Ok(()),
+        Err(refused) => told(refused),
+    }
 }
 
 #[tactic(auto, using(crate::proofs::EarlyLaws::offer_through, crate::proofs::EarlyLaws::offer_stopped))]
-fn play_offer(t: &mut Turn, req: ReqId, cseq: u32, reason: Text, body: Text) -> Result<(), NoMemory>
+fn offer_anew(t: &mut Turn, req: ReqId, cseq: u32, reason: Text, body: Text) -> Result<(), NoMemory>
     requires { (play_of t.old).listed + 3 < MOST_CALLS }
     ensures same { t.new.shown ≡ t.old.shown }
     ensures played { OnOk result (IsPlayed (offers req 1 cseq 183 reason body) t.old t.new) }
