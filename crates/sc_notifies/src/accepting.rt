@@ -321,17 +321,17 @@ fn accept_as(
 }
 
 /// Answers a SUBSCRIBE, which began this SipSession or came in its dialog, and tells the state (RFC
-/// 6665 section 4.2.1). Gives what it asked for, as [`asked_for`](crate::asked_for) says. Whether
-/// the subscription is pending or active, `grant` says.
+/// 6665 section 4.2.1). Gives what it asked for, as [`asked_for`](crate::asked_for) says. `grant`
+/// says whether the subscription is pending or active.
 ///
 /// It makes these calls, each where the one before was accepted. `BadEvent`: `respond` 489 `Bad
 /// Event` with `Allow-Events`. `Brief`: `respond` 423 `Interval Too Brief` with `Min-Expires`.
 /// `For` some seconds: `respond` 200 `OK` with `Expires`; `cancel_timer` of the old timer, where it
 /// runs; `start_timer` of those seconds; `set_attribute` of `sub` with the SipSession's number to
-/// `A DUE TIMER`, or `P DUE TIMER` where it stays pending; `set_attribute` of `ev` with that number to
-/// the Event; for 0 seconds `remove_attribute` of the two that are set in place of these three; and
-/// last a NOTIFY (`create_in_dialog`, `send`) with `Event`, `Subscription-State` and, where it is
-/// active, the rule's body.
+/// `A DUE TIMER`, or `P DUE TIMER` where it stays pending; `set_attribute` of `ev` with that number
+/// to the Event; for 0 seconds `remove_attribute` of the two that are set in place of these three;
+/// and last a NOTIFY (`create_in_dialog`, `send`) with `Event`, `Subscription-State` and, where that
+/// says `active`, the rule's body.
 ///
 /// # Errors
 ///

@@ -27,8 +27,8 @@ pub enum Grant {
     /// A new one is pending; one that is there stays what it is.
     Pending,
     /// A new one is active, and so is one that is there, behind this SUBSCRIBE. Where that was
-    /// pending, the NOTIFY that follows the answer still says so, and has no body; the next one says
-    /// `active`.
+    /// pending, the NOTIFY that follows the answer still says so, and has no body; the next one
+    /// says `active`.
     Settled,
 }
 

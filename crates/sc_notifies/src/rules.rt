@@ -22,9 +22,9 @@ use std::alloc::Global;
 use std::marker::Model;
 
 /// What an application notifies of: an event package, for how many seconds at least and at most,
-/// and the body that tells the state. The least time is 1 to 3,600 seconds, as no notifier may refuse
-/// a longer one for its shortness; the longest is no shorter and at most 4,000,000 (RFC 6665 section
-/// 4.2.1.1).
+/// and the body that tells the state. The least time is 1 to 3,600 seconds, as no SUBSCRIBE for an
+/// hour or more may be refused as too brief (RFC 6665 section 4.2.1.1); the longest is no shorter,
+/// and at most 4,000,000.
 #[derive(Drop)]
 pub struct Rule {
     event_package: Text,
