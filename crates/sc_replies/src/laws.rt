@@ -71,10 +71,10 @@ pub fn requests_are_kept_as_they_came()
 /// forwards the response. Where it answers it, its Via, From, Call-ID and CSeq are those of the
 /// request, and so is its To, but for a tag where that of the request has none (RFC 3261 section
 /// 8.2.6.2); its Record-Route is that of the request where this is an initial INVITE or SUBSCRIBE
-/// and the answer makes a dialog or may, and else it has none (section 12.1.1). So it is of what the
-/// application answers, by a call or for its second leg, of what the container answers by itself
-/// and after a fault, and of what it answers as a SipSession is invalidated. So it is in every
-/// history, and of the turns of a live session after a lawful journal, for each form in which
+/// and the answer makes a dialog or may, and else it has none (section 12.1.1). So it is of what
+/// the application answers, by a call or for its second leg, of what the container answers by
+/// itself and after a fault, and of what it answers as a SipSession is invalidated. So it is in
+/// every history, and of the turns of a live session after a lawful journal, for each form in which
 /// sessions are kept. The contract is the law, and the call does nothing.
 pub fn answers_have_the_fields_of_their_requests()
     ensures life { (config : Config) (history : History)

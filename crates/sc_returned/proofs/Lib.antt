@@ -1,0 +1,6 @@
+mod ArrivalHosts
+mod ArrivalNets
+mod ArrivalSteps
+mod Direct
+mod Runs
+mod Answers
