@@ -30,16 +30,17 @@ use Rattle.sc_model.specs.Dialogs.{tag_of}
 use Rattle.sc_model.specs.Names.{IsOf64, edge_tag}
 use Rattle.sc_model.specs.OwnHosts.{is_own}
 use Rattle.sc_model.specs.Responses.{response_to}
+use Rattle.sc_model.specs.SessionStates.{ack}
 use Rattle.sc_hosts.specs.Destinations.{next_uri}
 use Rattle.sc_hosts.specs.Finishing.{goodbye}
 use Rattle.sc_hosts.specs.Histories.{as_session}
-use Rattle.sc_hosts.specs.Inboxes.{is_live, live_in, queue, quiet, with_event}
+use Rattle.sc_hosts.specs.Inboxes.{is_live, queue, with_event}
 use Rattle.sc_hosts.specs.Messages.{bare_answer, own_response, without_via}
-use Rattle.sc_hosts.specs.Nets.{acknowledge, host_at, named_host, obey, obeyed, peer_of_host, placed, put, queue_for, queued_at, send_later, send_named, send_to, tell_own}
+use Rattle.sc_hosts.specs.Nets.{acknowledge, change_host, host_at, named_host, obey, obeyed, peer_of_host, placed, put, queue_for, queued_at, send_later, send_named, send_to, tell_own}
 use Rattle.sc_hosts.specs.Runs.{after_step, delivered}
 use Rattle.sc_hosts.specs.Steps.{closed_turn, inbox_of, invalidated, live_at, stepped, turned, turns, turns_first}
 use Rattle.sc_hosts.specs.Taking.{named_live, names, own_uri}
-use Rattle.sc_hosts.specs.Transacting.{method_of}
+use Rattle.sc_hosts.specs.Transacting.{is_over, method_of, state_of_client, with_client}
 use Rattle.sc_hosts.specs.Words.{does_not_exist, unavailable}
 use Rattle.sc_lives.specs.Numbers.{AreNumbered}
 use Rattle.sc_lives.proofs.HostCounts.{change_host-hosts, obeyed-hosts}
@@ -59,6 +60,7 @@ use Rattle.sc_reached.specs.Reached.{AllSmall}
 use Rattle.sc_reached.proofs.NamedHosts.{named_host-is}
 use Rattle.sc_reached.proofs.Naming.{named_live-is}
 use Rattle.sc_reached.proofs.Reaching.{at-host, placed-here, serial-is, with-inbox}
+use Rattle.sc_keyed.specs.Keyed.{IsOn}
 use Rattle.sc_hops.specs.Hops.{HasNoClient, IsOnWay, IsOtherBranch, Is_ack, Is_send, Sends}
 use Rattle.sc_hops.proofs.Carried.{obeyed-holds}
 use Rattle.sc_hops.proofs.OneTurn.{none-on-way}
@@ -68,10 +70,12 @@ use Rattle.sc_ways.proofs.Epochs.{H as EpochAt, P as SameEpoch, closed_turn-epoc
 use Rattle.sc_ways.proofs.Got.{small-sessions}
 use Rattle.sc_ways.proofs.Waits.{events-live}
 use Rattle.sc_onward.proofs.Clean.{CleanNet, Goes, IsApartFrom, change-goes, closed-goes, obey-goes, obeyed-goes}
-use Rattle.sc_onward.proofs.Delivered.{Arrives}
+use Rattle.sc_onward.proofs.Delivered.{Arrives, Stands}
 use Rattle.sc_onward.proofs.Turning.{Any, Change, Changed, Done, Never, apart-kinds, change-known, changed-numbered, clients-of, closed-gone, closed-hosts, closed-known, closed-numbered, lives-fit, more, obeyed-both, obeyed-counts, orders-apart, over, own-next}
 use Rattle.sc_halted.specs.Halted.{IsAnsweredBack, entry_of}
-use Rattle.sc_halted.proofs.Deliveries.{Comes, Ready, comes-or-back}
+use Rattle.sc_halted.proofs.ApartNets.{AllWell, FreeEntry, FreeOrder, Moves, OtherNet, begins-well, change-moves, obeyed-moves, ready-moves}
+use Rattle.sc_halted.proofs.Back.{C, Standing, Told, fresh, queue-sessions}
+use Rattle.sc_halted.proofs.Deliveries.{Back, Comes, Ready, comes-or-back, same-more}
 
 none-some : {A : Type 0} (found : Option A) (one : A) → found ≡ None → found ≡ Some one → ⊥
 none-some found one p q = cc
@@ -79,15 +83,13 @@ none-some found one p q = cc
 zero-under : (n m : ℕ) → n ≤ m → 0 + n ≤ m
 zero-under n m most = omega (arith, most)
 
+less-up : (a b c : ℕ) → a ≤ b → b < c → a < c
+less-up a b c p q = omega (arith, p, q)
+
 above-up : (a b : ℕ) → a ≤ b → a < b + 1
 above-up a b less = omega (arith, less)
 
 -- ## An event of a session of the net
-
-queue-sessions : (serial now : ℕ) (event : Queued) (count : ℕ) (host : Host Session) (live : Live Session) → live_in serial host ≡ Some live
-    → (queue serial now event count host).host.sessions ≡ change_first (is_live serial) (with_event (count + 1) now event) host.sessions
-unfolding queue quiet
-queue-sessions serial now event count host live is = rw is refl
 
 module _ (app : AppId) (event : Queued) where
   -- it is the last that waits there
@@ -293,21 +295,24 @@ module _ (setup : Setup) (net : Net Session) (app : AppId) (live : Live Session)
       unfolding obeyed
       n1-known = (obeyed-counts to setup app (order ∷ []) N0).known (live-known to N0 one n0-numbered lives)
 
-      n3-ready : Ready setup epoch app.host sent to (next_uri sent) on.small on.no_cancel on.tagged by-uri on.named N3
-      n3-ready = record {
-        stands = record {
-          numbered = closed-numbered to setup app (Done setup net app live waiting event now made end) Ends N1 n1-numbered;
-          within = three-rises.within (one-rises.within n0-within);
-          at = closed_turn-epoch as_session setup app (Done setup net app live waiting event now made end) Ends N1 ∙ (n1-epoch ∙ n0-epoch);
-          few = subst (λ (n : ℕ). n ≤ 2 ^ 64) (sym n3-hosts) n0-few;
-          known = closed-known to setup app (Done setup net app live waiting event now made end) Ends N1 n1-known;
-          clean = n3-clean;
-        };
+      n3-stands : Stands setup epoch app.host sent to (next_uri sent) on.small on.no_cancel on.tagged by-uri on.named N3
+      n3-stands = record {
+        numbered = closed-numbered to setup app (Done setup net app live waiting event now made end) Ends N1 n1-numbered;
+        within = three-rises.within (one-rises.within n0-within);
+        at = closed_turn-epoch as_session setup app (Done setup net app live waiting event now made end) Ends N1 ∙ (n1-epoch ∙ n0-epoch);
+        few = subst (λ (n : ℕ). n ≤ 2 ^ 64) (sym n3-hosts) n0-few;
+        known = closed-known to setup app (Done setup net app live waiting event now made end) Ends N1 n1-known;
+        clean = n3-clean;
+      }
+
+      n3-ready : (branch : ℕ) → Ready setup epoch app branch N0.moment sent to (next_uri sent) on.small on.no_cancel on.tagged by-uri on.named N3
+      n3-ready branch = record {
+        stands = n3-stands;
         there = subst (λ (n : ℕ). to.host < n) (sym n3-hosts) (slice_get_within N0.hosts to.host _ (at-host to one (host_at to.host N0) lives).1);
       }
 
-      wire-comes : Comes setup epoch app.host sent to (next_uri sent) on.small on.no_cancel on.tagged by-uri on.named N3
-      wire-comes = comes-or-back setup epoch app.host sent to (next_uri sent) on.small on.no_cancel on.tagged by-uri on.named N0.wire N3 goes-on.more n3-wire n0-wire n3-ready end-less
+      wire-comes : (branch : ℕ) → Comes setup epoch app branch N0.moment sent to (next_uri sent) on.small on.no_cancel on.tagged by-uri on.named N0.wire goes-on.more N3
+      wire-comes branch = comes-or-back setup epoch app branch N0.moment sent to (next_uri sent) on.small on.no_cancel on.tagged by-uri on.named N0.wire N3 goes-on.more n3-wire n0-wire (n3-ready branch) end-less
 
     -- ## It doesn't
 
@@ -390,27 +395,85 @@ module _ (setup : Setup) (net : Net Session) (app : AppId) (live : Live Session)
             sym (events-live app (delivered as_session setup N3) last lasts) ∙ (all ∙ append_assoc one.0.inbox (waits ∷ on.new) then-waits.new),
           )
 
+    -- ## Nothing else has its branch
+
+    module _ (branch : ℕ) where
+      abbrev pub Own : Client
+      Own = C setup epoch app branch N0.moment to.host sent
+
+      abbrev pub Fresh : is_over (state_of_client Own) ≡ false
+      Fresh = fresh setup epoch app branch N0.moment to.host sent
+
+      abbrev pub Salt : Bytes
+      Salt = setup.config.salt
+
+      -- no host has the branch, and no order before sends it
+      pub record Quiet : Type 0 where
+        pub hosts : OtherNet Salt epoch Own Fresh net
+        pub given : All (FreeOrder Salt epoch Own Fresh app) before
+
+      module _ (quiet : Quiet) (one : Live Session) (lives : live_at to N0 ≡ Some one) (is : order ≡ orders.Send branch sent) where
+        moved-well : Moves Salt epoch Own Fresh ⊥ Start Moved
+        moved-well = change-moves Salt epoch Own Fresh ⊥ app.host Move Start (λ host ok. ok) quiet.hosts
+
+        before-well : Moves Salt epoch Own Fresh ⊥ Moved N0
+        before-well = obeyed-moves Salt epoch Own Fresh before setup app Moved quiet.given moved-well.well
+
+        n0-free : All (FreeEntry Salt epoch Own Fresh) N0.wire
+        n0-free =
+            subst (λ (wire : List Entry). All (FreeEntry Salt epoch Own Fresh) wire)
+            (sym (before-well.wire ∙ ap (λ (wire : List Entry). wire ++ before-well.more) on.quiet)) before-well.free
+
+        n1-is : N1 ≡ record (change_host app.host (with_client Own) N0) { wire = N0.wire ++ It ∷ [] }
+        unfolding obey send_later send_named send_to put
+        n1-is = rw (is, on.own, n0-host one lives) refl
+
+        n1-well : AllWell Salt epoch Own Fresh (Unit {0}) N1
+        n1-well = subst (λ (n : Net Session). AllWell Salt epoch Own Fresh (Unit {0}) n) (sym n1-is) (begins-well Salt epoch Own Fresh N0 before-well.well)
+
+        closed-moves : (ends : Bool) → ends ≡ false → Moves Salt epoch Own Fresh (Unit {0}) N1 (closed_turn setup app (Done setup net app live waiting event now made end) ends N1)
+        unfolding closed_turn
+        closed-moves true ends = cc
+        closed-moves false ends = ready-moves Salt epoch Own Fresh (Unit {0}) app (Done setup net app live waiting event now made end) (live_at app N1) N1 n1-well
+
+        n3-standing : Ends ≡ false → Standing setup epoch app branch N0.moment to.host sent N3
+        n3-standing ends = record {
+          wells = (closed-moves Ends ends).well;
+          at = (n3-stands one lives).at;
+          known = closed-known app setup app (Done setup net app live waiting event now made end) Ends N1 one-known;
+        }
+
+        n3-free : Ends ≡ false → All (FreeEntry Salt epoch Own Fresh) (goes-on one lives).more
+        n3-free ends =
+            let moves = closed-moves Ends ends in
+            subst (λ (es : List Entry). All (FreeEntry Salt epoch Own Fresh) es) (same-more N1.wire moves.more (goes-on one lives).more (sym moves.wire ∙ (goes-on one lives).wire)) moves.free
+
     -- ## All of it
 
     -- the answer to it waits in the session that sent it, where that lives
-    unfoldable pub Tells : ℕ → Type 0
-    Tells branch =
+    unfoldable pub Tells : ℕ → ℕ → Type 0
+    Tells code branch =
         (live_at app After ≡ None)
         ⊎ ((last : Live Session) × (waits : Waiting) × (first : List Waiting) × (rest : List Waiting) × (response : Response) × (live_at app After ≡ Some last)
-        × (last.inbox ≡ first ++ waits ∷ rest) × (net.count < waits.number) × (waits.event ≡ queued.Response branch response) × (response.code ≡ 481))
+        × (last.inbox ≡ first ++ waits ∷ rest) × (net.count < waits.number) × (waits.event ≡ queued.Response branch response) × (response.code ≡ code))
+
+    -- so it is where it is no ACK and nothing else has its branch
+    unfoldable pub TellsBack : ℕ → Type 0
+    TellsBack code =
+        (branch : ℕ) → order ≡ orders.Send branch sent → IsOn setup.config epoch app branch sent → same_bytes (method_of sent) ack ≡ false → Quiet branch → Tells code branch
 
     pub data Becomes : Type 0 where
       Waits_there : Arrives setup sent to net.count After → Becomes
-      Told_once : (branch : ℕ) → order ≡ orders.Send branch sent → Tells branch → Becomes
+      Told_once : (branch : ℕ) → order ≡ orders.Send branch sent → Tells 481 branch → Becomes
       Goes_nowhere : order ≡ orders.Acknowledge sent → Becomes
-      Gone_back : IsAnsweredBack setup Stepped It sent 481 does_not_exist → Becomes
-      Full_back : IsAnsweredBack setup Stepped It sent 503 unavailable → Becomes
+      Gone_back : IsAnsweredBack setup Stepped It sent 481 does_not_exist → TellsBack 481 → Becomes
+      Full_back : IsAnsweredBack setup Stepped It sent 503 unavailable → TellsBack 503 → Becomes
 
-    answer-code : (edge : Bytes) (request : Request) → (without_via (own_response edge 481 does_not_exist request)).code ≡ 481
+    answer-code : (edge : Bytes) (code : ℕ) (reason : Bytes) (request : Request) → (without_via (own_response edge code reason request)).code ≡ code
     unfolding without_via own_response response_to bare_answer
-    answer-code edge request = refl
+    answer-code edge code reason request = refl
 
-    tells : live_at to N0 ≡ None → (branch : ℕ) → order ≡ orders.Send branch sent → (found : Option (Live Session)) → live_at app (delivered as_session setup N3) ≡ found → Tells branch
+    tells : live_at to N0 ≡ None → (branch : ℕ) → order ≡ orders.Send branch sent → (found : Option (Live Session)) → live_at app (delivered as_session setup N3) ≡ found → Tells 481 branch
     unfolding Tells
     tells none branch is None gone = inl (ap (λ (n : Net Session). live_at app n) behind ∙ gone)
     tells none branch is (Some last) lasts =
@@ -426,22 +489,85 @@ module _ (setup : Setup) (net : Net Session) (app : AppId) (live : Live Session)
           held.2,
           above-up net.count N0.count up-to,
           refl,
-          answer-code (edge_tag setup.config.salt) sent,
+          answer-code (edge_tag setup.config.salt) 481 does_not_exist sent,
         )
 
     by-order : live_at to N0 ≡ None → Sends sent order → Becomes
     by-order none (Is_send branch is) = Told_once branch is (tells none branch is (live_at app (delivered as_session setup N3)) refl)
     by-order none (Is_ack is) = Goes_nowhere is
 
-    by-wire : Comes setup epoch app.host sent to (next_uri sent) on.small on.no_cancel on.tagged by-uri on.named N3 → Becomes
-    by-wire (inl come) =
+    -- the answer that its host gave comes back
+    back-tells : (code : ℕ) (reason : Bytes) (one : Live Session) (lives : live_at to N0 ≡ Some one) (branch : ℕ) → order ≡ orders.Send branch sent
+        → Back setup epoch app branch N0.moment sent to (next_uri sent) on.small on.no_cancel on.tagged by-uri on.named code reason N0.wire (goes-on one lives).more N3
+        → IsOn setup.config epoch app branch sent → same_bytes (method_of sent) ack ≡ false → Quiet branch → (found : Option (Live Session)) → live_at app (delivered as_session setup N3) ≡ found → Tells code branch
+    unfolding Tells Told
+    back-tells code reason one lives branch is back drawn other quiet None gone = inl (ap (λ (n : Net Session). live_at app n) behind ∙ gone)
+    back-tells code reason one lives branch is back drawn other quiet (Some last) lasts =
+        let ends = ends-not last lasts in
+        let told = back.tells drawn other (n0-free branch quiet one lives is) (n3-free branch quiet one lives is ends) (n3-standing branch quiet one lives is ends) last lasts in
+        let answer : Response = without_via (own_response (edge_tag setup.config.salt) code reason sent) in
+        inr (
+          last,
+          record { number = told.0; event = queued.Response branch answer },
+          told.1,
+          told.2,
+          answer,
+          ap (λ (n : Net Session). live_at app n) behind ∙ lasts,
+          told.4,
+          less-up net.count N3.count told.0 count-up told.3,
+          refl,
+          answer-code (edge_tag setup.config.salt) code reason sent,
+        )
+
+    same-branch : (a b : ℕ) → order ≡ orders.Send a sent → order ≡ orders.Send b sent → a ≡ b
+    same-branch a b p q = sends-one a b (sym p ∙ q)
+      where
+        sends-one : (a b : ℕ) → orders.Send a sent ≡ orders.Send b sent → a ≡ b
+        sends-one a b is = cc
+
+    tells-back : (code : ℕ) (reason : Bytes) (one : Live Session) (lives : live_at to N0 ≡ Some one) (branch : ℕ) → order ≡ orders.Send branch sent
+        → Back setup epoch app branch N0.moment sent to (next_uri sent) on.small on.no_cancel on.tagged by-uri on.named code reason N0.wire (goes-on one lives).more N3 → TellsBack code
+    unfolding TellsBack
+    tells-back code reason one lives branch is back =
+        λ other sends.
+        subst (λ (k : ℕ). IsOn setup.config epoch app k sent → same_bytes (method_of sent) ack ≡ false → Quiet k → Tells code k) (same-branch branch other is sends)
+        (λ drawn no_ack quiet. back-tells code reason one lives branch is back drawn no_ack quiet (live_at app (delivered as_session setup N3)) refl)
+
+    never-back : (code : ℕ) → order ≡ orders.Acknowledge sent → TellsBack code
+    unfolding TellsBack
+    never-back code is = λ branch sends. absurd (not-both branch is sends)
+      where
+        not-both : (branch : ℕ) → order ≡ orders.Acknowledge sent → order ≡ orders.Send branch sent → ⊥
+        not-both branch p q = cc
+
+    waits-there : Arrives setup sent to N3.count (delivered as_session setup N3) → Becomes
+    waits-there come =
         Waits_there (subst (λ (n : Net Session). Arrives setup sent to net.count n) (sym behind) (record { waiting = come.waiting; is = come.is; above = over net.count N3.count come.waiting.number count-up come.above; held = come.held }))
-    by-wire (inr (inl gone)) = Gone_back (subst (λ (n : Net Session). IsAnsweredBack setup n It sent 481 does_not_exist) (sym put-out) gone)
-    by-wire (inr (inr full)) = Full_back (subst (λ (n : Net Session). IsAnsweredBack setup n It sent 503 unavailable) (sym put-out) full)
+
+    abbrev AnsweredAt : ℕ → Bytes → Net Session → Type 0
+    AnsweredAt code reason n = IsAnsweredBack setup n It sent code reason
+
+    by-wire : (one : Live Session) (lives : live_at to N0 ≡ Some one) (branch : ℕ) → order ≡ orders.Send branch sent
+        → Comes setup epoch app branch N0.moment sent to (next_uri sent) on.small on.no_cancel on.tagged by-uri on.named N0.wire (goes-on one lives).more N3 → Becomes
+    by-wire one lives branch is (inl come) = waits-there come
+    by-wire one lives branch is (inr (inl gone)) =
+        Gone_back (subst (λ (n : Net Session). AnsweredAt 481 does_not_exist n) (sym put-out) gone.answered) (tells-back 481 does_not_exist one lives branch is gone)
+    by-wire one lives branch is (inr (inr full)) =
+        Full_back (subst (λ (n : Net Session). AnsweredAt 503 unavailable n) (sym put-out) full.answered) (tells-back 503 unavailable one lives branch is full)
+
+    by-ack : (one : Live Session) (lives : live_at to N0 ≡ Some one) → order ≡ orders.Acknowledge sent
+        → Comes setup epoch app 0 N0.moment sent to (next_uri sent) on.small on.no_cancel on.tagged by-uri on.named N0.wire (goes-on one lives).more N3 → Becomes
+    by-ack one lives is (inl come) = waits-there come
+    by-ack one lives is (inr (inl gone)) = Gone_back (subst (λ (n : Net Session). AnsweredAt 481 does_not_exist n) (sym put-out) gone.answered) (never-back 481 is)
+    by-ack one lives is (inr (inr full)) = Full_back (subst (λ (n : Net Session). AnsweredAt 503 unavailable n) (sym put-out) full.answered) (never-back 503 is)
+
+    by-sends : (one : Live Session) → live_at to N0 ≡ Some one → Sends sent order → Becomes
+    by-sends one lives (Is_send branch is) = by-wire one lives branch is (wire-comes one lives branch)
+    by-sends one lives (Is_ack is) = by-ack one lives is (wire-comes one lives 0)
 
     by-found : (found : Option (Live Session)) → live_at to N0 ≡ found → Becomes
     by-found None none = by-order none on.sends
-    by-found (Some one) lives = by-wire (wire-comes one lives)
+    by-found (Some one) lives = by-sends one lives on.sends
 
     pub becomes : Becomes
     becomes = by-found (live_at to N0) refl

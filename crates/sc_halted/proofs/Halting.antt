@@ -7,6 +7,7 @@ use mathlib.Core.Bool.{Bool-set}
 use Rattle.sc_value.specs.declared.ids.AppId.{AppId}
 use Rattle.sc_value.specs.declared.ids.SessId.{SessId}
 use Rattle.sc_value.specs.declared.message.Request.{Request}
+use Rattle.sc_value.specs.declared.message.Response.{Response}
 use Rattle.sc_value.specs.declared.parts.Address.{Address}
 use Rattle.sc_value.specs.declared.parts.Uri.{Uri}
 use Rattle.sc_tokens.specs.Names.{same_bytes}
@@ -23,6 +24,8 @@ use Rattle.sc_state.specs.declared.host.Live.{Live}
 use Rattle.sc_state.specs.declared.host.Peer.TheVariants as peers
 use Rattle.sc_state.specs.declared.net.Net.{Net}
 use Rattle.sc_state.specs.declared.orders.Order.{Order}
+use Rattle.sc_state.specs.declared.orders.Order.TheVariants as orders
+use Rattle.sc_state.specs.declared.orders.Outcome.{Outcome}
 use Rattle.sc_state.specs.declared.queue.Queued.{Queued}
 use Rattle.sc_state.specs.declared.queue.Queued.TheVariants as queued
 use Rattle.sc_state.specs.declared.queue.Waiting.{Waiting}
@@ -46,19 +49,26 @@ use Rattle.sc_hosts.specs.Preparing.{prepared}
 use Rattle.sc_hosts.specs.PreparingRequests.{next_id, showing, taken}
 use Rattle.sc_hosts.specs.PreparingResponses.{is_invalid}
 use Rattle.sc_hosts.specs.Runs.{AllowedBy, IsAllowed, IsLawful, MayTurn, after_step, chained, shown}
+use Rattle.sc_hosts.specs.Sessions.{Turn}
 use Rattle.sc_hosts.specs.Steps.{live_at, outcome_by, ringing_at, stepped, turn_of}
 use Rattle.sc_hosts.specs.Taking.{names}
 use Rattle.sc_hosts.specs.Words.{does_not_exist, unavailable}
 use Rattle.sc_hosts.specs.Working.{worked_all}
 use Rattle.sc_paths.specs.LaterRequests.{SetOut, later_in, set_out_by}
 use Rattle.sc_paths.specs.Moments.{Got, Moment, given_in, moments, orders_by}
+use Rattle.sc_lasting.specs.Lasting.{All}
+use Rattle.sc_lasting.proofs.Parts.{all-map}
 use Rattle.sc_waits.specs.Growing.{events_in}
+use Rattle.sc_keyed.specs.Keyed.{AreOn, IsOn}
 use Rattle.sc_hops.specs.Hops.{AreOtherBranches}
+use Rattle.sc_vias.specs.Vias.{drawn_by}
+use Rattle.sc_vias.proofs.RunVias.{drawn-is, turn-on}
 use Rattle.sc_stopped.specs.Stopped.{IsRefusedThere}
 use Rattle.sc_stopped.proofs.SilentTurns.{quiet-low, quiet-none, silent-calls, turn-refuses}
 use Rattle.sc_ways.specs.Ways.{AreSmallDraws}
 use Rattle.sc_ways.proofs.OneHop.{orders-are}
-use Rattle.sc_ways.proofs.OwnBranches.{IsOnOwnBranch, out-own}
+use Rattle.sc_ways.proofs.OwnBranches.{Is64, IsOnOwnBranch, out-own}
+use Rattle.sc_ways.proofs.Recorders.{found-small}
 use Rattle.sc_ways.proofs.Runs.{all-at}
 use Rattle.sc_ways.proofs.Waits.{events-live}
 use Rattle.sc_onward.specs.Onward.{AreCounted, AreSmallNumbers, ComesNext, ComesToProxy, HasNewBranches, HasNoServer, PassesLast, TurnsTo}
@@ -68,8 +78,9 @@ use Rattle.sc_onward.proofs.Ends.{dated, shown-is}
 use Rattle.sc_onward.proofs.OneHop.{IsSound, Item, at-end, before-others, got-item, has-passed, later-is, passed-method, passed-next, passed-to, passed-vias, sends-in}
 use Rattle.sc_onward.proofs.Stopping.{found-again}
 use Rattle.sc_onward.proofs.Whole.{run-new, run-sound}
-use Rattle.sc_halted.specs.Halted.{At_once, Dropped, Ended_before, Ended_by_call, Full_there, Gone_there, IsAnsweredBack, IsEndedIn, IsHalted, IsRefusedFirst, IsTold, Of_low_number, Of_no_dialog, Of_no_hops, Of_own_session, Passed_on, entry_of, given_at, put_out, shown_at}
-use Rattle.sc_halted.proofs.Away.{Becomes, Full_back, Goes_nowhere, Gone_back, SendsLast, Stepped as SteppedOf, Tells, Told_once, Waits_there, becomes}
+use Rattle.sc_halted.specs.Halted.{At_once, ComesBack, Dropped, Ended_before, Ended_by_call, Full_there, Gone_there, IsAnsweredBack, IsEndedIn, IsHalted, IsRefusedFirst, IsTold, IsUnguessed, Of_low_number, Of_no_dialog, Of_no_hops, Of_own_session, Passed_on, entry_of, given_at, is_under, put_out, shown_at}
+use Rattle.sc_halted.proofs.Away.{Becomes, Full_back, Goes_nowhere, Gone_back, Quiet, SendsLast, Stepped as SteppedOf, Tells, TellsBack, Told_once, Waits_there, becomes}
+use Rattle.sc_halted.proofs.Drawn.{AnswerFree, all-left, before-free, last-above, last-on, last-small, net-other, under-free}
 use Rattle.sc_halted.proofs.Ending.{turn-either, turn-ends, turn-goes, turn-stops}
 
 -- ## Where nobody is called
@@ -135,6 +146,10 @@ held-lives : (app : AppId) (net : Net Session) (first rest : List Waiting) (one 
     → (last : Live Session) × (live_at app net ≡ Some last) × (last.inbox ≡ first ++ one ∷ rest)
 held-lives app net first rest one is None none = absurd (no-events first rest one (sym (events-none app net none) ∙ is))
 held-lives app net first rest one is (Some last) lives = (last, lives, sym (events-live app net last lives) ∙ is)
+
+-- an answer that the order gives doesn't stand under the branch of the request
+abbrev UnderNone : Request → Order → Type 0
+UnderNone request order = (event : ℕ) (response : Response) → order ≡ orders.Respond event response → is_under request response ≡ false
 
 -- ## A turn of the run
 
@@ -244,13 +259,61 @@ module _ (setup : Setup) (epoch : ℕ) (small : epoch < 2 ^ 64) (moment : Moment
           has-passed setup.config got (Item to come.waiting) turn.request sent turn.is come.is (passed-vias setup.config passes.view passes.branch turn.request),
         )
 
-    abbrev TellsOf : ℕ → Type 0
-    TellsOf branch = Tells setup net got.app turn.live Waits turn.event turn.now turn.made turn.end epoch to sent passes.before passes.order sends-last branch
+    -- ## The answer of the next host
 
-    told-of : (branch : ℕ) → TellsOf branch → IsTold moment got.app branch 481
+    session-small : IsOf64 epoch got.app 0
+    session-small = found-small epoch net got.app turn.live (host_at got.app.host net) refl turn.lives small sound.ready.fine.few_before sound.ready.fine.small_before
+
+    abbrev Net-turn : Turn
+    Net-turn = turn_of net got.app Waits turn.now turn.made turn.end
+
+    abbrev Done-in : Outcome
+    Done-in = outcome_by as_session setup.config turn.live.session Net-turn
+
+    done-orders : Done-in.orders ≡ passes.before ++ passes.order ∷ []
+    unfolding outcome_by turn_of as_session
+    done-orders = passes.is
+
+    drawn-most : Is64 Done-in.session.view.counter
+    drawn-most =
+        subst Is64 (drawn-is setup epoch Is64 net got.app turn.event turn.now turn.made turn.end turn.live Waits turn.lives first)
+        (subst (λ (s : Step). Is64 (drawn_by setup net s)) turn.step sound.ready.drawn)
+
+    all-on : AreOn setup.config epoch got.app turn.live.session.view.counter (passes.before ++ passes.order ∷ []) Done-in.session.view.counter
+    all-on =
+        subst (λ (given : List Order). AreOn setup.config epoch got.app turn.live.session.view.counter given Done-in.session.view.counter) done-orders
+        (turn-on setup.config epoch Is64 got.app net turn.live Waits turn.now turn.made turn.end turn.lives sound.ready.ready.kept)
+
+    module _ (branch : ℕ) (is : passes.order ≡ orders.Send branch sent) where
+      send-on : AreOn setup.config epoch got.app turn.live.session.view.counter (passes.before ++ orders.Send branch sent ∷ []) Done-in.session.view.counter
+      send-on = subst (λ (order : Order). AreOn setup.config epoch got.app turn.live.session.view.counter (passes.before ++ order ∷ []) Done-in.session.view.counter) is all-on
+
+      branch-small : Is64 branch
+      branch-small = last-small setup epoch got.app branch sent passes.before turn.live.session.view.counter Done-in.session.view.counter send-on drawn-most
+
+      drawn-above : turn.live.session.view.counter < branch
+      drawn-above = last-above setup epoch got.app branch sent passes.before turn.live.session.view.counter Done-in.session.view.counter send-on
+
+      its-branch : IsOn setup.config epoch got.app branch sent
+      its-branch = last-on setup epoch got.app branch sent passes.before turn.live.session.view.counter Done-in.session.view.counter send-on
+
+      quiet-of : IsUnguessed setup moment sent
+          → Quiet setup net got.app turn.live Waits turn.event turn.now turn.made turn.end epoch to sent passes.before passes.order sends-last branch
+      quiet-of guess = record {
+        hosts = net-other setup epoch got.app session-small branch _ to.host sent branch-small net sound.ready.ready turn.live turn.lives drawn-above its-branch guess.before;
+        given = before-free setup epoch got.app session-small branch _ to.host sent branch-small passes.before turn.live.session.view.counter Done-in.session.view.counter send-on
+            (all-map (UnderNone sent) (AnswerFree setup epoch got.app session-small branch 0 to.host sent branch-small) passes.before
+            (λ order each. λ event response same. under-free setup epoch got.app session-small branch 0 to.host sent branch-small its-branch response (each event response same))
+            (all-left (UnderNone sent) passes.before (passes.order ∷ []) (subst (λ (given : List Order). All (UnderNone sent) given) moment-given guess.given)));
+      }
+
+    abbrev TellsOf : ℕ → ℕ → Type 0
+    TellsOf code branch = Tells setup net got.app turn.live Waits turn.event turn.now turn.made turn.end epoch to sent passes.before passes.order sends-last code branch
+
+    told-of : (code branch : ℕ) → TellsOf code branch → IsTold moment got.app branch code
     unfolding Tells IsTold
-    told-of branch (inl gone) = inl (ap (λ (n : Net Session). live_at got.app n) after-is ∙ gone)
-    told-of branch (inr told) =
+    told-of code branch (inl gone) = inl (ap (λ (n : Net Session). live_at got.app n) after-is ∙ gone)
+    told-of code branch (inr told) =
         inr (
           Item got.app told.1,
           told.4,
@@ -260,12 +323,19 @@ module _ (setup : Setup) (epoch : ℕ) (small : epoch < 2 ^ 64) (moment : Moment
           told.9,
         )
 
+    comes-back : (code : ℕ) → TellsBack setup net got.app turn.live Waits turn.event turn.now turn.made turn.end epoch to sent passes.before passes.order sends-last code
+        → ComesBack setup moment got.app sent passes.order code
+    unfolding TellsBack ComesBack
+    comes-back code tells = λ branch is no_ack guess. told-of code branch (tells branch is (its-branch branch is) no_ack (quiet-of branch is guess))
+
     by-becomes : Becomes setup net got.app turn.live Waits turn.event turn.now turn.made turn.end epoch to sent passes.before passes.order sends-last → Goal
     by-becomes (Waits_there come) = inl (comes-next (subst (λ (n : Net Session). Arrives setup sent to net.count n) (sym after-is) come))
-    by-becomes (Told_once branch is told) = inr (Passed_on passes (At_once branch is (told-of branch told)))
+    by-becomes (Told_once branch is told) = inr (Passed_on passes (At_once branch is (told-of 481 branch told)))
     by-becomes (Goes_nowhere is) = inr (Passed_on passes (Dropped is))
-    by-becomes (Gone_back back) = inr (Passed_on passes (Gone_there (subst (λ (n : Net Session). IsAnsweredBack setup n (entry_of got.app.host to.host sent) sent 481 does_not_exist) (sym put-is) back)))
-    by-becomes (Full_back back) = inr (Passed_on passes (Full_there (subst (λ (n : Net Session). IsAnsweredBack setup n (entry_of got.app.host to.host sent) sent 503 unavailable) (sym put-is) back)))
+    by-becomes (Gone_back back tells) =
+        inr (Passed_on passes (Gone_there (subst (λ (n : Net Session). IsAnsweredBack setup n (entry_of got.app.host to.host sent) sent 481 does_not_exist) (sym put-is) back) (comes-back 481 tells)))
+    by-becomes (Full_back back tells) =
+        inr (Passed_on passes (Full_there (subst (λ (n : Net Session). IsAnsweredBack setup n (entry_of got.app.host to.host sent) sent 503 unavailable) (sym put-is) back) (comes-back 503 tells)))
 
     passed : Goal
     passed = by-becomes (becomes setup net got.app turn.live Waits turn.event turn.now turn.made turn.end epoch to sent passes.before passes.order sends-last)

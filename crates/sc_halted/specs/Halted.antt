@@ -1,7 +1,8 @@
 -- The answer at each stop of a later request of a proxied dialog: what its turn gives where it isn't
 -- passed on, and what comes back where it is and the next session doesn't get it (RFC 3261 sections
 -- 8.1.3, 12.2.2, 16.3, 21.4.19 and 21.5).
-use Rattle.std.specs.Prelude.{◌++◌, ◌∷◌, ◌≡◌, ◌⊎◌, List, None, Some, [], false, slice_get, suc, true, zero, ℕ}
+use Rattle.std.specs.Option.{option_map_or}
+use Rattle.std.specs.Prelude.{◌++◌, ◌∷◌, ◌≡◌, ◌⊎◌, Bool, List, None, Some, [], false, slice_get, suc, true, zero, ℕ}
 use Rattle.sc_value.specs.declared.ids.AppId.{AppId}
 use Rattle.sc_value.specs.declared.ids.SessId.{SessId}
 use Rattle.sc_value.specs.declared.message.Message.TheVariants as messages
@@ -15,6 +16,8 @@ use Rattle.sc_terms.specs.declared.events.Event.TheVariants as events
 use Rattle.sc_terms.specs.declared.settings.Config.{Config}
 use Rattle.sc_terms.specs.declared.views.SessionView.{SessionView}
 use Rattle.sc_parts.specs.declared.setup.Setup.{Setup}
+use Rattle.sc_state.specs.Hosts.{Host}
+use Rattle.sc_state.specs.declared.host.Server.{Server}
 use Rattle.sc_state.specs.declared.net.Entry.{Entry}
 use Rattle.sc_state.specs.declared.net.Net.{Net}
 use Rattle.sc_state.specs.declared.orders.Order.{Order}
@@ -38,9 +41,11 @@ use Rattle.sc_hosts.specs.PreparingRequests.{next_id, refused}
 use Rattle.sc_hosts.specs.PreparingResponses.{is_invalid}
 use Rattle.sc_hosts.specs.Refusals.{refusal}
 use Rattle.sc_hosts.specs.Steps.{live_at, ringing_at, stepped}
+use Rattle.sc_hosts.specs.Transacting.{branch_of, method_of, top_via}
 use Rattle.sc_hosts.specs.Words.{does_not_exist, unavailable}
 use Rattle.sc_hosts.specs.Working.{worked_all}
-use Rattle.sc_paths.specs.Moments.{Got, Moment, got_in}
+use Rattle.sc_paths.specs.Moments.{Got, Moment, given_in, got_in}
+use Rattle.sc_lasting.specs.Lasting.{All}
 use Rattle.sc_keyed.specs.Keyed.{IsIn}
 use Rattle.sc_stopped.specs.Stopped.{RefusesFirst, returned}
 use Rattle.sc_onward.specs.Onward.{AnswersLast, ComesToProxy, PassesLast, TurnsTo}
@@ -109,6 +114,35 @@ IsTold moment app branch code =
     ⊎ ((told : Got) × (response : Response) × (told.app ≡ app) × IsIn told (got_in moment)
     × (told.waiting.event ≡ queued.Response branch response) × (response.code ≡ code))
 
+-- the response stands under the branch of the request: their top Vias have the same one
+unfoldable pub is_under : Request → Response → Bool
+is_under request response =
+    option_map_or
+    (λ via.
+    option_map_or (λ own. same_bytes (branch_of via) (branch_of own)) (top_via request.head.via)
+    false) (top_via response.head.via) false
+
+-- nobody guessed the branch of the request: no response stands under it, neither one that a server
+-- transaction gave last before the moment nor one that its turn gives
+pub record IsUnguessed (setup : Setup) (moment : Moment) (request : Request) : Type 0 where
+  pub before : (number : ℕ) (host : Host Session) → host_at number moment.before ≡ Some host
+      → All
+      (λ (server : Server).
+      (response : Response) → server.last ≡ Some response → is_under request response ≡ false)
+      host.servers
+  pub given : All
+      (λ (order : Order).
+      (event : ℕ) (response : Response) → order ≡ orders.Respond event response
+      → is_under request response ≡ false)
+      (given_in setup moment)
+
+-- where a session sent the request by this order and nobody guessed its branch, the answer of this
+-- code comes back to the session in the same step; an ACK gets none
+unfoldable pub ComesBack : Setup → Moment → AppId → Request → Order → ℕ → Type 0
+ComesBack setup moment app request order code =
+    (branch : ℕ) → order ≡ orders.Send branch request → same_bytes (method_of request) ack ≡ false
+    → IsUnguessed setup moment request → IsTold moment app branch code
+
 -- the net of the moment as the wire begins to be delivered
 abbrev pub put_out : Setup → Moment → Net Session
 put_out setup moment =
@@ -117,7 +151,8 @@ put_out setup moment =
 -- what comes of a request that a session sends by this order, by an own URI that names this session,
 -- and that isn't queued there: that session doesn't live as the request is sent, so the container
 -- answers it 481 at once, an ACK not at all; that session has ended as the request comes to its
--- host (481); or as many events wait for it then as may (503)
+-- host (481); or as many events wait for it then as may (503). The last two answers come back from
+-- that host to the session that sent the request
 pub data IsReturned (setup : Setup) (moment : Moment) (app to : AppId) (request : Request)
     (order : Order) : Type 0 where
   At_once : (branch : ℕ) → order ≡ orders.Send branch request → IsTold moment app branch 481
@@ -125,9 +160,11 @@ pub data IsReturned (setup : Setup) (moment : Moment) (app to : AppId) (request 
   Dropped : order ≡ orders.Acknowledge request → IsReturned setup moment app to request order
   Gone_there : IsAnsweredBack setup (put_out setup moment) (entry_of app.host to.host request)
       request 481 does_not_exist
+      → ComesBack setup moment app request order 481
       → IsReturned setup moment app to request order
   Full_there : IsAnsweredBack setup (put_out setup moment) (entry_of app.host to.host request)
       request 503 unavailable
+      → ComesBack setup moment app request order 503
       → IsReturned setup moment app to request order
 
 -- ## Each stop with its answer

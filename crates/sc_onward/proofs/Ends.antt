@@ -269,7 +269,7 @@ module _ (number : ℕ) (sess : SessId) (event : ℕ) (request : Request) where
 
   -- ## What is found in the end
 
-  found-shown : (requests : List RequestView) → Has number sess request.hops request.method requests → (q : RequestView) × (find (is_request (record { 0 = number })) requests ≡ Some q)
+  pub found-shown : (requests : List RequestView) → Has number sess request.hops request.method requests → (q : RequestView) × (find (is_request (record { 0 = number })) requests ≡ Some q)
   unfolding Has
   found-shown [] has = absurd has
   found-shown (x ∷ xs) (inl is) = by (x.id.0 == number) (same-test x.id.0 number is)

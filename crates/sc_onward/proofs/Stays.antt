@@ -126,7 +126,7 @@ module _ (number : ℕ) (sess : SessId) (hops : ℕ) (method : Bytes) where
   kept-later true x xs has = inr has
   kept-later false x xs has = has
 
-  has-filter : (test : RequestView → Bool) (xs : List RequestView) → ((x : RequestView) → Fine x → test x ≡ true) → All RightAt xs → Has xs → Has (filter test xs)
+  pub has-filter : (test : RequestView → Bool) (xs : List RequestView) → ((x : RequestView) → Fine x → test x ≡ true) → All RightAt xs → Has xs → Has (filter test xs)
   unfolding All Has
   has-filter test [] keeps all has = absurd has
   has-filter test (x ∷ xs) keeps all (inl is) = kept-here (test x) x (filter test xs) (keeps x (all.0 is)) is
