@@ -26,9 +26,13 @@ use Rattle.sc_state.specs.declared.proxy.Passing.{Passing}
 use Rattle.sc_state.specs.declared.proxy.Proxy.{Proxy}
 use Rattle.sc_state.specs.declared.queue.Queued.{Queued}
 use Rattle.sc_state.specs.declared.queue.Queued.TheVariants as queued
+use Rattle.sc_state.specs.declared.queue.Waiting.{Waiting}
 use Rattle.sc_state.specs.declared.session.Kept.{Kept}
 use Rattle.sc_state.specs.declared.session.Known.{Known}
+use Rattle.sc_state.specs.declared.session.Leg.{Leg}
 use Rattle.sc_state.specs.declared.session.Session.{Session}
+use Rattle.sc_state.specs.declared.session.Way.{Way}
+use Rattle.sc_state.specs.declared.session.Way.TheVariants.{Received}
 use Rattle.sc_state.specs.declared.working.Asked.{Asked}
 use Rattle.sc_state.specs.declared.working.Asked.TheVariants as asked
 use Rattle.sc_state.specs.declared.working.Draft.{Draft}
@@ -39,13 +43,14 @@ use Rattle.sc_grammar.specs.Written.{Bytes}
 use Rattle.sc_model.specs.BestResponses.{best_response, server_error}
 use Rattle.sc_model.specs.Dialogs.{DialogState}
 use Rattle.sc_model.specs.SessionStates.{ack}
-use Rattle.sc_hosts.specs.Acting.{acted, acts, all_act, chooses, closed_session, closes, drafts_ended, drawn, fault_at, faulted, forwards, forwards_best, hops_spent, in_view, is_request_event, passed_later, passed_on, passed_request_of, passes, passes_later, proxy_now, sends_cancels, started}
+use Rattle.sc_hosts.specs.Acting.{acted, acts, all_act, chooses, closed_session, closes, drafts_ended, drawn, fault_at, faulted, forwards, forwards_best, hops_spent, in_view, is_request_event, passed_later, passed_on, passed_request_of, passes, passes_later, proxy_now, sends_cancels, sent_proxy, started}
 use Rattle.sc_hosts.specs.Branches.{can_choose, can_pass, is_exhausted, starting}
 use Rattle.sc_hosts.specs.Effects.{after_listed, begun, played_by}
-use Rattle.sc_hosts.specs.Finishing.{finished, outcome, outcome_of}
-use Rattle.sc_hosts.specs.Giving.{answering, answers, directs, drafts_later, drafts_leg, drafts_own, forgets, writes}
-use Rattle.sc_hosts.specs.Looking.{request_in, same_request, same_session}
-use Rattle.sc_hosts.specs.Messages.{bare_answer, given_response}
+use Rattle.sc_hosts.specs.Finishing.{finished, goodbye, is_ended, is_needed, lacks_final, lightened, outcome, outcome_of, session_in_play, swept, without_acks}
+use Rattle.sc_hosts.specs.Giving.{answering, answers, directs, drafts_later, drafts_leg, drafts_own, forgets, giving, writes}
+use Rattle.sc_hosts.specs.Legs.{leg_of}
+use Rattle.sc_hosts.specs.Looking.{is_request, request_in, same_request, same_session}
+use Rattle.sc_hosts.specs.Messages.{bare_answer, given_response, on_branch, passed_request}
 use Rattle.sc_hosts.specs.Preparing.{kept_of, own_tag_of}
 use Rattle.sc_hosts.specs.PreparingRequests.{taken}
 use Rattle.sc_hosts.specs.PreparingResponses.{is_invalid}
@@ -53,14 +58,14 @@ use Rattle.sc_hosts.specs.RefusalParts.{draft_in}
 use Rattle.sc_hosts.specs.Refusals.{refusal}
 use Rattle.sc_hosts.specs.ViewChanges.{answered, is_owed}
 use Rattle.sc_hosts.specs.Words.{too_many_hops}
-use Rattle.sc_hosts.specs.Working.{ack_with, acknowledges, cancels, dialog_in, does, does_by, goodbyes, invalidates, keeps_sent, owed_answer, sends, sends_in, sends_initial, sends_later, sends_written, starts, worked, worked_all}
+use Rattle.sc_hosts.specs.Working.{ack_with, acknowledges, cancels, dialog_in, does, does_by, goodbyes, invalidates, keeps_sent, next_branch, owed_answer, sends, sends_in, sends_initial, sends_later, sends_written, starts, worked, worked_all}
 use Rattle.sc_lasting.specs.Lasting.{All}
 use Rattle.sc_lasting.proofs.Began.{same-number, test-found}
-use Rattle.sc_lasting.proofs.Parts.{all-found}
+use Rattle.sc_lasting.proofs.Parts.{all-filter, all-found}
 use Rattle.sc_onward.specs.Onward.{AnswersLast, AreCounted, ComesToProxy, PassesLast}
-use Rattle.sc_onward.proofs.Ends.{HasAll, answers-are, before-stays, dated, found-kept, given-code, has-all, later-orders, passed_on-goes, shown-is, spent-orders, taken-known, taken-req, taken-view, valid-is, zero-suc}
-use Rattle.sc_onward.proofs.Kept.{Holds, KeepsAt, Knows, ShownAt, worked-holds}
-use Rattle.sc_onward.proofs.Stays.{Fine, Has, RightAt}
+use Rattle.sc_onward.proofs.Ends.{HasAll, Stays, answers-are, before-stays, dated, found-kept, found-shown, given-code, has-all, later-orders, passed_on-goes, shown-is, spent-orders, taken-known, taken-req, taken-view, valid-is, zero-suc}
+use Rattle.sc_onward.proofs.Kept.{Holds, Keeps, KeepsAt, Knows, ShownAt, worked-holds}
+use Rattle.sc_onward.proofs.Stays.{Fine, Has, RightAt, has-filter}
 use Rattle.sc_onward.proofs.Stopping.{one-call}
 use Rattle.sc_halted.specs.Halted.{AnswersIn, EndsThere, given_for, shown_of}
 
@@ -307,12 +312,12 @@ module _ (number : ℕ) (sess : SessId) (event : ℕ) (request : Request) where
   abbrev Refusing : Answer
   Refusing = record { code = 500; reason = server_error; fields = []; contact = []; body = [] }
 
-  owed-one : (config : Config) (view : View) (known : Known) (q : RequestView) → Fine number sess request.hops request.method q → ◌≡◌ {A = ℕ} q.id.0 number → Knows number sess event request known
-      → Has500 event (owed_answer config view known q)
+  owed-one : (config : Config) (view : View) (known : Known) (q : RequestView) → Fine number sess request.hops request.method q → ◌≡◌ {A = ℕ} q.id.0 number → All (KeepsAt number sess event request) known.kept
+      → Keeps number sess event request known.kept → Has500 event (owed_answer config view known q)
   unfolding owed_answer
-  owed-one config view known q fine here ok =
-      let kept = found-kept number sess event request q.id known.kept here ok.1 in
-      let same = all-found (KeepsAt number sess event request) (λ (k : Kept). same_request k.id q.id) known.kept kept.0 kept.1 ok.0
+  owed-one config view known q fine here all has =
+      let kept = found-kept number sess event request q.id known.kept here has in
+      let same = all-found (KeepsAt number sess event request) (λ (k : Kept). same_request k.id q.id) known.kept kept.0 kept.1 all
       (same-number kept.0.id.0 q.id.0 (test-found (λ (k : Kept). same_request k.id q.id) known.kept kept.0 kept.1) ∙ here) in (
         [],
         [],
@@ -321,9 +326,9 @@ module _ (number : ℕ) (sess : SessId) (event : ℕ) (request : Request) where
         answers-are number sess event request config view Refusing (kept_of known q.id) kept.0 q.initial kept.1 same.1,
       )
 
-  picked : (q : RequestView) → Fine number sess request.hops request.method q → same_bytes request.method ack ≡ false → (same_session sess q.sess && is_owed q) ≡ true
+  picked : (test : SessId → Bool) (q : RequestView) → test sess ≡ true → Fine number sess request.hops request.method q → same_bytes request.method ack ≡ false → (test q.sess && is_owed q) ≡ true
   unfolding is_owed
-  picked q fine other = rw (fine.3, self-is sess.0, fine.5, fine.2, fine.6, other) refl
+  picked test q here fine other = rw (fine.3, here, fine.5, fine.2, fine.6, other) refl
 
   abbrev Owed : Config → View → Known → List RequestView → List Order
   Owed config view known requests = flat_map (owed_answer config view known) requests
@@ -338,24 +343,24 @@ module _ (number : ℕ) (sess : SessId) (event : ℕ) (request : Request) where
   first-later config view known true q rest has = has-behind event (owed_answer config view known q) (Owed config view known rest) has
   first-later config view known false q rest has = has
 
-  owed-found : (requests : List RequestView) (config : Config) (view : View) (known : Known) → All (RightAt number sess request.hops request.method) requests → Has number sess request.hops request.method requests
-      → Knows number sess event request known → same_bytes request.method ack ≡ false
-      → Has500 event (Owed config view known (filter (λ (r : RequestView). same_session sess r.sess && is_owed r) requests))
+  owed-found : (requests : List RequestView) (config : Config) (view : View) (known : Known) (test : SessId → Bool) → test sess ≡ true → All (RightAt number sess request.hops request.method) requests
+      → Has number sess request.hops request.method requests → All (KeepsAt number sess event request) known.kept → Keeps number sess event request known.kept → same_bytes request.method ack ≡ false
+      → Has500 event (Owed config view known (filter (λ (r : RequestView). test r.sess && is_owed r) requests))
   unfolding All Has
-  owed-found [] config view known all has ok other = absurd has
-  owed-found (q ∷ requests) config view known all (inl is) ok other =
+  owed-found [] config view known test here all has kept keeps other = absurd has
+  owed-found (q ∷ requests) config view known test here all (inl is) kept keeps other =
       let fine = all.0 is in
-      first-here config view known (same_session sess q.sess && is_owed q) q (filter (λ (r : RequestView). same_session sess r.sess && is_owed r) requests) (picked q fine other) (owed-one config view known q fine is ok)
-  owed-found (q ∷ requests) config view known all (inr later) ok other =
-      first-later config view known (same_session sess q.sess && is_owed q) q (filter (λ (r : RequestView). same_session sess r.sess && is_owed r) requests)
-      (owed-found requests config view known all.1 later ok other)
+      first-here config view known (test q.sess && is_owed q) q (filter (λ (r : RequestView). test r.sess && is_owed r) requests) (picked test q here fine other) (owed-one config view known q fine is kept keeps)
+  owed-found (q ∷ requests) config view known test here all (inr later) kept keeps other =
+      first-later config view known (test q.sess && is_owed q) q (filter (λ (r : RequestView). test r.sess && is_owed r) requests)
+      (owed-found requests config view known test here all.1 later kept keeps other)
 
   invalid-has : (config : Config) (working : Working) → Holds number sess event request working → same_bytes request.method ack ≡ false → Has500 event (invalidates config sess working).orders
   unfolding invalidates goodbyes
   invalid-has config working holds other =
       has-behind event working.orders _
       (has-more event (Owed config working.play.view working.known (filter (λ (r : RequestView). same_session sess r.sess && is_owed r) working.play.view.requests)) _
-      (owed-found working.play.view.requests config working.play.view working.known holds.0.1 holds.0.2 holds.1 other))
+      (owed-found working.play.view.requests config working.play.view working.known (same_session sess) (self-is sess.0) holds.0.1 holds.0.2 holds.1.0 holds.1.1 other))
 
   -- ## Call by call
 
@@ -420,6 +425,124 @@ module _ (number : ℕ) (sess : SessId) (event : ℕ) (request : Request) where
   calls-split [] config working holds = inr (λ ends. absurd ends, holds)
   calls-split (m ∷ made) config working holds =
       step config working m made holds (λ next. calls-split made config (worked config working m.call) next) (refusal working.play m.call) refl (one-call sess m.call)
+
+-- ## What invalidation answers
+
+-- some orders of a list, in which no answer is left out
+filter-has : (event : ℕ) (test : Order → Bool) → ((e : ℕ) (response : Response) → test (orders.Respond e response) ≡ true) → (before later : List Order) (response : Response) → response.code ≡ 500
+    → Has500 event (filter test (before ++ orders.Respond event response ∷ later))
+filter-has event test each [] later response is = kept-first (test (orders.Respond event response)) (filter test later) (each event response)
+  where
+    kept-first : (b : Bool) (rest : List Order) → b ≡ true → Has500 event (cond b (orders.Respond event response ∷ rest) rest)
+    kept-first true rest at = ([], rest, response, is, refl)
+    kept-first false rest at = cc
+filter-has event test each (o ∷ before) later response is = by (test o) (filter-has event test each before later response is)
+  where
+    by : (b : Bool) → Has500 event (filter test (before ++ orders.Respond event response ∷ later))
+        → Has500 event (cond b (o ∷ filter test (before ++ orders.Respond event response ∷ later)) (filter test (before ++ orders.Respond event response ∷ later)))
+    by true has = has-behind event (o ∷ []) _ has
+    by false has = has
+
+some-filtered : (event : ℕ) (test : Order → Bool) → ((e : ℕ) (response : Response) → test (orders.Respond e response) ≡ true) → (given : List Order) → Has500 event given → Has500 event (filter test given)
+some-filtered event test each given has =
+    subst (λ (os : List Order). Has500 event (filter test os)) (sym has.4) (filter-has event test each has.0 has.1 has.2 has.3)
+
+module _ (number : ℕ) (sess : SessId) (event : ℕ) (request : Request) where
+  -- it is kept, and shown without a final response
+  record Stood (working : Working) : Type 0 where
+    right : All (RightAt number sess request.hops request.method) working.play.view.requests
+    shown : Has number sess request.hops request.method working.play.view.requests
+    kept : All (KeepsAt number sess event request) working.known.kept
+    keeps : Keeps number sess event request working.known.kept
+
+  acting-stood : (working : Working) → Stays number sess event request working → Stood working
+  acting-stood working stays = record { right = stays.view.1; shown = stays.view.2; kept = stays.known.0; keeps = stays.known.1 }
+
+  unstopped : (P : Working → Type 0) (first proxied ended : Bool) → first ≡ false → proxied ≡ true → ended ≡ false → (x y : Working) → P y → P (cond (first || not proxied || ended) x y)
+  unstopped P false true false p q r x y ok = ok
+  unstopped P true proxied ended p q r x y ok = cc
+  unstopped P false false ended p q r x y ok = cc
+  unstopped P false true true p q r x y ok = cc
+
+  some-hops : (P : Working → Type 0) (n h : ℕ) → n ≡ suc h → (x y : Working) → P y → P (cond (n == 0) x y)
+  some-hops P n h is x y ok = by (n == 0) (more-not n h is)
+    where
+      by : (b : Bool) → b ≡ false → P (cond b x y)
+      by true at = cc
+      by false at = ok
+
+      more-not : (n h : ℕ) → n ≡ suc h → (n == 0) ≡ false
+      more-not n h is = grind (arith, nat_tests, is)
+
+  on-stood : (config : Config) (kept : Kept) (working : Working) → Stood working → Stood (passed_on config kept working)
+  unfolding passed_on
+  on-stood config kept working stood = by (same_bytes kept.request.method ack)
+    where
+      by : (b : Bool)
+          → Stood (in_view (drawn working.play.view)
+          (cond b (giving (orders.Acknowledge (on_branch config working.play.view (next_branch working) (passed_request kept.request)) ∷ []) working)
+          (giving (orders.Send (next_branch working) (on_branch config working.play.view (next_branch working) (passed_request kept.request)) ∷ [])
+          (record working { known = record working.known { proxies = working.known.proxies ++ sent_proxy kept (next_branch working) ∷ [] } }))))
+      by true = record { right = stood.right; shown = stood.shown; kept = stood.kept; keeps = stood.keeps }
+      by false = record { right = stood.right; shown = stood.shown; kept = stood.kept; keeps = stood.keeps }
+
+  later-stood : (config : Config) (working : Working) (has : HasAll number sess event request working) (h : ℕ) → request.hops ≡ suc h → Stood working → Stood (passed_later config has.q (Some has.k) working)
+  unfolding passed_later
+  later-stood config working has h some stood =
+      unstopped Stood has.q.initial has.q.proxied (is_invalid working.known has.q.sess) has.fine.0 has.fine.1 has.valid working
+      (cond (has.q.hops == 0) (hops_spent config has.q working) (passed_on config has.k working))
+      (some-hops Stood has.q.hops h (has.fine.4 ∙ some) (hops_spent config has.q working) (passed_on config has.k working) (on-stood config has.k working stood))
+
+  passes-stood : (config : Config) (working : Working) (has : HasAll number sess event request working) (h : ℕ) → request.hops ≡ suc h → Stood working
+      → Stood (passes_later config (queued.Request request) (Some (record { 0 = number })) working)
+  unfolding passes_later passed_request_of is_request_event
+  passes-stood config working has h some stood =
+      rw has.shown (subst (λ (kept : Option Kept). Stood (passed_later config has.q kept working)) (sym has.kept) (later-stood config working has h some stood))
+
+  -- ### Its session as invalidation finds it
+
+  no-ack : (q : RequestView) → Fine number sess request.hops request.method q → same_bytes request.method ack ≡ false → not (q.received && same_bytes q.method ack) ≡ true
+  no-ack q fine other = rw (fine.5, fine.6, other) refl
+
+  keeps-filter : (test : Kept → Bool) (kept : List Kept) → ((k : Kept) → ◌≡◌ {A = ℕ} k.id.0 number → ◌≡◌ {A = Way} k.way (Received event) → test k ≡ true) → All (KeepsAt number sess event request) kept
+      → Keeps number sess event request kept → Keeps number sess event request (filter test kept)
+  unfolding All Keeps
+  keeps-filter test [] each all has = absurd has
+  keeps-filter test (k ∷ kept) each all (inl is) = here (test k) (each k is (all.0 is).1)
+    where
+      here : (b : Bool) → b ≡ true → Keeps number sess event request (cond b (k ∷ filter test kept) (filter test kept))
+      here true at = inl is
+      here false at = cc
+  keeps-filter test (k ∷ kept) each all (inr later) = behind (test k) (keeps-filter test kept each all.1 later)
+    where
+      behind : (b : Bool) → Keeps number sess event request (filter test kept) → Keeps number sess event request (cond b (k ∷ filter test kept) (filter test kept))
+      behind true has = inr has
+      behind false has = has
+
+  lacks : (view : View) (leg : Option Leg) (k : Kept) → All (RightAt number sess request.hops request.method) view.requests → Has number sess request.hops request.method view.requests
+      → same_bytes request.method ack ≡ false → ◌≡◌ {A = ℕ} k.id.0 number → ◌≡◌ {A = Way} k.way (Received event) → is_needed view leg k k.way ≡ true
+  unfolding is_needed lacks_final
+  lacks view leg k right shown other here way =
+      let found = found-shown number sess event request view.requests shown in
+      let same : k.id ≡ record { 0 = number } = ap (λ (n : ℕ). record { 0 = n }) here in
+      let fine = all-found (RightAt number sess request.hops request.method) (is_request (record { 0 = number })) view.requests found.0 found.1 right
+      (same-number found.0.id.0 number (test-found (is_request (record { 0 = number })) view.requests found.0 found.1)) in
+      rw (way, same, found.1, fine.2, fine.6, other) refl
+
+  goodbye-has : (config : Config) (working : Working) (inbox : List Waiting) → Stood working → same_bytes request.method ack ≡ false → Has500 event (goodbye config (lightened (session_in_play working)) inbox)
+  unfolding goodbye goodbyes lightened session_in_play without_acks
+  goodbye-has config working inbox stood other =
+      let view : View = without_acks working.play.view in
+      let right = all-filter (RightAt number sess request.hops request.method) (λ (r : RequestView). not (r.received && same_bytes r.method ack)) working.play.view.requests stood.right in
+      let shown = has-filter number sess request.hops request.method (λ (r : RequestView). not (r.received && same_bytes r.method ack)) working.play.view.requests (λ q fine. no-ack q fine other) stood.right stood.shown in
+      let kept : List Kept = filter (λ (k : Kept). is_needed view (leg_of working.known k.sess) k k.way) working.known.kept in
+      has-more event _ _
+      (has-more event _ _
+      (some-filtered event _ (λ e response. refl) _
+      (has-more event _ _
+      (owed-found number sess event request view.requests config view (record working.known { kept = kept }) (λ (s : SessId). true) refl right shown
+      (all-filter (KeepsAt number sess event request) (λ (k : Kept). is_needed view (leg_of working.known k.sess) k k.way) working.known.kept stood.kept)
+      (keeps-filter (λ (k : Kept). is_needed view (leg_of working.known k.sess) k k.way) working.known.kept (λ k here way. lacks view (leg_of working.known k.sess) k right shown other here way) stood.kept stood.keeps) other))))
 
 -- ## The whole turn
 
@@ -504,3 +627,24 @@ module _ (config : Config) (ringing : List ℕ) (x : Session) (event : ℕ) (req
     pub turn-stops : request.hops ≡ zero → AnswersLast event 483 request (given_for config ringing x event request now made end)
     turn-stops none-left =
         held-orders (AnswersLast event 483 request) (λ working has h some. absurd (zero-suc h (sym none-left ∙ some))) (λ working has is. spent-orders Number Sess event request config working has)
+
+    -- where it is passed on and the turn ends the application session, invalidation answers it 500
+    ended-session : (b : Bool) → b ≡ true → (x y : Session) → cond b x y ≡ x
+    ended-session true is x y = refl
+    ended-session false is x y = cc
+
+    pub turn-closes : (hops : ℕ) → request.hops ≡ suc hops → (outcome config ringing x (record { number = event; event = queued.Request request }) now made end).ends ≡ true → (inbox : List Waiting)
+        → (b : Bool) → same_bytes request.method ack ≡ b → AnswersIn event 500 request (goodbye config (outcome config ringing x (record { number = event; event = queued.Request request }) now made end).session inbox)
+    unfolding outcome outcome_of finished AnswersIn
+    turn-closes hops some ends inbox true is = inl is
+    turn-closes hops some ends inbox false is =
+        let holds = stands-by split none in
+        let stays = before-stays Number Sess event request config Shows.req end Worked holds.0 holds.1 (valid-is Number Sess event request Worked.known valid) in
+        let acting : Working = all_act config (faulted config Shows.req end (drafts_ended Worked)) in
+        let has = has-all Number Sess event request acting stays in
+        let stood : Stood Number Sess event request (passes_later config (queued.Request request) Shows.req acting) =
+        subst (λ (req : Option ReqId). Stood Number Sess event request (passes_later config (queued.Request request) req acting)) (sym (ap (λ (p : Prepared). p.req) same ∙ taken-req (dated x now) event comes.found request))
+        (passes-stood Number Sess event request config acting has hops some (acting-stood Number Sess event request acting stays)) in
+        let last : Working = passes_later config (queued.Request request) Shows.req acting in
+        inr (subst (λ (s : Session). Has500 event (goodbye config (lightened s) inbox)) (sym (ended-session (is_ended (queued.Request request) last) ends (session_in_play last) (swept (session_in_play last))))
+        (goodbye-has Number Sess event request config last inbox stood is))

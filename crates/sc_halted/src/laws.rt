@@ -1,4 +1,4 @@
-ghost use Rattle.std.specs.Prelude.{◌≡◌, ◌⊎◌, ℕ, List, Some, false, slice_get, suc, zero};
+ghost use Rattle.std.specs.Prelude.{◌≡◌, ◌⊎◌, ℕ, List, Some, false, slice_get, suc, true, zero};
 ghost use Rattle.sc_value.specs.declared.ids.AppId.{AppId};
 ghost use Rattle.sc_value.specs.declared.message.Request.{Request};
 ghost use Rattle.sc_terms.specs.declared.calls.CallRecord.{CallRecord};
@@ -6,9 +6,12 @@ ghost use Rattle.sc_terms.specs.declared.calls.End.{End};
 ghost use Rattle.sc_terms.specs.declared.settings.Config.{Config};
 ghost use Rattle.sc_terms.specs.declared.steps.Step.{Step};
 ghost use Rattle.sc_parts.specs.declared.setup.Setup.{Setup};
+ghost use Rattle.sc_state.specs.declared.queue.Queued.TheVariants as queued;
+ghost use Rattle.sc_state.specs.declared.queue.Waiting.{Waiting};
 ghost use Rattle.sc_state.specs.declared.session.Session.{Session};
 ghost use Rattle.sc_model.specs.Names.{IsOf64};
 ghost use Rattle.sc_hosts.specs.Effects.{begun};
+ghost use Rattle.sc_hosts.specs.Finishing.{goodbye, outcome};
 ghost use Rattle.sc_hosts.specs.Histories.{as_history, as_session};
 ghost use Rattle.sc_hosts.specs.PreparingResponses.{is_invalid};
 ghost use Rattle.sc_hosts.specs.Runs.{IsLawful, chained};
@@ -55,6 +58,23 @@ pub fn later_requests_are_passed_on_or_answered()
         → request.hops ≡ zero
         → AnswersLast number 483 request
         (given_for config ringing session number request now made end) }
+    ensures closed { (config : Config) (ringing : List ℕ) (session : Session) (number : ℕ)
+        (request : Request) (now : ℕ) (made : List CallRecord) (end : End) (hops : ℕ)
+        → AreCounted session → (comes : ComesToProxy session request)
+        → (EndsThere comes.found.id
+        (begun (shown_of config ringing session number request now).view) made → ⊥)
+        → is_invalid
+        (worked_all config (shown_of config ringing session number request now) made).known
+        comes.found.id ≡ false
+        → request.hops ≡ suc hops
+        → (outcome config ringing session
+        (record { number = number; event = queued.Request request }) now made end).ends ≡ true
+        → (inbox : List Waiting)
+        → AnswersIn number 500 request
+        (goodbye config
+        (outcome config ringing session
+        (record { number = number; event = queued.Request request }) now made end).session
+        inbox) }
 {}
 
 /// In each lawful run of the hosts: where a session turns to a later request whose next own URI
