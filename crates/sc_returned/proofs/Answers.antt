@@ -39,7 +39,7 @@ use Rattle.sc_ways.specs.Ways.{AreSmallNames}
 use Rattle.sc_recorded.specs.Recorded.{IsRecorded}
 use Rattle.sc_recorded.proofs.Whole.{recorded-run}
 use Rattle.sc_replies.specs.Fields.{Incoming, answer_routes}
-use Rattle.sc_returned.specs.Returned.{IsReturned}
+use Rattle.sc_returned.specs.Returned.{ReturnsRecordRoute}
 use Rattle.sc_returned.proofs.ArrivalHosts.{Arrival, ServerIn, as_came}
 use Rattle.sc_returned.proofs.ArrivalNets.{AreSingle, single-same}
 use Rattle.sc_returned.proofs.Direct.{TellsNone, none-proxied}
@@ -224,7 +224,7 @@ module _ (setup : Setup) (epoch began : ℕ) (journal : List Step) (lawful : IsL
 
 pub returned-run : (setup : Setup) (epoch began : ℕ) (journal : List Step) (dialog : Dialog) (piece : Piece) → IsLawful as_session setup epoch began journal
     → IsPiece setup epoch (moments setup epoch began journal) dialog piece → AreSmallNames setup epoch (chained as_session setup epoch began journal) piece
-    → IsReturned setup epoch (moments setup epoch began journal) dialog piece
+    → ReturnsRecordRoute setup epoch (moments setup epoch began journal) dialog piece
 returned-run setup epoch began journal dialog piece lawful is small =
     let run : List Moment = moments setup epoch began journal in
     let recorded : IsRecorded setup epoch run dialog piece = recorded-run setup epoch began journal lawful dialog piece is small in

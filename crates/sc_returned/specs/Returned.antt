@@ -12,7 +12,7 @@ use Rattle.sc_paths.specs.Pieces.{Dialog, Piece, answers_of, heads_at_end, recei
 -- each answer of the session at its end that makes the dialog returns the Record-Route of the
 -- INVITE as it came there, which is that of the proxies of the way that record-routed, above the
 -- one with which the INVITE came to the way
-pub record IsReturned (setup : Setup) (epoch : ℕ) (run : List Moment) (dialog : Dialog)
+pub record ReturnsRecordRoute (setup : Setup) (epoch : ℕ) (run : List Moment) (dialog : Dialog)
     (piece : Piece) : Type 0 where
   pub answered : (app : AppId) (server : Server) → piece.callee ≡ Some app
       → received run piece app ≡ Some server

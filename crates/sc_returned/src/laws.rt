@@ -6,7 +6,7 @@ ghost use Rattle.sc_hosts.specs.Runs.{IsLawful, chained};
 ghost use Rattle.sc_paths.specs.Moments.{moments};
 ghost use Rattle.sc_paths.specs.Pieces.{Dialog, IsPiece, Piece};
 ghost use Rattle.sc_ways.specs.Ways.{AreSmallNames};
-ghost use Rattle.sc_returned.specs.Returned.{IsReturned};
+ghost use Rattle.sc_returned.specs.Returned.{ReturnsRecordRoute};
 
 /// Where an application session answers the INVITE at the end of its way through the container,
 /// each of its responses that makes the dialog, a provisional one with a To tag too, has the
@@ -21,10 +21,10 @@ pub fn answers_return_the_record_route()
         (piece : Piece) → IsLawful as_session setup epoch began journal
         → IsPiece setup epoch (moments setup epoch began journal) dialog piece
         → AreSmallNames setup epoch (chained as_session setup epoch began journal) piece
-        → IsReturned setup epoch (moments setup epoch began journal) dialog piece }
+        → ReturnsRecordRoute setup epoch (moments setup epoch began journal) dialog piece }
     ensures history { (setup : Setup) (epoch began : ℕ) (journal : List Step) (dialog : Dialog)
         (piece : Piece) → IsLawful (as_history setup.config) setup epoch began journal
         → IsPiece setup epoch (moments setup epoch began journal) dialog piece
         → AreSmallNames setup epoch (chained as_session setup epoch began journal) piece
-        → IsReturned setup epoch (moments setup epoch began journal) dialog piece }
+        → ReturnsRecordRoute setup epoch (moments setup epoch began journal) dialog piece }
 {}
