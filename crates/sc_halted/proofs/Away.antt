@@ -38,9 +38,9 @@ use Rattle.sc_hosts.specs.Inboxes.{is_live, queue, with_event}
 use Rattle.sc_hosts.specs.Messages.{bare_answer, own_response, without_via}
 use Rattle.sc_hosts.specs.Nets.{acknowledge, change_host, host_at, named_host, obey, obeyed, peer_of_host, placed, put, queue_for, queued_at, send_later, send_named, send_to, tell_own}
 use Rattle.sc_hosts.specs.Runs.{after_step, delivered}
-use Rattle.sc_hosts.specs.Steps.{closed_turn, inbox_of, invalidated, live_at, stepped, turned, turns, turns_first}
+use Rattle.sc_hosts.specs.Steps.{closed_turn, inbox_of, invalidated, live_at, stepped, turned, turned_live, turns, turns_first}
 use Rattle.sc_hosts.specs.Taking.{named_live, names, own_uri}
-use Rattle.sc_hosts.specs.Transacting.{is_over, method_of, state_of_client, with_client}
+use Rattle.sc_hosts.specs.Transacting.{is_over, is_same_app, method_of, state_of_client, with_client}
 use Rattle.sc_hosts.specs.Words.{does_not_exist, unavailable}
 use Rattle.sc_lives.specs.Numbers.{AreNumbered}
 use Rattle.sc_lives.proofs.HostCounts.{change_host-hosts, obeyed-hosts}
@@ -72,10 +72,11 @@ use Rattle.sc_ways.proofs.Waits.{events-live}
 use Rattle.sc_onward.proofs.Clean.{CleanNet, Goes, IsApartFrom, change-goes, closed-goes, obey-goes, obeyed-goes}
 use Rattle.sc_onward.proofs.Delivered.{Arrives, Stands}
 use Rattle.sc_onward.proofs.Turning.{Any, Change, Changed, Done, Never, apart-kinds, change-known, changed-numbered, clients-of, closed-gone, closed-hosts, closed-known, closed-numbered, lives-fit, more, obeyed-both, obeyed-counts, orders-apart, over, own-next}
-use Rattle.sc_halted.specs.Halted.{IsAnsweredBack, entry_of}
+use Rattle.sc_halted.specs.Halted.{IsAnsweredBack, IsFoundFull, entry_of}
 use Rattle.sc_halted.proofs.ApartNets.{AllWell, FreeEntry, FreeOrder, Moves, OtherNet, begins-well, change-moves, obeyed-moves, ready-moves}
 use Rattle.sc_halted.proofs.Back.{C, Standing, Told, fresh, queue-sessions}
 use Rattle.sc_halted.proofs.Deliveries.{Back, Comes, Ready, comes-or-back, same-more}
+use Rattle.sc_halted.proofs.Living.{HostLives, NetLives, changed-lives, live-hosts, live-nets, lives-changed, same-app, without-lives}
 
 none-some : {A : Type 0} (found : Option A) (one : A) → found ≡ None → found ≡ Some one → ⊥
 none-some found one p q = cc
@@ -448,6 +449,59 @@ module _ (setup : Setup) (net : Net Session) (app : AppId) (live : Live Session)
             let moves = closed-moves Ends ends in
             subst (λ (es : List Entry). All (FreeEntry Salt epoch Own Fresh) es) (same-more N1.wire moves.more (goes-on one lives).more (sym moves.wire ∙ (goes-on one lives).wire)) moves.free
 
+    -- ## Where it lives it goes on to live
+
+    moved-lives : NetLives to net Moved
+    unfolding turned_live
+    moved-lives = changed-lives to app.host Move Start (λ host at same found is. lives-changed host.sessions (is_live app.serial) _ to.serial (λ l. refl) found is)
+
+    orders-live : (given : List Order) (n : Net Session) → NetLives to n (obeyed setup app given n)
+    orders-live given n = obeyed-walks (λ number now. HostLives to.serial) (NetLives to) (live-hosts to.serial) (live-nets to) setup app given n
+
+    n0-kept : NetLives to net N0
+    n0-kept = λ found is. let moved = moved-lives found is in orders-live before Moved moved.0 moved.1
+
+    n1-kept : NetLives to N0 N1
+    unfolding obeyed
+    n1-kept = orders-live (order ∷ []) N0
+
+    dead-first : (found : Option (Live Session)) → live_at to net ≡ found → live_at to N0 ≡ None → live_at to net ≡ None
+    dead-first None is none = is
+    dead-first (Some was) is none = let one = n0-kept was is in absurd (none-some (live_at to N0) one.0 none one.1)
+
+    kept-closed : (ends : Bool) → ends ≡ false → NetLives to N1 (closed_turn setup app (Done setup net app live waiting event now made end) ends N1)
+    unfolding closed_turn
+    kept-closed true is = cc
+    kept-closed false is =
+        with_ready-walks (λ number now. HostLives to.serial) (NetLives to) (live-hosts to.serial) (live-nets to) app (Done setup net app live waiting event now made end) (live_at app N1) N1
+
+    ended-other : (ends : Bool) → ends ≡ true → is_same_app to app ≡ false → NetLives to N1 (closed_turn setup app (Done setup net app live waiting event now made end) ends N1)
+    unfolding closed_turn invalidated
+    ended-other true is away =
+        λ found lives.
+        let given : List Order = goodbye setup.config (Done setup net app live waiting event now made end).session (inbox_of (live_at app N1)) in
+        let one = orders-live given N1 found lives in
+        without-lives to app (obeyed setup app given N1) away one.0 one.1
+    ended-other false is away = cc
+
+    -- one that has ended meanwhile is the one that sent it
+    is-itself : (one : Live Session) → live_at to N0 ≡ Some one → live_at to N3 ≡ None → (to ≡ app) × (live_at app After ≡ None)
+    is-itself one lives dead = by Ends refl
+      where
+        by-app : Ends ≡ true → (b : Bool) → is_same_app to app ≡ b → (to ≡ app) × (live_at app After ≡ None)
+        by-app ends true is = (same-app to app is, ap (λ (n : Net Session). live_at app n) behind ∙ gone-after (ended-gone Ends ends))
+        by-app ends false is =
+            let next = n1-kept one lives in
+            let last = ended-other Ends ends is next.0 next.1 in
+            absurd (none-some (live_at to N3) last.0 dead last.1)
+
+        by : (b : Bool) → Ends ≡ b → (to ≡ app) × (live_at app After ≡ None)
+        by true ends = by-app ends (is_same_app to app) refl
+        by false ends =
+            let next = n1-kept one lives in
+            let last = kept-closed Ends ends next.0 next.1 in
+            absurd (none-some (live_at to N3) last.0 dead last.1)
+
     -- ## All of it
 
     -- the answer to it waits in the session that sent it, where that lives
@@ -464,10 +518,10 @@ module _ (setup : Setup) (net : Net Session) (app : AppId) (live : Live Session)
 
     pub data Becomes : Type 0 where
       Waits_there : Arrives setup sent to net.count After → Becomes
-      Told_once : (branch : ℕ) → order ≡ orders.Send branch sent → Tells 481 branch → Becomes
-      Goes_nowhere : order ≡ orders.Acknowledge sent → Becomes
-      Gone_back : IsAnsweredBack setup Stepped It sent 481 does_not_exist → TellsBack 481 → Becomes
-      Full_back : IsAnsweredBack setup Stepped It sent 503 unavailable → TellsBack 503 → Becomes
+      Told_once : (branch : ℕ) → live_at to net ≡ None → order ≡ orders.Send branch sent → Tells 481 branch → Becomes
+      Goes_nowhere : live_at to net ≡ None → order ≡ orders.Acknowledge sent → Becomes
+      Gone_back : to ≡ app → live_at app After ≡ None → IsAnsweredBack setup Stepped It sent 481 does_not_exist → Becomes
+      Full_back : IsFoundFull setup Stepped app to sent → TellsBack 503 → Becomes
 
     answer-code : (edge : Bytes) (code : ℕ) (reason : Bytes) (request : Request) → (without_via (own_response edge code reason request)).code ≡ code
     unfolding without_via own_response response_to bare_answer
@@ -493,8 +547,8 @@ module _ (setup : Setup) (net : Net Session) (app : AppId) (live : Live Session)
         )
 
     by-order : live_at to N0 ≡ None → Sends sent order → Becomes
-    by-order none (Is_send branch is) = Told_once branch is (tells none branch is (live_at app (delivered as_session setup N3)) refl)
-    by-order none (Is_ack is) = Goes_nowhere is
+    by-order none (Is_send branch is) = Told_once branch (dead-first (live_at to net) refl none) is (tells none branch is (live_at app (delivered as_session setup N3)) refl)
+    by-order none (Is_ack is) = Goes_nowhere (dead-first (live_at to net) refl none) is
 
     -- the answer that its host gave comes back
     back-tells : (code : ℕ) (reason : Bytes) (one : Live Session) (lives : live_at to N0 ≡ Some one) (branch : ℕ) → order ≡ orders.Send branch sent
@@ -547,19 +601,23 @@ module _ (setup : Setup) (net : Net Session) (app : AppId) (live : Live Session)
     abbrev AnsweredAt : ℕ → Bytes → Net Session → Type 0
     AnsweredAt code reason n = IsAnsweredBack setup n It sent code reason
 
+    gone-itself : (one : Live Session) → live_at to N0 ≡ Some one → AnsweredAt 481 does_not_exist N3 → live_at to N3 ≡ None → Becomes
+    gone-itself one lives answered dead =
+        let own = is-itself one lives dead in
+        Gone_back own.0 own.1 (subst (λ (n : Net Session). AnsweredAt 481 does_not_exist n) (sym put-out) answered)
+
     by-wire : (one : Live Session) (lives : live_at to N0 ≡ Some one) (branch : ℕ) → order ≡ orders.Send branch sent
         → Comes setup epoch app branch N0.moment sent to (next_uri sent) on.small on.no_cancel on.tagged by-uri on.named N0.wire (goes-on one lives).more N3 → Becomes
     by-wire one lives branch is (inl come) = waits-there come
-    by-wire one lives branch is (inr (inl gone)) =
-        Gone_back (subst (λ (n : Net Session). AnsweredAt 481 does_not_exist n) (sym put-out) gone.answered) (tells-back 481 does_not_exist one lives branch is gone)
+    by-wire one lives branch is (inr (inl gone)) = gone-itself one lives gone.0 gone.1
     by-wire one lives branch is (inr (inr full)) =
-        Full_back (subst (λ (n : Net Session). AnsweredAt 503 unavailable n) (sym put-out) full.answered) (tells-back 503 unavailable one lives branch is full)
+        Full_back (subst (λ (n : Net Session). IsFoundFull setup n app to sent) (sym put-out) full.found) (tells-back 503 unavailable one lives branch is full)
 
     by-ack : (one : Live Session) (lives : live_at to N0 ≡ Some one) → order ≡ orders.Acknowledge sent
         → Comes setup epoch app 0 N0.moment sent to (next_uri sent) on.small on.no_cancel on.tagged by-uri on.named N0.wire (goes-on one lives).more N3 → Becomes
     by-ack one lives is (inl come) = waits-there come
-    by-ack one lives is (inr (inl gone)) = Gone_back (subst (λ (n : Net Session). AnsweredAt 481 does_not_exist n) (sym put-out) gone.answered) (never-back 481 is)
-    by-ack one lives is (inr (inr full)) = Full_back (subst (λ (n : Net Session). AnsweredAt 503 unavailable n) (sym put-out) full.answered) (never-back 503 is)
+    by-ack one lives is (inr (inl gone)) = gone-itself one lives gone.0 gone.1
+    by-ack one lives is (inr (inr full)) = Full_back (subst (λ (n : Net Session). IsFoundFull setup n app to sent) (sym put-out) full.found) (never-back 503 is)
 
     by-sends : (one : Live Session) → live_at to N0 ≡ Some one → Sends sent order → Becomes
     by-sends one lives (Is_send branch is) = by-wire one lives branch is (wire-comes one lives branch)

@@ -42,9 +42,10 @@ use Rattle.sc_ways.proofs.Epochs.{H as EpochAt, P as SameEpoch, hosts as epoch-h
 use Rattle.sc_ways.proofs.Got.{small-sessions}
 use Rattle.sc_onward.proofs.Clean.{IsApartFrom, first-goes}
 use Rattle.sc_onward.proofs.Delivered.{Arrives, Stands, busy-is, delivered-events, first-hosts, first-walks, grown-list, grows, next-more, rises, stands-next, unclaimed-is}
-use Rattle.sc_halted.specs.Halted.{IsAnsweredBack, after_deliveries, entry_of}
+use Rattle.sc_halted.specs.Halted.{IsAnsweredBack, IsFoundFull, after_deliveries, entry_of}
 use Rattle.sc_halted.proofs.ApartNets.{FreeEntry, all-both, first-moves}
 use Rattle.sc_halted.proofs.Back.{C, It-back, Standing, Told, back-told, fresh, told-lower}
+use Rattle.sc_halted.proofs.Living.{HostLives, NetLives, live-hosts, live-nets}
 
 -- there is one at each place of a list
 some-at : {A : Type 0} (xs : List A) (n : ℕ) → n < length xs → (x : A) × (slice_get xs n ≡ Some x)
@@ -89,13 +90,14 @@ module _ (setup : Setup) (epoch : ℕ) (app : AppId) (branch now : ℕ) (sent : 
 
   -- its host answered it, and where nothing else has its branch the session that sent it is told
   pub record Back (code : ℕ) (reason : Bytes) (front back : List Entry) (net : Net Session) : Type 0 where
-    pub answered : IsAnsweredBack setup net It sent code reason
+    pub found : IsFoundFull setup net app to sent
     pub tells : IsOn setup.config epoch app branch sent → same_bytes (method_of sent) ack ≡ false → All Free front → All Free back → Waiting-for net → (last : Live Session)
         → live_at app (End net) ≡ Some last → Told setup epoch app branch now to.host sent code reason net.count last
 
   -- it waits in the session, or its host answered it
   abbrev pub Comes : List Entry → List Entry → Net Session → Type 0
-  Comes front back net = Arrives setup sent to net.count (End net) ⊎ (Back 481 does_not_exist front back net ⊎ Back 503 unavailable front back net)
+  Comes front back net =
+      Arrives setup sent to net.count (End net) ⊎ ((IsAnsweredBack setup net It sent 481 does_not_exist × (live_at to net ≡ None)) ⊎ Back 503 unavailable front back net)
 
   it-first : (net : Net Session) (back : List Entry) → net.wire ≡ It ∷ back → slice_get net.wire 0 ≡ Some It
   it-first net back is = ap (λ (wire : List Entry). slice_get wire 0) is
@@ -169,17 +171,15 @@ module _ (setup : Setup) (epoch : ℕ) (app : AppId) (branch now : ℕ) (sent : 
       back-told setup epoch app branch now to.host sent code reason on no_cancel final other-100 back after [] (answer-wire code reason net back is other) free
       (record { wells = waits.wells; at = waits.at; known = waits.known }) last (subst (λ (n : Net Session). live_at app n ≡ Some last) same ends)
 
-  gone-first : (net : Net Session) (back : List Entry) → net.wire ≡ It ∷ back → Next net ≡ returned setup.config It 481 does_not_exist sent net → Back 481 does_not_exist [] back net
+  gone-first : (net : Net Session) (back : List Entry) → net.wire ≡ It ∷ back → Next net ≡ returned setup.config It 481 does_not_exist sent net → IsAnsweredBack setup net It sent 481 does_not_exist
   unfolding after_deliveries
-  gone-first net back is next = record {
-    answered = record { count = 0; first = it-first net back is; answered = next };
-    tells = λ on other none free waits last ends. returned-tells 481 does_not_exist refl refl net back is next on other free waits last ends;
-  }
+  gone-first net back is next = record { count = 0; first = it-first net back is; answered = next }
 
-  full-first : (net : Net Session) (back : List Entry) → net.wire ≡ It ∷ back → Next net ≡ returned setup.config It 503 unavailable sent net → Back 503 unavailable [] back net
+  full-first : (net : Net Session) (back : List Entry) → net.wire ≡ It ∷ back → (live : Live Session) → live_at to net ≡ Some live → is_full live ≡ true
+      → Next net ≡ returned setup.config It 503 unavailable sent net → Back 503 unavailable [] back net
   unfolding after_deliveries
-  full-first net back is next = record {
-    answered = record { count = 0; first = it-first net back is; answered = next };
+  full-first net back is live lives most next = record {
+    found = record { back = record { count = 0; first = it-first net back is; answered = next }; live = live; lives = lives; full = most };
     tells = λ on other none free waits last ends. returned-tells 503 unavailable refl refl net back is next on other free waits last ends;
   }
 
@@ -187,11 +187,11 @@ module _ (setup : Setup) (epoch : ℕ) (app : AppId) (branch now : ℕ) (sent : 
   first-comes net back is ready less = by-live (live_at to net) refl
     where
       by-room : (live : Live Session) → live_at to net ≡ Some live → (b : Bool) → is_full live ≡ b → Comes [] back net
-      by-room live lives true full = inr (inr (full-first net back is (full-back as_session setup It sent net to live (to-host net back is ready less) lives full)))
+      by-room live lives true full = inr (inr (full-first net back is live lives full (full-back as_session setup It sent net to live (to-host net back is ready less) lives full)))
       by-room live lives false room = inl (first-waits net back is (to-host net back is ready less) live lives room)
 
       by-live : (found : Option (Live Session)) → live_at to net ≡ found → Comes [] back net
-      by-live None none = inr (inl (gone-first net back is (gone-back as_session setup It sent net to (to-host net back is ready less) none)))
+      by-live None none = inr (inl (gone-first net back is (gone-back as_session setup It sent net to (to-host net back is ready less) none), none))
       by-live (Some live) lives = by-room live lives (is_full live) refl
 
   next-ready : (net : Net Session) (entry : Entry) (rest : List Entry) → net.wire ≡ entry ∷ rest → IsOnWay (IsApartFrom sent) entry.message → Ready net → Ready (Next net)
@@ -204,11 +204,20 @@ module _ (setup : Setup) (epoch : ℕ) (app : AppId) (branch now : ℕ) (sent : 
   unfolding after_deliveries
   one-later code reason net back = record { count = suc back.count; first = back.first; answered = back.answered }
 
+  found-later : (net : Net Session) → IsFoundFull setup (Next net) app to sent → IsFoundFull setup net app to sent
+  unfolding after_deliveries
+  found-later net found = record {
+    back = record { count = suc found.back.count; first = found.back.first; answered = found.back.answered };
+    live = found.live;
+    lives = found.lives;
+    full = found.full;
+  }
+
   back-later : (code : ℕ) (reason : Bytes) (net : Net Session) (entry : Entry) (front back more : List Entry) → net.wire ≡ entry ∷ front ++ It ∷ back → (Next net).wire ≡ (front ++ It ∷ back) ++ more
       → End net ≡ End (Next net) → net.count ≤ (Next net).count → Back code reason front (back ++ more) (Next net) → Back code reason (entry ∷ front) back net
   unfolding All
   back-later code reason net entry front back more is wire same up later = record {
-    answered = one-later code reason net later.answered;
+    found = found-later net later.found;
     tells = λ on other free-front free-back waits last ends.
         let moves = first-moves setup.config.salt epoch (C setup epoch app branch now to.host sent) (fresh setup epoch app branch now to.host sent) (Unit {0}) setup entry (front ++ It ∷ back) net refl waits.at is free-front.0 waits.wells in
         let free-more : All Free more = subst (λ (es : List Entry). All Free es) (same-more (front ++ It ∷ back) moves.more more (sym moves.wire ∙ wire)) moves.free in
@@ -221,6 +230,16 @@ module _ (setup : Setup) (epoch : ℕ) (app : AppId) (branch now : ℕ) (sent : 
         }) last (subst (λ (n : Net Session). live_at app n ≡ Some last) same ends));
   }
 
+  not-both : (found : Option (Live Session)) (live : Live Session) → found ≡ None → found ≡ Some live → ⊥
+  not-both found live p q = cc
+
+  -- where it lives it goes on to live
+  dead-before : (net : Net Session) (found : Option (Live Session)) → live_at to net ≡ found → live_at to (Next net) ≡ None → live_at to net ≡ None
+  dead-before net None is dead = is
+  dead-before net (Some live) is dead =
+      let next = first-walks (λ number now. HostLives to.serial) (NetLives to) (live-hosts to.serial) (live-nets to) as_session tt setup net live is in
+      absurd (not-both (live_at to (Next net)) next.0 dead next.1)
+
   later-comes : (net : Net Session) (entry : Entry) (front back more : List Entry) → net.wire ≡ entry ∷ front ++ It ∷ back → (Next net).wire ≡ (front ++ It ∷ back) ++ more → End net ≡ End (Next net)
       → net.count ≤ (Next net).count → Comes front (back ++ more) (Next net) → Comes (entry ∷ front) back net
   later-comes net entry front back more is wire same up (inl comes) =
@@ -230,7 +249,7 @@ module _ (setup : Setup) (epoch : ℕ) (app : AppId) (branch now : ℕ) (sent : 
         above = more-count net.count (Next net).count comes.waiting.number up comes.above;
         held = comes.held;
       }))
-  later-comes net entry front back more is wire same up (inr (inl gone)) = inr (inl (back-later 481 does_not_exist net entry front back more is wire same up gone))
+  later-comes net entry front back more is wire same up (inr (inl gone)) = inr (inl (one-later 481 does_not_exist net gone.0, dead-before net (live_at to net) refl gone.1))
   later-comes net entry front back more is wire same up (inr (inr full)) = inr (inr (back-later 503 unavailable net entry front back more is wire same up full))
 
   -- behind others on the wire

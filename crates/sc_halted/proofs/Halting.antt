@@ -52,7 +52,7 @@ use Rattle.sc_hosts.specs.Runs.{AllowedBy, IsAllowed, IsLawful, MayTurn, after_s
 use Rattle.sc_hosts.specs.Sessions.{Turn}
 use Rattle.sc_hosts.specs.Steps.{live_at, outcome_by, ringing_at, stepped, turn_of}
 use Rattle.sc_hosts.specs.Taking.{names}
-use Rattle.sc_hosts.specs.Words.{does_not_exist, unavailable}
+use Rattle.sc_hosts.specs.Words.{does_not_exist}
 use Rattle.sc_hosts.specs.Working.{worked_all}
 use Rattle.sc_paths.specs.LaterRequests.{SetOut, later_in, set_out_by}
 use Rattle.sc_paths.specs.Moments.{Got, Moment, given_in, moments, orders_by}
@@ -69,7 +69,7 @@ use Rattle.sc_ways.specs.Ways.{AreSmallDraws}
 use Rattle.sc_ways.proofs.OneHop.{orders-are}
 use Rattle.sc_ways.proofs.OwnBranches.{Is64, IsOnOwnBranch, out-own}
 use Rattle.sc_ways.proofs.Recorders.{found-small}
-use Rattle.sc_ways.proofs.Runs.{all-at}
+use Rattle.sc_ways.proofs.Runs.{all-at, run-each}
 use Rattle.sc_ways.proofs.Waits.{events-live}
 use Rattle.sc_onward.specs.Onward.{AreCounted, AreSmallNumbers, ComesNext, ComesToProxy, HasNewBranches, HasNoServer, PassesLast, TurnsTo}
 use Rattle.sc_onward.proofs.Clean.{CleanNet}
@@ -78,10 +78,12 @@ use Rattle.sc_onward.proofs.Ends.{dated, shown-is}
 use Rattle.sc_onward.proofs.OneHop.{IsSound, Item, at-end, before-others, got-item, has-passed, later-is, passed-method, passed-next, passed-to, passed-vias, sends-in}
 use Rattle.sc_onward.proofs.Stopping.{found-again}
 use Rattle.sc_onward.proofs.Whole.{run-new, run-sound}
-use Rattle.sc_halted.specs.Halted.{At_once, ComesBack, Dropped, Ended_before, Ended_by_call, Full_there, Gone_there, IsAnsweredBack, IsEndedIn, IsHalted, IsRefusedFirst, IsTold, IsUnguessed, Of_low_number, Of_no_dialog, Of_no_hops, Of_own_session, Passed_on, entry_of, given_at, is_under, put_out, shown_at}
+use Rattle.sc_halted.specs.Halted.{At_once, ComesBack, Dropped, Ended_by_call, Ended_itself, Full_there, IsAnsweredBack, IsEndedIn, IsFoundFull, IsHalted, IsRefusedFirst, IsTold, IsUnguessed, Of_low_number, Of_no_dialog, Of_no_hops, Of_own_session, Passed_on, entry_of, given_at, is_under, put_out, shown_at}
 use Rattle.sc_halted.proofs.Away.{Becomes, Full_back, Goes_nowhere, Gone_back, Quiet, SendsLast, Stepped as SteppedOf, Tells, TellsBack, Told_once, Waits_there, becomes}
 use Rattle.sc_halted.proofs.Drawn.{AnswerFree, all-left, before-free, last-above, last-on, last-small, net-other, under-free}
 use Rattle.sc_halted.proofs.Ending.{turn-either, turn-ends, turn-goes, turn-stops}
+use Rattle.sc_halted.proofs.Holding.{never-ended, tied-after}
+use Rattle.sc_halted.proofs.Tied.{TiedIn}
 
 -- ## Where nobody is called
 
@@ -153,7 +155,8 @@ UnderNone request order = (event : ℕ) (response : Response) → order ≡ orde
 
 -- ## A turn of the run
 
-module _ (setup : Setup) (epoch : ℕ) (small : epoch < 2 ^ 64) (moment : Moment) (sound : IsSound setup epoch moment) (new : HasNewBranches setup moment) (got : Got) (to : AppId) (within : IsOf64 epoch to 0)
+module _ (setup : Setup) (epoch : ℕ) (small : epoch < 2 ^ 64) (moment : Moment) (sound : IsSound setup epoch moment) (new : HasNewBranches setup moment)
+    (tied : (app : AppId) (live : Live Session) → live_at app moment.before ≡ Some live → TiedIn live.session.view live.session.known) (got : Got) (to : AppId) (within : IsOf64 epoch to 0)
     (turn : TurnsTo setup moment got to) where
   abbrev net : Net Session
   net = moment.before
@@ -330,12 +333,13 @@ module _ (setup : Setup) (epoch : ℕ) (small : epoch < 2 ^ 64) (moment : Moment
 
     by-becomes : Becomes setup net got.app turn.live Waits turn.event turn.now turn.made turn.end epoch to sent passes.before passes.order sends-last → Goal
     by-becomes (Waits_there come) = inl (comes-next (subst (λ (n : Net Session). Arrives setup sent to net.count n) (sym after-is) come))
-    by-becomes (Told_once branch is told) = inr (Passed_on passes (At_once branch is (told-of 481 branch told)))
-    by-becomes (Goes_nowhere is) = inr (Passed_on passes (Dropped is))
-    by-becomes (Gone_back back tells) =
-        inr (Passed_on passes (Gone_there (subst (λ (n : Net Session). IsAnsweredBack setup n (entry_of got.app.host to.host sent) sent 481 does_not_exist) (sym put-is) back) (comes-back 481 tells)))
+    by-becomes (Told_once branch dead is told) = inr (Passed_on passes (At_once branch dead is (told-of 481 branch told)))
+    by-becomes (Goes_nowhere dead is) = inr (Passed_on passes (Dropped dead is))
+    by-becomes (Gone_back itself ended back) =
+        inr (Passed_on passes (Ended_itself itself (ap (λ (n : Net Session). live_at got.app n) after-is ∙ ended)
+        (subst (λ (n : Net Session). IsAnsweredBack setup n (entry_of got.app.host to.host sent) sent 481 does_not_exist) (sym put-is) back)))
     by-becomes (Full_back back tells) =
-        inr (Passed_on passes (Full_there (subst (λ (n : Net Session). IsAnsweredBack setup n (entry_of got.app.host to.host sent) sent 503 unavailable) (sym put-is) back) (comes-back 503 tells)))
+        inr (Passed_on passes (Full_there (subst (λ (n : Net Session). IsFoundFull setup n got.app to sent) (sym put-is) back) (comes-back 503 tells)))
 
     passed : Goal
     passed = by-becomes (becomes setup net got.app turn.live Waits turn.event turn.now turn.made turn.end epoch to sent passes.before passes.order sends-last)
@@ -390,7 +394,8 @@ module _ (setup : Setup) (epoch : ℕ) (small : epoch < 2 ^ 64) (moment : Moment
 
     of-valid : (none : IsEndedIn setup moment got to turn comes.found.id → ⊥) → (b : Bool)
         → is_invalid (worked_all setup.config (shown_at setup moment got to turn) turn.made).known comes.found.id ≡ b → Goal
-    of-valid none true is = inr (Ended_before comes none is)
+    of-valid none true is =
+        absurd (never-ended setup.config Ringing turn.live.session got.waiting.number turn.request turn.now turn.made comes (tied got.app turn.live turn.lives) none is)
     of-valid none false is = of-hops none is turn.request.hops refl
 
     of-calls : IsEndedIn setup moment got to turn comes.found.id ⊎ (IsEndedIn setup moment got to turn comes.found.id → ⊥) → Goal
@@ -421,6 +426,9 @@ module _ (setup : Setup) (epoch : ℕ) (small : epoch < 2 ^ 64) (moment : Moment
   goes-or-halts : Goal
   goes-or-halts = by-found (find (takes_request turn.live.session.known turn.request) turn.live.session.view.sessions) refl
 
+abbrev AllTied : Moment → Type 0
+AllTied moment = (app : AppId) (live : Live Session) → live_at app moment.before ≡ Some live → TiedIn live.session.view live.session.known
+
 -- in a lawful run
 pub goes-on-or-halts : (setup : Setup) (epoch began : ℕ) (journal : List Step) → IsLawful as_session setup epoch began journal
     → AreSmallNumbers setup epoch (chained as_session setup epoch began journal) → AreSmallDraws setup (moments setup epoch began journal) → (place : ℕ) (moment : Moment) (got : Got) (to : AppId)
@@ -428,4 +436,6 @@ pub goes-on-or-halts : (setup : Setup) (epoch began : ℕ) (journal : List Step)
 goes-on-or-halts setup epoch began journal lawful numbers drawn place moment got to at within turn =
     goes-or-halts setup epoch numbers.within moment
     (all-at (IsSound setup epoch) (moments setup epoch began journal) place moment at (run-sound setup epoch began journal lawful numbers drawn))
-    (all-at (HasNewBranches setup) (moments setup epoch began journal) place moment at (run-new setup epoch began journal lawful numbers drawn)) got to within turn
+    (all-at (HasNewBranches setup) (moments setup epoch began journal) place moment at (run-new setup epoch began journal lawful numbers drawn))
+    (all-at AllTied (moments setup epoch began journal) place moment at
+    (run-each setup epoch began journal lawful AllTied (λ before step later is allowed. tied-after setup epoch began before))) got to within turn

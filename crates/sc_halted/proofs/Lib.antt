@@ -2,7 +2,11 @@ pub mod Ending
 pub mod Apart
 pub mod ApartNets
 pub mod Back
+pub mod Living
 pub mod Deliveries
 pub mod Away
 pub mod Drawn
+pub mod Tied
+pub mod TiedTurns
+pub mod Holding
 pub mod Halting

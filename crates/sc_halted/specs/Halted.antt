@@ -17,6 +17,7 @@ use Rattle.sc_terms.specs.declared.settings.Config.{Config}
 use Rattle.sc_terms.specs.declared.views.SessionView.{SessionView}
 use Rattle.sc_parts.specs.declared.setup.Setup.{Setup}
 use Rattle.sc_state.specs.Hosts.{Host}
+use Rattle.sc_state.specs.declared.host.Live.{Live}
 use Rattle.sc_state.specs.declared.host.Server.{Server}
 use Rattle.sc_state.specs.declared.net.Entry.{Entry}
 use Rattle.sc_state.specs.declared.net.Net.{Net}
@@ -32,18 +33,17 @@ use Rattle.sc_model.specs.SessionStates.{ack}
 use Rattle.sc_hosts.specs.Effects.{after_listed, begun}
 use Rattle.sc_hosts.specs.Finishing.{outcome}
 use Rattle.sc_hosts.specs.Histories.{as_session}
+use Rattle.sc_hosts.specs.Inboxes.{is_full}
 use Rattle.sc_hosts.specs.Legs.{is_low, leg_of, session_for}
 use Rattle.sc_hosts.specs.Looking.{is_proxy, session_in}
 use Rattle.sc_hosts.specs.Messages.{on_branch, passed_request}
 use Rattle.sc_hosts.specs.Nets.{deliver_first, host_at}
 use Rattle.sc_hosts.specs.Preparing.{prepared}
 use Rattle.sc_hosts.specs.PreparingRequests.{next_id, refused}
-use Rattle.sc_hosts.specs.PreparingResponses.{is_invalid}
 use Rattle.sc_hosts.specs.Refusals.{refusal}
 use Rattle.sc_hosts.specs.Steps.{live_at, ringing_at, stepped}
 use Rattle.sc_hosts.specs.Transacting.{branch_of, method_of, top_via}
 use Rattle.sc_hosts.specs.Words.{does_not_exist, unavailable}
-use Rattle.sc_hosts.specs.Working.{worked_all}
 use Rattle.sc_paths.specs.Moments.{Got, Moment, given_in, got_in}
 use Rattle.sc_lasting.specs.Lasting.{All}
 use Rattle.sc_keyed.specs.Keyed.{IsIn}
@@ -106,6 +106,15 @@ pub record IsAnsweredBack (setup : Setup) (net : Net Session) (entry : Entry) (r
   pub answered : deliver_first as_session setup (after_deliveries setup count net)
       ≡ returned setup.config entry code reason request (after_deliveries setup count net)
 
+-- as the wire of this net is delivered, the request of this session comes to the host of that one
+-- when as many events wait for that one as may, and is answered 503
+pub record IsFoundFull (setup : Setup) (net : Net Session) (app to : AppId) (request : Request)
+    : Type 0 where
+  pub back : IsAnsweredBack setup net (entry_of app.host to.host request) request 503 unavailable
+  pub live : Live Session
+  pub lives : live_at to (after_deliveries setup back.count net) ≡ Some live
+  pub full : is_full live ≡ true
+
 -- the session has a response of this code on this branch among the events that the step queued; no
 -- session is told that has ended with the step
 unfoldable pub IsTold : Moment → AppId → ℕ → ℕ → Type 0
@@ -148,22 +157,24 @@ abbrev pub put_out : Setup → Moment → Net Session
 put_out setup moment =
     stepped as_session setup moment.step (record moment.before { sent = [] })
 
--- what comes of a request that a session sends by this order, by an own URI that names this session,
--- and that isn't queued there: that session doesn't live as the request is sent, so the container
--- answers it 481 at once, an ACK not at all; that session has ended as the request comes to its
--- host (481); or as many events wait for it then as may (503). The last two answers come back from
--- that host to the session that sent the request
+-- what comes of a request that a session sends by this order, by an own URI that names this
+-- session, and that isn't queued there. That session doesn't live before the step: the container
+-- answers it 481 at once, an ACK not at all. It names the session that sends it, which its turn
+-- ended: as it comes back to its host it is answered 481, and nobody is told. As many events wait
+-- for that session, as the request comes to its host, as may: the host answers 503, and that answer
+-- comes back to the session that sent the request
 pub data IsReturned (setup : Setup) (moment : Moment) (app to : AppId) (request : Request)
     (order : Order) : Type 0 where
-  At_once : (branch : ℕ) → order ≡ orders.Send branch request → IsTold moment app branch 481
+  At_once : (branch : ℕ) → live_at to moment.before ≡ None → order ≡ orders.Send branch request
+      → IsTold moment app branch 481
       → IsReturned setup moment app to request order
-  Dropped : order ≡ orders.Acknowledge request → IsReturned setup moment app to request order
-  Gone_there : IsAnsweredBack setup (put_out setup moment) (entry_of app.host to.host request)
-      request 481 does_not_exist
-      → ComesBack setup moment app request order 481
+  Dropped : live_at to moment.before ≡ None → order ≡ orders.Acknowledge request
       → IsReturned setup moment app to request order
-  Full_there : IsAnsweredBack setup (put_out setup moment) (entry_of app.host to.host request)
-      request 503 unavailable
+  Ended_itself : to ≡ app → live_at app moment.after ≡ None
+      → IsAnsweredBack setup (put_out setup moment) (entry_of app.host to.host request) request
+      481 does_not_exist
+      → IsReturned setup moment app to request order
+  Full_there : IsFoundFull setup (put_out setup moment) app to request
       → ComesBack setup moment app request order 503
       → IsReturned setup moment app to request order
 
@@ -201,8 +212,7 @@ IsEndedIn setup moment got to turn sess =
 
 -- what stops a later request on its way, and the answer there. No SipSession of the session has its
 -- dialog: the turn answers 481. Its number is too low: 500. Its SipSession isn't a proxy's: the
--- application is shown it. An accepted call of the turn ends that SipSession: 500. That SipSession
--- is ended without such a call: the request isn't passed on, and no answer is told. It may go no hop
+-- application is shown it. An accepted call of the turn ends that SipSession: 500. It may go no hop
 -- further: 483. It is passed on by the last order, and what comes of it is told by `IsReturned`
 pub data IsHalted (setup : Setup) (moment : Moment) (got : Got) (to : AppId)
     (turn : TurnsTo setup moment got to) : Type 0 where
@@ -222,12 +232,6 @@ pub data IsHalted (setup : Setup) (moment : Moment) (got : Got) (to : AppId)
   Ended_by_call : (comes : ComesToProxy turn.live.session turn.request)
       → IsEndedIn setup moment got to turn comes.found.id
       → AnswersIn got.waiting.number 500 turn.request (given_at setup moment got to turn)
-      → IsHalted setup moment got to turn
-  Ended_before : (comes : ComesToProxy turn.live.session turn.request)
-      → (IsEndedIn setup moment got to turn comes.found.id → ⊥)
-      → is_invalid
-      (worked_all setup.config (shown_at setup moment got to turn) turn.made).known
-      comes.found.id ≡ true
       → IsHalted setup moment got to turn
   Of_no_hops : turn.request.hops ≡ zero
       → AnswersLast got.waiting.number 483 turn.request (given_at setup moment got to turn)

@@ -83,16 +83,16 @@ pub fn later_requests_are_passed_on_or_answered()
 /// it 481 where no SipSession has its dialog, 500 where its number is too low, 500 where an accepted
 /// call ends its SipSession, 483 where it may go no hop further; one of a SipSession that isn't a
 /// proxy's is shown to the application. Where the turn passes it on, and the session that it is to
-/// go to doesn't live as it is sent, the container answers it 481 at once. Where that session has
-/// ended as the request comes to its host, or as many events wait for it as may, its host answers
-/// 481 or 503 to the host that sent the request. Each of these three answers is among the events of
-/// the session that passed it on in the same step, on the branch of the request, where that session
-/// lives after the step; the last two where nobody guessed that branch, which is new
-/// (`IsUnguessed`). An ACK gets no answer. Not told is what becomes of a request whose SipSession
-/// had ended without a call of the turn. The premises are those of `later_requests_go_to_the_next`
-/// of `sc_onward`, and the numbers in the name of the session that it is to go to have 64 bits. The
-/// contract is the law, for a journal that is lawful in either form in which sessions are kept, and
-/// the call does nothing.
+/// go to doesn't live before the step, the container answers it 481 at once; where as many events
+/// wait for that session, as the request comes to its host, as may, that host answers 503 to the
+/// host that sent the request. Both answers are among the events of the session that passed it on in
+/// the same step, on the branch of the request, where that session lives after the step; the 503
+/// where nobody guessed that branch, which is new (`IsUnguessed`). A request that names the very
+/// session that passes it on, which its turn ended, is answered 481 as it comes back to its host,
+/// and nobody is told. An ACK gets no answer. The premises are those of
+/// `later_requests_go_to_the_next` of `sc_onward`, and the numbers in the name of the session that
+/// it is to go to have 64 bits. The contract is the law, for a journal that is lawful in either form
+/// in which sessions are kept, and the call does nothing.
 pub fn later_requests_go_on_or_are_answered()
     ensures session { (setup : Setup) (epoch began : ℕ) (journal : List Step)
         → IsLawful as_session setup epoch began journal
