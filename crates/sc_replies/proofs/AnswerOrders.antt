@@ -151,7 +151,7 @@ module _ (By : ℕ → Incoming → Type 0) (Passed : ℕ → Type 0) where
   ended-give [] = tt
   ended-give (branch ∷ branches) = (tt, ended-give branches)
 
-  goodbyes-give : (config : Config) (view : View) (known : Known) (test : SessId → Bool) → All (AllShown By known.kept) view.requests → AllGive (goodbyes config view known test)
+  pub goodbyes-give : (config : Config) (view : View) (known : Known) (test : SessId → Bool) → All (AllShown By known.kept) view.requests → AllGive (goodbyes config view known test)
   unfolding goodbyes
   goodbyes-give config view known test of =
       all-more (Gives By Passed) (flat_map (owed_answer config view known) (filter (λ (r : RequestView). test r.sess && is_owed r) view.requests)) _

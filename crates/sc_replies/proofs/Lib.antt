@@ -17,3 +17,4 @@ mod AnswerEvents
 mod AnswerOrders
 mod AnswerShown
 pub mod AnswerTurns
+mod AnswerLast

@@ -90,6 +90,11 @@ Answers events session (orders.Respond number response) =
     IsAnswer events number response ⊎ IsProxied events session number
 Answers events session order = Unit {0}
 
+-- what the order responds answers the request of its event
+unfoldable pub AnswersAlone : List Waiting → Order → Type 0
+AnswersAlone events (orders.Respond number response) = IsAnswer events number response
+AnswersAlone events order = Unit {0}
+
 -- ## A life
 
 -- so it is of each order of these turns of a history, by the events that came until then and by

@@ -4,15 +4,18 @@ ghost use Rattle.sc_terms.specs.declared.steps.Step.{Step};
 ghost use Rattle.sc_terms.specs.declared.settings.Config.{Config};
 ghost use Rattle.sc_parts.specs.declared.setup.Setup.{Setup};
 ghost use Rattle.sc_state.specs.declared.host.Live.{Live};
+ghost use Rattle.sc_state.specs.declared.queue.Waiting.{Waiting};
 ghost use Rattle.sc_state.specs.declared.session.Session.{Session};
+ghost use Rattle.sc_hosts.specs.Finishing.{goodbye};
 ghost use Rattle.sc_hosts.specs.Histories.{History, as_history, as_session, session_of};
 ghost use Rattle.sc_hosts.specs.Runs.{IsLawful, chained};
 ghost use Rattle.sc_hosts.specs.Sessions.{Turn};
 ghost use Rattle.sc_hosts.specs.Steps.{live_at};
-ghost use Rattle.sc_lived.specs.Lived.{told};
+ghost use Rattle.sc_lasting.specs.Lasting.{All};
+ghost use Rattle.sc_lived.specs.Lived.{told, turned_events};
 ghost use Rattle.sc_answered.specs.Happened.{at_moment, happened_by};
 ghost use Rattle.sc_replies.specs.Came.{AreAsTheyCame, AreSingle, HasKept, HaveKept, came_of};
-ghost use Rattle.sc_replies.specs.Fields.{AnswersAll, HasAnsweredAll};
+ghost use Rattle.sc_replies.specs.Fields.{AnswersAll, AnswersAlone, HasAnsweredAll};
 ghost use Rattle.sc_replies.specs.Replies.{GaveAll, HasGivenAll, came, gave};
 
 /// What a turn tells of its SipSessions is what it gave, and before it what came with its event, a
@@ -73,12 +76,17 @@ pub fn requests_are_kept_as_they_came()
 /// 8.2.6.2); its Record-Route is that of the request where this is an initial INVITE or SUBSCRIBE
 /// and the answer makes a dialog or may, and else it has none (section 12.1.1). So it is of what
 /// the application answers, by a call or for its second leg, of what the container answers by
-/// itself and after a fault, and of what it answers as a SipSession is invalidated. So it is in
-/// every history, and of the turns of a live session after a lawful journal, for each form in which
-/// sessions are kept. The contract is the law, and the call does nothing.
+/// itself and after a fault, and of what it answers as a SipSession is invalidated. As the
+/// application session ends, each response that this sends answers so a request that came to it,
+/// handled or still waiting. So it is in every history, and of the turns of a live session after a
+/// lawful journal, for each form in which sessions are kept. The contract is the law, and the call
+/// does nothing.
 pub fn answers_have_the_fields_of_their_requests()
     ensures life { (config : Config) (history : History)
         → AnswersAll config history history.turns }
+    ensures ended { (config : Config) (history : History) (inbox : List Waiting)
+        → All (AnswersAlone (turned_events history.turns ++ inbox))
+        (goodbye config (session_of config history) inbox) }
     ensures history { (setup : Setup) (epoch began : ℕ) (journal : List Step) (app : AppId)
         (live : Live History) → IsLawful (as_history setup.config) setup epoch began journal
         → live_at app (chained (as_history setup.config) setup epoch began journal) ≡ Some live
