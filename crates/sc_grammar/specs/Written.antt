@@ -75,12 +75,12 @@ uri_text (Other text) = text
 -- `display <uri>;params`, the display only where there is one
 unfoldable pub address_text : Address → Bytes
 address_text address =
-    ended_text address.display 32 ++ 60 ∷ [] ++ uri_text address.uri ++ 62 ∷ []
+    ended_text address.display 32 ++ codes "<" ++ uri_text address.uri ++ codes ">"
     ++ params_text address.params
 
 -- `*`, or an address
 unfoldable pub contact_text : Contact → Bytes
-contact_text Star = 42 ∷ []
+contact_text Star = codes "*"
 contact_text (At address) = address_text address
 
 -- ## Headers (RFC 3261 section 20)
@@ -88,16 +88,16 @@ contact_text (At address) = address_text address
 -- `SIP/2.0/TCP host:port;params`
 unfoldable pub via_text : Via → Bytes
 via_text via =
-    version ++ 47 ∷ [] ++ via.transport ++ 32 ∷ []
+    version ++ codes "/" ++ via.transport ++ codes " "
     ++ (via.host ++ port_text via.port ++ params_text via.params)
 
 -- `number method`
 unfoldable pub cseq_text : CSeq → Bytes
-cseq_text cseq = decimal cseq.number ++ 32 ∷ [] ++ cseq.method
+cseq_text cseq = decimal cseq.number ++ codes " " ++ cseq.method
 
 -- `name: value` and the line's end
 unfoldable pub line : Bytes → Bytes → Bytes
-line name value = name ++ 58 ∷ 32 ∷ [] ++ value ++ crlf
+line name value = name ++ codes ": " ++ value ++ crlf
 
 -- the line of one Via
 unfoldable pub via_line : Via → Bytes
@@ -153,12 +153,12 @@ head_text hops head =
 -- `Method Request-URI SIP/2.0`
 unfoldable pub request_line : Request → Bytes
 request_line request =
-    request.method ++ 32 ∷ [] ++ uri_text request.uri ++ 32 ∷ [] ++ version ++ crlf
+    request.method ++ codes " " ++ uri_text request.uri ++ codes " " ++ version ++ crlf
 
 -- `SIP/2.0 code reason`
 unfoldable pub status_line : Response → Bytes
 status_line response =
-    version ++ 32 ∷ [] ++ decimal response.code ++ 32 ∷ [] ++ response.reason ++ crlf
+    version ++ codes " " ++ decimal response.code ++ codes " " ++ response.reason ++ crlf
 
 -- the written form
 unfoldable pub written : Message → Bytes

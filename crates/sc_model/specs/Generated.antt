@@ -42,7 +42,7 @@ valued name value = record { name = name; value = Some value }
 
 -- `h-i`, the i-th session of host h
 unfoldable pub session_text : ℕ → ℕ → Bytes
-session_text host i = decimal host ++ 45 ∷ [] ++ decimal i
+session_text host i = decimal host ++ codes "-" ++ decimal i
 
 -- `sip:user@host:port`
 unfoldable pub user_uri : Bytes → Bytes → Option ℕ → Uri
@@ -69,7 +69,7 @@ mark = codes "s1-1-"
 
 -- `s1-1-i-1`, the tag that host 1 gives
 unfoldable pub answer_tag : ℕ → Bytes
-answer_tag i = mark ++ decimal i ++ 45 ∷ 49 ∷ []
+answer_tag i = mark ++ decimal i ++ codes "-1"
 
 -- what each branch of the caller begins with (RFC 3261 section 8.1.1.7)
 unfoldable pub cookie : Bytes

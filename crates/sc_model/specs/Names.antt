@@ -14,15 +14,15 @@ IsOf64 epoch app k = (epoch < 2 ^ 64) × (app.host < 2 ^ 64) × (app.serial < 2 
 
 -- the mark of an epoch's names: the salt, from epoch 1 on with `.` and the epoch
 unfoldable pub mark_text : Bytes → ℕ → Bytes
-mark_text salt epoch = if epoch == 0 then salt else (salt ++ 46 ∷ [] ++ decimal epoch)
+mark_text salt epoch = if epoch == 0 then salt else (salt ++ codes "." ++ decimal epoch)
 
 -- `h-s-k`
 unfoldable pub counted_text : AppId → ℕ → Bytes
-counted_text app k = decimal app.host ++ 45 ∷ [] ++ decimal app.serial ++ 45 ∷ [] ++ decimal k
+counted_text app k = decimal app.host ++ codes "-" ++ decimal app.serial ++ codes "-" ++ decimal k
 
 -- a tag: the mark and `-h-s-k` (RFC 3261 section 19.3)
 unfoldable pub tag_text : Bytes → ℕ → AppId → ℕ → Bytes
-tag_text salt epoch app k = mark_text salt epoch ++ 45 ∷ [] ++ counted_text app k
+tag_text salt epoch app k = mark_text salt epoch ++ codes "-" ++ counted_text app k
 
 -- ## Transactions and dialogs
 
@@ -37,7 +37,7 @@ branch_text salt epoch app k = branch_cookie ++ tag_text salt epoch app k
 -- a Call-ID: the mark and `-h-s-k`, and after `@` the host that the container listens on (RFC 3261
 -- section 8.1.1.4)
 unfoldable pub call_id_text : Bytes → ℕ → Bytes → AppId → ℕ → Bytes
-call_id_text salt epoch host app k = tag_text salt epoch app k ++ 64 ∷ [] ++ host
+call_id_text salt epoch host app k = tag_text salt epoch app k ++ codes "@" ++ host
 
 -- the end of the edge tag; no name of a session has it, as a number follows the salt there
 unfoldable pub edge_word : Bytes
@@ -51,11 +51,11 @@ edge_tag salt = salt ++ edge_word
 
 -- `h-s`
 unfoldable pub app_text : AppId → Bytes
-app_text app = decimal app.host ++ 45 ∷ [] ++ decimal app.serial
+app_text app = decimal app.host ++ codes "-" ++ decimal app.serial
 
 -- the value of `ap`: the session, from epoch 1 on with `.` and the epoch
 unfoldable pub ap_value : ℕ → AppId → Bytes
-ap_value epoch app = if epoch == 0 then app_text app else (app_text app ++ 46 ∷ [] ++ decimal epoch)
+ap_value epoch app = if epoch == 0 then app_text app else (app_text app ++ codes "." ++ decimal epoch)
 
 -- the letter of a routing region (JSR 289 section 15.8)
 abbrev pub region_letter : Region → ℕ
@@ -65,7 +65,7 @@ region_letter Neutral = 78
 
 -- the value of `ar`: the place in the router's list at which a request goes on, and the region
 unfoldable pub ar_value : ℕ → Region → Bytes
-ar_value n region = decimal n ++ 45 ∷ [] ++ region_letter region ∷ []
+ar_value n region = decimal n ++ codes "-" ++ region_letter region ∷ []
 
 -- over TCP, and as a loose route (RFC 3261 sections 19.1.1 and 16.4)
 unfoldable pub tcp_param : Param

@@ -9,13 +9,13 @@ use Rattle.sc_grammar.specs.Written.{Bytes, written}
 -- `a.b.c.d`
 unfoldable pub ip_text : List ℕ → Bytes
 ip_text ip =
-    decimal (slice_index ip 0) ++ 46 ∷ [] ++ decimal (slice_index ip 1) ++ 46 ∷ []
-    ++ (decimal (slice_index ip 2) ++ 46 ∷ [] ++ decimal (slice_index ip 3))
+    decimal (slice_index ip 0) ++ codes "." ++ decimal (slice_index ip 1) ++ codes "."
+    ++ (decimal (slice_index ip 2) ++ codes "." ++ decimal (slice_index ip 3))
 
 -- `cN` or `a.b.c.d:port`
 unfoldable pub place_text : Place → Bytes
-place_text (Back number) = 99 ∷ [] ++ decimal number
-place_text (To ip port) = ip_text ip ++ 58 ∷ [] ++ decimal port
+place_text (Back number) = codes "c" ++ decimal number
+place_text (To ip port) = ip_text ip ++ codes ":" ++ decimal port
 
 -- the front of the line of a sent message
 unfoldable pub out_word : Bytes
@@ -23,7 +23,7 @@ out_word = codes "out "
 
 -- `out PLACE N`, and a line feed
 unfoldable pub record_line : Place → ℕ → Bytes
-record_line place size = out_word ++ place_text place ++ 32 ∷ [] ++ decimal size ++ 10 ∷ []
+record_line place size = out_word ++ place_text place ++ codes " " ++ decimal size ++ 10 ∷ []
 
 -- the line, the message's bytes and a line feed
 unfoldable pub record_text : Sent → Bytes
@@ -41,4 +41,4 @@ end_word = codes "end "
 -- `end STEPS SENT LIVE`, and a line feed
 unfoldable pub end_text : ℕ → ℕ → ℕ → Bytes
 end_text steps sent live =
-    end_word ++ decimal steps ++ 32 ∷ [] ++ decimal sent ++ 32 ∷ [] ++ (decimal live ++ 10 ∷ [])
+    end_word ++ decimal steps ++ codes " " ++ decimal sent ++ codes " " ++ (decimal live ++ 10 ∷ [])

@@ -1,6 +1,6 @@
 -- The way of an INVITE through the container to the response that makes a dialog, and which
 -- application sessions stay on it (RFC 3261 sections 12.1, 16.6 and 16.12).
-use Rattle.std.specs.Prelude.{◌≡◌, ℕ, ◌==◌, List, [], ◌∷◌, ◌++◌, Bool, true, false, not, ◌&&◌, Option, None, Some, is_some, is_none, option_and_then, nat_eq, if◌then◌else◌, length, map, filter, slice_get, drop, reverse}
+use Rattle.std.specs.Prelude.{◌≡◌, ℕ, ◌==◌, List, [], ◌∷◌, ◌++◌, Bool, true, false, not, ◌&&◌, Option, None, Some, is_some, is_none, option_and_then, nat_eq, if◌then◌else◌, length, map, filter, slice_get, drop, reverse, codes}
 use Rattle.std.specs.List.{filter_map, flat_map, starts_with}
 use Rattle.std.specs.Option.{option_map_or}
 use Rattle.sc_value.specs.declared.ids.AppId.{AppId}
@@ -123,7 +123,7 @@ vias_at run piece app =
 unfoldable pub is_branch_of : Config → ℕ → AppId → Via → Bool
 is_branch_of config epoch app via =
     starts_with nat_eq (branch_of via)
-    (branch_cookie ++ mark_text config.salt epoch ++ 45 ∷ [] ++ app_text app ++ 45 ∷ [])
+    (branch_cookie ++ mark_text config.salt epoch ++ codes "-" ++ app_text app ++ codes "-")
 
 -- the INVITE of this transaction is the one that this session sent: it came over the link from its
 -- host, where the top Via is to be believed; that one is of a branch of it, and below it are the

@@ -78,7 +78,7 @@ signed (negsuc n) = codes " -" ++ decimal (n + 1)
 
 -- a text of any bytes: how many they are, a colon, and the bytes
 unfoldable pub sized : Bytes → Bytes
-sized text = numbered (length text) ++ 58 ∷ [] ++ text
+sized text = numbered (length text) ++ codes ":" ++ text
 
 -- a flag
 unfoldable pub flag_text : Bool → Bytes

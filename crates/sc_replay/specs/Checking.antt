@@ -29,7 +29,7 @@ ok_word = codes "ok "
 
 -- `ok A T` and LF: the applications, and the tuples
 unfoldable pub ok_line : ℕ → ℕ → Bytes
-ok_line apps tuples = ok_word ++ decimal apps ++ 32 ∷ [] ++ decimal tuples ++ 10 ∷ []
+ok_line apps tuples = ok_word ++ decimal apps ++ codes " " ++ decimal tuples ++ 10 ∷ []
 
 -- ## How it ends
 

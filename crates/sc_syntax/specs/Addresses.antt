@@ -1,7 +1,7 @@
 -- Addresses: `display <uri>;params`, or a bare URI whose semicolons begin header parameters (RFC
 -- 3261 sections 20.10 and 25.1: name-addr, addr-spec). A display is kept as written: a quoted
 -- string, or tokens with blanks between.
-use Rattle.std.specs.Prelude.{ℕ, List, [], ◌∷◌, Option, Some, None, ◌==◌, length, take, drop, if◌then◌else◌}
+use Rattle.std.specs.Prelude.{ℕ, List, [], ◌∷◌, Option, Some, None, ◌==◌, length, take, drop, if◌then◌else◌, codes}
 use Rattle.std.specs.List.{list_all}
 use Rattle.std.specs.Option.{option_map, option_map_or, option_and_then}
 use Rattle.std.specs.Result.{result_ok}
@@ -82,7 +82,7 @@ addresses_of text = all_read address_of (address_items text)
 -- an item of Contact: `*` alone, or an address
 unfoldable pub contact_of : Bytes → Option Contact
 contact_of text =
-    if same_bytes (trimmed text) (42 ∷ []) then Some Star else option_map At (address_of text)
+    if same_bytes (trimmed text) (codes "*") then Some Star else option_map At (address_of text)
 
 -- items with commas between
 unfoldable pub contacts_of : Bytes → Option (List Contact)

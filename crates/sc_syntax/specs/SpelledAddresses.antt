@@ -1,6 +1,6 @@
 -- Which texts spell an address (RFC 3261 sections 20.10 and 25.1): its written form, with blanks
 -- round its parts, or the bare URI where that can be told from what follows it.
-use Rattle.std.specs.Prelude.{◌≡◌, Bool, true, false, None, List, [], ◌∷◌, ◌++◌, ◌&&◌, ◌⊎◌, unwrap_or}
+use Rattle.std.specs.Prelude.{◌≡◌, Bool, true, false, None, List, [], ◌∷◌, ◌++◌, ◌&&◌, ◌⊎◌, unwrap_or, codes}
 use Rattle.sc_tokens.specs.HeaderTokens.{IsDisplay}
 use Rattle.sc_value.specs.declared.parts.Address.{Address}
 use Rattle.sc_value.specs.declared.parts.Contact.{Contact}
@@ -14,7 +14,7 @@ use Rattle.sc_syntax.specs.SpelledParts.{IsBlanks, Padded, AreListed, AreParamsS
 abbrev pub IsNamedSpelled : Bytes → Address → Type 0
 IsNamedSpelled text address =
     IsDisplay address.display × (gap uri : Bytes) × IsBlanks gap × IsUriSpelled uri address.uri
-    × (text ≡ unwrap_or address.display [] ++ (gap ++ 60 ∷ (uri ++ 62 ∷ [])))
+    × (text ≡ unwrap_or address.display [] ++ (gap ++ 60 ∷ (uri ++ codes ">")))
 
 -- a URI without semicolon and, in a list, without comma
 abbrev pub IsBareSpelled : Bool → Bytes → Address → Type 0
@@ -38,7 +38,7 @@ AreAddressesSpelled text addresses = AreListed 44 (IsAddressIn true) text addres
 
 -- an item of Contact
 unfoldable pub IsContactSpelled : Bytes → Contact → Type 0
-IsContactSpelled text Star = Padded (42 ∷ []) text
+IsContactSpelled text Star = Padded (codes "*") text
 IsContactSpelled text (At address) = IsAddressIn true text address
 
 -- the items of Contact

@@ -33,12 +33,12 @@ script_word = codes "script "
 unfoldable pub cause_text : Status → Bytes
 cause_text statuses.Done = []
 cause_text statuses.Usage = codes "usage"
-cause_text (statuses.Config kind key) = config_word ++ decimal kind ++ 32 ∷ [] ++ key
-cause_text (statuses.Dar line kind) = dar_word ++ decimal line ++ 32 ∷ [] ++ decimal kind
+cause_text (statuses.Config kind key) = config_word ++ decimal kind ++ codes " " ++ key
+cause_text (statuses.Dar line kind) = dar_word ++ decimal line ++ codes " " ++ decimal kind
 cause_text statuses.JournalFull = codes "journal full"
 cause_text statuses.Edge = codes "edge"
 cause_text statuses.NoMemory = codes "no memory"
-cause_text (statuses.Script at kind) = script_word ++ decimal at ++ 32 ∷ [] ++ decimal kind
+cause_text (statuses.Script at kind) = script_word ++ decimal at ++ codes " " ++ decimal kind
 cause_text statuses.Read = codes "read"
 cause_text statuses.Write = codes "write"
 
