@@ -109,9 +109,14 @@ unfoldable pub subscription_of : View → SessId → Option Subscription
 subscription_of view sess =
     option_and_then (λ text. subscription_in (pieces 32 text)) (attribute (sub_name sess) view)
 
--- an active subscription, written
-unfoldable pub sub_text : ℕ → ℕ → Bytes
-sub_text due timer = codes "A " ++ decimal due ++ codes " " ++ decimal timer
+-- the letter of an active subscription, and that of a pending one
+unfoldable pub letter_word : Bool → Bytes
+letter_word true = codes "A "
+letter_word false = codes "P "
+
+-- a subscription, written: its letter, the moment at which it ends, and its timer
+unfoldable pub sub_text : Bool → ℕ → ℕ → Bytes
+sub_text active due timer = letter_word active ++ decimal due ++ codes " " ++ decimal timer
 
 -- the state as a NOTIFY says it (RFC 6665 section 4.1.3)
 unfoldable pub state_word : Bool → Bytes
@@ -139,7 +144,7 @@ is_pending None = false
 is_pending (Some old) = not old.active
 
 -- what follows a 200 to SUBSCRIBE for so many seconds: a timer and a NOTIFY, or for 0 the end, with
--- a NOTIFY that says so
+-- a NOTIFY that says so; a new subscription is active, and one that is there stays what it was
 unfoldable pub subscribed_for : View → Rule → SessId → Bytes → ℕ → Option Subscription → Script
 subscribed_for view rule sess event seconds old =
     if seconds == 0
@@ -148,7 +153,9 @@ subscribed_for view rule sess event seconds old =
     (remove_then (ev_name sess) view (notifies sess event timeout_state [])))
     else without_timer view old
     (Make (calls.StartTimer (seconds * 1000) Once (sub_name sess)) (with_number (λ t.
-    accepted_then (calls.SetAttribute (sub_name sess) (sub_text (view.now + seconds * 1000) t))
+    accepted_then
+    (calls.SetAttribute (sub_name sess)
+    (sub_text (not (is_pending old)) (view.now + seconds * 1000) t))
     (accepted_then (calls.SetAttribute (ev_name sess) event)
     (notifies sess event (state_word (not (is_pending old)) ++ codes ";expires=" ++ decimal seconds)
     (if is_pending old then [] else rule.body))))))
