@@ -86,23 +86,23 @@ faulted config req ends.Starved working = working
 abbrev pub in_proxy : ReqId → (Proxy → Proxy) → Working → Working
 in_proxy req change working = record working { known = change_proxy req change working.known }
 
--- a target gets its branch, and the router goes on behind the place of the application
+-- a target gets the next branch: the router is asked to go on behind the place of the application,
+-- the branch is drawn, and the proxy has it in place of the target (RFC 3261 section 16.6)
 unfoldable pub started : Config → Proxy → Working → Uri → Working
 started config proxy working uri =
+    let branch : ℕ = next_branch working in
+    let sent : Request = on_branch config working.play.view branch
+    (proxied_request config working.play.view (records_route proxy) uri proxy.request) in
+    let asks : Working = giving
+    (orders.Begin branch Continue working.known.region (Some (working.known.order + 1)) sent ∷ [])
+    working in
+    let draws : Working = in_view (drawn working.play.view) asks in
     in_proxy proxy.req
     (λ p.
     record p {
-      branches = p.branches ++ new_branch proxy (next_branch working) working.play.view.now
-          ∷ [];
+      branches = p.branches ++ new_branch proxy branch working.play.view.now ∷ [];
       targets = drop 1 p.targets;
-    })
-    (in_view (drawn working.play.view)
-    (giving
-    (orders.Begin (next_branch working) Continue working.known.region
-    (Some (working.known.order + 1))
-    (on_branch config working.play.view (next_branch working)
-    (proxied_request config working.play.view (records_route proxy) uri proxy.request))
-    ∷ []) working))
+    }) draws
 
 -- the code of a final response that was forwarded first
 unfoldable pub with_forwarded : ℕ → Proxy → Proxy
@@ -141,11 +141,11 @@ with_subscribed proxy sess response view =
 -- a response goes back to where the request came from, and moves the SipSession
 unfoldable pub forwards : Proxy → SessId → Response → Working → Working
 forwards proxy sess response working =
-    in_proxy proxy.req (with_forwarded response.code)
-    (in_view
+    let gives : Working = giving (orders.Respond proxy.event response ∷ []) working in
+    let moves : Working = in_view
     (forwarded_view proxy sess (request_in working.play.view proxy.req) response
-    (with_subscribed proxy sess response working.play.view))
-    (giving (orders.Respond proxy.event response ∷ []) working))
+    (with_subscribed proxy sess response working.play.view)) gives in
+    in_proxy proxy.req (with_forwarded response.code) moves
 
 -- what waits is forwarded as it came, where it can go still (RFC 3261 section 16.7, step 5)
 unfoldable pub passes : Proxy → Option Passing → Working → Working

@@ -62,7 +62,7 @@ router_state New known = None
 router_state Continue known = Some (known.order + 1)
 router_state Reverse known = None
 
--- the branch that the next request draws
+-- the branch that the next request draws; `sent` of Effects counts it
 abbrev pub next_branch : Working → ℕ
 next_branch working = working.play.view.counter + 1
 
@@ -84,27 +84,28 @@ keeps_sent sess request working = record working {
 -- an initial request leaves on a branch, and begins its SipSession; the router says where it goes
 unfoldable pub sends_initial : Config → Written → SessId → Request → Working → Working
 sends_initial config draft sess request working =
-    giving
-    (orders.Begin (next_branch working) draft.directive working.known.region
-    (router_state draft.directive working.known)
-    (on_branch config working.play.view (next_branch working) request) ∷ [])
-    (keeps_sent sess request (record working {
+    let branch : ℕ = next_branch working in
+    let begins : Working = record working {
       known =
           change_leg sess
           (λ leg. record leg { first = Some (record { 0 = working.play.view.next_request }) })
           working.known;
-    }))
+    } in
+    let keeps : Working = keeps_sent sess request begins in
+    giving
+    (orders.Begin branch draft.directive working.known.region
+    (router_state draft.directive working.known)
+    (on_branch config working.play.view branch request) ∷ []) keeps
 
 -- a request in a dialog leaves on a branch, and counts in its dialog
 unfoldable pub sends_later : Config → SessId → Request → Working → Working
 sends_later config sess request working =
-    giving
-    (orders.Send (next_branch working)
-    (on_branch config working.play.view (next_branch working) request) ∷ [])
-    (keeps_sent sess request
-    (record working {
+    let branch : ℕ = next_branch working in
+    let counts : Working = record working {
       known = change_leg sess (in_dialog (By_self (messages.Request request))) working.known;
-    }))
+    } in
+    let keeps : Working = keeps_sent sess request counts in
+    giving (orders.Send branch (on_branch config working.play.view branch request) ∷ []) keeps
 
 -- the dialog of a SipSession, if there is one
 unfoldable pub dialog_in : Known → SessId → Option DialogState
