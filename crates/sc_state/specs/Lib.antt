@@ -3,3 +3,4 @@ pub mod Standing
 pub mod Keeping
 pub mod Entries
 pub mod Groups
+pub mod Sharing

@@ -1,10 +1,10 @@
+//! A host whose copies have its lists in common, until one of them is changed.
+
 ghost use Rattle.std.specs.Prelude.{◌≡◌, ◌++◌, ◌∷◌, [], Option, IfOk, OnOk, length, true, sum_by, filter};
 ghost use Rattle.std.specs.List.{find};
 ghost use Rattle.std.specs.Option.{option_copied};
 ghost use Rattle.sc_value.specs.Lists.{change_first, remove_first};
-ghost use Rattle.sc_book.specs.Words.{earliest, is_free};
-ghost use Rattle.sc_book.specs.Words.{belongs};
-ghost use Rattle.sc_book.specs.Words.{is_before};
+ghost use Rattle.sc_book.specs.Words.{belongs, earliest, is_before, is_free};
 ghost use Rattle.sc_state.specs.declared.host.Client.{Client};
 ghost use Rattle.sc_state.specs.declared.host.Live.{Live};
 ghost use Rattle.sc_state.specs.declared.host.Server.{Server};
@@ -12,108 +12,120 @@ ghost use Rattle.sc_state.specs.Entries.{least_due};
 ghost use Rattle.sc_state.specs.Groups.{groups_of_client, groups_of_live, groups_of_server};
 ghost use Rattle.sc_state.specs.Keeping.{tidied, is_live, is_same_client, first_number};
 ghost use Rattle.sc_state.specs.Standing.{is_client, is_server, due_of_client, due_of_server, busy_client, busy_server};
+ghost use Rattle.sc_state.specs.Sharing.{lists_of};
 
-use crate::groups::branch_number;
-use crate::keeping::{
-    change_client, change_server, keep_clients, keep_servers, leave_clients, leave_servers,
-};
-use crate::probes::{NamedClient, is_kept_client, is_kept_server};
+use crate::lists::HostLists;
 use crate::{Client, Live, Server, Timed};
-use sc_book::{Line, Probe, Rows};
+use sc_book::Probe;
 use sc_value::{AppId, CloneIn, List, NoMemory, Shared};
 use std::alloc::Global;
 use std::marker::Model;
+use std::mem::replace;
+use std::sync::Arc;
+
+/// The lists of a host: its own, or those that it has in common with copies of it.
+#[derive(Drop)]
+enum Lists<S: Timed> {
+    Own(HostLists<S>),
+    Shared(Arc<HostLists<S>>),
+}
 
 /// A host: it knows its own transactions and sessions alone. A contract sees their lists. A copy
-/// costs little, and so does a change, however many there are.
+/// costs next to nothing until it is changed, and little then, however many there are.
 #[derive(Drop)]
 pub struct Host<S: Timed> {
-    clients: Line<Client>,
-    servers: Rows<Server>,
-    sessions: Rows<Live<S>>,
-    /// The serial of its last session.
-    last: u64,
-    /// All transactions are kept. False: it isn't known.
-    tidy: bool,
+    lists: Lists<S>,
+    alloc: Global,
 }
 
 impl<S: Timed> Model for Host<S> {
-    ghost use Rattle.std.specs.Prelude.{◌≡◌, true};
     ghost use Rattle.sc_state.specs.Hosts.{Host as Seen};
-    ghost use Rattle.sc_state.specs.Keeping.{AllKept};
+    ghost use Rattle.sc_state.specs.Sharing.{lists_of};
 
     ghost Value = { Seen S };
 
-    ghost view = { λ h.
-        record { clients = h.clients; servers = h.servers; sessions = h.sessions; last = h.last } };
-
-    ghost invariant = { λ h. h.tidy ≡ true → AllKept h.sessions h.clients h.servers };
+    ghost view = { λ h. lists_of h.lists };
 }
 
 impl<S: Timed> Host<S> {
     /// A host without sessions. It takes no memory.
-    #[tactic(auto, using(crate::proofs::KeptLaws::none_kept))]
     pub fn new(alloc: Global) -> Host<S>
         ensures { result ≡ record { clients = []; servers = []; sessions = []; last = 0 } }
     {
         Host {
-            clients: Line::new(alloc),
-            servers: Rows::new(alloc),
-            sessions: Rows::new(alloc),
-            last: 0,
-            tidy: true,
+            lists: Lists::Own(HostLists::new(alloc)),
+            alloc,
         }
     }
 
     /// Lets go of all.
-    #[tactic(auto, using(crate::proofs::KeptLaws::none_kept))]
     pub fn clear(&mut self)
         ensures { self.new ≡ record { clients = []; servers = []; sessions = []; last = 0 } }
     {
-        self.tidy = false;
-        self.clients.clear();
-        self.servers.clear();
-        self.sessions.clear();
-        self.last = 0;
-        self.tidy = true;
+        self.lists = Lists::Own(HostLists::new(self.alloc));
     }
 
-    /// Lets what was changed since the last time go where a look-up costs least. It is called once
-    /// a step was taken, when no other copy lives.
+    /// Lets what was changed since the last time go where a look-up costs least, and lets copies
+    /// have it in common from now on. It is called once a step was taken, when no other copy lives.
+    /// In constant time where nothing was changed.
     pub fn settle(&mut self, alloc: Global)
         ensures { self.new ≡ self.old }
     {
-        self.clients.settle(alloc);
-        self.servers.settle(alloc);
-        self.sessions.settle(alloc);
+        match &mut self.lists {
+            Lists::Own(lists) => lists.settle(alloc),
+            Lists::Shared(_) => return,
+        }
+        if let Ok(room) = Arc::new(alloc, HostLists::new(alloc)) {
+            let lists = replace(&mut self.lists, Lists::Own(HostLists::new(alloc)));
+            self.lists = shared_in(lists, room);
+        }
+    }
+
+    // The lists.
+    fn lists(&self) -> &HostLists<S>
+        ensures { result.now ≡ self.now }
+    {
+        match &self.lists {
+            Lists::Own(lists) => lists,
+            Lists::Shared(lists) => lists,
+        }
+    }
+
+    // Gives the host lists of its own, which it may change.
+    fn own(&mut self) -> Result<(), NoMemory>
+        ensures { OnOk result (self.new ≡ self.old) }
+    {
+        if let Lists::Shared(lists) = &self.lists {
+            let own = lists.clone_in(self.alloc)?;
+            self.lists = Lists::Own(own);
+        }
+        Ok(())
     }
 
     /// The serial of the last session.
     pub fn last(&self) -> u64
         ensures { result ≡ self.now.last }
     {
-        self.last
+        self.lists().last()
     }
 
     /// Lets go of the transactions that are over, but for those of an INVITE whose session lives.
     /// In constant time where all are known to be kept.
-    #[tactic(auto, using(crate::proofs::KeptLaws::tidied_is, crate::proofs::KeptLaws::clients_filtered, crate::proofs::KeptLaws::servers_filtered))]
     pub fn tidied(&mut self, alloc: Global) -> Result<(), NoMemory>
         ensures { OnOk result (self.new ≡ tidied self.old) }
     {
-        let tidy = self.tidy;
-        self.tidy = false;
-        keep_clients(alloc, tidy, &self.sessions, &mut self.clients)?;
-        keep_servers(alloc, tidy, &self.sessions, &mut self.servers)?;
-        self.tidy = true;
-        Ok(())
+        self.own()?;
+        match &mut self.lists {
+            Lists::Own(lists) => lists.tidied(alloc),
+            Lists::Shared(_) => Err(NoMemory),
+        }
     }
 
     /// The session of this number, None where it doesn't live.
     pub fn live(&self, serial: u64) -> Option<&Shared<Live<S>>>
         ensures { option_copied result ≡ find (is_live serial) self.now.sessions }
     {
-        self.sessions.find(serial)
+        self.lists().live(serial)
     }
 
     /// The first session that passes. All that pass are of the group.
@@ -128,28 +140,28 @@ impl<S: Timed> Host<S> {
         ensures { IfOk result
             (λ found. option_copied found ≡ find (P.passes probe.now) self.now.sessions) }
     {
-        self.sessions.find_first(alloc, group, probe)
+        self.lists().find_live(alloc, group, probe)
     }
 
     /// How many sessions live.
     pub fn live_count(&self) -> usize
         ensures { result ≡ length self.now.sessions }
     {
-        self.sessions.len()
+        self.lists().live_count()
     }
 
     /// How many events wait.
     pub fn waiting_count(&self) -> u64
         ensures { result ≡ sum_by (λ live. length live.inbox) self.now.sessions }
     {
-        self.sessions.total()
+        self.lists().waiting_count()
     }
 
     /// All sessions.
     pub fn lives(&self, alloc: Global) -> Result<List<Shared<Live<S>>>, NoMemory>
         ensures { IfOk result (λ all. all ≡ self.now.sessions) }
     {
-        self.sessions.as_list(alloc)
+        self.lists().lives(alloc)
     }
 
     /// The sessions of which something is due before a moment, in order. `NoMemory` too where
@@ -161,7 +173,7 @@ impl<S: Timed> Host<S> {
             ≡ filter (λ live. is_before past (least_due live.fired (S.entries live.session)))
             self.now.sessions) }
     {
-        self.sessions.due_before(alloc, past)
+        self.lists().due_lives(alloc, past)
     }
 
     /// The lowest number of an event that is first in its session, with the session's number, of
@@ -173,27 +185,24 @@ impl<S: Timed> Host<S> {
             ≡ earliest (λ live. live.serial) first_number
             (filter (λ live. is_free skip.now live.serial) self.now.sessions)) }
     {
-        self.sessions.first_but(skip)
+        self.lists().next_but(skip)
     }
 
     /// One session more, and the serial of the last one. `NoMemory` too where its number isn't
     /// above all.
-    #[tactic(auto, using(crate::proofs::KeptLaws::begun_clients, crate::proofs::KeptLaws::begun_servers))]
     pub fn push_live(&mut self, live: Shared<Live<S>>, last: u64) -> Result<(), NoMemory>
         ensures { OnOk result
             (self.new
             ≡ record self.old { sessions = self.old.sessions ++ live ∷ []; last = last }) }
     {
-        let tidy = self.tidy;
-        self.tidy = false;
-        self.sessions.push(live)?;
-        self.last = last;
-        self.tidy = tidy;
-        Ok(())
+        self.own()?;
+        match &mut self.lists {
+            Lists::Own(lists) => lists.push_live(live, last),
+            Lists::Shared(_) => Err(NoMemory),
+        }
     }
 
     /// Puts a session in place of the one of its number.
-    #[tactic(auto, using(crate::proofs::KeptLaws::changed_clients, crate::proofs::KeptLaws::changed_servers))]
     pub fn set_live(&mut self, live: Shared<Live<S>>) -> Result<(), NoMemory>
         ensures { OnOk result
             (self.new
@@ -201,33 +210,29 @@ impl<S: Timed> Host<S> {
               sessions = change_first (is_live live.serial) (λ _. live) self.old.sessions;
             }) }
     {
-        let tidy = self.tidy;
-        self.tidy = false;
-        self.sessions.set(live)?;
-        self.tidy = tidy;
-        Ok(())
+        self.own()?;
+        match &mut self.lists {
+            Lists::Own(lists) => lists.set_live(live),
+            Lists::Shared(_) => Err(NoMemory),
+        }
     }
 
     /// Takes the session of this number away, and lets go of the transactions that aren't kept
     /// without it.
-    #[tactic(auto, using(crate::proofs::KeptLaws::clients_beside, crate::proofs::KeptLaws::servers_beside, crate::proofs::KeptLaws::tidied_is, crate::proofs::KeptLaws::clients_filtered, crate::proofs::KeptLaws::servers_filtered))]
     pub fn end_live(&mut self, alloc: Global, serial: u64) -> Result<(), NoMemory>
         ensures { OnOk result
             (self.new
             ≡ tidied
             (record self.old { sessions = remove_first (is_live serial) self.old.sessions })) }
     {
-        let tidy = self.tidy;
-        self.tidy = false;
-        self.sessions.remove(serial)?;
-        leave_clients(alloc, tidy, serial, &self.sessions, &mut self.clients)?;
-        leave_servers(alloc, tidy, serial, &self.sessions, &mut self.servers)?;
-        self.tidy = true;
-        Ok(())
+        self.own()?;
+        match &mut self.lists {
+            Lists::Own(lists) => lists.end_live(alloc, serial),
+            Lists::Shared(_) => Err(NoMemory),
+        }
     }
 
     /// The client transaction of this session's branch, or of its CANCEL, None where there is none.
-    #[tactic(auto, using(crate::proofs::KeptLaws::named_grouped))]
     pub fn client(
         &self,
         alloc: Global,
@@ -239,13 +244,7 @@ impl<S: Timed> Host<S> {
             (λ found.
             option_copied found ≡ find (is_client app branch cancelling) self.now.clients) }
     {
-        let probe = NamedClient {
-            app,
-            branch,
-            cancelling,
-        };
-        let group = branch_number(app, branch);
-        self.clients.find_first(alloc, group, &probe)
+        self.lists().client(alloc, app, branch, cancelling)
     }
 
     /// The first client transaction that passes. All that pass are of the group.
@@ -260,7 +259,7 @@ impl<S: Timed> Host<S> {
         ensures { IfOk result
             (λ found. option_copied found ≡ find (P.passes probe.now) self.now.clients) }
     {
-        self.clients.find_first(alloc, group, probe)
+        self.lists().find_client(alloc, group, probe)
     }
 
     /// The client transactions of a group, in order: those of the session of this number are among
@@ -269,14 +268,14 @@ impl<S: Timed> Host<S> {
         ensures { IfOk result
             (λ own. own ≡ filter (belongs groups_of_client group) self.now.clients) }
     {
-        self.clients.of(alloc, group)
+        self.lists().clients_of(alloc, group)
     }
 
     /// All client transactions.
     pub fn clients(&self, alloc: Global) -> Result<List<Shared<Client>>, NoMemory>
         ensures { IfOk result (λ all. all ≡ self.now.clients) }
     {
-        self.clients.as_list(alloc)
+        self.lists().clients(alloc)
     }
 
     /// The client transactions that are due before a moment, in order. `NoMemory` too where changes
@@ -286,32 +285,30 @@ impl<S: Timed> Host<S> {
             (λ own.
             own ≡ filter (λ client. is_before past (due_of_client client)) self.now.clients) }
     {
-        self.clients.due_before(alloc, past)
+        self.lists().due_clients(alloc, past)
     }
 
     /// How many client transactions aren't over.
     pub fn busy_clients(&self) -> u64
         ensures { result ≡ sum_by busy_client self.now.clients }
     {
-        self.clients.total()
+        self.lists().busy_clients()
     }
 
     /// One client transaction more.
-    #[tactic(auto, using(crate::proofs::KeptLaws::client_pushed))]
     pub fn push_client(&mut self, client: Shared<Client>) -> Result<(), NoMemory>
         ensures { OnOk result
             (self.new ≡ record self.old { clients = self.old.clients ++ client ∷ [] }) }
     {
-        let tidy = self.tidy && is_kept_client(&self.sessions, client.get());
-        self.tidy = false;
-        self.clients.push(client)?;
-        self.tidy = tidy;
-        Ok(())
+        self.own()?;
+        match &mut self.lists {
+            Lists::Own(lists) => lists.push_client(client),
+            Lists::Shared(_) => Err(NoMemory),
+        }
     }
 
     /// Puts a client transaction in place of the one of its session, branch and kind, and lets go
     /// of what isn't kept.
-    #[tactic(auto, using(crate::proofs::KeptLaws::tidied_is, crate::proofs::KeptLaws::clients_filtered, crate::proofs::KeptLaws::servers_filtered))]
     pub fn change_client(&mut self, alloc: Global, client: Shared<Client>) -> Result<(), NoMemory>
         ensures { OnOk result
             (self.new
@@ -320,19 +317,18 @@ impl<S: Timed> Host<S> {
               clients = change_first (is_same_client client) (λ _. client) self.old.clients;
             })) }
     {
-        let tidy = self.tidy;
-        self.tidy = false;
-        change_client(alloc, tidy, &self.sessions, client, &mut self.clients)?;
-        keep_servers(alloc, tidy, &self.sessions, &mut self.servers)?;
-        self.tidy = true;
-        Ok(())
+        self.own()?;
+        match &mut self.lists {
+            Lists::Own(lists) => lists.change_client(alloc, client),
+            Lists::Shared(_) => Err(NoMemory),
+        }
     }
 
     /// The server transaction of this event, None where there is none.
     pub fn server(&self, event: u64) -> Option<&Shared<Server>>
         ensures { option_copied result ≡ find (is_server event) self.now.servers }
     {
-        self.servers.find(event)
+        self.lists().server(event)
     }
 
     /// The first server transaction that passes. All that pass are of the group.
@@ -347,14 +343,14 @@ impl<S: Timed> Host<S> {
         ensures { IfOk result
             (λ found. option_copied found ≡ find (P.passes probe.now) self.now.servers) }
     {
-        self.servers.find_first(alloc, group, probe)
+        self.lists().find_server(alloc, group, probe)
     }
 
     /// All server transactions.
     pub fn servers(&self, alloc: Global) -> Result<List<Shared<Server>>, NoMemory>
         ensures { IfOk result (λ all. all ≡ self.now.servers) }
     {
-        self.servers.as_list(alloc)
+        self.lists().servers(alloc)
     }
 
     /// The server transactions that are due before a moment, in order. `NoMemory` too where changes
@@ -364,31 +360,29 @@ impl<S: Timed> Host<S> {
             (λ own.
             own ≡ filter (λ server. is_before past (due_of_server server)) self.now.servers) }
     {
-        self.servers.due_before(alloc, past)
+        self.lists().due_servers(alloc, past)
     }
 
     /// How many server transactions aren't over.
     pub fn busy_servers(&self) -> u64
         ensures { result ≡ sum_by busy_server self.now.servers }
     {
-        self.servers.total()
+        self.lists().busy_servers()
     }
 
     /// One server transaction more. `NoMemory` too where its event isn't above all.
-    #[tactic(auto, using(crate::proofs::KeptLaws::server_pushed))]
     pub fn push_server(&mut self, server: Shared<Server>) -> Result<(), NoMemory>
         ensures { OnOk result
             (self.new ≡ record self.old { servers = self.old.servers ++ server ∷ [] }) }
     {
-        let tidy = self.tidy && is_kept_server(&self.sessions, server.get());
-        self.tidy = false;
-        self.servers.push(server)?;
-        self.tidy = tidy;
-        Ok(())
+        self.own()?;
+        match &mut self.lists {
+            Lists::Own(lists) => lists.push_server(server),
+            Lists::Shared(_) => Err(NoMemory),
+        }
     }
 
     /// Puts a server transaction in place of the one of its event.
-    #[tactic(auto, using(crate::proofs::KeptLaws::server_changed))]
     pub fn set_server(&mut self, server: Shared<Server>) -> Result<(), NoMemory>
         ensures { OnOk result
             (self.new
@@ -396,19 +390,14 @@ impl<S: Timed> Host<S> {
               servers = change_first (is_server server.event) (λ _. server) self.old.servers;
             }) }
     {
-        let tidy = self.tidy;
-        self.tidy = false;
-        if !is_kept_server(&self.sessions, server.get()) {
-            self.servers.set(server)?;
-            return Ok(());
+        self.own()?;
+        match &mut self.lists {
+            Lists::Own(lists) => lists.set_server(server),
+            Lists::Shared(_) => Err(NoMemory),
         }
-        self.servers.set(server)?;
-        self.tidy = tidy;
-        Ok(())
     }
 
     /// Puts a server transaction in place of the one of its event, and lets go of what isn't kept.
-    #[tactic(auto, using(crate::proofs::KeptLaws::tidied_is, crate::proofs::KeptLaws::clients_filtered, crate::proofs::KeptLaws::servers_filtered))]
     pub fn change_server(&mut self, alloc: Global, server: Shared<Server>) -> Result<(), NoMemory>
         ensures { OnOk result
             (self.new
@@ -417,26 +406,41 @@ impl<S: Timed> Host<S> {
               servers = change_first (is_server server.event) (λ _. server) self.old.servers;
             })) }
     {
-        let tidy = self.tidy;
-        self.tidy = false;
-        keep_clients(alloc, tidy, &self.sessions, &mut self.clients)?;
-        change_server(alloc, tidy, &self.sessions, server, &mut self.servers)?;
-        self.tidy = true;
-        Ok(())
+        self.own()?;
+        match &mut self.lists {
+            Lists::Own(lists) => lists.change_server(alloc, server),
+            Lists::Shared(_) => Err(NoMemory),
+        }
     }
+}
+
+// The same lists, to be had in common, in this room for them.
+fn shared_in<S: Timed>(lists: Lists<S>, room: Arc<HostLists<S>>) -> Lists<S>
+    ensures { lists_of result ≡ lists_of lists }
+{
+    let own = match lists {
+        Lists::Own(own) => own,
+        Lists::Shared(lists) => return Lists::Shared(lists),
+    };
+    let mut room = room;
+    match Arc::get_mut(&mut room) {
+        Some(place) => *place = own,
+        None => return Lists::Own(own),
+    }
+    Lists::Shared(room)
 }
 
 impl<S: Timed> CloneIn for Host<S> {
     fn clone_in(&self, alloc: Global) -> Result<Host<S>, NoMemory> {
-        let clients = self.clients.clone_in(alloc)?;
-        let servers = self.servers.clone_in(alloc)?;
-        let sessions = self.sessions.clone_in(alloc)?;
-        Ok(Host {
-            clients,
-            servers,
-            sessions,
-            last: self.last,
-            tidy: self.tidy,
-        })
+        match &self.lists {
+            Lists::Own(lists) => {
+                let lists = Lists::Own(lists.clone_in(alloc)?);
+                Ok(Host { lists, alloc })
+            }
+            Lists::Shared(lists) => {
+                let lists = Lists::Shared(Arc::try_clone(lists)?);
+                Ok(Host { lists, alloc })
+            }
+        }
     }
 }

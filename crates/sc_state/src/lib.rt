@@ -9,6 +9,7 @@ mod host;
 mod hosting;
 mod keeping;
 mod keyed;
+mod lists;
 mod net;
 mod orders;
 mod probes;

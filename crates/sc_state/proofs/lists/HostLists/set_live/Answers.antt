@@ -1,6 +1,6 @@
 use Rattle.std.proofs.Common.{refl}
 use Rattle.sc_state.proofs.KeptLaws.{changed_clients, changed_servers}
-use Rattle.sc_state.proofs.hosting.Host.set_live.Goals as goal
+use Rattle.sc_state.proofs.lists.HostLists.set_live.Goals as goal
 
 pub invariant_of-self-2 : goal.invariant_of-self-2
 invariant_of-self-2 g c = λ t. (
