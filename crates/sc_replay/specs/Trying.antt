@@ -59,32 +59,44 @@ live_word = codes " live "
 
 -- `trial N steps S sent M live L`, and a line feed
 unfoldable pub trial_text : ℕ → ℕ → ℕ → ℕ → Bytes
-trial_text n steps sent live = counted_text trial_word n ++ counted_text steps_word steps ++ counted_text sent_word sent ++ counted_text live_word live ++ 10 ∷ []
+trial_text n steps sent live =
+    counted_text trial_word n ++ counted_text steps_word steps ++ counted_text sent_word sent
+    ++ counted_text live_word live ++ 10 ∷ []
 
 -- the steps of the journal, all that it sends, and the sessions that live after it
 unfoldable pub trial_line : Setup → ℕ → List Step → Bytes
-trial_line setup n journal = trial_text n (length journal) (length (all_sent as_session setup 0 0 journal)) (live_count (chained as_session setup 0 0 journal))
+trial_line setup n journal =
+    trial_text n (length journal) (length (all_sent as_session setup 0 0 journal))
+    (live_count (chained as_session setup 0 0 journal))
 
 -- ## How it ends
 
--- what is left at each status, in the journal and of the line in the sink: `old` and `new` are what it took
--- before and after, and `write` says that its count of faults rose
-unfoldable pub TrialLeaves : Setup → ℕ → Type 0 → Option Bytes → Option Bytes → Status → List Step → Type 0
-TrialLeaves setup n write old new statuses.Done journal = Replays setup (Some (generated n)) journal × Takes old new (trial_line setup n journal)
+-- what is left at each status, in the journal and of the line in the sink: `old` and `new` are what it
+-- took before and after, and `write` says that its count of faults rose
+unfoldable pub TrialLeaves : Setup → ℕ → Type 0 → Option Bytes → Option Bytes → Status → List Step
+    → Type 0
+TrialLeaves setup n write old new statuses.Done journal =
+    Replays setup (Some (generated n)) journal × Takes old new (trial_line setup n journal)
 TrialLeaves setup n write old new statuses.Usage journal = ⊥
 TrialLeaves setup n write old new (statuses.Config kind key) journal = ⊥
 TrialLeaves setup n write old new (statuses.Dar line kind) journal = ⊥
-TrialLeaves setup n write old new statuses.JournalFull journal = ReplaysFull setup (Some (generated n)) journal × (new ≡ old)
+TrialLeaves setup n write old new statuses.JournalFull journal =
+    ReplaysFull setup (Some (generated n)) journal × (new ≡ old)
 TrialLeaves setup n write old new statuses.Edge journal = ⊥
-TrialLeaves setup n write old new statuses.NoMemory journal = ReplaysPart setup (Some (generated n)) journal × TakesPart old new (trial_line setup n journal)
+TrialLeaves setup n write old new statuses.NoMemory journal =
+    ReplaysPart setup (Some (generated n)) journal × TakesPart old new (trial_line setup n journal)
 TrialLeaves setup n write old new (statuses.Script at kind) journal = ⊥
 TrialLeaves setup n write old new statuses.Read journal = ⊥
-TrialLeaves setup n write old new statuses.Write journal = write × Replays setup (Some (generated n)) journal × TakesPart old new (trial_line setup n journal)
+TrialLeaves setup n write old new statuses.Write journal =
+    write × Replays setup (Some (generated n)) journal
+    × TakesPart old new (trial_line setup n journal)
 
--- of n calls: the journal is there exactly where the settings were accepted, and it is that of a run with them;
--- else the sink took nothing
-unfoldable pub Trials : List Bytes → List Charters → ℕ → Type 0 → Option Bytes → Option Bytes → Status → Option (Kept Step) → Type 0
-Trials names kinds n write old new status None = IsUnset names (Some trial_config) (Some trial_table) ⊥ status × (new ≡ old)
+-- of n calls: the journal is there exactly where the settings were accepted, and it is that of a run
+-- with them; else the sink took nothing
+unfoldable pub Trials : List Bytes → List Charters → ℕ → Type 0 → Option Bytes → Option Bytes
+    → Status → Option (Kept Step) → Type 0
+Trials names kinds n write old new status None =
+    IsUnset names (Some trial_config) (Some trial_table) ⊥ status × (new ≡ old)
 Trials names kinds n write old new status (Some journal) =
     (setup : Setup)
     × TellsSetup names kinds (tried n) setup
@@ -92,14 +104,18 @@ Trials names kinds n write old new status (Some journal) =
     × TrialLeaves setup n write old new status journal.items
 
 -- of these words
-unfoldable pub TrialsWords : Option ℕ → List Bytes → List Charters → Type 0 → Option Bytes → Option Bytes → Status → Option (Kept Step) → Type 0
-TrialsWords (Some n) names kinds write old new status journal = Trials names kinds n write old new status journal
-TrialsWords None names kinds write old new status journal = (status ≡ statuses.Usage) × (journal ≡ None) × (new ≡ old)
+unfoldable pub TrialsWords : Option ℕ → List Bytes → List Charters → Type 0 → Option Bytes
+    → Option Bytes → Status → Option (Kept Step) → Type 0
+TrialsWords (Some n) names kinds write old new status journal =
+    Trials names kinds n write old new status journal
+TrialsWords None names kinds write old new status journal =
+    (status ≡ statuses.Usage) × (journal ≡ None) × (new ≡ old)
 
 -- ## Its parts
 
 -- what a run on a switch with these settings answers
-pub record IsTried (setup : Setup) (n : ℕ) (write : Type 0) (old new : Option Bytes) (ran : Ran) : Type 0 where
+pub record IsTried (setup : Setup) (n : ℕ) (write : Type 0) (old new : Option Bytes) (ran : Ran)
+    : Type 0 where
   pub journal : Kept Step
   pub journal_is : ran.journal ≡ Some journal
   pub lawful : IsLawful as_session setup 0 0 journal.items
