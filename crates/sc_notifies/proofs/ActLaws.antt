@@ -12,8 +12,8 @@ use Rattle.sc_helpers.specs.Stopping.{GoesThrough}
 use Rattle.sc_helpers.proofs.Plays.{through_accepted}
 use Rattle.sc_notifies.specs.Notifying.{IsByState, IsCarriedOut, IsEnded, IsFailed, IsOfPending, IsOfSubscription, IsRefusedAs, accepted_by, activates, asked_of, ends, fired_of, next_of, read_of}
 use Rattle.sc_notifies.specs.States.{Accepts, Activates, Changes, Ends, Fails, Fires, IsActed, activates_by, script_of}
+use Rattle.sc_notifies.specs.declared.accepting.Grant.{Grant}
 use Rattle.sc_notifies.specs.declared.refused.Asked.{Asked}
-use Rattle.sc_notifies.specs.declared.refused.Grant.{Grant}
 
 of_some : {X : Type 0} (o : Option Subscription) (script : Subscription → Script) (answer given : X) (old new : Working) → IsOfSubscription o script answer old (Ok given) new → GoesThrough (where_some o script) old new
 unfolding IsOfSubscription IsRefusedAs IsCarriedOut where_some

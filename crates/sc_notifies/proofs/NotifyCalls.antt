@@ -16,10 +16,10 @@ use Rattle.sc_helpers.specs.Stopping.{Goes, GoesThrough, IsCarried, StopsAfter}
 use Rattle.sc_helpers.specs.declared.stopping.Stopped.{Stopped}
 use Rattle.sc_helpers.proofs.Steps.{goes_stopped}
 use Rattle.sc_notifies.specs.Notifying.{IsActivated, IsByState, IsCarriedOut, IsEnded, IsFailed, IsOfPending, IsOfSubscription, IsRefusedAs, IsTurned, accepted_by, activates, asked_of, ends, fired_of, live_activated, live_by, live_ended, live_failed, live_of, live_told, next_of, over_by, over_script, read_of}
+use Rattle.sc_notifies.specs.declared.accepting.Grant.{Grant}
 use Rattle.sc_notifies.specs.declared.accepting.Read.{Read}
 use Rattle.sc_notifies.specs.declared.ending.Over.{Over}
 use Rattle.sc_notifies.specs.declared.refused.Asked.{Asked}
-use Rattle.sc_notifies.specs.declared.refused.Grant.{Grant}
 use Rattle.sc_notifies.specs.declared.refused.NotifyRefused.{NotifyRefused}
 use Rattle.sc_notifies.specs.declared.refused.NotifyRefused.TheVariants as refused
 use Rattle.sc_notifies.specs.declared.standing.Live.{Live}

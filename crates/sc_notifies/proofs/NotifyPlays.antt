@@ -17,12 +17,12 @@ use Rattle.sc_apps.specs.Scripted.{IsPlayed}
 use Rattle.sc_apps.proofs.Playing.{begun_room, begun_view, played_done}
 use Rattle.sc_helpers.proofs.FoundLaws.{as_is}
 use Rattle.sc_helpers.proofs.Shorts.{Short, heard_played, short_cancel, short_either, short_more, short_number, short_only, short_remove, short_send, short_then, short_where, through_played}
-use Rattle.sc_notifies.specs.Notifying.{IsCarriedOut, IsEnded, IsFailed, IsRefusedAs, IsTold, IsTurned, accepted_by, asked_of, fired_of, is_remembered_active, is_settled, read_by, read_of, seconds_in}
+use Rattle.sc_notifies.specs.Notifying.{IsCarriedOut, IsEnded, IsFailed, IsRefusedAs, IsTold, IsTurned, accepted_by, asked_of, fired_of, read_by, read_of, seconds_in}
 use Rattle.sc_notifies.specs.SubScripts.{begun_noted, begun_timed, begun_told, cleared, subscribed_by, unnamed}
+use Rattle.sc_notifies.specs.declared.accepting.Grant.TheVariants as grants
 use Rattle.sc_notifies.specs.declared.accepting.Read.{Read}
 use Rattle.sc_notifies.specs.declared.refused.Asked.{Asked}
 use Rattle.sc_notifies.specs.declared.refused.Asked.TheVariants as asked
-use Rattle.sc_notifies.specs.declared.refused.Grant.TheVariants as grants
 use Rattle.sc_notifies.specs.declared.refused.NotifyRefused.{NotifyRefused}
 use Rattle.sc_notifies.specs.declared.refused.NotifyRefused.TheVariants as refused
 use Rattle.sc_notifies.specs.declared.standing.Standing.{Standing}
@@ -65,32 +65,32 @@ told_by script n old new (refused.Turn refusal made) out short room stops told =
 -- a SUBSCRIBE, as the charter has it
 accepts_if : (view : View) (rule : Rule) (req : ReqId) (sess : SessId) (request : Request) (other brief : Bool) → not (names_package rule request) ≡ other
     → (nat_lt 0 (asked_seconds rule request) && nat_lt (asked_seconds rule request) rule.least) ≡ brief
-    → accepts view rule req sess request ≡ accepted_by rule req sess (asked_of rule request) (read_of view sess request (asked_of rule request) grants.Settled)
-unfolding accepts accepted_by asked_of read_of read_by seconds_in is_remembered_active is_settled
+    → accepts view rule req sess request ≡ accepted_by rule req sess (asked_of rule request) (read_of view sess request (asked_of rule request) grants.Active)
+unfolding accepts accepted_by asked_of read_of read_by seconds_in
 accepts_if view rule req sess request true brief is has = rw is refl
 accepts_if view rule req sess request false true is has = rw (is, has) refl
 accepts_if view rule req sess request false false is has = rw (is, has) (ap (accepted_then _) (subscribed_is view rule sess _ _ (subscription_of view sess)))
 
 accepts_is : (view : View) (rule : Rule) (req : ReqId) (sess : SessId) (request : Request)
-    → accepts view rule req sess request ≡ accepted_by rule req sess (asked_of rule request) (read_of view sess request (asked_of rule request) grants.Settled)
+    → accepts view rule req sess request ≡ accepted_by rule req sess (asked_of rule request) (read_of view sess request (asked_of rule request) grants.Active)
 accepts_is view rule req sess request =
     accepts_if view rule req sess request (not (names_package rule request)) (nat_lt 0 (asked_seconds rule request) && nat_lt (asked_seconds rule request) rule.least) refl refl
 
 pub accepts_through : (rule : Rule) (req : ReqId) (sess : SessId) (request : Request) (answer given : Asked) (old new : Working) → old.calls ≡ [] → old.starved ≡ false
-    → (old.starved ≡ false → IsCarriedOut (accepted_by rule req sess (asked_of rule request) (read_of (play_of old).view sess request (asked_of rule request) grants.Settled)) answer old (Ok given) new)
+    → (old.starved ≡ false → IsCarriedOut (accepted_by rule req sess (asked_of rule request) (read_of (play_of old).view sess request (asked_of rule request) grants.Active)) answer old (Ok given) new)
     → IsPlayed (accepts old.shown rule req sess request) old new
 unfolding IsCarriedOut
 accepts_through rule req sess request answer given old new none fed carried =
     as_is _ _ old new (ap (λ (v : View). accepts v rule req sess request) (sym (begun_view old none)) ∙ accepts_is (play_of old).view rule req sess request)
-    (through_played (accepted_by rule req sess (asked_of rule request) (read_of (play_of old).view sess request (asked_of rule request) grants.Settled)) old new (carried fed).1)
+    (through_played (accepted_by rule req sess (asked_of rule request) (read_of (play_of old).view sess request (asked_of rule request) grants.Active)) old new (carried fed).1)
 
 pub accepts_told : (rule : Rule) (req : ReqId) (sess : SessId) (request : Request) (answer : Asked) (old new : Working) (refusal : NotifyRefused) (out : Result (Unit {0}) no.NoMemory) → old.calls ≡ [] → old.starved ≡ false
-    → (old.starved ≡ false → IsCarriedOut (accepted_by rule req sess (asked_of rule request) (read_of (play_of old).view sess request (asked_of rule request) grants.Settled)) answer old (Err refusal) new) → IsTold refusal out
+    → (old.starved ≡ false → IsCarriedOut (accepted_by rule req sess (asked_of rule request) (read_of (play_of old).view sess request (asked_of rule request) grants.Active)) answer old (Err refusal) new) → IsTold refusal out
     → OnOk out (IsPlayed (accepts old.shown rule req sess request) old new)
 unfolding IsCarriedOut
 accepts_told rule req sess request answer old new refusal out none fed carried told =
     let room = begun_room old none in
-    let read : Read = read_of (play_of old).view sess request (asked_of rule request) grants.Settled in
+    let read : Read = read_of (play_of old).view sess request (asked_of rule request) grants.Active in
     subst (λ (v : View). OnOk out (IsPlayed (accepts v rule req sess request) old new)) (begun_view old none)
     (subst (λ (s : Script). OnOk out (IsPlayed s old new)) (sym (accepts_is (play_of old).view rule req sess request))
     (told_by (accepted_by rule req sess (asked_of rule request) read) 7 old new refusal out (accepted_short rule req sess (asked_of rule request) read) (omega (arith, room)) (carried fed) told))

@@ -24,7 +24,7 @@ use Rattle.sc_hosts.specs.HelperParts.{accepted_then, answer_with, send_in, stri
 use Rattle.sc_hosts.specs.Looking.{request_in}
 use Rattle.sc_hosts.specs.Refusals.{refusal}
 use Rattle.sc_hosts.specs.Scripting.{Script, Done, attribute, where_some}
-use Rattle.sc_hosts.specs.Subscriptions.{NamedSub, Rule, Subscription, asked_seconds, changes, ended_sub, ev_name, failed_sub, letter_of, names_package, notifies, sub_name, sub_text, subscription_in, subscription_of, timeout_state}
+use Rattle.sc_hosts.specs.Subscriptions.{NamedSub, Rule, Subscription, asked_seconds, changes, ended_sub, ev_name, failed_sub, letter_of, letter_word, names_package, notifies, sub_name, sub_text, subscription_in, subscription_of, timeout_state}
 use Rattle.sc_hosts.specs.ViewChanges.{answered, answered_in, tidy}
 use Rattle.sc_helpers.specs.Leading.{cancel_some}
 use Rattle.sc_promised.specs.Reliable.{play_after}
@@ -32,14 +32,13 @@ use Rattle.sc_promised.specs.Refreshing.{IsAccepted}
 use Rattle.sc_promised.proofs.Attributes.{same-self, set-attribute}
 use Rattle.sc_promised.proofs.Endings.{strict-fits}
 use Rattle.sc_promised.proofs.Texts.{decimal-lacks}
-use Rattle.sc_notifies.specs.Notifying.{IsAtMost, accepted_by, activates, asked_of, begins_active, ends, fired_of, is_active, is_remembered_active, is_settled, read_by, read_of, seconds_in}
-use Rattle.sc_notifies.specs.States.{Accepts, Absent, Act, Activates, Active, Changes, Ends, Fails, Fires, Happened, IsOf, IsOnce, IsSound, IsTrace, Pending, State, activated, activates_by, is_settling, last_state, next_state, over, renewed, script_of, settles, state_at, state_by, state_of, subscribed, table_state, view_after}
-use Rattle.sc_notifies.specs.SubScripts.{begun_noted, begun_timed, begun_told, cleared, letter_word, standing_of, sub_words, subscribed_by, unnamed}
+use Rattle.sc_notifies.specs.Notifying.{IsAtMost, accepted_by, activates, asked_of, ends, fired_of, is_active, read_by, read_of, seconds_in}
+use Rattle.sc_notifies.specs.States.{Accepts, Absent, Act, Activates, Active, Changes, Ends, Fails, Fires, Happened, IsOf, IsOnce, IsSound, IsTrace, Pending, State, activated, activates_by, last_state, next_state, over, renewed, script_of, settles, state_at, state_by, state_of, subscribed, table_state, unsubscribes, view_after}
+use Rattle.sc_notifies.specs.SubScripts.{begun_noted, begun_timed, begun_told, cleared, standing_of, subscribed_by, unnamed}
+use Rattle.sc_notifies.specs.declared.accepting.Grant.{Grant}
 use Rattle.sc_notifies.specs.declared.accepting.Read.{Read}
 use Rattle.sc_notifies.specs.declared.refused.Asked.{Asked}
 use Rattle.sc_notifies.specs.declared.refused.Asked.TheVariants as asked
-use Rattle.sc_notifies.specs.declared.refused.Grant.{Grant}
-use Rattle.sc_notifies.specs.declared.refused.Grant.TheVariants as grants
 use Rattle.sc_notifies.specs.declared.standing.Standing.{Standing}
 use Rattle.sc_notifies.specs.declared.subscribing.Term.{Term}
 use Rattle.sc_notifies.proofs.Kept.{Empties, Keeps, KeepsCall, behind_call, behind_number, cancel_empties, created_keeps, done_keeps, invalidated_keeps, number_keeps, only_keeps, remove_empties, remove_keeps, responded_keeps, sent_keeps, set_keeps, then_keeps}
@@ -85,8 +84,8 @@ unfolding has
 p_plain = refl
 
 words_read : (active : Bool) (due t : ℕ) → due < 2 ^ 64 → t < 2 ^ 64
-    → subscription_in (pieces 32 (sub_words active due t)) ≡ Some (record { active = active; due = due; timer = t })
-unfolding subscription_in letter_of sub_words letter_word
+    → subscription_in (pieces 32 (sub_text active due t)) ≡ Some (record { active = active; due = due; timer = t })
+unfolding subscription_in letter_of sub_text letter_word
 words_read true due t d_in t_in = ap subscription_in (words_pieces 65 due t a_plain d_in t_in) ∙ rw (strict_decimal due d_in, strict_decimal t t_in) refl
 words_read false due t d_in t_in = ap subscription_in (words_pieces 80 due t p_plain d_in t_in) ∙ rw (strict_decimal due d_in, strict_decimal t t_in) refl
 
@@ -100,7 +99,7 @@ state_none : (sess : SessId) (view : View) → attribute (sub_name sess) view �
 unfolding state_at subscription_of state_of
 state_none sess view is = rw is refl
 
-state_words : (sess : SessId) (view : View) (active : Bool) (due t : ℕ) → due < 2 ^ 64 → t < 2 ^ 64 → attribute (sub_name sess) view ≡ Some (sub_words active due t) → state_at view sess ≡ state_by active
+state_words : (sess : SessId) (view : View) (active : Bool) (due t : ℕ) → due < 2 ^ 64 → t < 2 ^ 64 → attribute (sub_name sess) view ≡ Some (sub_text active due t) → state_at view sess ≡ state_by active
 unfolding state_at subscription_of state_of
 state_words sess view active due t d_in t_in is = rw is (ap state_of (words_read active due t d_in t_in))
 
@@ -163,12 +162,12 @@ changed play sess body (Some sub) ok = notifies_keeps (sub_name sess) sess _ _ _
 
 activated_script : (play : Play) (sess : SessId) (body : Bytes) (sub : Subscription) → Fits sub → IsAccepted play (activates play.view sess body sub)
     → state_at (play_after play (activates play.view sess body sub)).view sess ≡ Active
-unfolding activates sub_text state_by sub_words letter_word
+unfolding activates state_by
 activated_script play sess body sub fits ok =
-    let (none, rest, same) = behind_call play (calls.SetAttribute (sub_name sess) (sub_words true sub.due sub.timer)) _ ok in
+    let (none, rest, same) = behind_call play (calls.SetAttribute (sub_name sess) (sub_text true sub.due sub.timer)) _ ok in
     state_words sess _ true sub.due sub.timer fits.0 fits.1
-    (ap (λ (p : Play). attribute (sub_name sess) p.view) same ∙ notifies_keeps (sub_name sess) sess _ _ _ (after_listed play (calls.SetAttribute (sub_name sess) (sub_words true sub.due sub.timer))) rest
-    ∙ set-attribute play (sub_name sess) (sub_words true sub.due sub.timer) none)
+    (ap (λ (p : Play). attribute (sub_name sess) p.view) same ∙ notifies_keeps (sub_name sess) sess _ _ _ (after_listed play (calls.SetAttribute (sub_name sess) (sub_text true sub.due sub.timer))) rest
+    ∙ set-attribute play (sub_name sess) (sub_text true sub.due sub.timer) none)
 
 activated_by : (play : Play) (sess : SessId) (body : Bytes) (sub : Subscription) (active : Bool) → sub.active ≡ active → subscription_of play.view sess ≡ Some sub
     → IsAccepted play (activates_by active (activates play.view sess body sub)) → state_at (play_after play (activates_by active (activates play.view sess body sub))).view sess ≡ activated (state_by sub.active)
@@ -220,14 +219,14 @@ fired_at play sess (Some named) own once ok =
 -- ## A SUBSCRIBE
 
 begun_state : (play : Play) (term : Term) (sess : SessId) (event body : Bytes) → term.due < 2 ^ 64 → play.view.next_timer < 2 ^ 64 → IsAccepted play (begun_timed term sess event body)
-    → state_at (play_after play (begun_timed term sess event body)).view sess ≡ state_by term.letter
+    → state_at (play_after play (begun_timed term sess event body)).view sess ≡ state_by term.active
 unfolding begun_timed begun_noted begun_told accepted
 begun_state play term sess event body d_in t_in ok =
     let (none, rest, same) = behind_number play (calls.StartTimer (term.seconds * 1000) Once (sub_name sess)) (begun_noted term sess event body) play.view.next_timer refl ok in
     let one = after_listed play (calls.StartTimer (term.seconds * 1000) Once (sub_name sess)) in
-    let words : Bytes = sub_words term.letter term.due play.view.next_timer in
+    let words : Bytes = sub_text term.active term.due play.view.next_timer in
     let (set, more, after) = behind_call one (calls.SetAttribute (sub_name sess) words) _ rest in
-    state_words sess _ term.letter term.due play.view.next_timer d_in t_in
+    state_words sess _ term.active term.due play.view.next_timer d_in t_in
     (ap (λ (p : Play). attribute (sub_name sess) p.view) (same ∙ after)
     ∙ then_keeps (sub_name sess) (calls.SetAttribute (ev_name sess) event) _ (set_keeps (ev_name sess) event (sub_name sess) (names_apart sess)) (notifies_keeps (sub_name sess) sess _ _ _) (after_listed one (calls.SetAttribute (sub_name sess) words)) more
     ∙ set-attribute one (sub_name sess) words set)
@@ -242,7 +241,7 @@ unfolding after_listed
 cancelled_timer play id = cancelled_by play id (refusal play (calls.CancelTimer id))
 
 renewed_state : (o : Option TimerId) (play : Play) (term : Term) (sess : SessId) (event body : Bytes) → term.due < 2 ^ 64 → play.view.next_timer < 2 ^ 64 → IsAccepted play (cancel_some o (begun_timed term sess event body))
-    → state_at (play_after play (cancel_some o (begun_timed term sess event body))).view sess ≡ state_by term.letter
+    → state_at (play_after play (cancel_some o (begun_timed term sess event body))).view sess ≡ state_by term.active
 unfolding cancel_some
 renewed_state None play term sess event body d_in t_in ok = begun_state play term sess event body d_in t_in ok
 renewed_state (Some id) play term sess event body d_in t_in ok =
@@ -253,13 +252,13 @@ renewed_state (Some id) play term sess event body d_in t_in ok =
 subscribed_if : (over : Bool) (play : Play) (standing : Standing) (term : Term) (sess : SessId) (event body : Bytes) → is_some (attribute (sub_name sess) play.view) ≡ standing.told → IsOnce (sub_name sess) play.view.attributes
     → term.due < 2 ^ 64 → play.view.next_timer < 2 ^ 64
     → IsAccepted play (cond over (cleared standing sess (notifies sess event timeout_state [])) (cancel_some standing.running (begun_timed term sess event body)))
-    → state_at (play_after play (cond over (cleared standing sess (notifies sess event timeout_state [])) (cancel_some standing.running (begun_timed term sess event body)))).view sess ≡ cond over Absent (state_by term.letter)
+    → state_at (play_after play (cond over (cleared standing sess (notifies sess event timeout_state [])) (cancel_some standing.running (begun_timed term sess event body)))).view sess ≡ cond over Absent (state_by term.active)
 subscribed_if true play standing term sess event body has once d_in t_in ok = state_none sess _ (cleared_empties standing sess _ (notifies_keeps (sub_name sess) sess _ _ _) play has once ok)
 subscribed_if false play standing term sess event body has once d_in t_in ok = renewed_state standing.running play term sess event body d_in t_in ok
 
 subscribed_state : (play : Play) (standing : Standing) (term : Term) (sess : SessId) (event body : Bytes) → is_some (attribute (sub_name sess) play.view) ≡ standing.told → IsOnce (sub_name sess) play.view.attributes
     → term.due < 2 ^ 64 → play.view.next_timer < 2 ^ 64 → IsAccepted play (subscribed_by standing term sess event body)
-    → state_at (play_after play (subscribed_by standing term sess event body)).view sess ≡ cond (term.seconds == 0) Absent (state_by term.letter)
+    → state_at (play_after play (subscribed_by standing term sess event body)).view sess ≡ cond (term.seconds == 0) Absent (state_by term.active)
 unfolding subscribed_by
 subscribed_state play standing term sess event body = subscribed_if (term.seconds == 0) play standing term sess event body
 
@@ -279,31 +278,21 @@ answered_same : (play : Play) (req : ReqId) (code : ℕ) (reason : Bytes) (field
 unfolding after_listed answer_with
 answered_same play req code reason fields = answered_by play req _ (refusal play _)
 
-begins_is : (grant : Grant) → state_by (is_settled grant || begins_active grant) ≡ state_by (begins_active grant)
-unfolding is_settled begins_active
-begins_is grants.Active = refl
-begins_is grants.Pending = refl
-begins_is grants.Settled = refl
+goes_on : (grant : Grant) (active : Bool) → state_by active ≡ renewed grant (state_by active)
+unfolding renewed state_by
+goes_on grant true = refl
+goes_on grant false = refl
 
-goes_on : (grant : Grant) (active : Bool) → state_by (is_settled grant || active) ≡ renewed grant (state_by active)
-unfolding is_settled renewed state_by
-goes_on grants.Active true = refl
-goes_on grants.Active false = refl
-goes_on grants.Pending true = refl
-goes_on grants.Pending false = refl
-goes_on grants.Settled true = refl
-goes_on grants.Settled false = refl
-
-renewed_is : (grant : Grant) (o : Option Subscription) → state_by (is_remembered_active grant o) ≡ renewed grant (state_of o)
-unfolding is_remembered_active is_active renewed state_of
-renewed_is grant None = begins_is grant
+renewed_is : (grant : Grant) (o : Option Subscription) → state_by (is_active grant o) ≡ renewed grant (state_of o)
+unfolding is_active renewed state_of
+renewed_is grant None = refl
 renewed_is grant (Some sub) = goes_on grant sub.active
 
 -- behind the 200
 behind_answer : (play : Play) (rule : Rule) (req : ReqId) (sess : SessId) (seconds : ℕ) (read : Read) (fields : List Field) → read.standing.told ≡ is_some (attribute (sub_name sess) play.view) → IsOnce (sub_name sess) play.view.attributes
     → read.term.due < 2 ^ 64 → play.view.next_timer < 2 ^ 64 → (reason : Bytes)
     → IsAccepted play (accepted_then (answer_with req 200 reason fields) (subscribed_by read.standing read.term sess read.event rule.body))
-    → state_at (play_after play (accepted_then (answer_with req 200 reason fields) (subscribed_by read.standing read.term sess read.event rule.body))).view sess ≡ cond (read.term.seconds == 0) Absent (state_by read.term.letter)
+    → state_at (play_after play (accepted_then (answer_with req 200 reason fields) (subscribed_by read.standing read.term sess read.event rule.body))).view sess ≡ cond (read.term.seconds == 0) Absent (state_by read.term.active)
 behind_answer play rule req sess seconds read fields told once d_in t_in reason ok =
     let (none, rest, same) = behind_call play (answer_with req 200 reason fields) (subscribed_by read.standing read.term sess read.event rule.body) ok in
     let one = after_listed play (answer_with req 200 reason fields) in
@@ -358,11 +347,11 @@ by_table sess state (h ∷ acts) (sound, is, rest) =
 
 -- ## A pending one
 
-asks_pending : (grant : Grant) (asks : Asked) → is_settling grant asks ≡ false → subscribed grant asks Pending ≡ Pending
-unfolding is_settling subscribed renewed state_by
+asks_pending : (grant : Grant) (asks : Asked) → unsubscribes asks ≡ false → subscribed grant asks Pending ≡ Pending
+unfolding unsubscribes subscribed renewed
 asks_pending grant asked.BadEvent left = refl
 asks_pending grant asked.Brief left = refl
-asks_pending grant (asked.For seconds) left = rw (either_first (seconds == 0) (is_settled grant) left, either_second (seconds == 0) (is_settled grant) left) refl
+asks_pending grant (asked.For seconds) left = rw left refl
 
 fires_pending : (o : Option NamedSub) → is_some o ≡ false → over o Pending ≡ Pending
 unfolding over

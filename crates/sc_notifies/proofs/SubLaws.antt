@@ -11,8 +11,8 @@ use Rattle.sc_hosts.specs.Scripting.{Script, Make, attribute, with_number}
 use Rattle.sc_hosts.specs.Subscriptions.{Rule, Subscription, ev_name, is_pending, notifies, state_word, sub_name, sub_text, subscribed_for, timeout_state, without_timer}
 use Rattle.sc_helpers.specs.Leading.{cancel_some, remove_if, timer_named}
 use Rattle.sc_notifies.specs.Notifying.{begins_active, is_active}
-use Rattle.sc_notifies.specs.SubScripts.{begun_noted, begun_timed, begun_told, cleared, letter_word, standing_of, sub_words, subscribed_by, timer_of_sub, unnamed}
-use Rattle.sc_notifies.specs.declared.refused.Grant.TheVariants as grants
+use Rattle.sc_notifies.specs.SubScripts.{begun_noted, begun_timed, begun_told, cleared, standing_of, subscribed_by, timer_of_sub, unnamed}
+use Rattle.sc_notifies.specs.declared.accepting.Grant.TheVariants as grants
 use Rattle.sc_helpers.proofs.FoundLaws.{cancel_is, remove_is}
 
 without_is : (view : View) (old : Option Subscription) (script : Script) → without_timer view old script ≡ cancel_some (timer_of_sub view old) script
@@ -35,7 +35,7 @@ pub ended_is : (view : View) (sess : SessId) (sub : Subscription) (script : Scri
 unfolding cleared unnamed standing_of timer_of_sub
 ended_is view sess sub script = cancel_is sub.timer view _ ∙ ap (cancel_some (timer_named view sub.timer)) (removed_is view sess script)
 
-actives : (o : Option Subscription) → is_active grants.Settled o ≡ not (is_pending o)
+actives : (o : Option Subscription) → is_active grants.Active o ≡ not (is_pending o)
 unfolding is_active begins_active is_pending
 actives None = refl
 actives (Some old) = twice old.active
@@ -44,10 +44,10 @@ actives (Some old) = twice old.active
     twice true = refl
     twice false = refl
 
--- a timer, both attributes, and a NOTIFY with this state
+-- a timer, both attributes, and a NOTIFY, of a subscription that is active or pending
 abbrev told : SessId → Bytes → ℕ → ℕ → Bool → Bytes → Script
 told sess event seconds due active body =
-    Make (calls.StartTimer (seconds * 1000) Once (sub_name sess)) (with_number (λ t. accepted_then (calls.SetAttribute (sub_name sess) (sub_text due t)) (accepted_then (calls.SetAttribute (ev_name sess) event)
+    Make (calls.StartTimer (seconds * 1000) Once (sub_name sess)) (with_number (λ t. accepted_then (calls.SetAttribute (sub_name sess) (sub_text active due t)) (accepted_then (calls.SetAttribute (ev_name sess) event)
     (notifies sess event (state_word active ++ codes ";expires=" ++ decimal seconds) body))))
 
 told_is : (sess : SessId) (event : Bytes) (seconds due : ℕ) (body : Bytes) (pending active : Bool) → active ≡ not pending
@@ -57,14 +57,14 @@ told_is sess event seconds due body true false is = refl
 told_is sess event seconds due body false true is = refl
 told_is sess event seconds due body false false is = cc
 
--- the charter's script: each subscription is remembered as active
+-- the charter's script: a new subscription is active, one that is there stays what it is
 pub subscribed_is : (view : View) (rule : Rule) (sess : SessId) (event : Bytes) (seconds : ℕ) (o : Option Subscription)
     → subscribed_for view rule sess event seconds o
-    ≡ subscribed_by (standing_of view sess o) (record { seconds = seconds; due = view.now + seconds * 1000; active = is_active grants.Settled o; letter = true }) sess event rule.body
-unfolding subscribed_for subscribed_by begun_timed begun_noted begun_told standing_of sub_words sub_text letter_word
+    ≡ subscribed_by (standing_of view sess o) (record { seconds = seconds; due = view.now + seconds * 1000; active = is_active grants.Active o }) sess event rule.body
+unfolding subscribed_for subscribed_by begun_timed begun_noted begun_told standing_of
 subscribed_is view rule sess event seconds o =
     both (seconds == 0) (cleared_is view sess o (notifies sess event timeout_state []))
-    (without_is view o _ ∙ ap (cancel_some (timer_of_sub view o)) (told_is sess event seconds (view.now + seconds * 1000) rule.body (is_pending o) (is_active grants.Settled o) (actives o)))
+    (without_is view o _ ∙ ap (cancel_some (timer_of_sub view o)) (told_is sess event seconds (view.now + seconds * 1000) rule.body (is_pending o) (is_active grants.Active o) (actives o)))
   where
     both : (over : Bool) {a b c d : Script} → a ≡ b → c ≡ d → (if over then a else c) ≡ (if over then b else d)
     both true one other = one

@@ -16,12 +16,12 @@ use Rattle.sc_hosts.specs.Words.{ok}
 use Rattle.sc_turn.specs.Working.{Working}
 use Rattle.sc_helpers.specs.Stopping.{GoesThrough, IsHeard, StopsAfter}
 use Rattle.sc_notifies.specs.SubScripts.{cleared, standing_of, subscribed_by}
+use Rattle.sc_notifies.specs.declared.accepting.Grant.{Grant}
+use Rattle.sc_notifies.specs.declared.accepting.Grant.TheVariants as grants
 use Rattle.sc_notifies.specs.declared.accepting.Read.{Read}
 use Rattle.sc_notifies.specs.declared.ending.Over.{Over}
 use Rattle.sc_notifies.specs.declared.refused.Asked.{Asked}
 use Rattle.sc_notifies.specs.declared.refused.Asked.TheVariants as asked
-use Rattle.sc_notifies.specs.declared.refused.Grant.{Grant}
-use Rattle.sc_notifies.specs.declared.refused.Grant.TheVariants as grants
 use Rattle.sc_notifies.specs.declared.refused.NotifyRefused.{NotifyRefused}
 use Rattle.sc_notifies.specs.declared.refused.NotifyRefused.TheVariants as refused
 use Rattle.sc_notifies.specs.declared.refused.RuleRefused.{RuleRefused}
@@ -88,7 +88,7 @@ next_of view = record { 0 = view.next_request }
 -- a pending subscription becomes active, and a NOTIFY says so with the seconds that are left
 unfoldable pub activates : View → SessId → Bytes → Subscription → Script
 activates view sess body sub =
-    accepted_then (calls.SetAttribute (sub_name sess) (sub_text sub.due sub.timer))
+    accepted_then (calls.SetAttribute (sub_name sess) (sub_text true sub.due sub.timer))
     (notifies sess (event_of view sess)
     (state_word true ++ codes ";expires=" ++ decimal (seconds_left sub.due view.now)) body)
 
@@ -137,22 +137,11 @@ seconds_in (asked.For seconds) = seconds
 unfoldable pub begins_active : Grant → Bool
 begins_active grants.Active = true
 begins_active grants.Pending = false
-begins_active grants.Settled = true
 
--- a pending one is active behind the SUBSCRIBE
-unfoldable pub is_settled : Grant → Bool
-is_settled grants.Active = false
-is_settled grants.Pending = false
-is_settled grants.Settled = true
-
--- a subscription that is there is told as what it is, active or pending; a new one as granted
+-- a subscription that is there stays what it is, active or pending; a new one is what is granted
 unfoldable pub is_active : Grant → Option Subscription → Bool
 is_active grant None = begins_active grant
 is_active grant (Some old) = old.active
-
--- and it is remembered as that, or as active where the grant settles it
-unfoldable pub is_remembered_active : Grant → Option Subscription → Bool
-is_remembered_active grant old = is_settled grant || is_active grant old
 
 -- how the subscription goes on from this moment
 unfoldable pub read_by : View → SessId → Request → ℕ → Grant → Option Subscription → Read
@@ -163,7 +152,6 @@ read_by view sess request seconds grant old = record {
     seconds = seconds;
     due = view.now + seconds * 1000;
     active = is_active grant old;
-    letter = is_remembered_active grant old;
   };
 }
 
@@ -210,7 +198,7 @@ live_told sess body live =
 -- it becomes active, and that is told
 unfoldable pub live_activated : SessId → Bytes → Live → Script
 live_activated sess body live =
-    accepted_then (calls.SetAttribute (sub_name sess) (sub_text live.sub.due live.sub.timer))
+    accepted_then (calls.SetAttribute (sub_name sess) (sub_text true live.sub.due live.sub.timer))
     (notifies sess live.event (state_word true ++ codes ";expires=" ++ decimal live.left) body)
 
 -- it ends, and that is told with this state

@@ -1,6 +1,6 @@
 -- What any list of the calls of event notification makes of a SipSession's subscription (RFC 6665
 -- sections 4.1.2 and 4.2).
-use Rattle.std.specs.Prelude.{◌≡◌, ◌≤◌, ◌<◌, ◌+◌, ◌^◌, ◌==◌, List, [], ◌∷◌, Bool, true, false, ◌||◌, Option, None, Some, if◌then◌else◌, is_some}
+use Rattle.std.specs.Prelude.{◌≡◌, ◌≤◌, ◌<◌, ◌+◌, ◌^◌, ◌==◌, List, [], ◌∷◌, Bool, true, false, Option, None, Some, if◌then◌else◌, is_some}
 use Rattle.std.specs.List.{find, fold}
 use Rattle.sc_value.specs.Lists.{remove_first}
 use Rattle.sc_value.specs.declared.ids.ReqId.{ReqId}
@@ -17,10 +17,10 @@ use Rattle.sc_hosts.specs.Subscriptions.{NamedSub, Rule, Subscription, changes, 
 use Rattle.sc_turn.specs.Working.{Working, play_of}
 use Rattle.sc_promised.specs.Reliable.{play_after}
 use Rattle.sc_promised.specs.Refreshing.{IsAccepted}
-use Rattle.sc_notifies.specs.Notifying.{accepted_by, activates, asked_of, begins_active, ends, fired_of, is_settled, read_of}
+use Rattle.sc_notifies.specs.Notifying.{accepted_by, activates, asked_of, begins_active, ends, fired_of, read_of}
+use Rattle.sc_notifies.specs.declared.accepting.Grant.{Grant}
 use Rattle.sc_notifies.specs.declared.refused.Asked.{Asked}
 use Rattle.sc_notifies.specs.declared.refused.Asked.TheVariants as asked
-use Rattle.sc_notifies.specs.declared.refused.Grant.{Grant}
 
 -- ## Any list of calls
 
@@ -91,11 +91,10 @@ state_of (Some sub) = state_by sub.active
 unfoldable pub state_at : View → SessId → State
 state_at view sess = state_of (subscription_of view sess)
 
--- a new subscription is pending or active as it is granted; one that is there stays what it is,
--- unless a pending one is settled
+-- a new subscription is pending or active as it is granted; one that is there stays what it is
 unfoldable pub renewed : Grant → State → State
 renewed grant Absent = state_by (begins_active grant)
-renewed grant Pending = state_by (is_settled grant)
+renewed grant Pending = Pending
 renewed grant Active = Active
 
 -- a SUBSCRIBE for some seconds begins or renews one, for 0 it ends one; one that was answered 489
@@ -137,18 +136,18 @@ unfoldable pub last_state : SessId → State → List Happened → State
 last_state sess state acts =
     fold (λ state happened. state_at (view_after sess happened) sess) state acts
 
--- the SUBSCRIBE makes a pending subscription active, or ends it
-unfoldable pub is_settling : Grant → Asked → Bool
-is_settling grant asked.BadEvent = false
-is_settling grant asked.Brief = false
-is_settling grant (asked.For seconds) = seconds == 0 || is_settled grant
+-- the SUBSCRIBE ends a subscription, as it is one for 0 s (RFC 6665 section 4.1.2.3)
+unfoldable pub unsubscribes : Asked → Bool
+unsubscribes asked.BadEvent = false
+unsubscribes asked.Brief = false
+unsubscribes (asked.For seconds) = seconds == 0
 
 -- the act makes a pending subscription active, or ends it
 unfoldable pub settles : Happened → Bool
 settles happened = settles_by happened.play.view happened.act
   where
     settles_by : View → Act → Bool
-    settles_by view (Accepts rule req request grant) = is_settling grant (asked_of rule request)
+    settles_by view (Accepts rule req request grant) = unsubscribes (asked_of rule request)
     settles_by view (Changes body) = false
     settles_by view (Activates body) = true
     settles_by view (Ends reason) = true

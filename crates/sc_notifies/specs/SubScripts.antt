@@ -1,5 +1,5 @@
 -- The scripts of subscriptions, by what an application read before its first call (RFC 6665).
-use Rattle.std.specs.Prelude.{ℕ, ◌*◌, ◌==◌, ◌++◌, [], Bool, true, false, Option, None, Some, is_some, if◌then◌else◌, codes, decimal}
+use Rattle.std.specs.Prelude.{ℕ, ◌*◌, ◌==◌, ◌++◌, [], Option, None, Some, is_some, if◌then◌else◌, codes, decimal}
 use Rattle.sc_value.specs.declared.ids.SessId.{SessId}
 use Rattle.sc_value.specs.declared.ids.TimerId.{TimerId}
 use Rattle.sc_terms.specs.declared.views.View.{View}
@@ -8,7 +8,7 @@ use Rattle.sc_terms.specs.declared.calls.Call.TheVariants as calls
 use Rattle.sc_grammar.specs.Written.{Bytes}
 use Rattle.sc_hosts.specs.HelperParts.{accepted_then}
 use Rattle.sc_hosts.specs.Scripting.{Script, Make, attribute, with_number}
-use Rattle.sc_hosts.specs.Subscriptions.{Subscription, ev_name, is_pending, notifies, state_word, sub_name, timeout_state}
+use Rattle.sc_hosts.specs.Subscriptions.{Subscription, ev_name, is_pending, notifies, state_word, sub_name, sub_text, timeout_state}
 use Rattle.sc_helpers.specs.Leading.{cancel_some, remove_if, timer_named}
 use Rattle.sc_notifies.specs.declared.standing.Standing.{Standing}
 use Rattle.sc_notifies.specs.declared.subscribing.Term.{Term}
@@ -40,15 +40,6 @@ cleared standing sess = λ script. cancel_some standing.running (unnamed standin
 
 -- ## A subscription that begins or goes on
 
--- `A` for an active subscription, `P` for a pending one
-unfoldable pub letter_word : Bool → Bytes
-letter_word true = codes "A "
-letter_word false = codes "P "
-
--- a subscription, written: its letter, the moment at which it ends, and its timer
-unfoldable pub sub_words : Bool → ℕ → ℕ → Bytes
-sub_words active due timer = letter_word active ++ decimal due ++ codes " " ++ decimal timer
-
 -- the state is told, with the body where the subscription is active
 unfoldable pub begun_told : Term → SessId → Bytes → Bytes → Script
 begun_told term sess event body =
@@ -58,7 +49,7 @@ begun_told term sess event body =
 -- the subscription is remembered with its timer, and its state is told
 unfoldable pub begun_noted : Term → SessId → Bytes → Bytes → ℕ → Script
 begun_noted term sess event body t =
-    accepted_then (calls.SetAttribute (sub_name sess) (sub_words term.letter term.due t))
+    accepted_then (calls.SetAttribute (sub_name sess) (sub_text term.active term.due t))
     (accepted_then (calls.SetAttribute (ev_name sess) event) (begun_told term sess event body))
 
 -- its timer begins, then the same

@@ -7,10 +7,10 @@ ghost use Rattle.sc_hosts.specs.Subscriptions.{notified_event};
 ghost use Rattle.sc_hosts.specs.Words.{ok};
 ghost use Rattle.sc_turn.specs.Working.{play_of};
 ghost use Rattle.sc_helpers.specs.Stopping.{Goes, Leads};
-ghost use Rattle.sc_notifies.specs.Notifying.{IsAtMost, IsCarriedOut, accepted_by, asked_of, begins_active, is_active, is_remembered_active, is_settled, read_by, read_of, seconds_in};
+ghost use Rattle.sc_notifies.specs.Notifying.{IsAtMost, IsCarriedOut, accepted_by, asked_of, begins_active, is_active, read_by, read_of, seconds_in};
 ghost use Rattle.sc_notifies.specs.SubScripts.{subscribed_by};
 
-use crate::refused::{Asked, Grant, NotifyRefused, turned};
+use crate::refused::{Asked, NotifyRefused, turned};
 use crate::rules::{Rule, asked_for, event_of};
 use crate::standing::{self, Standing, standing_of, subscription_of};
 use crate::sub_texts::Subscribed;
@@ -21,6 +21,16 @@ use sc_terms::View;
 use sc_turn::Turn;
 use sc_value::{Field, List, NoMemory, ReqId, Request, SessId, Text, sum};
 use std::alloc::Global;
+
+/// What a new subscription is: active, or pending, as where it waits for a decision (RFC 6665
+/// section 4.1.3). One that is there stays what it is.
+#[derive(Clone, Copy, Debug, PartialEq, Eq)]
+pub enum Grant {
+    /// A new one is active.
+    Active,
+    /// A new one is pending.
+    Pending,
+}
 
 /// How a subscription goes on, as it was read before the answer.
 #[derive(Drop)]
@@ -53,18 +63,6 @@ fn begins_active(grant: Grant) -> bool
     match grant {
         Grant::Active => true,
         Grant::Pending => false,
-        Grant::Settled => true,
-    }
-}
-
-#[tactic(auto, unfolding(crate::specs::Notifying::is_settled))]
-fn is_settled(grant: Grant) -> bool
-    ensures { result ≡ is_settled grant }
-{
-    match grant {
-        Grant::Active => false,
-        Grant::Pending => false,
-        Grant::Settled => true,
     }
 }
 
@@ -76,13 +74,6 @@ fn is_active(grant: Grant, old: &Option<Subscribed>) -> bool
         Some(old) => old.active,
         None => begins_active(grant),
     }
-}
-
-#[tactic(auto, unfolding(crate::specs::Notifying::is_remembered_active))]
-fn is_remembered_active(grant: Grant, old: &Option<Subscribed>) -> bool
-    ensures { result ≡ is_remembered_active grant old.now }
-{
-    is_settled(grant) || is_active(grant, old)
 }
 
 // The Event of the NOTIFY that follows the answer.
@@ -104,7 +95,7 @@ fn notified_event(
     Text::from_slice(alloc, event_of(request))
 }
 
-fn term_of(moment: u64, seconds: u32, active: bool, letter: bool) -> Result<Term, NoMemory>
+fn term_of(moment: u64, seconds: u32, active: bool) -> Result<Term, NoMemory>
     requires within { seconds ≤ 4000000 }
     ensures exact { IfOk result
         (λ term.
@@ -113,7 +104,6 @@ fn term_of(moment: u64, seconds: u32, active: bool, letter: bool) -> Result<Term
           seconds = seconds;
           due = moment + seconds * 1000;
           active = active;
-          letter = letter;
         }) }
     ensures within { IfOk result (λ term. term.seconds ≤ 4000000) }
 {
@@ -122,7 +112,6 @@ fn term_of(moment: u64, seconds: u32, active: bool, letter: bool) -> Result<Term
         seconds,
         due,
         active,
-        letter,
     })
 }
 
@@ -142,8 +131,7 @@ fn read_by(
     ensures within { IfOk result (λ read. read.term.seconds ≤ 4000000) }
 {
     let standing = standing_of(alloc, view, sess, old)?;
-    let active = is_active(grant, old);
-    let term = term_of(view.now, seconds, active, is_remembered_active(grant, old))?;
+    let term = term_of(view.now, seconds, is_active(grant, old))?;
     let event = notified_event(alloc, view, sess, request, seconds, old)?;
     Ok(Read {
         standing,
@@ -322,16 +310,17 @@ fn accept_as(
 
 /// Answers a SUBSCRIBE, which began this SipSession or came in its dialog, and tells the state (RFC
 /// 6665 section 4.2.1). Gives what it asked for, as [`asked_for`](crate::asked_for) says. `grant`
-/// says whether the subscription is pending or active.
+/// says whether a new subscription is active or pending; one that is there stays what it is: only
+/// [`activate`](crate::activate) makes a pending one active.
 ///
 /// It makes these calls, each where the one before was accepted. `BadEvent`: `respond` 489 `Bad
 /// Event` with `Allow-Events`. `Brief`: `respond` 423 `Interval Too Brief` with `Min-Expires`.
 /// `For` some seconds: `respond` 200 `OK` with `Expires`; `cancel_timer` of the old timer, where it
 /// runs; `start_timer` of those seconds; `set_attribute` of `sub` with the SipSession's number to
-/// `A DUE TIMER`, or `P DUE TIMER` where it stays pending; `set_attribute` of `ev` with that number
-/// to the Event; for 0 seconds `remove_attribute` of the two that are set in place of these three;
-/// and last a NOTIFY (`create_in_dialog`, `send`) with `Event`, `Subscription-State` and, where that
-/// says `active`, the rule's body.
+/// `A DUE TIMER` where the subscription is active, or `P DUE TIMER` where it is pending;
+/// `set_attribute` of `ev` with that number to the Event; for 0 seconds `remove_attribute` of the
+/// two that are set in place of these three; and last a NOTIFY (`create_in_dialog`, `send`) with
+/// `Event`, `Subscription-State` and, where that says `active`, the rule's body.
 ///
 /// # Errors
 ///

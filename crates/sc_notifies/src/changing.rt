@@ -6,12 +6,11 @@ ghost use Rattle.sc_hosts.specs.Subscriptions.{changes, notifies, state_word, su
 ghost use Rattle.sc_turn.specs.Working.{play_of};
 ghost use Rattle.sc_helpers.specs.Stopping.{Goes, Leads};
 ghost use Rattle.sc_notifies.specs.Notifying.{IsActivated, IsCarriedOut, IsOfPending, IsOfSubscription, activates, live_activated, live_told, next_of};
-ghost use Rattle.sc_notifies.specs.SubScripts.{sub_words};
 
 use crate::notifying::{notify, tell_live};
 use crate::refused::{NotifyRefused, turned};
 use crate::standing::{Live, live_of};
-use crate::sub_texts::{state_text, sub_name, sub_words};
+use crate::sub_texts::{state_text, sub_name, sub_text};
 use sc_apps::memory_of;
 use sc_helpers::{Stopped, try_set_attribute, wanting};
 use sc_terms::Call;
@@ -65,18 +64,19 @@ pub fn change(turn: &mut Turn, sess: SessId, body: &[u8]) -> Result<ReqId, Notif
 
 fn noted(alloc: Global, sess: SessId, due: u64, timer: u64) -> Result<(Text, Text), NoMemory>
     ensures { IfOk result
-        (λ texts. (texts.0 ≡ sub_name sess) × (texts.1 ≡ sub_words true due timer)) }
+        (λ texts. (texts.0 ≡ sub_name sess) × (texts.1 ≡ sub_text true due timer)) }
 {
     let name = sub_name(alloc, sess)?;
-    let value = sub_words(alloc, true, due, timer)?;
+    let value = sub_text(alloc, true, due, timer)?;
     Ok((name, value))
 }
 
-#[tactic(auto, unfolding(sc_hosts::specs::Subscriptions::sub_text, crate::specs::SubScripts::sub_words, crate::specs::SubScripts::letter_word), using(sc_helpers::proofs::Steps::led_wanting))]
+#[tactic(auto, using(sc_helpers::proofs::Steps::led_wanting))]
 fn note_active(turn: &mut Turn, sess: SessId, due: u64, timer: u64) -> Result<u8, Stopped>
     ensures same { turn.new.shown ≡ turn.old.shown }
-    ensures led { Leads (accepted_then (Call.SetAttribute (sub_name sess) (sub_text due timer))) 0
-        turn.old result turn.new }
+    ensures led { Leads
+        (accepted_then (Call.SetAttribute (sub_name sess) (sub_text true due timer))) 0 turn.old
+        result turn.new }
     ensures count { IfOk result (λ after. after ≡ 1) }
 {
     match noted(memory_of(turn), sess, due, timer) {

@@ -12,8 +12,8 @@ ghost use Rattle.sc_hosts.specs.Subscriptions.{Rule, changes, ended_sub, failed_
 ghost use Rattle.sc_turn.specs.Working.{Working, play_of};
 ghost use Rattle.sc_notifies.specs.Notifying.{IsCarriedOut, IsFailed, IsOfPending, IsOfSubscription, accepted_by, activates, asked_of, ends, fired_of, next_of, read_of};
 ghost use Rattle.sc_notifies.specs.States.{Accepts, Activates, Changes, Ends, Fails, Fires, Happened, IsActed, IsTrace, Pending, State, last_state, settles, table_state};
+ghost use Rattle.sc_notifies.specs.declared.accepting.Grant.{Grant};
 ghost use Rattle.sc_notifies.specs.declared.refused.Asked.{Asked};
-ghost use Rattle.sc_notifies.specs.declared.refused.Grant.{Grant};
 
 /// Where a call of event notification isn't refused, the turn made the calls of its act and refused
 /// none of them: what is said of lists of acts is said of these calls. The contract is the law, and
@@ -53,11 +53,10 @@ pub fn calls_are_acts()
 /// Over every list of acts for a SipSession's subscription, in which nothing else writes its
 /// attributes, none is refused, and moments and timers have numbers of 64 bits, the subscription
 /// stands as the table says: a SUBSCRIBE for some seconds begins it as granted, pending or active,
-/// and renews it as it is, unless the grant settles a pending one; one for 0 seconds, its end, its
-/// timer or a failed NOTIFY ends it; a pending one becomes active where it is made so or settled,
-/// and by nothing else. So a pending subscription stays pending whatever renews it and whatever
-/// state is told, until it is made active, settled, or ends. The contract is the law, and the call
-/// does nothing.
+/// and renews it as it is, whatever the grant; one for 0 seconds, its end, its timer or a failed
+/// NOTIFY ends it; a pending one becomes active where it is made so, and by nothing else. So a
+/// pending subscription stays pending whatever renews it and whatever state is told, until it is
+/// made active or ends. The contract is the law, and the call does nothing.
 #[tactic(auto, using(crate::proofs::StateLaws::by_table, crate::proofs::StateLaws::stays_pending))]
 pub fn subscriptions_keep_to_the_table()
     ensures table { (sess : SessId) (state : State) (acts : List Happened)

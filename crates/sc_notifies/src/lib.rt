@@ -17,10 +17,10 @@ mod standing;
 mod sub_texts;
 mod subscribing;
 
-pub use accepting::accept;
+pub use accepting::{Grant, accept};
 pub use changing::{activate, change};
 pub use ending::{end, failed, fire};
 pub use laws::{calls_are_acts, subscriptions_keep_to_the_table};
 pub use notifies::Notifies;
-pub use refused::{Asked, Grant, NotifyRefused, RuleRefused};
+pub use refused::{Asked, NotifyRefused, RuleRefused};
 pub use rules::{Rule, asked_for, rule_in};

@@ -15,10 +15,10 @@ ghost use Rattle.sc_apps.specs.Scripted.{IsPlayed};
 ghost use Rattle.sc_notifies.specs.Notifying.{fired_of};
 ghost use Rattle.sc_model.specs.BestResponses.{server_error};
 
-use crate::accepting::accept;
+use crate::accepting::{Grant, accept};
 use crate::changing::change;
 use crate::ending::{failed, fire};
-use crate::refused::{Grant, told};
+use crate::refused::told;
 use crate::rules::{Rule, rule_in};
 use sc_apps::{ended, memory_of, reply_200, reply_500, reply_first_200, reply_ok, shown};
 use sc_methods::{is_failure, is_notify, is_subscribe};
@@ -31,8 +31,9 @@ use sc_value::{NoMemory, ReqId, Request, Response, SessId, TimerId};
 /// for as many seconds as they ask, at least as many as the second parameter and at most as many as
 /// the third, and tells the state by a NOTIFY, whose body is the fourth parameter. One for another
 /// package it answers 489 `Bad Event`, one for a shorter time 423 `Interval Too Brief`. An INFO in
-/// the dialog brings a new state, which it tells. A subscription ends by a SUBSCRIBE for 0 seconds
-/// or with its time, which a last NOTIFY tells, or where a NOTIFY fails, which ends the SipSession.
+/// the dialog brings a new state, which it tells. A new subscription is active, and a SUBSCRIBE for
+/// some seconds renews it as it is. It ends by a SUBSCRIBE for 0 seconds or with its time, which a
+/// last NOTIFY tells, or where a NOTIFY fails, which ends the SipSession.
 /// Where the parameters make no such rule, it answers the request that began the application
 /// session 500 `Server Internal Error`. Each other request but an ACK it answers 200 `OK`. At all
 /// other events it makes no call.
@@ -133,7 +134,7 @@ fn accept_or_answer(
     reply_200(t, req)
 }
 
-// Remembers every subscription as active.
+// A new subscription is active, and one that is there stays what it is.
 #[tactic(auto, using(crate::proofs::NotifyPlays::accepts_through, crate::proofs::NotifyPlays::accepts_told))]
 fn accept_subscribe(
     t: &mut Turn,
@@ -148,7 +149,7 @@ fn accept_subscribe(
     ensures played { OnOk result
         (IsPlayed (accepts t.old.shown rule.now req sess request.now) t.old t.new) }
 {
-    match accept(t, req, sess, request, rule, Grant::Settled) {
+    match accept(t, req, sess, request, rule, Grant::Active) {
         Ok(_) => Ok(()),
         Err(refused) => told(refused),
     }

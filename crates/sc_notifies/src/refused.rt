@@ -1,5 +1,4 @@
-//! What SUBSCRIBEs ask for and how they are granted, and how rules and the calls of event
-//! notification are refused.
+//! What SUBSCRIBEs ask for, and how rules and the calls of event notification are refused.
 
 ghost use Rattle.std.specs.Prelude.{◌≡◌};
 ghost use Rattle.sc_notifies.specs.Notifying.{IsTold};
@@ -17,19 +16,6 @@ pub enum Asked {
     Brief,
     /// A subscription of so many seconds, at most the rule's longest; 0 ends it.
     For(u32),
-}
-
-/// How a SUBSCRIBE is granted: as an active subscription or a pending one (RFC 6665 section 4.1.2).
-#[derive(Clone, Copy, Debug, PartialEq, Eq)]
-pub enum Grant {
-    /// A new one is active; one that is there stays what it is.
-    Active,
-    /// A new one is pending; one that is there stays what it is.
-    Pending,
-    /// A new one is active, and so is one that is there, behind this SUBSCRIBE. Where that was
-    /// pending, the NOTIFY that follows the answer still says so, and has no body; the next one
-    /// says `active`.
-    Settled,
 }
 
 /// Why there is no such rule.

@@ -2,8 +2,7 @@
 
 ghost use Rattle.std.specs.Prelude.{◌≡◌, ◌++◌, ◌∷◌, [], codes, decimal, IfOk, slice_get, filter_map};
 ghost use Rattle.sc_tokens.specs.Cuts.{pieces};
-ghost use Rattle.sc_hosts.specs.Subscriptions.{ev_name, letter_of, named_sub, seconds_left, state_word, sub_name, subscription_in};
-ghost use Rattle.sc_notifies.specs.SubScripts.{letter_word, sub_words};
+ghost use Rattle.sc_hosts.specs.Subscriptions.{ev_name, letter_of, letter_word, named_sub, seconds_left, state_word, sub_name, sub_text, subscription_in};
 
 use sc_helpers::{numbered, session_after, strict_number, three_pieces};
 use sc_value::{Field, NoMemory, SessId, Text, TimerId, sum, write_u64};
@@ -60,7 +59,7 @@ pub fn ev_name(alloc: Global, sess: SessId) -> Result<Text, NoMemory>
     numbered(alloc, b"ev", u64::from(sess.0))
 }
 
-#[tactic(auto, unfolding(crate::specs::SubScripts::letter_word))]
+#[tactic(auto, unfolding(sc_hosts::specs::Subscriptions::letter_word))]
 fn letter_word(active: bool) -> &'static [u8]
     ensures { result.now ≡ letter_word active }
 {
@@ -68,9 +67,9 @@ fn letter_word(active: bool) -> &'static [u8]
 }
 
 /// A subscription, as its attribute tells it: whether it is active, when it ends, and its timer.
-#[tactic(auto, unfolding(crate::specs::SubScripts::sub_words))]
-pub fn sub_words(alloc: Global, active: bool, due: u64, timer: u64) -> Result<Text, NoMemory>
-    ensures { IfOk result (λ text. text ≡ sub_words active due timer) }
+#[tactic(auto, unfolding(sc_hosts::specs::Subscriptions::sub_text))]
+pub fn sub_text(alloc: Global, active: bool, due: u64, timer: u64) -> Result<Text, NoMemory>
+    ensures { IfOk result (λ text. text ≡ sub_text active due timer) }
 {
     let mut text = numbered(alloc, letter_word(active), due)?;
     text.append(b" ")?;

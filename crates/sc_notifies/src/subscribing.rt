@@ -4,14 +4,14 @@
 ghost use Rattle.std.specs.Prelude.{◌≡◌, ◌≤◌, ◌*◌, ◌+◌, ◌<◌, IfOk};
 ghost use Rattle.sc_terms.specs.declared.views.Period.TheVariants.{Once};
 ghost use Rattle.sc_hosts.specs.HelperParts.{accepted_then};
-ghost use Rattle.sc_hosts.specs.Subscriptions.{ev_name, sub_name};
+ghost use Rattle.sc_hosts.specs.Subscriptions.{ev_name, sub_name, sub_text};
 ghost use Rattle.sc_helpers.specs.Leading.{cancel_some};
 ghost use Rattle.sc_helpers.specs.Stopping.{Gives, Goes, Leads};
-ghost use Rattle.sc_notifies.specs.SubScripts.{begun_noted, begun_timed, begun_told, subscribed_by, sub_words};
+ghost use Rattle.sc_notifies.specs.SubScripts.{begun_noted, begun_timed, begun_told, subscribed_by};
 
 use crate::notifying::{end, tell_begun};
 use crate::standing::Standing;
-use crate::sub_texts::{ev_name, sub_name, sub_words};
+use crate::sub_texts::{ev_name, sub_name, sub_text};
 use sc_apps::memory_of;
 use sc_helpers::{Stopped, try_cancel_some, try_set_attribute, try_start_timer, wanting};
 use sc_terms::Call;
@@ -26,10 +26,8 @@ pub struct Term {
     pub seconds: u32,
     /// The moment at which it ends, in milliseconds.
     pub due: u64,
-    /// Whether it is told as active, and not as pending.
+    /// Whether it is active, and not pending.
     pub active: bool,
-    /// Whether it is remembered as active.
-    pub letter: bool,
 }
 
 /// Begins, renews or ends a subscription, and tells so, behind so many accepted calls.
@@ -120,10 +118,10 @@ fn begin(
 
 fn noted(alloc: Global, sess: SessId, term: Term, timer: u64) -> Result<(Text, Text), NoMemory>
     ensures { IfOk result
-        (λ texts. (texts.0 ≡ sub_name sess) × (texts.1 ≡ sub_words term.letter term.due timer)) }
+        (λ texts. (texts.0 ≡ sub_name sess) × (texts.1 ≡ sub_text term.active term.due timer)) }
 {
     let name = sub_name(alloc, sess)?;
-    let value = sub_words(alloc, term.letter, term.due, timer)?;
+    let value = sub_text(alloc, term.active, term.due, timer)?;
     Ok((name, value))
 }
 
@@ -132,7 +130,7 @@ fn note_sub(turn: &mut Turn, made: u8, sess: SessId, term: Term, timer: u64) -> 
     requires few { made < 100 }
     ensures same { turn.new.shown ≡ turn.old.shown }
     ensures led { Leads
-        (accepted_then (Call.SetAttribute (sub_name sess) (sub_words term.letter term.due timer)))
+        (accepted_then (Call.SetAttribute (sub_name sess) (sub_text term.active term.due timer)))
         made turn.old result turn.new }
     ensures count { IfOk result (λ after. after ≡ made + 1) }
 {
