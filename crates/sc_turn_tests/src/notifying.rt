@@ -36,7 +36,6 @@ fn rule_row(alloc: Global, row: &str) -> Option<String> {
 fn grant(word: &str) -> Grant {
     match word {
         "pending" => Grant::Pending,
-        "settled" => Grant::Settled,
         _ => Grant::Active,
     }
 }
@@ -60,7 +59,7 @@ fn accept_by(t: &mut Turn, alloc: Global, row: &str, request: &Request) -> Optio
     }
 }
 
-// A SUBSCRIBE, its SipSession, and the word `pending`, `settled` or `active`.
+// A SUBSCRIBE, its SipSession, and the word `pending` or `active`.
 fn accept_row(t: &mut Turn, alloc: Global, row: &str) -> Option<String> {
     match request_of(alloc, row) {
         Some(request) => accept_by(t, alloc, row, request.get()),

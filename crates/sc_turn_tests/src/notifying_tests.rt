@@ -69,14 +69,18 @@ fn keeps_a_pending_subscription(rt: HostRuntime) {
 }
 
 #[test]
-fn settles_a_pending_subscription(rt: HostRuntime) {
+fn renews_a_pending_subscription_as_pending(rt: HostRuntime) {
     play(
         &rt,
         rt.alloc(),
         "
         accept 1 2 pending % Event:presence Expires:600 = For(600)
-        accept 8 2 settled % Event:presence Expires:60 = For(60)
-        attribute sub2 = A 60000 3
+        accept 8 2 active % Event:presence Expires:60 = For(60)
+        attribute sub2 = P 60000 3
+        accept 7 2 pending % Event:presence Expires:120 = For(120)
+        attribute sub2 = P 120000 4
+        activate 2 = 18
+        attribute sub2 = A 120000 4
         activate 2 = NotPending",
     );
 }

@@ -35,25 +35,27 @@ fn tells_each_state_of_a_subscription(rt: HostRuntime) {
     assert!(rt; tell(rt.alloc(), rows, "Expires", "600, 60"));
 }
 
-fn settled() -> &'static str {
+fn renewed() -> &'static str {
     "
         accept 1 2 pending % Event:presence Expires:600 = For(600)
-        accept 8 2 settled % Event:presence Expires:60 = For(60)
-        change 2 = 17"
+        accept 8 2 active % Event:presence Expires:60 = For(60)
+        change 2 = 17
+        accept 7 2 pending % Event:presence Expires:120 = For(120)
+        change 2 = 19"
 }
 
 #[test]
-fn tells_a_settled_subscription_as_active_next(rt: HostRuntime) {
-    let rows = settled();
+fn tells_a_renewed_subscription_as_pending(rt: HostRuntime) {
+    let rows = renewed();
     assert!(rt;
         tell(
             rt.alloc(),
             rows,
             "Subscription-State",
-            "pending;expires=600, pending;expires=60, active;expires=60"
+            "pending;expires=600, pending;expires=60, pending;expires=60, pending;expires=120, pending;expires=120"
         )
     );
-    assert!(rt; tell(rt.alloc(), rows, "body", "-, -, closed"));
+    assert!(rt; tell(rt.alloc(), rows, "body", "-, -, -, -, -"));
 }
 
 fn ended() -> &'static str {
