@@ -11,4 +11,5 @@ pub mod Nexts
 pub mod Sames
 pub mod Sendings
 pub mod Standings
+pub mod WrittenLengths
 mod Busy

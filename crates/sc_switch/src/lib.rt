@@ -8,6 +8,7 @@ mod copying;
 mod counting;
 mod laws;
 mod leasing;
+mod lengths;
 mod listing;
 mod next;
 mod ran;

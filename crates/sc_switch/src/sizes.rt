@@ -1,22 +1,11 @@
 //! How many bytes a step counts in the journal. A number that passes 64 bits stands at the
 //! greatest.
 
-ghost use Rattle.std.specs.Prelude.{◌≡◌, ℕ, ◌+◌, min, length, sum_by, IfOk, Option};
-ghost use Rattle.sc_grammar.specs.Written.{written};
+ghost use Rattle.std.specs.Prelude.{◌≡◌, ℕ, ◌+◌, min, length, sum_by, Option};
 ghost use Rattle.sc_model.specs.JournalSizes.{option_size, param_size, sip_uri_size, uri_size, address_size, contact_size, field_size, answer_size, ask_size, inside_size, option_uri_size, call_size, record_size};
 
-use sc_message_text::text_of;
 use sc_terms::{Answer, Ask, Call, CallRecord, Inside};
-use sc_value::{Address, Contact, Field, Message, NoMemory, Param, SipUri, Text, Uri};
-use std::alloc::Global;
-
-/// How many bytes the written text of a message has.
-pub fn text_size(alloc: Global, message: &Message) -> Result<u64, NoMemory>
-    ensures { IfOk result (λ size. size ≡ min (length (written message.now)) u64.MAX) }
-{
-    let text = text_of(alloc, message)?;
-    Ok(text.len() as u64)
-}
+use sc_value::{Address, Contact, Field, Param, SipUri, Text, Uri};
 
 /// A value whose texts have a size.
 pub trait Measured {
@@ -38,7 +27,8 @@ pub fn total<T: Measured>(items: &[T]) -> u64
     sum
 }
 
-fn length_of(text: &Text) -> u64
+/// How many bytes a text has.
+pub fn length_of(text: &Text) -> u64
     ensures { result ≡ min (length text.now) u64.MAX }
 {
     text.len() as u64

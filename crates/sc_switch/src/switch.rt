@@ -18,11 +18,12 @@ use crate::brought::{gone, number_of, step_of};
 use crate::called::{Judged, end_lease, end_leases, end_own, judge};
 use crate::counting::busy_count;
 use crate::leasing::{keep_copy, offer};
+use crate::lengths::message_len;
 use crate::listing::list_net;
 use crate::next::{Next, is_leased, next_free};
 use crate::readied::{Readied, begin_net, lives_in, set_net};
 use crate::refused::{CommitRefused, Committed, Epoch, EpochRefused, StepRefused, Untaken, told};
-use crate::sizes::{text_size, total};
+use crate::sizes::total;
 use crate::starting::{kinds_of, start_net};
 use crate::stepping::{Stepped, plan_step, plan_turn, send_all};
 use sc_edge::Listing;
@@ -203,13 +204,8 @@ impl Switch {
             (λ cause. RefusesRight self.old (length (written message)) cause) }
         ensures err { OnErr result (self.new ≡ self.old) }
     {
-        match text_size(alloc, &message) {
-            Ok(bytes) => told(self.take(alloc, Step::In(from, message), bytes)),
-            Err(NoMemory) => {
-                message.discard();
-                Err(StepRefused::NoMemory)
-            }
-        }
+        let bytes = message_len(&message);
+        told(self.take(alloc, Step::In(from, message), bytes))
     }
 
     /// Takes a text from a place that is no message.
