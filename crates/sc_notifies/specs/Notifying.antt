@@ -74,6 +74,7 @@ unfoldable pub IsEnded : Script → Working → Result (Unit {0}) NotifyRefused 
 IsEnded script old (Ok x) new = GoesThrough script old new
 IsEnded script old (Err refusal) new = IsTurned script old refusal new
 
+-- a call that ends a subscription is refused where there is none
 unfoldable pub IsFailed : Option Subscription → (Subscription → Script) → Working
     → Result (Unit {0}) NotifyRefused → Working → Type 0
 IsFailed None script old result new = IsRefusedAs refused.NotSubscribed old result new

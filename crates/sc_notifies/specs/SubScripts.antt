@@ -8,7 +8,7 @@ use Rattle.sc_terms.specs.declared.calls.Call.TheVariants as calls
 use Rattle.sc_grammar.specs.Written.{Bytes}
 use Rattle.sc_hosts.specs.HelperParts.{accepted_then}
 use Rattle.sc_hosts.specs.Scripting.{Script, Make, attribute, with_number}
-use Rattle.sc_hosts.specs.Subscriptions.{Subscription, ev_name, is_pending, notifies, state_word, sub_name, sub_text, timeout_state}
+use Rattle.sc_hosts.specs.Subscriptions.{Subscription, ev_name, notifies, state_word, sub_name, sub_text, timeout_state}
 use Rattle.sc_helpers.specs.Leading.{cancel_some, remove_if, timer_named}
 use Rattle.sc_notifies.specs.declared.standing.Standing.{Standing}
 use Rattle.sc_notifies.specs.declared.subscribing.Term.{Term}
@@ -21,11 +21,9 @@ timer_of_sub view (Some sub) = timer_named view sub.timer
 -- how a SipSession's subscription stands
 unfoldable pub standing_of : View → SessId → Option Subscription → Standing
 standing_of view sess old = record {
-  moment = view.now;
   running = timer_of_sub view old;
   told = is_some (attribute (sub_name sess) view);
   named = is_some (attribute (ev_name sess) view);
-  pending = is_pending old;
 }
 
 -- both its attributes are taken away

@@ -3,7 +3,7 @@
 ghost use Rattle.std.specs.Prelude.{◌≡◌, [], Some, IfOk, option_and_then, option_map, unwrap_or};
 ghost use Rattle.sc_tokens.specs.Cuts.{pieces};
 ghost use Rattle.sc_hosts.specs.Scripting.{attribute};
-ghost use Rattle.sc_hosts.specs.Subscriptions.{event_of, is_pending, seconds_left, subscription_in, subscription_of};
+ghost use Rattle.sc_hosts.specs.Subscriptions.{event_of, seconds_left, subscription_in, subscription_of};
 ghost use Rattle.sc_notifies.specs.Notifying.{live_by, live_of};
 ghost use Rattle.sc_notifies.specs.SubScripts.{standing_of, timer_of_sub};
 
@@ -17,16 +17,12 @@ use std::alloc::Global;
 /// How a subscription stands at the beginning of a turn.
 #[derive(Clone, Copy, Debug)]
 pub struct Standing {
-    /// The moment of the turn, in milliseconds.
-    pub moment: u64,
     /// Its timer, where that runs.
     pub running: Option<TimerId>,
     /// Whether there is the attribute that tells of it.
     pub told: bool,
     /// Whether there is the attribute that keeps its Event.
     pub named: bool,
-    /// Whether it is pending.
-    pub pending: bool,
 }
 
 /// A subscription with what its calls need.
@@ -96,16 +92,6 @@ fn timer_of(view: &View, sub: &Option<Subscribed>) -> Option<TimerId>
     }
 }
 
-#[tactic(auto, unfolding(sc_hosts::specs::Subscriptions::is_pending))]
-fn is_pending(sub: &Option<Subscribed>) -> bool
-    ensures { result ≡ is_pending sub.now }
-{
-    match sub {
-        Some(sub) => !sub.active,
-        None => false,
-    }
-}
-
 /// How a subscription of a SipSession stands.
 #[tactic(auto, unfolding(crate::specs::SubScripts::standing_of))]
 pub fn standing_of(
@@ -119,15 +105,13 @@ pub fn standing_of(
     let told = sub_name(alloc, sess)?;
     let named = ev_name(alloc, sess)?;
     Ok(Standing {
-        moment: view.now,
         running: timer_of(view, sub),
         told: has_attribute(view, told.as_bytes()),
         named: has_attribute(view, named.as_bytes()),
-        pending: is_pending(sub),
     })
 }
 
-#[tactic(auto, unfolding(crate::specs::SubScripts::standing_of, crate::specs::SubScripts::timer_of_sub, sc_hosts::specs::Subscriptions::is_pending))]
+#[tactic(auto, unfolding(crate::specs::SubScripts::standing_of, crate::specs::SubScripts::timer_of_sub))]
 fn standing_by(
     alloc: Global,
     view: &View,
@@ -139,11 +123,9 @@ fn standing_by(
     let told = sub_name(alloc, sess)?;
     let named = ev_name(alloc, sess)?;
     Ok(Standing {
-        moment: view.now,
         running: timer_named(view, sub.timer),
         told: has_attribute(view, told.as_bytes()),
         named: has_attribute(view, named.as_bytes()),
-        pending: !sub.active,
     })
 }
 
