@@ -27,11 +27,11 @@ use Rattle.sc_courses.proofs.HeardLaws.{notes_of, tells_more}
 use Rattle.sc_rounds.specs.declared.polling.Came.{Came}
 use Rattle.sc_rounds.specs.declared.polling.Came.TheVariants as came
 use Rattle.sc_rounds.specs.declared.stepping.Core.{Core}
-use Rattle.sc_rounds.specs.declared.streams.Pending.{Pending}
+use Rattle.sc_streams.specs.declared.streams.Pending.{Pending}
 use Rattle.sc_rounds.specs.GivingUp.{GaveUp}
 use Rattle.sc_rounds.specs.Polling.{Polls, TellsOn}
 use Rattle.sc_rounds.specs.Serving.{ServesOn}
-use Rattle.sc_rounds.specs.Streaming.{bytes_of}
+use Rattle.sc_streams.specs.Streaming.{bytes_of}
 
 -- ## Where it is shown
 

@@ -1,9 +1,7 @@
-pub mod Fronts
 pub mod GivingUps
 pub mod Movings
 pub mod Listenings
 pub mod Overs
-pub mod Pendings
 pub mod Refusals
 pub mod Servings
 pub mod Steppings

@@ -26,11 +26,11 @@ use Rattle.sc_courses.specs.Courses.{Beginning, Told}
 use Rattle.sc_courses.proofs.HeardLaws.{hearing_part}
 use Rattle.sc_courses.proofs.OnLaws.{bad_ended, emptied, emptied_kept, hears_bad, hears_begin, hears_ended, hears_long, hears_message, hears_open, message_ended}
 use Rattle.sc_rounds.specs.declared.stepping.Core.{Core}
-use Rattle.sc_rounds.specs.declared.streams.Pending.{Pending}
+use Rattle.sc_streams.specs.declared.streams.Pending.{Pending}
 use Rattle.sc_rounds.specs.Hearing.{BrokeOff, BrokeUpto}
 use Rattle.sc_rounds.specs.Polling.{Comes}
 use Rattle.sc_rounds.specs.Serving.{Ended, Ends, Serves, ServesMore, ServesOn, Stopped, Took, deed}
-use Rattle.sc_rounds.specs.Streaming.{bytes_of}
+use Rattle.sc_streams.specs.Streaming.{bytes_of}
 use Rattle.sc_rounds.proofs.Servings.{stands_ended, stands_on}
 use Rattle.sc_runs.proofs.Vias.{heard_via}
 

@@ -21,11 +21,11 @@ use Rattle.sc_courses.specs.Courses.{Beginning, Told, after, ordered}
 use Rattle.sc_courses.specs.Marks.{Hearing, is_heard}
 use Rattle.sc_courses.proofs.HeardLaws.{hearing_part, hearing_same, part_same}
 use Rattle.sc_rounds.specs.declared.stepping.Core.{Core}
-use Rattle.sc_rounds.specs.declared.streams.Pending.{Pending}
+use Rattle.sc_streams.specs.declared.streams.Pending.{Pending}
 use Rattle.sc_rounds.specs.Moving.{AreAlmost, Breaks, BreaksBoth, BreaksOn, BreaksOrdered, EndedAfter, EndedOrdered, Moves, MovesBoth, MovesOn, MovesOrdered}
 use Rattle.sc_rounds.specs.Serving.{Ended, Ends, Same, SameAt, Serves, Stopped, Took, deed, moments_after, since, timed}
 use Rattle.sc_rounds.specs.Stepping.{Commits, Ordered, StoppedAt, Ticks, Unordered, Withdraws, order_at}
-use Rattle.sc_rounds.specs.Streaming.{bytes_of}
+use Rattle.sc_streams.specs.Streaming.{bytes_of}
 
 pub same_moves : (old new : Core) (told told2 : Told) → Same old new told told2 → Moves old new told told2
 unfolding Same Moves

@@ -26,10 +26,10 @@ use Rattle.sc_switch.specs.Standing.{net_of}
 use Rattle.sc_courses.proofs.HeardLaws.{IsLoss, IsSilent, closed_silent, fails_so, fault_silent, hearing_ended, hearing_lost, hearing_none, hearing_part, not_yet_silent, notes_of}
 use Rattle.sc_courses.proofs.OnLaws.{emptied, emptied_kept}
 use Rattle.sc_rounds.specs.declared.stepping.Core.{Core}
-use Rattle.sc_rounds.specs.declared.streams.Pending.{Pending}
+use Rattle.sc_streams.specs.declared.streams.Pending.{Pending}
 use Rattle.sc_rounds.specs.Polling.{Comes, Polls}
 use Rattle.sc_rounds.specs.Serving.{Ended, Ends, Serves, Stands, Stopped, Took, deed}
-use Rattle.sc_rounds.specs.Streaming.{bytes_of}
+use Rattle.sc_streams.specs.Streaming.{bytes_of}
 
 -- ## At another moment of the edge
 

@@ -4,5 +4,4 @@ pub mod Hearing
 pub mod Moving
 pub mod Polling
 pub mod Stepping
-pub mod Streaming
 pub mod Serving

@@ -6,7 +6,7 @@ use Rattle.sc_edge.specs.declared.orders.Order.{Order}
 use Rattle.sc_courses.specs.Courses.{Beginning, Told, after, ordered}
 use Rattle.sc_switch.specs.Standing.{Known}
 use Rattle.sc_rounds.specs.declared.stepping.Core.{Core}
-use Rattle.sc_rounds.specs.declared.streams.Pending.{Pending}
+use Rattle.sc_streams.specs.declared.streams.Pending.{Pending}
 use Rattle.sc_rounds.specs.Serving.{Ended, Serves, since}
 
 -- the server stands between two steps as before

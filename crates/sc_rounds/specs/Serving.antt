@@ -16,8 +16,8 @@ use Rattle.sc_courses.specs.Endings.{HasToEnd}
 use Rattle.sc_courses.specs.Marks.{Hearing, HearingPart, HearsOn}
 use Rattle.sc_courses.specs.Reports.{Counts, Reports, TellsSuch, Untold}
 use Rattle.sc_rounds.specs.declared.stepping.Core.{Core}
-use Rattle.sc_rounds.specs.declared.streams.Pending.{Pending}
-use Rattle.sc_rounds.specs.Streaming.{bytes_of}
+use Rattle.sc_streams.specs.declared.streams.Pending.{Pending}
+use Rattle.sc_streams.specs.Streaming.{bytes_of}
 
 -- the epoch that runs, with all its steps
 abbrev pub running : Known → Epoch

@@ -10,13 +10,13 @@ ghost use Rattle.sc_rounds.specs.Dues.{HasDue};
 ghost use Rattle.sc_rounds.specs.GivingUp.{GaveUp};
 ghost use Rattle.sc_rounds.specs.Hearing.{BrokeOff, BrokeUpto};
 ghost use Rattle.sc_rounds.specs.Serving.{Ended, Serves, ServesMore, ServesOn, Stopped, Took};
-ghost use Rattle.sc_rounds.specs.Streaming.{bytes_of};
+ghost use Rattle.sc_streams.specs.Streaming.{bytes_of};
 
 use crate::stepping::Core;
-use crate::streams::Streams;
 use sc_edge::Notice;
 use sc_journal::Journal;
 use sc_stream::Heard;
+use sc_streams::Streams;
 use sc_switch::StepRefused;
 use sc_terms::{Bad, Step};
 use sc_value::{Message, Place};

@@ -6,11 +6,9 @@ mod hearing;
 mod polling;
 mod putting;
 mod stepping;
-mod streams;
 mod turning;
 
 pub use polling::{Came, take_got};
 pub use putting::{Went, put_place};
 pub use stepping::{Core, Turning};
-pub use streams::{Pending, Streams};
 pub use turning::{end_epoch, hand_old, list, take_moment, take_order};

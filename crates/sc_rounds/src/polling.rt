@@ -11,9 +11,9 @@ ghost use Rattle.sc_rounds.specs.Serving.{Ended, Serves, ServesOn};
 
 use crate::hearing::{hear_all, lose};
 use crate::stepping::Core;
-use crate::streams::Streams;
 use sc_edge::{Got, Notice, Polled};
 use sc_journal::Journal;
+use sc_streams::Streams;
 use sc_switch::StepRefused;
 use sc_terms::Step;
 use sc_value::{NoMemory, Place};

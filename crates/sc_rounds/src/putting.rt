@@ -10,9 +10,9 @@ ghost use Rattle.sc_rounds.specs.Serving.{Ended, Serves};
 
 use crate::polling::fail;
 use crate::stepping::Core;
-use crate::streams::Streams;
 use sc_edge::{Edge, Notice, Put};
 use sc_journal::Journal;
+use sc_streams::Streams;
 use sc_switch::StepRefused;
 use sc_terms::Step;
 use sc_value::Place;

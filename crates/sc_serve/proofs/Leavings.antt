@@ -30,10 +30,10 @@ use Rattle.sc_courses.proofs.HeardLaws.{hearing_begin, hearing_part}
 use Rattle.sc_courses.specs.Reports.{Shows, TellsLast, TellsLengths, TellsSuch}
 use Rattle.sc_courses.proofs.ReportLaws.{last_told, lengths_told, reports_begin}
 use Rattle.sc_rounds.specs.declared.stepping.Core.{Core}
-use Rattle.sc_rounds.specs.declared.streams.Pending.{Pending}
+use Rattle.sc_streams.specs.declared.streams.Pending.{Pending}
 use Rattle.sc_rounds.specs.Moving.{AreAlmost}
 use Rattle.sc_rounds.specs.Serving.{Counted, Ended, Ends, Reported, Runs, Serves, running}
-use Rattle.sc_rounds.specs.Streaming.{bytes_in, bytes_of}
+use Rattle.sc_streams.specs.Streaming.{bytes_in, bytes_of}
 use Rattle.sc_serve.specs.declared.server.Server.{Server}
 use Rattle.sc_serve.specs.declared.stop.Stop.{Stop}
 use Rattle.sc_serve.specs.declared.stop.Stop.TheVariants as stops

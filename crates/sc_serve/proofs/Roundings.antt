@@ -18,7 +18,7 @@ use Rattle.sc_courses.specs.Courses.{Beginning, Told, after}
 use Rattle.sc_courses.specs.Marks.{Hearing}
 use Rattle.sc_courses.proofs.HeardLaws.{hearing_part}
 use Rattle.sc_rounds.specs.declared.stepping.Core.{Core}
-use Rattle.sc_rounds.specs.declared.streams.Pending.{Pending}
+use Rattle.sc_streams.specs.declared.streams.Pending.{Pending}
 use Rattle.sc_rounds.specs.Moving.{Breaks, BreaksBoth, EndedAfter, Moves, MovesBoth}
 use Rattle.sc_rounds.proofs.Movings.{ended_more}
 use Rattle.sc_rounds.specs.Polling.{Polls, TellsOn}
@@ -27,7 +27,7 @@ use Rattle.sc_rounds.specs.declared.polling.Came.{Came}
 use Rattle.sc_rounds.specs.declared.polling.Came.TheVariants as came
 use Rattle.sc_rounds.proofs.GivingUps.{polls_on}
 use Rattle.sc_rounds.specs.Serving.{Ended, HasNoEnd, Serves}
-use Rattle.sc_rounds.specs.Streaming.{bytes_of}
+use Rattle.sc_streams.specs.Streaming.{bytes_of}
 use Rattle.sc_switch.specs.Standing.{Known, net_of}
 use Rattle.sc_switch.specs.declared.refused.StepRefused.{StepRefused}
 use Rattle.sc_switch.specs.declared.refused.StepRefused.TheVariants as refused

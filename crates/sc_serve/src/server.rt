@@ -4,7 +4,8 @@ ghost use Rattle.sc_outs.specs.Owing.{left_at};
 ghost use Rattle.sc_serve.specs.Closing.{Adds};
 
 use crate::watch::Watch;
-use sc_rounds::{Came, Core, Streams, Went};
+use sc_rounds::{Came, Core, Went};
+use sc_streams::Streams;
 use sc_value::{List, NoMemory, Place};
 use std::alloc::Global;
 

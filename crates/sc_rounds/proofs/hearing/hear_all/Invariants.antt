@@ -4,7 +4,7 @@ use Rattle.sc_edge.specs.Edges.{EdgeState}
 use Rattle.sc_courses.specs.Courses.{Beginning}
 use Rattle.sc_rounds.specs.GivingUp.{GaveUp}
 use Rattle.sc_rounds.specs.Serving.{ServesOn}
-use Rattle.sc_rounds.specs.Streaming.{bytes_of}
+use Rattle.sc_streams.specs.Streaming.{bytes_of}
 use Rattle.sc_rounds.proofs.hearing.hear_all.Given as goal
 
 abbrev pub invariant-loop : goal.invariant-loop

@@ -1,5 +1,5 @@
-use Rattle.sc_rounds.proofs.Pendings.{next_hears, next_kept, next_less}
-use Rattle.sc_rounds.proofs.streams.next_at.Goals as goal
+use Rattle.sc_streams.proofs.Pendings.{next_hears, next_kept, next_less}
+use Rattle.sc_streams.proofs.streams.next_at.Goals as goal
 
 pub returns-clause-hears : goal.returns-clause-hears
 returns-clause-hears c = next_hears _ _ _ _ _ _ c.requires c.next.ensures.hears

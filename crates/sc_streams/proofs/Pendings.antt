@@ -19,9 +19,9 @@ use Rattle.sc_stream.specs.Hearing.{Hears}
 use Rattle.sc_stream.specs.declared.streams.Heard.{Heard}
 use Rattle.sc_stream.specs.declared.streams.Heard.TheVariants as heard
 use Rattle.sc_runs.specs.Following.{IsKept}
-use Rattle.sc_rounds.specs.declared.streams.Pending.{Pending}
-use Rattle.sc_rounds.specs.Streaming.{bytes_in, bytes_of, is_at, is_elsewhere, with_stream}
-use Rattle.sc_rounds.proofs.Fronts.{none_open, taken_less}
+use Rattle.sc_streams.specs.declared.streams.Pending.{Pending}
+use Rattle.sc_streams.specs.Streaming.{bytes_in, bytes_of, is_at, is_elsewhere, with_stream}
+use Rattle.sc_streams.proofs.Fronts.{none_open, taken_less}
 
 there-with : (streams : List Pending) (place : Place) (i : ℕ) (d : Pending) → position (is_at place) streams ≡ Some i → is_some (find (is_at place) streams) ≡ true
 there-with streams place i d at = rw (find_position (is_at place) streams i d at) refl
@@ -145,6 +145,18 @@ same_kept streams place other = by (same_place other place) refl
 pub kept_at : (before : Place → Bytes) (place : Place) (bytes : Bytes) (after : Place → Bytes) → IsKept before place bytes after → after place ≡ bytes
 unfolding IsKept
 kept_at before place bytes after kept = kept place ∙ ap (λ (b : Bool). if b then bytes else before place) (same_place-self place)
+
+pub kept_as : (before : Place → Bytes) (place : Place) (bytes : Bytes) (after : Place → Bytes) → IsKept before place bytes after → IsKept before place (after place) after
+kept_as before place bytes after kept = subst (λ (b : Bytes). IsKept before place b after) (sym (kept_at before place bytes after kept)) kept
+
+through : (b : Bool) (first second before mid after : Bytes) → mid ≡ (if b then first else before) → after ≡ (if b then second else mid) → after ≡ (if b then second else before)
+through true first second before mid after one two = two
+through false first second before mid after one two = two ∙ one
+
+-- what is kept last of the place counts
+pub kept_through : (before mid after : Place → Bytes) (place : Place) (first second : Bytes) → IsKept before place first mid → IsKept mid place second after → IsKept before place second after
+unfolding IsKept
+kept_through before mid after place first second one two other = through (same_place other place) first second (before other) (mid other) (after other) (one other) (two other)
 
 -- the stream of the place is changed to this
 next-here : (streams : List Pending) (place : Place) (i : ℕ) (d : Pending) (bytes : Bytes) → position (is_at place) streams ≡ Some i → bytes_of (with_bytes streams i d bytes) place ≡ bytes

@@ -4,7 +4,7 @@ use Rattle.std.specs.List.{find}
 use Rattle.sc_tokens.specs.Bytes.{Bytes}
 use Rattle.sc_value.specs.declared.ids.Place.{Place}
 use Rattle.sc_value.specs.Places.{same_place}
-use Rattle.sc_rounds.specs.declared.streams.Pending.{Pending}
+use Rattle.sc_streams.specs.declared.streams.Pending.{Pending}
 
 -- what is kept is of this place
 abbrev pub is_at : Place → Pending → Bool

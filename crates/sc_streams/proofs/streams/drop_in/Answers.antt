@@ -1,10 +1,10 @@
 use Rattle.std.proofs.Common.{rules, List, [], sym, subst}
 use Rattle.std.proofs.lemmas.Fn.{filter_same}
 use Rattle.sc_runs.specs.Following.{IsKept}
-use Rattle.sc_rounds.specs.declared.streams.Pending.{Pending}
-use Rattle.sc_rounds.specs.Streaming.{bytes_of}
-use Rattle.sc_rounds.proofs.Pendings.{dropped_kept}
-use Rattle.sc_rounds.proofs.streams.drop_in.Goals as goal
+use Rattle.sc_streams.specs.declared.streams.Pending.{Pending}
+use Rattle.sc_streams.specs.Streaming.{bytes_of}
+use Rattle.sc_streams.proofs.Pendings.{dropped_kept}
+use Rattle.sc_streams.proofs.streams.drop_in.Goals as goal
 
 pub returns : goal.returns
 returns c =

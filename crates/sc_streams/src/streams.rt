@@ -5,7 +5,7 @@ ghost use Rattle.sc_value.specs.declared.ids.Place.{Place};
 ghost use Rattle.sc_value.specs.Places.{same_place};
 ghost use Rattle.sc_runs.specs.Following.{IsKept};
 ghost use Rattle.sc_stream.specs.Hearing.{Hears};
-ghost use Rattle.sc_rounds.specs.Streaming.{bytes_of, is_at, is_elsewhere};
+ghost use Rattle.sc_streams.specs.Streaming.{bytes_of, is_at, is_elsewhere};
 ghost use Rattle.sc_stream.specs.declared.streams.Heard.{Heard};
 ghost use Rattle.sc_value.specs.declared.message.Message.{Message};
 
@@ -29,7 +29,7 @@ pub struct Streams {
 
 impl Model for Streams {
     ghost use Rattle.std.specs.Prelude.{List};
-    ghost use Rattle.sc_rounds.specs.declared.streams.Pending.{Pending};
+    ghost use Rattle.sc_streams.specs.declared.streams.Pending.{Pending};
 
     ghost Value = { List Pending };
 
