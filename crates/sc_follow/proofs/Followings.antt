@@ -20,7 +20,7 @@ use Rattle.sc_switch.specs.Standing.{Known, net_of, whole}
 use Rattle.sc_switch.proofs.Standings.{lawful-step}
 use Rattle.sc_follow.specs.Moving.{Came, DoesUpto, HasDue, IsCut, IsDone, IsDue, IsUntaken}
 use Rattle.sc_follow.specs.Leading.{IsDueWithoutRoom, IsFollowed, IsLeft, IsNew, IsStoppedIn, Leads}
-use Rattle.sc_follow.specs.Streaming.{bytes_in, bytes_of}
+use Rattle.sc_streams.specs.Streaming.{bytes_in, bytes_of}
 use Rattle.sc_follow.proofs.Steppings.{net-came}
 
 -- ## The beginning

@@ -20,7 +20,7 @@ use Rattle.sc_switch.specs.declared.refused.StepRefused.{StepRefused}
 use Rattle.sc_switch.specs.declared.refused.StepRefused.TheVariants as refused
 use Rattle.sc_switch.specs.Standing.{Known}
 use Rattle.sc_follow.specs.Moving.{Came, HasDue, HearsUpto, IsCut, IsDone, IsDue, IsFree, IsStopped, IsUntaken, TookStep}
-use Rattle.sc_follow.specs.Streaming.{BadUpto, HeardOne}
+use Rattle.sc_follow.specs.Hearing.{BadUpto, HeardOne}
 use Rattle.sc_runs.proofs.Vias.{heard_via}
 use Rattle.sc_follow.proofs.Steppings.{came-none, came-on}
 
@@ -166,7 +166,7 @@ pub end_heard : (place : Place) (before after : Bytes) (old : Known) (h : Heard)
 unfolding HeardOne
 end_heard place before after old h e hears untaken free = not-yet place before after old h e hears untaken free
 
-pub bad_heard : (place : Place) (bad : Bad) (before after rest : Bytes) (old new : Known) (h : Heard) (r : Result Bool StepRefused) → h ≡ heard.Bad bad → HearsNext h before after → OnOk r (rest ≡ [])
+pub bad_heard : (place : Place) (bad : Bad) (before after rest : Bytes) (old new : Known) (h : Heard) (r : Result Bool StepRefused) → h ≡ heard.Bad bad → HearsNext h before after → rest ≡ []
     → IfOk r (λ more. (more ≡ false) × IsDone (λ made. made ≡ steps.Bad place bad ∷ steps.Lost place ∷ []) old new) → IfOk r (λ more. HeardOne place before rest old new more)
 unfolding HeardOne
 bad_heard place bad before after rest old new h (Ok more) e hears empty (is, done) = rw is (heard_bad place bad before after rest old new h e hears empty done)
@@ -176,7 +176,7 @@ pub bad_cut : (place : Place) (bad : Bad) (before after : Bytes) (old new : Know
 bad_cut place bad before after old new h (Ok more) e hears cut = tt
 bad_cut place bad before after old new h (Err cause) e hears cut = cut_bad_heard place bad before after old new cause h e hears cut
 
-pub long_heard : (place : Place) (before after rest : Bytes) (old new : Known) (h : Heard) (r : Result Bool StepRefused) → h ≡ heard.Long → HearsNext h before after → OnOk r (rest ≡ []) → IfOk r (λ more. (more ≡ false) × TookStep old new (steps.Lost place))
+pub long_heard : (place : Place) (before after rest : Bytes) (old new : Known) (h : Heard) (r : Result Bool StepRefused) → h ≡ heard.Long → HearsNext h before after → rest ≡ [] → IfOk r (λ more. (more ≡ false) × TookStep old new (steps.Lost place))
     → IfOk r (λ more. HeardOne place before rest old new more)
 unfolding HeardOne
 long_heard place before after rest old new h (Ok more) e hears empty (is, took) = rw is (heard_long place before after rest old new h e hears empty took)

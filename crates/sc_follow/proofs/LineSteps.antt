@@ -1,5 +1,5 @@
 -- What one line makes.
-use Rattle.std.proofs.Common.{◌≡◌, ℕ, Bool, true, false, List, [], ◌∷◌, ◌++◌, refl, sym, ap, ◌∙◌, subst, inl, inr, if◌then◌else◌, ◌&&◌, ◌≤◌, arith}
+use Rattle.std.proofs.Common.{◌≡◌, ℕ, Bool, true, false, List, [], ◌∷◌, ◌++◌, refl, sym, subst, inl, inr, if◌then◌else◌, ◌&&◌, ◌≤◌, arith}
 use Rattle.std.specs.Prelude.{Result, Ok, Err, OnOk, OnErr, IfErr, is_some, nat_le}
 use Rattle.std.proofs.lemmas.Bool.Decides.{nat_tests}
 use Rattle.sc_value.specs.declared.ids.AppId.{AppId}
@@ -18,7 +18,8 @@ use Rattle.sc_switch.specs.declared.refused.StepRefused.TheVariants as refused
 use Rattle.sc_switch.specs.Standing.{Known, net_of}
 use Rattle.sc_follow.specs.Moving.{Came, CameTo, DoesUpto, HasDue, HearsUpto, IsCut, IsDone, IsDue, IsFree, IsStillThere, IsStopped, IsUntaken, TookStep, Withdrew}
 use Rattle.sc_follow.specs.Playing.{TurnsUpto}
-use Rattle.sc_follow.specs.Streaming.{TicksUpto, WithdrawsUpto}
+use Rattle.sc_follow.specs.Hearing.{TicksUpto, WithdrawsUpto}
+use Rattle.sc_streams.proofs.Pendings.{kept_at, kept_through}
 use Rattle.sc_follow.proofs.Hearings.{cut-starved, cut-step, cut-weaker}
 use Rattle.sc_follow.proofs.Steppings.{came-none}
 
@@ -167,40 +168,27 @@ unfolding HearsUpto DoesUpto DoesPart Does
 in-upto known kept place text before made before_is (inl part) = inl (rw before_is at part)
 in-upto known kept place text before made before_is (inr (rest, whole)) = inr (changed kept place rest, (rest, rw before_is at whole, changed-kept kept place rest))
 
-pub in_cut : (old new : Known) (kept : Streams) (place : Place) (text before : Bytes) (r : Result Unit StepRefused) → before ≡ kept place ++ text → IfErr r (λ cause. IsCut (HearsUpto place before) old new cause)
+in-cut : (old new : Known) (kept : Streams) (place : Place) (text before : Bytes) (r : Result Unit StepRefused) → before ≡ kept place ++ text → IfErr r (λ cause. IsCut (HearsUpto place before) old new cause)
     → IfErr r (λ cause. IsCut (DoesUpto old kept (lines.In place text)) old new cause)
-in_cut old new kept place text before r before_is cut = err-weaker (HearsUpto place before) (DoesUpto old kept (lines.In place text)) (λ made. in-upto old kept place text before made before_is) old new r cut
+in-cut old new kept place text before r before_is cut = err-weaker (HearsUpto place before) (DoesUpto old kept (lines.In place text)) (λ made. in-upto old kept place text before made before_is) old new r cut
 
 does-in : (known : Known) (kept after : Streams) (place : Place) (text before rest : Bytes) (made : List Step) → before ≡ kept place ++ text → IsKept kept place rest after → Hears place before made rest → Does as_session known.setup (net_of known) kept (lines.In place text) made after
 unfolding Does
 does-in known kept after place text before rest made before_is is hears = (rest, rw before_is at hears, is)
 
-pub in_done : (old new : Known) (kept after : Streams) (place : Place) (text before rest : Bytes) (r : Result Unit StepRefused) → before ≡ kept place ++ text → IsKept kept place rest after → OnOk r (IsDone (λ made. Hears place before made rest) old new)
+in-done : (old new : Known) (kept after : Streams) (place : Place) (text before rest : Bytes) (r : Result Unit StepRefused) → before ≡ kept place ++ text → IsKept kept place rest after → OnOk r (IsDone (λ made. Hears place before made rest) old new)
     → OnOk r (IsDone (λ made. Does as_session old.setup (net_of old) kept (lines.In place text) made after) old new)
-in_done old new kept after place text before rest r before_is is done =
+in-done old new kept after place text before rest r before_is is done =
     ok-weaker (λ made. Hears place before made rest) (λ made. Does as_session old.setup (net_of old) kept (lines.In place text) made after) (λ made. does-in old kept after place text before rest made before_is is) old new r done
 
--- ## Streams that were moved
+pub fed_done : (old new : Known) (kept mid after : Streams) (place : Place) (text : Bytes) (r : Result Unit StepRefused) → IsKept kept place (kept place ++ text) mid → IsKept mid place (after place) after
+    → OnOk r (IsDone (λ made. Hears place (mid place) made (after place)) old new) → OnOk r (IsDone (λ made. Does as_session old.setup (net_of old) kept (lines.In place text) made after) old new)
+fed_done old new kept mid after place text r fed heard done =
+    in-done old new kept after place text (mid place) (after place) r (kept_at kept place (kept place ++ text) mid fed) (kept_through kept mid after place (kept place ++ text) (after place) fed heard) done
 
-does-moved : (known : Known) (kept mid after : Streams) (place : Place) (text : Bytes) (made : List Step) → ((other : Place) → mid other ≡ kept other) → Does as_session known.setup (net_of known) mid (lines.In place text) made after
-    → Does as_session known.setup (net_of known) kept (lines.In place text) made after
-unfolding Does IsKept
-does-moved known kept mid after place text made same (rest, hears, is) =
-    (rest, subst (λ (bytes : Bytes). Hears place (bytes ++ text) made rest) (same place) hears, λ other. is other ∙ ap (λ (bytes : Bytes). if same_place other place then rest else bytes) (same other))
-
-pub in_moved : (old new : Known) (kept mid after : Streams) (place : Place) (text : Bytes) (r : Result Unit StepRefused) → ((other : Place) → mid other ≡ kept other)
-    → OnOk r (IsDone (λ made. Does as_session old.setup (net_of old) mid (lines.In place text) made after) old new) → OnOk r (IsDone (λ made. Does as_session old.setup (net_of old) kept (lines.In place text) made after) old new)
-in_moved old new kept mid after place text r same done =
-    ok-weaker (λ made. Does as_session old.setup (net_of old) mid (lines.In place text) made after) (λ made. Does as_session old.setup (net_of old) kept (lines.In place text) made after) (λ made. does-moved old kept mid after place text made same) old new r done
-
-upto-moved : (known : Known) (kept mid : Streams) (place : Place) (text : Bytes) (made : List Step) → ((other : Place) → mid other ≡ kept other) → DoesUpto known mid (lines.In place text) made → DoesUpto known kept (lines.In place text) made
-unfolding DoesUpto DoesPart
-upto-moved known kept mid place text made same (inl part) = inl (subst (λ (bytes : Bytes). HearsPart place (bytes ++ text) made) (same place) part)
-upto-moved known kept mid place text made same (inr (after, does)) = inr (after, does-moved known kept mid after place text made same does)
-
-pub cut_moved : (old new : Known) (kept mid : Streams) (place : Place) (text : Bytes) (r : Result Unit StepRefused) → ((other : Place) → mid other ≡ kept other) → IfErr r (λ cause. IsCut (DoesUpto old mid (lines.In place text)) old new cause)
+pub fed_cut : (old new : Known) (kept mid : Streams) (place : Place) (text : Bytes) (r : Result Unit StepRefused) → IsKept kept place (kept place ++ text) mid → IfErr r (λ cause. IsCut (HearsUpto place (mid place)) old new cause)
     → IfErr r (λ cause. IsCut (DoesUpto old kept (lines.In place text)) old new cause)
-cut_moved old new kept mid place text r same cut = err-weaker (DoesUpto old mid (lines.In place text)) (DoesUpto old kept (lines.In place text)) (λ made. upto-moved old kept mid place text made same) old new r cut
+fed_cut old new kept mid place text r fed cut = in-cut old new kept place text (mid place) r (kept_at kept place (kept place ++ text) mid fed) cut
 
 pub in_starved : (old : Known) (kept : Streams) (place : Place) (text : Bytes) → IsUntaken old → IsCut (DoesUpto old kept (lines.In place text)) old old refused.NoMemory
 unfolding DoesUpto DoesPart HearsPart

@@ -1,4 +1,4 @@
+pub mod Hearing
 pub mod Leading
 pub mod Moving
 pub mod Playing
-pub mod Streaming

@@ -10,9 +10,9 @@ ghost use Rattle.sc_follow.specs.Leading.{IsNew, IsFollowed, IsLeft, IsStoppedIn
 
 use crate::lines::do_line;
 use sc_servlets::Catalogue;
+use sc_streams::Streams;
 use sc_switch::{StepRefused, Switch};
 use sc_terms::Line;
-use sc_value::List;
 use std::alloc::Global;
 
 /// Lets a switch that took no step take the steps that the lines of a script say.
@@ -65,7 +65,7 @@ fn follow_lines(
     ensures ok { OnOk result (IsFollowed switch.old.setup lines.now switch.new) }
     ensures err { IfErr result (λ cause. IsLeft switch.old.setup lines.now switch.new cause) }
 {
-    let mut streams = List::new(alloc);
+    let mut streams = Streams::new(alloc);
     for line in lines {
         do_line(alloc, switch, &mut streams, apps, line)?;
     }

@@ -6,6 +6,5 @@ mod hearing;
 mod lines;
 mod playing;
 mod stepping;
-mod streams;
 
 pub use following::follow;

@@ -1,25 +1,25 @@
 //! The steps of one line.
 
-ghost use Rattle.std.specs.Prelude.{◌≡◌, ◌&&◌, nat_le, true, is_some, map, option_map, IfErr, OnOk};
-ghost use Rattle.std.specs.List.{find};
+ghost use Rattle.std.specs.Prelude.{◌≡◌, ◌&&◌, nat_le, is_some, map, option_map, IfErr, OnOk};
 ghost use Rattle.sc_servlets.specs.Stated.{both_charters};
 ghost use Rattle.sc_model.specs.Settings.{IsSetup};
 ghost use Rattle.sc_terms.specs.declared.steps.Line.TheVariants as lines;
 ghost use Rattle.sc_hosts.specs.Histories.{as_session};
 ghost use Rattle.sc_hosts.specs.Steps.{live_at};
 ghost use Rattle.sc_runs.specs.Following.{Does, tick_to, withdrawal};
+ghost use Rattle.sc_streams.specs.Streaming.{bytes_of};
 ghost use Rattle.sc_switch.specs.Standing.{net_of};
 ghost use Rattle.sc_follow.specs.Moving.{IsUntaken, IsFree, IsCut, IsDone, DoesUpto};
-ghost use Rattle.sc_follow.specs.Streaming.{bytes_of, is_at, TicksUpto, WithdrawsUpto};
+ghost use Rattle.sc_follow.specs.Hearing.{TicksUpto, WithdrawsUpto};
 
-use crate::hearing::hear_text;
+use crate::hearing::hear_all;
 use crate::playing::{play, play_of};
 use crate::stepping::{lost, tick, withdraw};
-use crate::streams::{Pending, empty_stream, open_stream, place_of};
 use sc_servlets::Catalogue;
+use sc_streams::Streams;
 use sc_switch::{StepRefused, Switch};
 use sc_terms::Line;
-use sc_value::{AppId, List, NoMemory, Place};
+use sc_value::{AppId, NoMemory, Place};
 use std::alloc::Global;
 
 /// Takes the steps that a line says.
@@ -31,7 +31,7 @@ use std::alloc::Global;
 pub fn do_line(
     alloc: Global,
     switch: &mut Switch,
-    streams: &mut List<Pending>,
+    streams: &mut Streams,
     apps: &Catalogue,
     line: &Line,
 ) -> Result<(), StepRefused>
@@ -67,7 +67,7 @@ pub fn do_line(
 fn do_in(
     alloc: Global,
     switch: &mut Switch,
-    streams: &mut List<Pending>,
+    streams: &mut Streams,
     place: Place,
     text: &[u8],
 ) -> Result<(), StepRefused>
@@ -83,61 +83,9 @@ fn do_in(
         IsCut (DoesUpto switch.old (bytes_of streams.old) (Line.In place text.now)) switch.old
         switch.new cause) }
 {
-    match open_stream(alloc, streams, place) {
-        Ok(()) => hear_kept(alloc, switch, streams, place, text),
+    match streams.feed(alloc, place, text) {
+        Ok(()) => hear_all(alloc, switch, streams, place),
         Err(NoMemory) => Err(StepRefused::NoMemory),
-    }
-}
-
-/// Bytes come from a place whose stream is kept.
-fn hear_kept(
-    alloc: Global,
-    switch: &mut Switch,
-    streams: &mut List<Pending>,
-    place: Place,
-    text: &[u8],
-) -> Result<(), StepRefused>
-    requires there { is_some (find (is_at place) streams.old) ≡ true }
-    requires untaken { IsUntaken switch.old }
-    requires free { IsFree switch.old }
-    ensures ok { OnOk result
-        (IsDone
-        (λ made.
-        Does as_session switch.old.setup (net_of switch.old) (bytes_of streams.old)
-        (Line.In place text.now) made (bytes_of streams.new)) switch.old switch.new) }
-    ensures err { IfErr result
-        (λ cause.
-        IsCut (DoesUpto switch.old (bytes_of streams.old) (Line.In place text.now)) switch.old
-        switch.new cause) }
-{
-    hear_at(alloc, switch, &mut streams.items, place, text)
-}
-
-/// Bytes come from a place that has a stream.
-#[tactic(auto, using(crate::proofs::Places::not_there))]
-fn hear_at(
-    alloc: Global,
-    switch: &mut Switch,
-    streams: &mut [Pending],
-    place: Place,
-    text: &[u8],
-) -> Result<(), StepRefused>
-    requires there { is_some (find (is_at place) streams.old) ≡ true }
-    requires untaken { IsUntaken switch.old }
-    requires free { IsFree switch.old }
-    ensures ok { OnOk result
-        (IsDone
-        (λ made.
-        Does as_session switch.old.setup (net_of switch.old) (bytes_of streams.old)
-        (Line.In place text.now) made (bytes_of streams.new)) switch.old switch.new) }
-    ensures err { IfErr result
-        (λ cause.
-        IsCut (DoesUpto switch.old (bytes_of streams.old) (Line.In place text.now)) switch.old
-        switch.new cause) }
-{
-    match place_of(streams, place) {
-        Some(at) => hear_text(alloc, switch, place, &mut streams[at].stream, text),
-        None => unreachable!(),
     }
 }
 
@@ -169,7 +117,7 @@ fn is_tickable(moment: u64, now: u64) -> bool
 fn do_lost(
     alloc: Global,
     switch: &mut Switch,
-    streams: &mut List<Pending>,
+    streams: &mut Streams,
     place: Place,
 ) -> Result<(), StepRefused>
     requires untaken { IsUntaken switch.old }
@@ -186,7 +134,7 @@ fn do_lost(
 {
     match lost(alloc, switch, place) {
         Ok(()) => {
-            empty_stream(alloc, streams, place);
+            streams.drop_of(place);
             Ok(())
         }
         Err(cause) => Err(cause),

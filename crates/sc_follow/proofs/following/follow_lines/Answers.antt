@@ -1,8 +1,8 @@
 use Rattle.std.proofs.Common.{ap, sym, subst, List, ◌∙◌}
 use Rattle.sc_parts.specs.declared.setup.Setup.{Setup}
-use Rattle.sc_follow.specs.declared.streams.Pending.{Pending}
+use Rattle.sc_streams.specs.declared.streams.Pending.{Pending}
 use Rattle.sc_follow.specs.Leading.{Leads}
-use Rattle.sc_follow.specs.Streaming.{bytes_of}
+use Rattle.sc_streams.specs.Streaming.{bytes_of}
 use Rattle.sc_follow.proofs.Followings.{lead_start, lead_more, followed_all, left_more, lead-setup}
 use Rattle.sc_follow.proofs.following.follow_lines.Goals as goal
 

@@ -1,6 +1,6 @@
--- What is kept of the places' streams, and what their bytes make (RFC 3261 section 18.3).
-use Rattle.std.specs.Prelude.{◌≡◌, ◌⊎◌, ◌<◌, ℕ, Bool, true, false, List, [], ◌∷◌, Option, None, Some, drop, length}
-use Rattle.std.specs.List.{find}
+-- What one message that is heard makes, and the beginnings of the steps of one line (RFC 3261
+-- section 18.3).
+use Rattle.std.specs.Prelude.{◌≡◌, ◌⊎◌, ◌<◌, ℕ, Bool, true, false, List, [], ◌∷◌, drop, length}
 use Rattle.sc_value.specs.declared.ids.AppId.{AppId}
 use Rattle.sc_value.specs.declared.ids.Place.{Place}
 use Rattle.sc_value.specs.declared.message.Message.{Message}
@@ -11,29 +11,10 @@ use Rattle.sc_syntax.specs.declared.front.Front.TheVariants.{Whole}
 use Rattle.sc_tokens.specs.Bytes.{Bytes}
 use Rattle.sc_syntax.specs.Fronts.{behind_breaks}
 use Rattle.sc_stream.specs.Frames.{front_behind}
-use Rattle.sc_value.specs.Places.{same_place}
 use Rattle.sc_runs.specs.Following.{tick_to, withdrawal}
 use Rattle.sc_runs.specs.Hearing.{Hears}
 use Rattle.sc_switch.specs.Standing.{Known}
-use Rattle.sc_follow.specs.declared.streams.Pending.{Pending}
 use Rattle.sc_follow.specs.Moving.{IsDone, TookStep}
-
--- what is kept is of this place
-abbrev pub is_at : Place → Pending → Bool
-is_at place pending = same_place place pending.place
-
--- what is kept, nothing where nothing was
-unfoldable pub bytes_in : Option Pending → Bytes
-bytes_in None = []
-bytes_in (Some pending) = pending.stream
-
--- the bytes that are kept of a place
-unfoldable pub bytes_of : List Pending → Place → Bytes
-bytes_of streams place = bytes_in (find (is_at place) streams)
-
--- other bytes are kept of the place
-unfoldable pub with_stream : Bytes → Pending → Pending
-with_stream bytes pending = record pending { stream = bytes }
 
 -- a message was heard, or all that there is to hear
 unfoldable pub HeardOne : Place → Bytes → Bytes → Known → Known → Bool → Type 0
