@@ -1,6 +1,8 @@
+pub mod AllGivings
 pub mod GivingUps
 pub mod Movings
 pub mod Listenings
+pub mod OftenGivings
 pub mod Overs
 pub mod Refusals
 pub mod Servings

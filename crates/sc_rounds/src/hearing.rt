@@ -7,7 +7,7 @@ ghost use Rattle.sc_edge.specs.Edges.{EdgeState};
 ghost use Rattle.sc_runs.specs.Following.{IsKept};
 ghost use Rattle.sc_courses.specs.Courses.{Beginning};
 ghost use Rattle.sc_rounds.specs.Dues.{HasDue};
-ghost use Rattle.sc_rounds.specs.GivingUp.{GaveUp};
+ghost use Rattle.sc_rounds.specs.GivingUp.{GaveUp, HearsOne, HearsOut, place_if};
 ghost use Rattle.sc_rounds.specs.Hearing.{BrokeOff, BrokeUpto};
 ghost use Rattle.sc_rounds.specs.Serving.{Ended, Serves, ServesMore, ServesOn, Stopped, Took};
 ghost use Rattle.sc_streams.specs.Streaming.{bytes_of};
@@ -43,6 +43,8 @@ pub fn hear_all<N: Notice<Journal<Step>>>(
     ensures gave { (from : Beginning) (edge : EdgeState) (text : Bytes)
         → ServesOn from edge (N.noted notice.old) core.old streams.old at text
         → broken.new ≡ true → (broken.old ≡ true) ⊎ GaveUp from.edge.polled edge.polled at }
+    ensures gives { broken.old ≡ false → OnOk result
+        (HearsOut at (bytes_of streams.old) (place_if broken.new at) (bytes_of streams.new)) }
     ensures due { IfErr result (λ cause. HasDue core.new.switch cause) }
 {
     while hear_one(core, streams, notice, at, broken)? {}
@@ -67,6 +69,8 @@ fn hear_one<N: Notice<Journal<Step>>>(
     ensures gave { (from : Beginning) (edge : EdgeState) (text : Bytes)
         → ServesOn from edge (N.noted notice.old) core.old streams.old at text
         → broken.new ≡ true → (broken.old ≡ true) ⊎ GaveUp from.edge.polled edge.polled at }
+    ensures gives { broken.old ≡ false → IfOk result
+        (λ more. HearsOne at (bytes_of streams.old) broken.new (bytes_of streams.new) more) }
     ensures due { IfErr result (λ cause. HasDue core.new.switch cause) }
     ensures less { result ≡ Ok true
         → length (bytes_of streams.new at) < length (bytes_of streams.old at) }

@@ -1,13 +1,15 @@
 //! What comes from the edge.
 
-ghost use Rattle.std.specs.Prelude.{◌≡◌, length, if◌then◌else◌, Ok, IfErr, OnOk, OnErr};
+ghost use Rattle.std.specs.Prelude.{◌≡◌, [], length, if◌then◌else◌, Ok, IfErr, IfOk, OnOk, OnErr};
 ghost use Rattle.sc_tokens.specs.Bytes.{Bytes};
 ghost use Rattle.sc_edge.specs.Edges.{EdgeState, IsWithin};
+ghost use Rattle.sc_runs.specs.Following.{IsKept};
 ghost use Rattle.sc_courses.specs.Courses.{Beginning};
 ghost use Rattle.sc_rounds.specs.Dues.{HasDue};
-ghost use Rattle.sc_rounds.specs.GivingUp.{GaveUp};
-ghost use Rattle.sc_rounds.specs.Polling.{Comes, Polls};
+ghost use Rattle.sc_rounds.specs.GivingUp.{GaveUp, GivesUp, HearsOut, broken_by};
+ghost use Rattle.sc_rounds.specs.Polling.{Comes, GivesOn, Polls};
 ghost use Rattle.sc_rounds.specs.Serving.{Ended, Serves, ServesOn};
+ghost use Rattle.sc_streams.specs.Streaming.{bytes_of};
 
 use crate::hearing::{hear_all, lose};
 use crate::stepping::Core;
@@ -35,8 +37,8 @@ pub enum Came {
     Fault,
 }
 
-/// Takes the steps that an answer of the edge makes. It comes to `Broken` only of a place that is given
-/// up.
+/// Takes the steps that an answer of the edge makes. It comes to `Broken` exactly where the place of its
+/// bytes is given up.
 ///
 /// # Errors
 ///
@@ -59,6 +61,9 @@ pub fn take_got<N: Notice<Journal<Step>>>(
         → Serves from old (N.noted notice.old) core.old streams.old → Polls old new got room.now
         → (place : Place) → result ≡ Ok (Came.Broken place)
         → GaveUp from.edge.polled new.polled place }
+    ensures gives { (old new : EdgeState) → Polls old new got room.now → IfOk result
+        (λ came.
+        GivesOn old new (bytes_of streams.old) (broken_by came) (bytes_of streams.new)) }
     ensures due { IfErr result (λ cause. HasDue core.new.switch cause) }
 {
     match got {
@@ -85,6 +90,9 @@ fn take_end<N: Notice<Journal<Step>>>(
         → Serves from old (N.noted notice.old) core.old streams.old → Comes old new (Polled.End at)
         → OnErr result (Ended from new (N.noted notice.new) core.new.switch) }
     ensures none { (place : Place) → result ≡ Ok (Came.Broken place) → ⊥ }
+    ensures gives { IfOk result
+        (λ came.
+        GivesUp (bytes_of streams.old) (Polled.End at) (broken_by came) (bytes_of streams.new)) }
     ensures due { IfErr result (λ cause. HasDue core.new.switch cause) }
 {
     match lose(core, streams, notice, at) {
@@ -109,6 +117,10 @@ fn take_failure<N: Notice<Journal<Step>>>(
         → Comes old new (Polled.Failed at)
         → OnErr result (Ended from new (N.noted notice.new) core.new.switch) }
     ensures none { (place : Place) → result ≡ Ok (Came.Broken place) → ⊥ }
+    ensures gives { IfOk result
+        (λ came.
+        GivesUp (bytes_of streams.old) (Polled.Failed at) (broken_by came)
+        (bytes_of streams.new)) }
     ensures due { IfErr result (λ cause. HasDue core.new.switch cause) }
 {
     match fail(core, streams, notice, at) {
@@ -133,6 +145,7 @@ pub fn fail<N: Notice<Journal<Step>>>(
         → Serves from old (N.noted notice.old) core.old streams.old
         → Comes old new (Polled.Failed at)
         → OnErr result (Ended from new (N.noted notice.new) core.new.switch) }
+    ensures kept { IsKept (bytes_of streams.old) at [] (bytes_of streams.new) }
     ensures due { IfErr result (λ cause. HasDue core.new.switch cause) }
 {
     streams.drop_of(at);
@@ -160,6 +173,10 @@ fn take_bytes<N: Notice<Journal<Step>>>(
         → Comes old new (Polled.Bytes at text.now)
         → (place : Place) → result ≡ Ok (Came.Broken place)
         → GaveUp from.edge.polled new.polled place }
+    ensures gives { IfOk result
+        (λ came.
+        GivesUp (bytes_of streams.old) (Polled.Bytes at text.now) (broken_by came)
+        (bytes_of streams.new)) }
     ensures due { IfErr result (λ cause. HasDue core.new.switch cause) }
 {
     match streams.feed(core.alloc, at, text) {
@@ -185,6 +202,8 @@ fn hear_bytes<N: Notice<Journal<Step>>>(
         → ServesOn from edge (N.noted notice.old) core.old streams.old at text
         → (place : Place) → result ≡ Ok (Came.Broken place)
         → GaveUp from.edge.polled edge.polled place }
+    ensures gives { IfOk result
+        (λ came. HearsOut at (bytes_of streams.old) (broken_by came) (bytes_of streams.new)) }
     ensures due { IfErr result (λ cause. HasDue core.new.switch cause) }
 {
     let mut broken = false;

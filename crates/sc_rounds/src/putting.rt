@@ -1,12 +1,13 @@
 //! Putting what is left to the places.
 
-ghost use Rattle.std.specs.Prelude.{◌≡◌, IfErr, OnOk, OnErr};
+ghost use Rattle.std.specs.Prelude.{◌≡◌, [], IfErr, OnOk, OnErr};
 ghost use Rattle.sc_edge.specs.Edges.{CountsOn};
 ghost use Rattle.sc_edge.specs.EdgeCalls.{IsNoPoll};
 ghost use Rattle.sc_courses.specs.Courses.{Beginning};
 ghost use Rattle.sc_rounds.specs.Dues.{HasDue};
-ghost use Rattle.sc_rounds.specs.Polling.{TellsOn};
+ghost use Rattle.sc_rounds.specs.Polling.{GivesOn, TellsOn};
 ghost use Rattle.sc_rounds.specs.Serving.{Ended, Serves};
+ghost use Rattle.sc_streams.specs.Streaming.{bytes_of};
 
 use crate::polling::fail;
 use crate::stepping::Core;
@@ -50,6 +51,8 @@ pub fn put_place<E: Edge, N: Notice<Journal<Step>>>(
     ensures later { CountsOn (E.state edge.old) (E.state edge.new) }
     ensures polled { IsNoPoll (E.state edge.old) (E.state edge.new) }
     ensures tells { TellsOn (E.state edge.old) (E.state edge.new) }
+    ensures gives { GivesOn (E.state edge.old) (E.state edge.new) (bytes_of streams.old) []
+        (bytes_of streams.new) }
     ensures closes { (E.state edge.new).closes ≡ (E.state edge.old).closes }
 {
     match core.outs.put(edge, place) {

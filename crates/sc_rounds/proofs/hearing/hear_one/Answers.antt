@@ -3,6 +3,7 @@ use Rattle.sc_rounds.proofs.Refusals.{memory_due}
 use Rattle.sc_rounds.proofs.Listenings.{bad_err, bad_on, long_err, long_on, message_err, message_on, on_ended, on_open, some_via}
 use Rattle.std.proofs.Common.{inl, inr}
 use Rattle.sc_rounds.proofs.GivingUps.{gave_bad, gave_long}
+use Rattle.sc_rounds.proofs.OftenGivings.{bad_one, long_one, message_one, open_one}
 use Rattle.sc_rounds.proofs.hearing.hear_one.Goals as goal
 
 pub take_message-requires : goal.take_message-requires
@@ -56,3 +57,15 @@ returns-in-Long-clause-gave g c from edge text s is = inr (gave_long from edge (
 
 pub returns-in-NoMemory-clause-gave : goal.returns-in-NoMemory-clause-gave
 returns-in-NoMemory-clause-gave g c from edge text s is = inl is
+
+pub returns-in-Message-clause-gives : goal.returns-in-Message-clause-gives
+returns-in-Message-clause-gives g c none = message_one _ _ _ _ _ c.in-Message.message _ c.in-Message.is c.next.ensures.hears c.next.ensures.kept c.take_message.ensures.more none
+
+pub returns-in-NotYet-clause-gives : goal.returns-in-NotYet-clause-gives
+returns-in-NotYet-clause-gives g c none = open_one _ _ _ _ _ c.in-NotYet.is c.next.ensures.hears c.next.ensures.kept none
+
+pub returns-in-Bad-clause-gives : goal.returns-in-Bad-clause-gives
+returns-in-Bad-clause-gives g c none = bad_one _ _ _ _ _ c.in-Bad.bad _ c.in-Bad.is c.next.ensures.hears c.next.ensures.kept c.break_off.ensures.kept c.break_off.ensures.more
+
+pub returns-in-Long-clause-gives : goal.returns-in-Long-clause-gives
+returns-in-Long-clause-gives g c none = long_one _ _ _ _ _ _ c.in-Long.is c.next.ensures.hears c.next.ensures.kept c.end_long.ensures.kept c.end_long.ensures.more

@@ -1,5 +1,6 @@
 use Rattle.sc_rounds.proofs.Refusals.{memory_due}
 use Rattle.sc_rounds.proofs.Listenings.{on_start}
+use Rattle.sc_rounds.proofs.OftenGivings.{bytes_give}
 use Rattle.sc_rounds.proofs.Servings.{comes_ended}
 use Rattle.sc_rounds.proofs.polling.take_bytes.Goals as goal
 
@@ -23,3 +24,6 @@ returns-in-Ok-clause-gave g c from old new s comes =
 
 pub returns-in-Err-clause-gave : goal.returns-in-Err-clause-gave
 returns-in-Err-clause-gave g c from old new s comes place e = cc
+
+pub returns-in-Ok-clause-gives : goal.returns-in-Ok-clause-gives
+returns-in-Ok-clause-gives g c = bytes_give _ _ _ _ _ c.args.text.now c.in-Ok.ensures c.hear_bytes.ensures.gives

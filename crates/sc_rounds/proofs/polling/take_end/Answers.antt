@@ -1,6 +1,7 @@
 use Rattle.std.proofs.Common.{false}
 use Rattle.sc_edge.specs.declared.edge.Polled.TheVariants as answers
 use Rattle.sc_courses.proofs.HeardLaws.{ends_so}
+use Rattle.sc_rounds.proofs.OftenGivings.{end_gives}
 use Rattle.sc_rounds.proofs.Servings.{ended_lost, serves_lost}
 use Rattle.sc_rounds.proofs.polling.take_end.Goals as goal
 
@@ -17,3 +18,6 @@ returns-in-Ok-clause-none g c place e = cc
 
 pub returns-in-Err-clause-none : goal.returns-in-Err-clause-none
 returns-in-Err-clause-none g c place e = cc
+
+pub returns-in-Ok-clause-gives : goal.returns-in-Ok-clause-gives
+returns-in-Ok-clause-gives g c = end_gives _ _ _ c.lose.ensures.kept

@@ -1,5 +1,6 @@
 use Rattle.std.proofs.Common.{refl}
 use Rattle.sc_edge.specs.declared.edge.Got.TheVariants as got
+use Rattle.sc_rounds.proofs.OftenGivings.{answer_gives, closed_on, fault_on, not_yet_on}
 use Rattle.sc_rounds.proofs.Servings.{comes_of, serves_closed, serves_fault, serves_not_yet}
 use Rattle.sc_rounds.proofs.polling.take_got.Goals as goal
 
@@ -47,3 +48,21 @@ returns-in-NotYet-clause-gave g c from old new s polls place e = cc
 
 pub returns-in-Fault-clause-gave : goal.returns-in-Fault-clause-gave
 returns-in-Fault-clause-gave g c from old new s polls place e = cc
+
+pub returns-in-Bytes-clause-gives : goal.returns-in-Bytes-clause-gives
+returns-in-Bytes-clause-gives g c old new polls = answer_gives _ old new _ (got.Bytes c.in-Bytes.place c.in-Bytes.count) _ _ _ c.in-Bytes.is refl polls c.take_bytes.ensures.gives
+
+pub returns-in-End-clause-gives : goal.returns-in-End-clause-gives
+returns-in-End-clause-gives g c old new polls = answer_gives _ old new _ (got.End c.in-End.place) _ _ _ c.in-End.is refl polls c.take_end.ensures.gives
+
+pub returns-in-Failed-clause-gives : goal.returns-in-Failed-clause-gives
+returns-in-Failed-clause-gives g c old new polls = answer_gives _ old new _ (got.Failed c.in-Failed.place) _ _ _ c.in-Failed.is refl polls c.take_failure.ensures.gives
+
+pub returns-in-Closed-clause-gives : goal.returns-in-Closed-clause-gives
+returns-in-Closed-clause-gives g c old new polls = closed_on old new _ _ _ c.in-Closed.is polls
+
+pub returns-in-NotYet-clause-gives : goal.returns-in-NotYet-clause-gives
+returns-in-NotYet-clause-gives g c old new polls = not_yet_on old new _ _ _ c.in-NotYet.is polls
+
+pub returns-in-Fault-clause-gives : goal.returns-in-Fault-clause-gives
+returns-in-Fault-clause-gives g c old new polls = fault_on old new _ _ _ c.in-Fault.is polls
