@@ -39,16 +39,16 @@ closes_on first old new waiting tells same s = record {
   waits = all-as (GaveUp first.polled old.polled) (GaveUp first.polled new.polled) waiting (λ place gave. gave_on first.polled old new place tells gave) s.waits;
 }
 
-closed-none : (closes : Option (List Closing)) → ClosedSo closes closes []
+pub closed_none : (closes : Option (List Closing)) → ClosedSo closes closes []
 unfolding ClosedSo
-closed-none None = refl
-closed-none (Some old) = inl ([], ap (λ (items : List Closing). Some items) (sym (append-nil old)), refl)
+closed_none None = refl
+closed_none (Some old) = inl ([], ap (λ (items : List Closing). Some items) (sym (append-nil old)), refl)
 
 -- where a run begins
 pub closes_begin : (edge : EdgeState) (waiting : List Place) → waiting ≡ [] → Closes edge edge waiting
 closes_begin edge waiting none = subst (λ (places : List Place). Closes edge edge places) (sym none) (record {
   closed = [];
-  told = closed-none edge.closes;
+  told = closed_none edge.closes;
   gave = All-nil (GaveUp edge.polled edge.polled);
   waits = All-nil (GaveUp edge.polled edge.polled);
 })
@@ -63,18 +63,18 @@ closed-by first now new old closings places closing is are notes = by (rw is at 
     by (inl e) = inl (closings ++ closing ∷ [], e ∙ ap (λ (items : List Closing). Some items) (append_assoc old closings (closing ∷ [])), map-append (λ c. c.place) closings (closing ∷ []) ∙ ap (λ (ps : List Place). ps ++ closing.place ∷ []) are)
     by (inr e) = inr e
 
-closed-more : (first now new : Option (List Closing)) (places : List Place) (closing : Closing) → ClosedSo first now places → Notes now new closing → ClosedSo first new (places ++ closing.place ∷ [])
+pub closed_more : (first now new : Option (List Closing)) (places : List Place) (closing : Closing) → ClosedSo first now places → Notes now new closing → ClosedSo first new (places ++ closing.place ∷ [])
 unfolding ClosedSo
-closed-more None now new places closing told notes = rw told at notes
-closed-more (Some old) now new places closing (inl (closings, is, are)) notes = closed-by (Some old) now new old closings places closing is are notes
-closed-more (Some old) now new places closing (inr none) notes = inr (rw none at notes)
+closed_more None now new places closing told notes = rw told at notes
+closed_more (Some old) now new places closing (inl (closings, is, are)) notes = closed-by (Some old) now new old closings places closing is are notes
+closed_more (Some old) now new places closing (inr none) notes = inr (rw none at notes)
 
 -- one of those that are to be closed is closed
 pub closes_one : (first old new : EdgeState) (waiting left : List Place) (closing : Closing) → new.polled ≡ old.polled → Notes old.closes new.closes closing → GaveUp first.polled old.polled closing.place → (All (GaveUp first.polled old.polled) waiting → All (GaveUp first.polled old.polled) left)
     → Closes first old waiting → Closes first new left
 closes_one first old new waiting left closing polled notes gave fewer s = record {
   closed = s.closed ++ closing.place ∷ [];
-  told = closed-more first.closes old.closes new.closes s.closed closing s.told notes;
+  told = closed_more first.closes old.closes new.closes s.closed closing s.told notes;
   gave = subst (λ now. All (GaveUp first.polled now) (s.closed ++ closing.place ∷ [])) (sym polled) (All-append (GaveUp first.polled old.polled) s.closed (closing.place ∷ []) s.gave (one_all (GaveUp first.polled old.polled) closing.place gave));
   waits = subst (λ now. All (GaveUp first.polled now) left) (sym polled) (fewer s.waits);
 }

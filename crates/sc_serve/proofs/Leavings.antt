@@ -13,6 +13,7 @@ use Rattle.sc_switch.specs.Standing.{Known, net_of, whole}
 use Rattle.sc_switch.specs.declared.ran.Ran.{Ran}
 use Rattle.sc_switch.specs.declared.ran.Status.{Status}
 use Rattle.sc_switch.specs.declared.ran.Status.TheVariants as statuses
+use Rattle.sc_runs.specs.Following.{Streams}
 use Rattle.sc_outs.specs.Deeds.{Deed}
 use Rattle.sc_outs.specs.Owing.{Owing, left_at, nothing}
 use Rattle.sc_outs.specs.Puts.{Puts}
@@ -38,9 +39,10 @@ use Rattle.sc_serve.specs.declared.server.Server.{Server}
 use Rattle.sc_serve.specs.declared.stop.Stop.{Stop}
 use Rattle.sc_serve.specs.declared.stop.Stop.TheVariants as stops
 use Rattle.sc_serve.specs.Running.{Blames, FinishesOn, GoesOn, HaltedAfter, HaltsOn, HasItems, Holds, IsDueAt, IsNew, IsServed, fresh, stopped}
-use Rattle.sc_serve.specs.Closing.{Closes}
+use Rattle.sc_serve.specs.Closing.{Closes, ClosesAll}
 use Rattle.sc_serve.specs.Polls.{PollsOften}
 use Rattle.sc_serve.specs.Served.{ComesAt, Leaves, last_epoch}
+use Rattle.sc_serve.proofs.AllClosings.{all_begin, all_waits}
 use Rattle.sc_serve.proofs.Closings.{closes_begin, none_waits}
 use Rattle.sc_serve.proofs.Pollings.{often_none, often_of, part_of}
 
@@ -102,8 +104,8 @@ leaves-of : (from : Beginning) (obeyed : List (Option Order)) (now : EdgeState) 
     → Ends (obeying from obeyed) now told known deeds → HearingPart from.edge.polled now.polled deeds
     → ran.epoch ≡ known.epoch → ran.began ≡ known.began → journal.items ≡ known.journal → IsLawful as_session known.setup known.epoch known.began (whole known) → ComesAt from.edge now deeds ran.status
     → (ran.status ≡ statuses.Done → ticks_taken deeds ≡ raised 0 from.moments) → (ran.status ≡ statuses.JournalFull → IsDue from.setup (running known) known.journal)
-    → (ran.status ≡ statuses.Done → TellsSuch from.told told (Shows from.setup known.handed (running known))) → (ran.status ≡ statuses.Done → HasToEnd from.setup (running known) → ⊥) → AreAlmostEven (answers from) → (ran.status ≡ statuses.Done → AreEven (answers from)) → PollsOften from.edge now (length from.orders) → Closes from.edge now [] → Leaves from now told ran journal
-leaves-of from obeyed now told known ran journal deeds almost all ends heard epoch began items lawful comes ticked due shows over asked asked_all often closes = record {
+    → (ran.status ≡ statuses.Done → TellsSuch from.told told (Shows from.setup known.handed (running known))) → (ran.status ≡ statuses.Done → HasToEnd from.setup (running known) → ⊥) → AreAlmostEven (answers from) → (ran.status ≡ statuses.Done → AreEven (answers from)) → PollsOften from.edge now (length from.orders) → Closes from.edge now [] → (ran.status ≡ statuses.Done → (streams : Streams) × ClosesAll from.edge now streams []) → Leaves from now told ran journal
+leaves-of from obeyed now told known ran journal deeds almost all ends heard epoch began items lawful comes ticked due shows over asked asked_all often closes closes_all = record {
   ended = ends.runs.course.ended;
   handed = known.handed;
   deeds = deeds;
@@ -129,6 +131,7 @@ leaves-of from obeyed now told known ran journal deeds almost all ends heard epo
   asked_all = asked_all;
   polled = often;
   closes = closes;
+  closes_all = closes_all;
   over = λ done. over-last from ran known journal epoch began items (over done);
 }
 
@@ -143,7 +146,7 @@ pub served_cut : (from : Beginning) (obeyed : List (Option Order)) (now : EdgeSt
     → (ran.status ≡ statuses.Done → ⊥) → (known.setup ≡ from.setup → ran.status ≡ statuses.JournalFull → IsDue from.setup (running known) known.journal) → AreAlmostEven (answers from) → PollsOften from.edge now (length from.orders) → Closes from.edge now [] → IsServed from now told ran
 served_cut from obeyed now told known ran almost ended epoch began has lawful comes undone due asked often closes =
     let (journal, journal_is, items) = with-items ran.journal known.journal has in
-    record { journal = journal; journal_is = journal_is; leaves = leaves-of from obeyed now told known ran journal ended.deeds almost (λ done. absurd (undone done)) ended.ends ended.hearing epoch began items lawful (comes ended.deeds) (λ done. absurd (undone done)) (due ended.ends.runs.setup_is) (λ done. absurd (undone done)) (λ done. absurd (undone done)) asked (λ done. absurd (undone done)) often closes }
+    record { journal = journal; journal_is = journal_is; leaves = leaves-of from obeyed now told known ran journal ended.deeds almost (λ done. absurd (undone done)) ended.ends ended.hearing epoch began items lawful (comes ended.deeds) (λ done. absurd (undone done)) (due ended.ends.runs.setup_is) (λ done. absurd (undone done)) (λ done. absurd (undone done)) asked (λ done. absurd (undone done)) often closes (λ done. absurd (undone done)) }
 
 done-comes : (from : Beginning) (now : EdgeState) (deeds : List Deed) (status : Status) (core : Core) (streams : List Pending) → status ≡ statuses.Done → Hearing from.edge.polled now.polled deeds (bytes_of streams) → Puts from.edge now deeds core.outs []
     → ((place : Place) → left_at core.outs place ≡ []) → ComesAt from.edge now deeds status
@@ -160,15 +163,15 @@ starved-full : {P : Type 0} (status : Status) → status ≡ statuses.NoMemory �
 starved-full status starved full = cc
 
 -- where it was over
-pub served_done : (from : Beginning) (now : EdgeState) (told : Told) (core : Core) (streams : List Pending) (ran : Ran) → Serves from now told core streams → ((place : Place) → left_at core.outs place ≡ []) → core.unlisted ≡ 0 → (HasToEnd from.setup (running core.switch) → ⊥) → AreEven (answers from) → PollsOften from.edge now (length from.orders) → Closes from.edge now [] → ran.status ≡ statuses.Done
+pub served_done : (from : Beginning) (now : EdgeState) (told : Told) (core : Core) (streams : List Pending) (ran : Ran) → Serves from now told core streams → ((place : Place) → left_at core.outs place ≡ []) → core.unlisted ≡ 0 → (HasToEnd from.setup (running core.switch) → ⊥) → AreEven (answers from) → PollsOften from.edge now (length from.orders) → Closes from.edge now [] → ClosesAll from.edge now (bytes_of streams) [] → ran.status ≡ statuses.Done
     → ran.epoch ≡ core.switch.epoch → ran.began ≡ core.switch.began → HasItems ran.journal core.switch.journal → IsLawful as_session core.switch.setup core.switch.epoch core.switch.began (whole core.switch) → IsServed from now told ran
-served_done from now told core streams ran s none listed over asked often closes status epoch began has lawful =
+served_done from now told core streams ran s none listed over asked often closes closes_all status epoch began has lawful =
     let (journal, journal_is, items) = with-items ran.journal core.switch.journal has in
     record {
       journal = journal;
       journal_is = journal_is;
       leaves = leaves-of from from.orders now told core.switch ran journal s.deeds (inl refl) (λ done. refl) (record { runs = s.stands.runs; cut = cut_of from.edge now s.deeds core.outs [] s.stands.puts; ticked = ticked_part from.moments s.deeds (net_of core.switch).moment s.stands.ticked; counts = s.stands.reports.counts })
-          (hearing_part from.edge.polled now.polled s.deeds (bytes_of streams) s.hearing) epoch began items lawful (done-comes from now s.deeds ran.status core streams status s.hearing s.stands.puts none) (λ done. s.stands.ticked.ticks) (done-full ran.status status) (λ done. s.stands.reports.shows listed) (λ done. over) (even_almost (answers from) asked) (λ done. asked) often closes;
+          (hearing_part from.edge.polled now.polled s.deeds (bytes_of streams) s.hearing) epoch began items lawful (done-comes from now s.deeds ran.status core streams status s.hearing s.stands.puts none) (λ done. s.stands.ticked.ticks) (done-full ran.status status) (λ done. s.stands.reports.shows listed) (λ done. over) (even_almost (answers from) asked) (λ done. asked) often closes (λ done. (bytes_of streams, closes_all));
     }
 
 -- ## The beginning
@@ -215,6 +218,7 @@ holds-begun : (old : Server) (told : Told) (edge : EdgeState) → old.core.switc
 holds-begun old told edge switch outs handed unlisted as_set streams broken = record {
   serves = begun old.core.switch.setup told edge old.core old.streams switch outs handed unlisted as_set streams;
   closes = closes_begin edge old.broken broken;
+  closes_all = all_begin edge (bytes_of old.streams) old.broken (none-kept old.streams streams) broken;
 }
 
 none-lawful : (setup : Setup) → IsLawful as_session setup 0 0 []
@@ -257,10 +261,10 @@ pub done_served : (old new : Server) (e e1 : EdgeState) (t t1 : Told) (k k1 : So
     → ran.epoch ≡ new.core.switch.epoch → ran.began ≡ new.core.switch.began → HasItems ran.journal new.core.switch.journal → IsLawful as_session new.core.switch.setup new.core.switch.epoch new.core.switch.began (whole new.core.switch)
     → IsServedOn old.core.switch.setup t e e1 t1 k k1 ran
 unfolding FinishesOn GoesOn
-done_served old new e e1 t t1 k k1 ran switch outs handed unlisted as_set streams broken unpolled ((given, (even, polls), asked, goes), none, listed, over) status epoch began has lawful =
+done_served old new e e1 t t1 k k1 ran switch outs handed unlisted as_set streams broken unpolled ((given, (even, polls), asked, goes), none, closed, listed, over) status epoch began has lawful =
     let s0 : Holds (beginning old.core.switch.setup t e) e t old = holds-begun old t e switch outs handed unlisted as_set streams broken in
     let s : Holds (after (beginning old.core.switch.setup t e) given) e1 t1 new = goes (beginning old.core.switch.setup t e) s0 in
-    (given, asked, served_done (after (beginning old.core.switch.setup t e) given) e1 t1 new.core new.streams ran s.serves none listed (over (beginning old.core.switch.setup t e) s0) even (often_of old e e1 (length given.orders) unpolled (part_of old new e e1 (length given.orders) polls)) (none_waits e e1 new.broken s.closes) status epoch began has lawful)
+    (given, asked, served_done (after (beginning old.core.switch.setup t e) given) e1 t1 new.core new.streams ran s.serves none listed (over (beginning old.core.switch.setup t e) s0) even (often_of old e e1 (length given.orders) unpolled (part_of old new e e1 (length given.orders) polls)) (none_waits e e1 new.broken s.closes) (all_waits e e1 (bytes_of new.streams) new.broken [] (sym closed) s.closes_all) status epoch began has lawful)
 
 -- the run couldn't go on
 pub halt_served : (old new : Server) (e e1 : EdgeState) (t t1 : Told) (k k1 : Sources) (ran : Ran) → old.core.switch ≡ fresh old.core.switch.setup → old.core.outs ≡ nothing → old.core.handed ≡ 0 → old.core.unlisted ≡ 0 → old.core.turning.epoch_steps ≡ old.core.switch.setup.config.epoch_steps → old.streams ≡ [] → old.broken ≡ [] → old.unpolled ≡ 0 → HaltsOn old new e e1 t t1 k k1 → ((deeds : List Deed) → ComesAt e e1 deeds ran.status)

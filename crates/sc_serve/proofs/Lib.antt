@@ -1,3 +1,4 @@
+mod AllClosings
 mod Closings
 mod Endings
 mod Leavings

@@ -21,8 +21,9 @@ use Rattle.sc_rounds.specs.declared.stepping.Core.{Core}
 use Rattle.sc_streams.specs.declared.streams.Pending.{Pending}
 use Rattle.sc_rounds.specs.Moving.{Breaks, BreaksBoth, EndedAfter, Moves, MovesBoth}
 use Rattle.sc_rounds.proofs.Movings.{ended_more}
-use Rattle.sc_rounds.specs.Polling.{Polls, TellsOn}
+use Rattle.sc_rounds.specs.Polling.{GivesOn, Polls, TellsOn}
 use Rattle.sc_rounds.specs.GivingUp.{GaveUp}
+use Rattle.sc_runs.specs.Following.{Streams}
 use Rattle.sc_rounds.specs.declared.polling.Came.{Came}
 use Rattle.sc_rounds.specs.declared.polling.Came.TheVariants as came
 use Rattle.sc_rounds.proofs.GivingUps.{polls_on}
@@ -35,9 +36,10 @@ use Rattle.sc_rounds.specs.Dues.{HasDue}
 use Rattle.sc_serve.specs.declared.server.Server.{Server}
 use Rattle.sc_serve.specs.declared.stop.Stop.{Stop}
 use Rattle.sc_serve.specs.declared.stop.Stop.TheVariants as stops
-use Rattle.sc_serve.specs.Closing.{Adds, Closes, Rests}
+use Rattle.sc_serve.specs.Closing.{Adds, Closes, ClosesAll, Rests}
 use Rattle.sc_outs.specs.Owing.{Owing, left_at}
 use Rattle.sc_serve.specs.Running.{Blames, FinishesOn, Goes, GoesOn, Halted, HaltedAfter, Halts, HaltsOn, Hears, Holds, IsDueAt, IsOver, IsUnheard, PollsOn, PollsPart, Works, WorksPart}
+use Rattle.sc_serve.proofs.AllClosings.{added_none, all_on, all_waits}
 use Rattle.sc_serve.proofs.Closings.{closes_on, none_waits, one_all, same_waits}
 use Rattle.sc_serve.proofs.Pollings.{heard_part, part_of, polls_kept, polls_none, polls_part, polls_round, polls_then}
 
@@ -94,12 +96,17 @@ pub goes_halts : (a b : Server) (e e1 : EdgeState) (t t1 : Told) → Goes a b e 
 unfolding Goes Halts
 goes_halts a b e e1 t t1 goes from s = halted-of from e1 t1 b (goes from s)
 
+-- of the same places and streams
+all-kept : (first now : EdgeState) (streams streams2 : List Pending) (old new : List Place) → streams2 ≡ streams → new ≡ old → ClosesAll first now (bytes_of streams) old → ClosesAll first now (bytes_of streams2) new
+all-kept first now streams streams2 old new same broken s = all_waits first now (bytes_of streams2) old new broken (subst (λ (ps : List Pending). ClosesAll first now (bytes_of ps) old) (sym same) s)
+
 -- only what isn't told of changed
 pub goes_kept : (a b : Server) (edge : EdgeState) (told : Told) → b.core ≡ a.core → b.streams ≡ a.streams → b.broken ≡ a.broken → Goes a b edge edge told told
 unfolding Goes
 goes_kept a b edge told core streams broken from s = record {
   serves = subst (λ (c : Core). Serves from edge told c b.streams) (sym core) (subst (λ (ps : List Pending). Serves from edge told a.core ps) (sym streams) s.serves);
   closes = same_waits from.edge edge a.broken b.broken broken s.closes;
+  closes_all = all-kept from.edge edge a.streams b.streams a.broken b.broken streams broken s.closes_all;
 }
 
 -- ## Steps that aren't heard
@@ -109,6 +116,7 @@ unfolding Moves Goes
 moves_goes a b edge t t1 streams broken moves from s = record {
   serves = moves from edge b.streams (subst (λ (ps : List Pending). Serves from edge t a.core ps) (sym streams) s.serves);
   closes = same_waits from.edge edge a.broken b.broken broken s.closes;
+  closes_all = all-kept from.edge edge a.streams b.streams a.broken b.broken streams broken s.closes_all;
 }
 
 pub breaks_halts : (a b : Server) (edge : EdgeState) (t t1 : Told) → Breaks a.core b.core t t1 → Halts a b edge edge t t1
@@ -174,16 +182,20 @@ full_due known cause most bytes is due = rw is at due
 
 -- ## As the code does it
 
+at-streams : (e e1 : EdgeState) (old new streams : List Pending) (places : List Place) → new ≡ streams → GivesOn e e1 (bytes_of old) places (bytes_of streams) → GivesOn e e1 (bytes_of old) places (bytes_of new)
+at-streams e e1 old new streams places is gives = subst (λ (ps : List Pending). GivesOn e e1 (bytes_of old) places (bytes_of ps)) (sym is) gives
+
 -- what is remembered of what came: the places that are to be closed
 pub Remembers : Server → Server → EdgeState → EdgeState → Told → Type 0
 Remembers a b e e1 t = (from : Beginning) → Serves from e t a.core a.streams → All (GaveUp from.edge.polled e1.polled) a.broken → All (GaveUp from.edge.polled e1.polled) b.broken
 
-pub poll_goes : (a b : Server) (e e1 : EdgeState) (t t1 : Told) (answer : Got) (room : List ℕ) → ((from : Beginning) (old new : EdgeState) → Serves from old t a.core a.streams → Polls old new answer room → Serves from new t1 b.core b.streams)
-    → Polls e e1 answer room → e1.closes ≡ e.closes → b.broken ≡ a.broken → Goes a b e e1 t t1
-unfolding Goes
-poll_goes a b e e1 t t1 answer room took polls closes broken from s = record {
-  serves = took from e e1 s.serves polls;
-  closes = same_waits from.edge e1 a.broken b.broken broken (closes_on from.edge e e1 a.broken (polls_on e e1 answer room polls) closes s.closes);
+-- the run ends behind an answer whose steps were taken
+pub poll_ends : (a b : Server) (e e1 : EdgeState) (t t1 : Told) (answer : Got) (room : List ℕ) (core : Core) (streams : List Pending)
+    → ((from : Beginning) (old new : EdgeState) → Serves from old t a.core a.streams → Polls old new answer room → Serves from new t1 core streams) → Polls e e1 answer room → e1.closes ≡ e.closes → b.core ≡ core → Halts a b e e1 t t1
+unfolding Halts
+poll_ends a b e e1 t t1 answer room core streams took polls closes core_is from s = record {
+  ended = rw core_is (ended-of from e1 t1 core streams (took from e e1 s.serves polls));
+  closes = none_waits from.edge e1 a.broken (closes_on from.edge e e1 a.broken (polls_on e e1 answer room polls) closes s.closes);
 }
 
 pub poll_halts : (a b : Server) (e e1 : EdgeState) (t t1 : Told) (answer : Got) (room : List ℕ) → ((from : Beginning) (old new : EdgeState) → Serves from old t a.core a.streams → Polls old new answer room → Ended from new t1 b.core.switch)
@@ -199,19 +211,16 @@ unfolding Halts
 put_halts a b e e1 t t1 halts tells closes from s = record { ended = halts from s.serves; closes = none_waits from.edge e1 a.broken (closes_on from.edge e e1 a.broken tells closes s.closes) }
 
 -- and what the server remembers of it
-pub poll_then : (a b : Server) (e e1 : EdgeState) (t t1 : Told) (answer : Got) (room : List ℕ) (core : Core) (streams : List Pending)
-    → ((from : Beginning) (old new : EdgeState) → Serves from old t a.core a.streams → Polls old new answer room → Serves from new t1 core streams) → Polls e e1 answer room → e1.closes ≡ e.closes → b.core ≡ core → b.streams ≡ streams → Remembers a b e e1 t → Goes a b e e1 t t1
+pub poll_then : (a b : Server) (e e1 : EdgeState) (t t1 : Told) (answer : Got) (room : List ℕ) (core : Core) (streams : List Pending) (places : List Place)
+    → ((from : Beginning) (old new : EdgeState) → Serves from old t a.core a.streams → Polls old new answer room → Serves from new t1 core streams) → Polls e e1 answer room → e1.closes ≡ e.closes → b.core ≡ core → b.streams ≡ streams
+    → Remembers a b e e1 t → GivesOn e e1 (bytes_of a.streams) places (bytes_of streams) → b.broken ≡ a.broken ++ places → Goes a b e e1 t t1
 unfolding Goes Remembers
-poll_then a b e e1 t t1 answer room core streams took polls closes core_is streams_is remembers from s =
+poll_then a b e e1 t t1 answer room core streams places took polls closes core_is streams_is remembers gives added from s =
     let on : Closes from.edge e1 a.broken = closes_on from.edge e e1 a.broken (polls_on e e1 answer room polls) closes s.closes in record {
       serves = rw (core_is, streams_is) (took from e e1 s.serves polls);
       closes = record { closed = on.closed; told = on.told; gave = on.gave; waits = remembers from s.serves on.waits };
+      closes_all = all_on from.edge e e1 (bytes_of a.streams) (bytes_of b.streams) a.broken places b.broken (at-streams e e1 a.streams b.streams streams places streams_is gives) closes added s.closes_all;
     }
-
--- nothing more is to be closed
-pub remembers_none : (a b : Server) (e e1 : EdgeState) (t : Told) → b.broken ≡ a.broken → Remembers a b e e1 t
-unfolding Remembers
-remembers_none a b e e1 t same from s all = subst (λ (places : List Place). All (GaveUp from.edge.polled e1.polled) places) (sym same) all
 
 all-added : (P : Place → Type 0) (answer : Came) (old new : List Place) → Adds answer old new → ((place : Place) → answer ≡ came.Broken place → P place) → All P old → All P new
 unfolding Adds
@@ -229,21 +238,24 @@ unfolding Remembers
 remembers_came a b e e1 t got room r answer gave is polls adds from s all =
     all-added (GaveUp from.edge.polled e1.polled) answer a.broken b.broken adds (λ place broke. gave from e e1 s polls place (is ∙ ap (λ (x : Came). Ok x) broke)) all
 
-pub put_then : (a b : Server) (e e1 : EdgeState) (t t1 : Told) (core : Core) (streams : List Pending) → ((from : Beginning) → Serves from e t a.core a.streams → Serves from e1 t1 core streams) → TellsOn e e1 → e1.closes ≡ e.closes → b.core ≡ core → b.streams ≡ streams → b.broken ≡ a.broken
-    → Goes a b e e1 t t1
+pub put_then : (a b : Server) (e e1 : EdgeState) (t t1 : Told) (core : Core) (streams : List Pending) → ((from : Beginning) → Serves from e t a.core a.streams → Serves from e1 t1 core streams) → TellsOn e e1 → GivesOn e e1 (bytes_of a.streams) [] (bytes_of streams) → e1.closes ≡ e.closes
+    → b.core ≡ core → b.streams ≡ streams → b.broken ≡ a.broken → Goes a b e e1 t t1
 unfolding Goes
-put_then a b e e1 t t1 core streams goes tells closes core_is streams_is broken from s = record {
+put_then a b e e1 t t1 core streams goes tells gives closes core_is streams_is broken from s = record {
   serves = rw (core_is, streams_is) (goes from s.serves);
   closes = same_waits from.edge e1 a.broken b.broken broken (closes_on from.edge e e1 a.broken tells closes s.closes);
+  closes_all = all_on from.edge e e1 (bytes_of a.streams) (bytes_of b.streams) a.broken [] b.broken (at-streams e e1 a.streams b.streams streams [] streams_is gives) closes (added_none a.broken b.broken broken) s.closes_all;
 }
 
 -- places were closed behind it
-pub close_then : (a b c : Server) (e e1 e2 : EdgeState) (t t1 : Told) → Goes a b e e1 t t1 → Rests e1 e2 → c.core ≡ b.core → c.streams ≡ b.streams → ((first : EdgeState) → Closes first e1 b.broken → Closes first e2 c.broken) → Goes a c e e2 t t1
+pub close_then : (a b c : Server) (e e1 e2 : EdgeState) (t t1 : Told) → Goes a b e e1 t t1 → Rests e1 e2 → c.core ≡ b.core → c.streams ≡ b.streams → ((first : EdgeState) → Closes first e1 b.broken → Closes first e2 c.broken)
+    → ((first : EdgeState) (streams : Streams) → ClosesAll first e1 streams b.broken → ClosesAll first e2 streams c.broken) → Goes a c e e2 t t1
 unfolding Goes
-close_then a b c e e1 e2 t t1 first rests core streams closes from s =
+close_then a b c e e1 e2 t t1 first rests core streams closes closes_all from s =
     let s1 : Holds from e1 t1 b = first from s in record {
       serves = rw (core, streams) (serves-rests from e1 e2 t1 b.core b.streams rests s1.serves);
       closes = closes from.edge s1.closes;
+      closes_all = all-kept from.edge e2 b.streams c.streams c.broken c.broken streams refl (closes_all from.edge (bytes_of b.streams) s1.closes_all);
     }
 
 pub rest_counts : (e e1 e2 : EdgeState) → e2 ≡ e1 → CountsOn e e1 → CountsOn e e2
@@ -260,6 +272,7 @@ moves_work a b edge t t1 k k1 streams broken (given, are, asked, moves) = (
   λ from s. record {
     serves = moves from edge b.streams (subst (λ (ps : List Pending). Serves from edge t a.core ps) (sym streams) s.serves);
     closes = same_waits from.edge edge a.broken b.broken broken s.closes;
+    closes_all = all-kept from.edge edge a.streams b.streams a.broken b.broken streams broken s.closes_all;
   },
 )
 
@@ -360,11 +373,12 @@ over-goes a b c e e1 t t1 k k1 (given, (even, polls), asked, goes) over from s e
 
 -- the run is over, once the epoch was ended where that was due
 pub over_on : (a b c : Server) (e e1 : EdgeState) (t t1 t2 : Told) (k k1 : Sources) → GoesOn a b e e1 t t1 k k1 → c.streams ≡ b.streams → c.broken ≡ b.broken → c.unpolled ≡ b.unpolled → Moves b.core c.core t1 t2 → c.core.outs ≡ b.core.outs → ((place : Place) → left_at b.core.outs place ≡ [])
-    → c.core.unlisted ≡ b.core.unlisted → b.core.unlisted ≡ 0 → HasNoEnd b.core t1 c.core.switch → FinishesOn a c e e1 t t2 k k1
+    → b.broken ≡ [] → c.core.unlisted ≡ b.core.unlisted → b.core.unlisted ≡ 0 → HasNoEnd b.core t1 c.core.switch → FinishesOn a c e e1 t t2 k k1
 unfolding FinishesOn
-over_on a b c e e1 t t1 t2 k k1 goes streams broken unpolled moves outs none unlisted listed over = (
+over_on a b c e e1 t t1 t2 k k1 goes streams broken unpolled moves outs none closed unlisted listed over = (
   goes_on_goes a b c e e1 e1 t t1 t2 k k1 goes (moves_goes b c e1 t1 t2 streams broken moves) (record { unpolled = unpolled; polls = refl }),
   (λ place. ap (λ (o : Owing). left_at o place) outs ∙ none place),
+  broken ∙ closed,
   unlisted ∙ listed,
   over-goes a b c e e1 t t1 k k1 goes over,
 )

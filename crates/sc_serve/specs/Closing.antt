@@ -1,10 +1,13 @@
 -- What a close does, and which places a server closes (RFC 3261 section 18.3).
-use Rattle.std.specs.Prelude.{◌≡◌, ◌⊎◌, Option, None, Some, List, [], ◌∷◌, ◌++◌, map}
+use Rattle.std.specs.Prelude.{◌≡◌, ◌⊎◌, Option, None, Some, List, [], ◌∷◌, ◌++◌, map, IsPermutation}
 use Rattle.std.specs.List.{All}
 use Rattle.sc_value.specs.declared.ids.Place.{Place}
 use Rattle.sc_edge.specs.Edges.{EdgeState}
 use Rattle.sc_edge.specs.declared.edge.Closing.{Closing}
-use Rattle.sc_rounds.specs.GivingUp.{GaveUp}
+use Rattle.sc_edge.specs.declared.edge.Polled.{Polled}
+use Rattle.sc_runs.specs.Following.{Streams, no_bytes}
+use Rattle.sc_courses.specs.Marks.{TellsSo}
+use Rattle.sc_rounds.specs.GivingUp.{AllGiveUp, GaveUp}
 use Rattle.sc_rounds.specs.declared.polling.Came.{Came}
 use Rattle.sc_rounds.specs.declared.polling.Came.TheVariants as came
 
@@ -27,6 +30,20 @@ pub record Closes (first now : EdgeState) (waiting : List Place) : Type 0 where
   pub told : ClosedSo first.closes now.closes closed
   pub gave : All (GaveUp first.polled now.polled) closed
   pub waits : All (GaveUp first.polled now.polled) waiting
+
+-- the places that were given up are those that were closed and these, which are to be closed, each
+-- as often, with this kept of the streams
+pub record ClosesAll (first now : EdgeState) (streams : Streams) (waiting : List Place)
+    : Type 0 where
+  -- what was told to have come, and the places that were given up at it
+  pub given : List Polled
+  pub told : TellsSo first.polled now.polled given
+  pub places : List Place
+  pub gave : AllGiveUp no_bytes given places streams
+  -- what was closed
+  pub closed : List Place
+  pub closes : ClosedSo first.closes now.closes closed
+  pub all : IsPermutation places (closed ++ waiting)
 
 -- a place that gave what is no message is to be closed too, and of other answers none
 unfoldable pub Adds : Came → List Place → List Place → Type 0

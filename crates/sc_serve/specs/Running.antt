@@ -21,14 +21,17 @@ use Rattle.sc_serve.specs.declared.stop.Stop.{Stop}
 use Rattle.sc_serve.specs.declared.stop.Stop.TheVariants as stops
 use Rattle.sc_rounds.specs.Moving.{EndedAfter}
 use Rattle.sc_rounds.specs.Serving.{Ended, Serves, running}
-use Rattle.sc_serve.specs.Closing.{Closes}
+use Rattle.sc_streams.specs.Streaming.{bytes_of}
+use Rattle.sc_serve.specs.Closing.{Closes, ClosesAll}
 use Rattle.sc_serve.specs.Polls.{counted_on}
 use Rattle.sc_serve.specs.Served.{Leaves}
 
--- it stands between two rounds, and closed only places that were given up
+-- it stands between two rounds, and closed only places that were given up, and each of them but for
+-- those that it remembers
 pub record Holds (from : Beginning) (edge : EdgeState) (told : Told) (server : Server) : Type 0 where
   pub serves : Serves from edge told server.core server.streams
   pub closes : Closes from.edge edge server.broken
+  pub closes_all : ClosesAll from.edge edge (bytes_of server.streams) server.broken
 
 -- the run ended, and it closed only such places
 pub record Halted (from : Beginning) (edge : EdgeState) (told : Told) (known : Known) : Type 0 where
@@ -131,14 +134,14 @@ abbrev pub IsOver : Server → Server → EdgeState → Told → Type 0
 IsOver old new edge told =
     (from : Beginning) → Holds from edge told old → HasToEnd from.setup (running new.core.switch) → ⊥
 
--- it stands behind its last round, with nothing left to be put, the notice was told what lived
--- behind the last step, and the epoch hasn't to end
+-- it stands behind its last round, with nothing left to be put and no place to be closed, the
+-- notice was told what lived behind the last step, and the epoch hasn't to end
 unfoldable pub FinishesOn : Server → Server → EdgeState → EdgeState → Told → Told → Sources
     → Sources → Type 0
 FinishesOn old new edge edge2 told told2 sources sources2 =
     GoesOn old new edge edge2 told told2 sources sources2
-    × ((place : Place) → left_at new.core.outs place ≡ []) × (new.core.unlisted ≡ 0)
-    × IsOver old new edge told
+    × ((place : Place) → left_at new.core.outs place ≡ []) × (new.broken ≡ [])
+    × (new.core.unlisted ≡ 0) × IsOver old new edge told
 
 -- a switch that took no step
 abbrev pub fresh : Setup → Known

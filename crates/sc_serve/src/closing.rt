@@ -2,7 +2,8 @@
 
 ghost use Rattle.sc_value.specs.declared.ids.Place.{Place};
 ghost use Rattle.sc_edge.specs.Edges.{CountsOn, EdgeState};
-ghost use Rattle.sc_serve.specs.Closing.{Closes, Rests};
+ghost use Rattle.sc_runs.specs.Following.{Streams};
+ghost use Rattle.sc_serve.specs.Closing.{Closes, ClosesAll, Rests};
 
 use crate::watch::Watch;
 use sc_edge::Edge;
@@ -15,6 +16,9 @@ pub fn close_broken<E: Edge>(edge: &mut E, broken: &mut List<Place>, outs: &Outs
     ensures later { CountsOn (E.state edge.old) (E.state edge.new) }
     ensures closes { (first : EdgeState) → Closes first (E.state edge.old) broken.old
         → Closes first (E.state edge.new) broken.new }
+    ensures closes_all { (first : EdgeState) (streams : Streams)
+        → ClosesAll first (E.state edge.old) streams broken.old
+        → ClosesAll first (E.state edge.new) streams broken.new }
 {
     for back in 0..broken.len() {
         close_at(edge, broken, outs, watch, back);
@@ -33,6 +37,9 @@ fn close_at<E: Edge>(
     ensures later { CountsOn (E.state edge.old) (E.state edge.new) }
     ensures closes { (first : EdgeState) → Closes first (E.state edge.old) broken.old
         → Closes first (E.state edge.new) broken.new }
+    ensures closes_all { (first : EdgeState) (streams : Streams)
+        → ClosesAll first (E.state edge.old) streams broken.old
+        → ClosesAll first (E.state edge.new) streams broken.new }
 {
     if back >= broken.len() {
         return;

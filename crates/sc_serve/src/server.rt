@@ -142,17 +142,26 @@ impl Server {
     }
 
     /// Whether the run is over: no more is waited for, no event waits, no turn is lent out, nothing
-    /// is left to be put, and the notice was told what lives behind the last step.
+    /// is left to be put, no place is to be closed, and the notice was told what lives behind the
+    /// last step.
     pub fn is_done(&self) -> bool
         ensures left { result ≡ true → (place : Place) → left_at self.now.core.outs place ≡ [] }
+        ensures closed { result ≡ true → self.now.broken ≡ [] }
         ensures listed { result ≡ true → self.now.core.unlisted ≡ 0 }
     {
         self.watch.is_over()
             && self.core.switch.waiting() == 0
             && self.core.switch.leases() == 0
-            && self.broken.is_empty()
+            && self.has_closed_all()
             && self.core.outs.is_empty()
             && self.core.is_listed()
+    }
+
+    /// Whether no place that gave what is no message is still to be closed.
+    fn has_closed_all(&self) -> bool
+        ensures { result ≡ true → self.now.broken ≡ [] }
+    {
+        self.broken.is_empty()
     }
 }
 

@@ -1,19 +1,21 @@
 use Rattle.std.proofs.Common.{refl}
-use Rattle.sc_serve.proofs.Roundings.{edge_due, fault_blames, goes_halts, memory_blames, memory_due, no_blames, poll_goes, poll_halts, poll_then, polls_of, remembers_came, remembers_none}
+use Rattle.sc_serve.proofs.Roundings.{edge_due, fault_blames, memory_blames, memory_due, no_blames, poll_ends, poll_halts, poll_then, polls_of, remembers_came}
+use Rattle.sc_serve.proofs.AllClosings.{added_by}
 use Rattle.sc_serve.proofs.rounds.poll_once.Goals as goal
 
 pub returns-then-is_fault-clause-err : goal.returns-then-is_fault-clause-err
-returns-then-is_fault-clause-err g c = goes_halts _ _ _ _ _ _ (poll_goes _ _ _ _ _ _ _ _ c.in-Ok.ensures.ok (polls_of _ _ _ _ c.poll-got.ensures.stands c.poll-got.ensures.told c.poll-got.ensures.ended) c.poll-got.ensures.closes refl)
+returns-then-is_fault-clause-err g c = poll_ends _ _ _ _ _ _ _ _ _ _ c.in-Ok.ensures.ok (polls_of _ _ _ _ c.poll-got.ensures.stands c.poll-got.ensures.told c.poll-got.ensures.ended) c.poll-got.ensures.closes refl
 
 pub returns-then-is_fault-clause-blames : goal.returns-then-is_fault-clause-blames
 returns-then-is_fault-clause-blames g c = fault_blames _ _ _ (c.is_fault.ensures c.if-is_fault.true) c.poll-got.ensures.blames
 
 pub returns-in-Ok-note-clause-ok : goal.returns-in-Ok-note-clause-ok
-returns-in-Ok-note-clause-ok g c = poll_then _ _ _ _ _ _ _ _ _ _ c.in-Ok.ensures.ok (polls_of _ _ _ _ c.poll-got.ensures.stands c.poll-got.ensures.told c.poll-got.ensures.ended) c.poll-got.ensures.closes c.note.ensures.core c.note.ensures.streams
+returns-in-Ok-note-clause-ok g c = poll_then _ _ _ _ _ _ _ _ _ _ _ c.in-Ok.ensures.ok (polls_of _ _ _ _ c.poll-got.ensures.stands c.poll-got.ensures.told c.poll-got.ensures.ended) c.poll-got.ensures.closes c.note.ensures.core c.note.ensures.streams
     (remembers_came _ _ _ _ _ _ _ _ _ c.take_got.ensures.gave c.in-Ok.is (polls_of _ _ _ _ c.poll-got.ensures.stands c.poll-got.ensures.told c.poll-got.ensures.ended) c.in-Ok-note.ensures.broken)
+    (c.in-Ok.ensures.gives _ _ (polls_of _ _ _ _ c.poll-got.ensures.stands c.poll-got.ensures.told c.poll-got.ensures.ended)) (added_by _ _ _ c.in-Ok-note.ensures.broken)
 
 pub returns-in-Err-note-clause-err : goal.returns-in-Err-note-clause-err
-returns-in-Err-note-clause-err g c = goes_halts _ _ _ _ _ _ (poll_then _ _ _ _ _ _ _ _ _ _ c.in-Ok.ensures.ok (polls_of _ _ _ _ c.poll-got.ensures.stands c.poll-got.ensures.told c.poll-got.ensures.ended) c.poll-got.ensures.closes c.note.ensures.core c.note.ensures.streams (remembers_none _ _ _ _ _ c.in-Err-note.ensures.same))
+returns-in-Err-note-clause-err g c = poll_ends _ _ _ _ _ _ _ _ _ _ c.in-Ok.ensures.ok (polls_of _ _ _ _ c.poll-got.ensures.stands c.poll-got.ensures.told c.poll-got.ensures.ended) c.poll-got.ensures.closes c.note.ensures.core
 
 pub returns-in-Err-note-clause-blames : goal.returns-in-Err-note-clause-blames
 returns-in-Err-note-clause-blames g c = memory_blames _ _

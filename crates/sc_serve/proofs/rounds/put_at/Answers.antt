@@ -3,10 +3,10 @@ use Rattle.sc_serve.proofs.Roundings.{goes_halts, goes_same, memory_blames, memo
 use Rattle.sc_serve.proofs.rounds.put_at.Goals as goal
 
 pub returns-in-Ok-note_put-clause-ok : goal.returns-in-Ok-note_put-clause-ok
-returns-in-Ok-note_put-clause-ok g c = put_then _ _ _ _ _ _ _ _ c.in-Ok.ensures.ok c.put_place.ensures.tells c.put_place.ensures.closes c.note_put.ensures.core c.note_put.ensures.streams c.note_put.ensures.broken
+returns-in-Ok-note_put-clause-ok g c = put_then _ _ _ _ _ _ _ _ c.in-Ok.ensures.ok c.put_place.ensures.tells c.put_place.ensures.gives c.put_place.ensures.closes c.note_put.ensures.core c.note_put.ensures.streams c.note_put.ensures.broken
 
 pub returns-in-Err-note_put-clause-err : goal.returns-in-Err-note_put-clause-err
-returns-in-Err-note_put-clause-err g c = goes_halts _ _ _ _ _ _ (put_then _ _ _ _ _ _ _ _ c.in-Ok.ensures.ok c.put_place.ensures.tells c.put_place.ensures.closes c.note_put.ensures.core c.note_put.ensures.streams c.note_put.ensures.broken)
+returns-in-Err-note_put-clause-err g c = goes_halts _ _ _ _ _ _ (put_then _ _ _ _ _ _ _ _ c.in-Ok.ensures.ok c.put_place.ensures.tells c.put_place.ensures.gives c.put_place.ensures.closes c.note_put.ensures.core c.note_put.ensures.streams c.note_put.ensures.broken)
 
 pub returns-in-Err-note_put-clause-blames : goal.returns-in-Err-note_put-clause-blames
 returns-in-Err-note_put-clause-blames g c = memory_blames _ _
