@@ -2,7 +2,7 @@
 
 ghost use Rattle.std.specs.Prelude.{◌≡◌, ◌++◌, ◌∷◌, [], IfOk, OnOk};
 
-use sc_state::{Entry, Net, Session};
+use sc_state::{Entry, Host, Net, Session};
 use sc_value::{CloneIn, List, NoMemory};
 use std::alloc::Global;
 
@@ -10,7 +10,7 @@ use std::alloc::Global;
 pub fn copy_net(alloc: Global, net: &Net<Session>) -> Result<Net<Session>, NoMemory>
     ensures { IfOk result (λ copy. copy ≡ record net.now { sent = [] }) }
 {
-    let hosts = net.hosts.clone_in(alloc)?;
+    let hosts = copy_hosts(alloc, net.hosts.as_slice())?;
     let wire = copy_wire(alloc, net.wire.as_slice())?;
     Ok(Net {
         hosts,
@@ -20,6 +20,39 @@ pub fn copy_net(alloc: Global, net: &Net<Session>) -> Result<Net<Session>, NoMem
         count: net.count,
         sent: List::new(alloc),
     })
+}
+
+fn copy_hosts(alloc: Global, hosts: &[Host<Session>]) -> Result<List<Host<Session>>, NoMemory>
+    ensures { IfOk result (λ copies. copies ≡ hosts.now) }
+{
+    let mut copies = List::new(alloc);
+    add_hosts(alloc, hosts, &mut copies)?;
+    Ok(copies)
+}
+
+fn add_hosts(
+    alloc: Global,
+    hosts: &[Host<Session>],
+    copies: &mut List<Host<Session>>,
+) -> Result<(), NoMemory>
+    ensures { OnOk result (copies.new ≡ copies.old ++ hosts.now) }
+{
+    for host in hosts {
+        add_host(alloc, host, copies)?;
+    }
+    Ok(())
+}
+
+fn add_host(
+    alloc: Global,
+    host: &Host<Session>,
+    copies: &mut List<Host<Session>>,
+) -> Result<(), NoMemory>
+    ensures { OnOk result (copies.new ≡ copies.old ++ host.now ∷ []) }
+{
+    let copy = host.clone_in(alloc)?;
+    copies.push(copy)?;
+    Ok(())
 }
 
 fn copy_wire(alloc: Global, entries: &[Entry]) -> Result<List<Entry>, NoMemory>
