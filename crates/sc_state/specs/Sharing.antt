@@ -1,10 +1,12 @@
--- The lists of a host, whether copies of it have them in common or not.
+-- The lists of a host, which copies of it have in common.
+use Rattle.std.specs.declared.alloc.Global.{Global}
+use Rattle.std.specs.declared.option.Option.TheVariants.{None, Some}
+use Rattle.std.specs.declared.sync.Arc.{Arc}
 use Rattle.std.specs.Arc.{arc_value}
+use Rattle.std.specs.Prelude.{Option, []}
 use Rattle.sc_state.specs.Hosts.{Host}
-use Rattle.sc_state.specs.declared.hosting.Lists.{Lists}
-use Rattle.sc_state.specs.declared.hosting.Lists.TheVariants.{Own, Shared}
 
--- they are the same either way
-abbrev pub lists_of : {S : Type 0} → Lists S → Host S
-lists_of (Own lists) = lists
-lists_of (Shared lists) = arc_value lists
+-- the lists, empty where there are none yet
+abbrev pub lists_of : {S : Type 0} → Option (Arc (Host S) Global) → Host S
+lists_of None = record { clients = []; servers = []; sessions = []; last = 0 }
+lists_of (Some lists) = arc_value lists

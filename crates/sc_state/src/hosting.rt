@@ -12,6 +12,7 @@ ghost use Rattle.sc_state.specs.Entries.{least_due};
 ghost use Rattle.sc_state.specs.Groups.{groups_of_client, groups_of_live, groups_of_server};
 ghost use Rattle.sc_state.specs.Keeping.{tidied, is_live, is_same_client, first_number};
 ghost use Rattle.sc_state.specs.Standing.{is_client, is_server, due_of_client, due_of_server, busy_client, busy_server};
+ghost use Rattle.std.specs.Arc.{arc_value};
 ghost use Rattle.sc_state.specs.Sharing.{lists_of};
 
 use crate::lists::HostLists;
@@ -20,21 +21,16 @@ use sc_book::Probe;
 use sc_value::{AppId, CloneIn, List, NoMemory, Shared};
 use std::alloc::Global;
 use std::marker::Model;
-use std::mem::replace;
 use std::sync::Arc;
 
-/// The lists of a host: its own, or those that it has in common with copies of it.
-#[derive(Drop)]
-enum Lists<S: Timed> {
-    Own(HostLists<S>),
-    Shared(Arc<HostLists<S>>),
-}
-
 /// A host: it knows its own transactions and sessions alone. A contract sees their lists. A copy
-/// costs next to nothing until it is changed, and little then, however many there are.
+/// costs one owner until it is changed, and little then, however many there are.
 #[derive(Drop)]
 pub struct Host<S: Timed> {
-    lists: Lists<S>,
+    /// None where there is nothing yet, which takes no memory.
+    lists: Option<Arc<HostLists<S>>>,
+    /// The lists were changed since they were settled.
+    changed: bool,
     alloc: Global,
 }
 
@@ -53,7 +49,8 @@ impl<S: Timed> Host<S> {
         ensures { result ≡ record { clients = []; servers = []; sessions = []; last = 0 } }
     {
         Host {
-            lists: Lists::Own(HostLists::new(alloc)),
+            lists: None,
+            changed: false,
             alloc,
         }
     }
@@ -62,43 +59,34 @@ impl<S: Timed> Host<S> {
     pub fn clear(&mut self)
         ensures { self.new ≡ record { clients = []; servers = []; sessions = []; last = 0 } }
     {
-        self.lists = Lists::Own(HostLists::new(self.alloc));
+        self.lists = None;
+        self.changed = false;
     }
 
-    /// Lets what was changed since the last time go where a look-up costs least, and lets copies
-    /// have it in common from now on. It is called once a step was taken, when no other copy lives.
-    /// In constant time where nothing was changed.
+    /// Lets what was changed since the last time go where a look-up costs least. It is called once
+    /// a step was taken, when no other copy lives. In constant time where nothing was changed.
     pub fn settle(&mut self, alloc: Global)
         ensures { self.new ≡ self.old }
     {
-        match &mut self.lists {
-            Lists::Own(lists) => lists.settle(alloc),
-            Lists::Shared(_) => return,
+        if !self.changed {
+            return;
         }
-        if let Ok(room) = Arc::new(alloc, HostLists::new(alloc)) {
-            let lists = replace(&mut self.lists, Lists::Own(HostLists::new(alloc)));
-            self.lists = shared_in(lists, room);
+        if let Some(lists) = &mut self.lists {
+            settle_in(alloc, lists);
         }
+        self.changed = false;
     }
 
-    // The lists.
-    fn lists(&self) -> &HostLists<S>
-        ensures { result.now ≡ self.now }
-    {
-        match &self.lists {
-            Lists::Own(lists) => lists,
-            Lists::Shared(lists) => lists,
-        }
-    }
-
-    // Gives the host lists of its own, which it may change.
+    // Gives the host lists that nobody else has, which it may change.
     fn own(&mut self) -> Result<(), NoMemory>
         ensures { OnOk result (self.new ≡ self.old) }
     {
-        if let Lists::Shared(lists) = &self.lists {
-            let own = lists.clone_in(self.alloc)?;
-            self.lists = Lists::Own(own);
+        self.changed = true;
+        if is_alone(&mut self.lists) {
+            return Ok(());
         }
+        let own = own_lists(self.alloc, &self.lists)?;
+        self.lists = Some(Arc::new(self.alloc, own)?);
         Ok(())
     }
 
@@ -106,7 +94,10 @@ impl<S: Timed> Host<S> {
     pub fn last(&self) -> u64
         ensures { result ≡ self.now.last }
     {
-        self.lists().last()
+        match &self.lists {
+            Some(lists) => lists.last(),
+            None => 0,
+        }
     }
 
     /// Lets go of the transactions that are over, but for those of an INVITE whose session lives.
@@ -116,8 +107,8 @@ impl<S: Timed> Host<S> {
     {
         self.own()?;
         match &mut self.lists {
-            Lists::Own(lists) => lists.tidied(alloc),
-            Lists::Shared(_) => Err(NoMemory),
+            Some(lists) => tidied_in(lists, alloc),
+            None => Err(NoMemory),
         }
     }
 
@@ -125,7 +116,10 @@ impl<S: Timed> Host<S> {
     pub fn live(&self, serial: u64) -> Option<&Shared<Live<S>>>
         ensures { option_copied result ≡ find (is_live serial) self.now.sessions }
     {
-        self.lists().live(serial)
+        match &self.lists {
+            Some(lists) => lists.live(serial),
+            None => None,
+        }
     }
 
     /// The first session that passes. All that pass are of the group.
@@ -140,28 +134,40 @@ impl<S: Timed> Host<S> {
         ensures { IfOk result
             (λ found. option_copied found ≡ find (P.passes probe.now) self.now.sessions) }
     {
-        self.lists().find_live(alloc, group, probe)
+        match &self.lists {
+            Some(lists) => lists.find_live(alloc, group, probe),
+            None => Ok(None),
+        }
     }
 
     /// How many sessions live.
     pub fn live_count(&self) -> usize
         ensures { result ≡ length self.now.sessions }
     {
-        self.lists().live_count()
+        match &self.lists {
+            Some(lists) => lists.live_count(),
+            None => 0,
+        }
     }
 
     /// How many events wait.
     pub fn waiting_count(&self) -> u64
         ensures { result ≡ sum_by (λ live. length live.inbox) self.now.sessions }
     {
-        self.lists().waiting_count()
+        match &self.lists {
+            Some(lists) => lists.waiting_count(),
+            None => 0,
+        }
     }
 
     /// All sessions.
     pub fn lives(&self, alloc: Global) -> Result<List<Shared<Live<S>>>, NoMemory>
         ensures { IfOk result (λ all. all ≡ self.now.sessions) }
     {
-        self.lists().lives(alloc)
+        match &self.lists {
+            Some(lists) => lists.lives(alloc),
+            None => Ok(List::new(alloc)),
+        }
     }
 
     /// The sessions of which something is due before a moment, in order. `NoMemory` too where
@@ -173,11 +179,15 @@ impl<S: Timed> Host<S> {
             ≡ filter (λ live. is_before past (least_due live.fired (S.entries live.session)))
             self.now.sessions) }
     {
-        self.lists().due_lives(alloc, past)
+        match &self.lists {
+            Some(lists) => lists.due_lives(alloc, past),
+            None => Ok(List::new(alloc)),
+        }
     }
 
     /// The lowest number of an event that is first in its session, with the session's number, of
     /// the sessions that aren't among these. `NoMemory` too where changes aren't settled.
+    #[tactic(auto, unfolding(sc_book::specs::Words::earliest))]
     pub fn next_but(&self, skip: &[u64]) -> Result<Option<(u64, u64)>, NoMemory>
         ensures { IfOk result
             (λ next.
@@ -185,7 +195,10 @@ impl<S: Timed> Host<S> {
             ≡ earliest (λ live. live.serial) first_number
             (filter (λ live. is_free skip.now live.serial) self.now.sessions)) }
     {
-        self.lists().next_but(skip)
+        match &self.lists {
+            Some(lists) => lists.next_but(skip),
+            None => Ok(None),
+        }
     }
 
     /// One session more, and the serial of the last one. `NoMemory` too where its number isn't
@@ -197,8 +210,8 @@ impl<S: Timed> Host<S> {
     {
         self.own()?;
         match &mut self.lists {
-            Lists::Own(lists) => lists.push_live(live, last),
-            Lists::Shared(_) => Err(NoMemory),
+            Some(lists) => push_live_in(lists, live, last),
+            None => Err(NoMemory),
         }
     }
 
@@ -212,8 +225,8 @@ impl<S: Timed> Host<S> {
     {
         self.own()?;
         match &mut self.lists {
-            Lists::Own(lists) => lists.set_live(live),
-            Lists::Shared(_) => Err(NoMemory),
+            Some(lists) => set_live_in(lists, live),
+            None => Err(NoMemory),
         }
     }
 
@@ -227,8 +240,8 @@ impl<S: Timed> Host<S> {
     {
         self.own()?;
         match &mut self.lists {
-            Lists::Own(lists) => lists.end_live(alloc, serial),
-            Lists::Shared(_) => Err(NoMemory),
+            Some(lists) => end_live_in(lists, alloc, serial),
+            None => Err(NoMemory),
         }
     }
 
@@ -244,7 +257,10 @@ impl<S: Timed> Host<S> {
             (λ found.
             option_copied found ≡ find (is_client app branch cancelling) self.now.clients) }
     {
-        self.lists().client(alloc, app, branch, cancelling)
+        match &self.lists {
+            Some(lists) => lists.client(alloc, app, branch, cancelling),
+            None => Ok(None),
+        }
     }
 
     /// The first client transaction that passes. All that pass are of the group.
@@ -259,7 +275,10 @@ impl<S: Timed> Host<S> {
         ensures { IfOk result
             (λ found. option_copied found ≡ find (P.passes probe.now) self.now.clients) }
     {
-        self.lists().find_client(alloc, group, probe)
+        match &self.lists {
+            Some(lists) => lists.find_client(alloc, group, probe),
+            None => Ok(None),
+        }
     }
 
     /// The client transactions of a group, in order: those of the session of this number are among
@@ -268,14 +287,20 @@ impl<S: Timed> Host<S> {
         ensures { IfOk result
             (λ own. own ≡ filter (belongs groups_of_client group) self.now.clients) }
     {
-        self.lists().clients_of(alloc, group)
+        match &self.lists {
+            Some(lists) => lists.clients_of(alloc, group),
+            None => Ok(List::new(alloc)),
+        }
     }
 
     /// All client transactions.
     pub fn clients(&self, alloc: Global) -> Result<List<Shared<Client>>, NoMemory>
         ensures { IfOk result (λ all. all ≡ self.now.clients) }
     {
-        self.lists().clients(alloc)
+        match &self.lists {
+            Some(lists) => lists.clients(alloc),
+            None => Ok(List::new(alloc)),
+        }
     }
 
     /// The client transactions that are due before a moment, in order. `NoMemory` too where changes
@@ -285,14 +310,20 @@ impl<S: Timed> Host<S> {
             (λ own.
             own ≡ filter (λ client. is_before past (due_of_client client)) self.now.clients) }
     {
-        self.lists().due_clients(alloc, past)
+        match &self.lists {
+            Some(lists) => lists.due_clients(alloc, past),
+            None => Ok(List::new(alloc)),
+        }
     }
 
     /// How many client transactions aren't over.
     pub fn busy_clients(&self) -> u64
         ensures { result ≡ sum_by busy_client self.now.clients }
     {
-        self.lists().busy_clients()
+        match &self.lists {
+            Some(lists) => lists.busy_clients(),
+            None => 0,
+        }
     }
 
     /// One client transaction more.
@@ -302,8 +333,8 @@ impl<S: Timed> Host<S> {
     {
         self.own()?;
         match &mut self.lists {
-            Lists::Own(lists) => lists.push_client(client),
-            Lists::Shared(_) => Err(NoMemory),
+            Some(lists) => push_client_in(lists, client),
+            None => Err(NoMemory),
         }
     }
 
@@ -319,8 +350,8 @@ impl<S: Timed> Host<S> {
     {
         self.own()?;
         match &mut self.lists {
-            Lists::Own(lists) => lists.change_client(alloc, client),
-            Lists::Shared(_) => Err(NoMemory),
+            Some(lists) => change_client_in(lists, alloc, client),
+            None => Err(NoMemory),
         }
     }
 
@@ -328,7 +359,10 @@ impl<S: Timed> Host<S> {
     pub fn server(&self, event: u64) -> Option<&Shared<Server>>
         ensures { option_copied result ≡ find (is_server event) self.now.servers }
     {
-        self.lists().server(event)
+        match &self.lists {
+            Some(lists) => lists.server(event),
+            None => None,
+        }
     }
 
     /// The first server transaction that passes. All that pass are of the group.
@@ -343,14 +377,20 @@ impl<S: Timed> Host<S> {
         ensures { IfOk result
             (λ found. option_copied found ≡ find (P.passes probe.now) self.now.servers) }
     {
-        self.lists().find_server(alloc, group, probe)
+        match &self.lists {
+            Some(lists) => lists.find_server(alloc, group, probe),
+            None => Ok(None),
+        }
     }
 
     /// All server transactions.
     pub fn servers(&self, alloc: Global) -> Result<List<Shared<Server>>, NoMemory>
         ensures { IfOk result (λ all. all ≡ self.now.servers) }
     {
-        self.lists().servers(alloc)
+        match &self.lists {
+            Some(lists) => lists.servers(alloc),
+            None => Ok(List::new(alloc)),
+        }
     }
 
     /// The server transactions that are due before a moment, in order. `NoMemory` too where changes
@@ -360,14 +400,20 @@ impl<S: Timed> Host<S> {
             (λ own.
             own ≡ filter (λ server. is_before past (due_of_server server)) self.now.servers) }
     {
-        self.lists().due_servers(alloc, past)
+        match &self.lists {
+            Some(lists) => lists.due_servers(alloc, past),
+            None => Ok(List::new(alloc)),
+        }
     }
 
     /// How many server transactions aren't over.
     pub fn busy_servers(&self) -> u64
         ensures { result ≡ sum_by busy_server self.now.servers }
     {
-        self.lists().busy_servers()
+        match &self.lists {
+            Some(lists) => lists.busy_servers(),
+            None => 0,
+        }
     }
 
     /// One server transaction more. `NoMemory` too where its event isn't above all.
@@ -377,8 +423,8 @@ impl<S: Timed> Host<S> {
     {
         self.own()?;
         match &mut self.lists {
-            Lists::Own(lists) => lists.push_server(server),
-            Lists::Shared(_) => Err(NoMemory),
+            Some(lists) => push_server_in(lists, server),
+            None => Err(NoMemory),
         }
     }
 
@@ -392,8 +438,8 @@ impl<S: Timed> Host<S> {
     {
         self.own()?;
         match &mut self.lists {
-            Lists::Own(lists) => lists.set_server(server),
-            Lists::Shared(_) => Err(NoMemory),
+            Some(lists) => set_server_in(lists, server),
+            None => Err(NoMemory),
         }
     }
 
@@ -408,39 +454,201 @@ impl<S: Timed> Host<S> {
     {
         self.own()?;
         match &mut self.lists {
-            Lists::Own(lists) => lists.change_server(alloc, server),
-            Lists::Shared(_) => Err(NoMemory),
+            Some(lists) => change_server_in(lists, alloc, server),
+            None => Err(NoMemory),
         }
     }
 }
 
-// The same lists, to be had in common, in this room for them.
-fn shared_in<S: Timed>(lists: Lists<S>, room: Arc<HostLists<S>>) -> Lists<S>
-    ensures { lists_of result ≡ lists_of lists }
+// ## Changes of lists that nobody else has
+
+fn tidied_in<S: Timed>(lists: &mut Arc<HostLists<S>>, alloc: Global) -> Result<(), NoMemory>
+    ensures { OnOk result (arc_value lists.new ≡ tidied (arc_value lists.old)) }
 {
-    let own = match lists {
-        Lists::Own(own) => own,
-        Lists::Shared(lists) => return Lists::Shared(lists),
-    };
-    let mut room = room;
-    match Arc::get_mut(&mut room) {
-        Some(place) => *place = own,
-        None => return Lists::Own(own),
+    match Arc::get_mut(lists) {
+        Some(lists) => lists.tidied(alloc),
+        None => Err(NoMemory),
     }
-    Lists::Shared(room)
+}
+
+fn push_live_in<S: Timed>(
+    lists: &mut Arc<HostLists<S>>,
+    live: Shared<Live<S>>,
+    last: u64,
+) -> Result<(), NoMemory>
+    ensures { OnOk result
+        (arc_value lists.new
+        ≡ record (arc_value lists.old) { sessions = (arc_value lists.old).sessions ++ live ∷ []; last = last }) }
+{
+    match Arc::get_mut(lists) {
+        Some(lists) => lists.push_live(live, last),
+        None => Err(NoMemory),
+    }
+}
+
+fn set_live_in<S: Timed>(
+    lists: &mut Arc<HostLists<S>>,
+    live: Shared<Live<S>>,
+) -> Result<(), NoMemory>
+    ensures { OnOk result
+        (arc_value lists.new
+        ≡ record (arc_value lists.old) {
+          sessions = change_first (is_live live.serial) (λ _. live) (arc_value lists.old).sessions;
+        }) }
+{
+    match Arc::get_mut(lists) {
+        Some(lists) => lists.set_live(live),
+        None => Err(NoMemory),
+    }
+}
+
+fn end_live_in<S: Timed>(
+    lists: &mut Arc<HostLists<S>>,
+    alloc: Global,
+    serial: u64,
+) -> Result<(), NoMemory>
+    ensures { OnOk result
+        (arc_value lists.new
+        ≡ tidied
+        (record (arc_value lists.old) { sessions = remove_first (is_live serial) (arc_value lists.old).sessions })) }
+{
+    match Arc::get_mut(lists) {
+        Some(lists) => lists.end_live(alloc, serial),
+        None => Err(NoMemory),
+    }
+}
+
+fn push_client_in<S: Timed>(
+    lists: &mut Arc<HostLists<S>>,
+    client: Shared<Client>,
+) -> Result<(), NoMemory>
+    ensures { OnOk result
+        (arc_value lists.new ≡ record (arc_value lists.old) { clients = (arc_value lists.old).clients ++ client ∷ [] }) }
+{
+    match Arc::get_mut(lists) {
+        Some(lists) => lists.push_client(client),
+        None => Err(NoMemory),
+    }
+}
+
+fn change_client_in<S: Timed>(
+    lists: &mut Arc<HostLists<S>>,
+    alloc: Global,
+    client: Shared<Client>,
+) -> Result<(), NoMemory>
+    ensures { OnOk result
+        (arc_value lists.new
+        ≡ tidied
+        (record (arc_value lists.old) {
+          clients = change_first (is_same_client client) (λ _. client) (arc_value lists.old).clients;
+        })) }
+{
+    match Arc::get_mut(lists) {
+        Some(lists) => lists.change_client(alloc, client),
+        None => Err(NoMemory),
+    }
+}
+
+fn push_server_in<S: Timed>(
+    lists: &mut Arc<HostLists<S>>,
+    server: Shared<Server>,
+) -> Result<(), NoMemory>
+    ensures { OnOk result
+        (arc_value lists.new ≡ record (arc_value lists.old) { servers = (arc_value lists.old).servers ++ server ∷ [] }) }
+{
+    match Arc::get_mut(lists) {
+        Some(lists) => lists.push_server(server),
+        None => Err(NoMemory),
+    }
+}
+
+fn set_server_in<S: Timed>(
+    lists: &mut Arc<HostLists<S>>,
+    server: Shared<Server>,
+) -> Result<(), NoMemory>
+    ensures { OnOk result
+        (arc_value lists.new
+        ≡ record (arc_value lists.old) {
+          servers = change_first (is_server server.event) (λ _. server) (arc_value lists.old).servers;
+        }) }
+{
+    match Arc::get_mut(lists) {
+        Some(lists) => lists.set_server(server),
+        None => Err(NoMemory),
+    }
+}
+
+fn change_server_in<S: Timed>(
+    lists: &mut Arc<HostLists<S>>,
+    alloc: Global,
+    server: Shared<Server>,
+) -> Result<(), NoMemory>
+    ensures { OnOk result
+        (arc_value lists.new
+        ≡ tidied
+        (record (arc_value lists.old) {
+          servers = change_first (is_server server.event) (λ _. server) (arc_value lists.old).servers;
+        })) }
+{
+    match Arc::get_mut(lists) {
+        Some(lists) => lists.change_server(alloc, server),
+        None => Err(NoMemory),
+    }
+}
+
+// Whether there are lists, and nobody else has them.
+fn is_alone<S: Timed>(lists: &mut Option<Arc<HostLists<S>>>) -> bool
+    ensures { lists_of lists.new ≡ lists_of lists.old }
+{
+    match lists {
+        Some(lists) => is_own(lists),
+        None => false,
+    }
+}
+
+fn is_own<S: Timed>(lists: &mut Arc<HostLists<S>>) -> bool
+    ensures { arc_value lists.new ≡ arc_value lists.old }
+{
+    match Arc::get_mut(lists) {
+        Some(_) => true,
+        None => false,
+    }
+}
+
+// A copy of the lists, or none yet.
+fn own_lists<S: Timed>(
+    alloc: Global,
+    lists: &Option<Arc<HostLists<S>>>,
+) -> Result<HostLists<S>, NoMemory>
+    ensures { IfOk result (λ own. own ≡ lists_of lists.now) }
+{
+    match lists {
+        Some(lists) => lists.clone_in(alloc),
+        None => Ok(HostLists::new(alloc)),
+    }
+}
+
+// Settles lists that nobody else has.
+fn settle_in<S: Timed>(alloc: Global, lists: &mut Arc<HostLists<S>>)
+    ensures { arc_value lists.new ≡ arc_value lists.old }
+{
+    if let Some(own) = Arc::get_mut(lists) {
+        own.settle(alloc);
+    }
 }
 
 impl<S: Timed> CloneIn for Host<S> {
     fn clone_in(&self, alloc: Global) -> Result<Host<S>, NoMemory> {
         match &self.lists {
-            Lists::Own(lists) => {
-                let lists = Lists::Own(lists.clone_in(alloc)?);
-                Ok(Host { lists, alloc })
+            Some(lists) => {
+                let lists = Some(Arc::try_clone(lists)?);
+                Ok(Host {
+                    lists,
+                    changed: false,
+                    alloc,
+                })
             }
-            Lists::Shared(lists) => {
-                let lists = Lists::Shared(Arc::try_clone(lists)?);
-                Ok(Host { lists, alloc })
-            }
+            None => Ok(Host::new(alloc)),
         }
     }
 }
