@@ -1,4 +1,3 @@
 pub mod ListFacts
 pub mod OtherLaws
 pub mod PlaceLaws
-pub mod TextLaws

@@ -1,6 +1,9 @@
--- The bytes of a text: those of its short part, where its long part has none.
-use Rattle.std.specs.Prelude.{◌==◌, ℕ, List, length, if◌then◌else◌}
+-- The bytes of a text, which stand in the value itself or in memory of their own.
+use Rattle.std.specs.Prelude.{ℕ, List}
+use Rattle.sc_value.specs.declared.text.Bytes.{Bytes}
+use Rattle.sc_value.specs.declared.text.Bytes.TheVariants.{Short, Long}
 
--- the long part, or the short one where that is empty
-abbrev pub bytes_of : List ℕ → List ℕ → List ℕ
-bytes_of short long = if length long == 0 then short else long
+-- they are the same either way
+abbrev pub bytes_of : Bytes → List ℕ
+bytes_of (Short text) = text
+bytes_of (Long bytes) = bytes.items

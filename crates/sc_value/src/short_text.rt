@@ -54,17 +54,22 @@ impl ShortText {
         }
     }
 
-    /// The bytes with these behind them.
-    pub fn with(&self, more: &[u8]) -> ShortText
-        requires { length self.now + length more.now ≤ 22 }
-        ensures { result ≡ self.now ++ more.now }
+    /// How many bytes it has.
+    pub fn len(&self) -> usize
+        ensures value { result ≡ length self.now }
+        ensures fits { result ≤ 22 }
+    {
+        self.len as usize
+    }
+
+    /// Puts these bytes at the end.
+    pub fn extend(&mut self, more: &[u8])
+        requires { length self.old + length more.now ≤ 22 }
+        ensures { self.new ≡ self.old ++ more.now }
     {
         let len = self.len as usize;
-        let mut own = self.bytes;
-        own[len..len + more.len()].copy_from_slice(more);
-        ShortText {
-            len: (len + more.len()) as u8,
-            bytes: own,
-        }
+        let end = len + more.len();
+        self.bytes[len..end].copy_from_slice(more);
+        self.len = end as u8;
     }
 }

@@ -1,4 +1,4 @@
-ghost use Rattle.std.specs.Prelude.{◌≡◌, ◌==◌, ◌<◌, ◌≤◌, ◌++◌, [], length, IfOk, OnOk, OnErr};
+ghost use Rattle.std.specs.Prelude.{◌≡◌, ◌==◌, ◌≤◌, ◌++◌, [], length, IfOk, OnOk, OnErr};
 
 use crate::short_text::{MOST_SHORT, ShortText};
 use crate::{CloneIn, NoMemory, Same};
@@ -9,11 +9,17 @@ use std::marker::Model;
 /// the value itself, so that such a text and its copies take no memory.
 #[derive(Drop)]
 pub struct Text {
-    /// The bytes of a short text.
-    short: ShortText,
-    /// The bytes of a longer text, none of a short one.
-    long: Vec<u8>,
+    bytes: Bytes,
     alloc: Global,
+}
+
+/// Where the bytes of a text stand.
+#[derive(Drop)]
+enum Bytes {
+    /// In the value itself.
+    Short(ShortText),
+    /// In memory of their own.
+    Long(Vec<u8>),
 }
 
 impl Model for Text {
@@ -22,7 +28,7 @@ impl Model for Text {
 
     ghost Value = { List ℕ };
 
-    ghost view = { λ t. bytes_of t.short t.long.items };
+    ghost view = { λ t. bytes_of t.bytes };
 }
 
 impl Text {
@@ -39,11 +45,7 @@ impl Text {
         ensures { IfOk result (λ t. t ≡ []) }
     {
         let long = Vec::with_capacity(alloc, room)?;
-        Ok(Text {
-            short: ShortText::new(&[]),
-            long,
-            alloc,
-        })
+        Ok(Text::long(alloc, long))
     }
 
     // The text of at most 22 bytes.
@@ -52,21 +54,17 @@ impl Text {
         ensures { result ≡ bytes.now }
     {
         Text {
-            short: ShortText::new(bytes),
-            long: Vec::new(alloc),
+            bytes: Bytes::Short(ShortText::new(bytes)),
             alloc,
         }
     }
 
-    // The text of more than 22 bytes.
-    #[tactic(auto, using(crate::proofs::TextLaws::long_is))]
+    // The text of bytes that have memory.
     fn long(alloc: Global, bytes: Vec<u8>) -> Text
-        requires { 22 < length bytes.items }
         ensures { result ≡ bytes.items }
     {
         Text {
-            short: ShortText::new(&[]),
-            long: bytes,
+            bytes: Bytes::Long(bytes),
             alloc,
         }
     }
@@ -96,21 +94,20 @@ impl Text {
     pub fn into_vec(self) -> Result<Vec<u8>, NoMemory>
         ensures { IfOk result (λ bytes. bytes.items ≡ self) }
     {
-        let Text { short, long, alloc } = self;
-        if long.is_empty() {
-            return Ok(Vec::from_slice(alloc, short.as_bytes())?);
+        let Text { bytes, alloc } = self;
+        match bytes {
+            Bytes::Short(short) => Ok(Vec::from_slice(alloc, short.as_bytes())?),
+            Bytes::Long(long) => Ok(long),
         }
-        Ok(long)
     }
 
     /// The bytes in order.
     pub fn as_bytes(&self) -> &[u8]
         ensures { result.now ≡ self.now }
     {
-        if self.long.is_empty() {
-            self.short.as_bytes()
-        } else {
-            self.long.as_slice()
+        match &self.bytes {
+            Bytes::Short(short) => short.as_bytes(),
+            Bytes::Long(long) => long.as_slice(),
         }
     }
 
@@ -129,36 +126,47 @@ impl Text {
     }
 
     /// Puts bytes at the end, all of them or, for want of memory, none.
-    #[tactic(auto, using(crate::proofs::TextLaws::appended_long, crate::proofs::TextLaws::appended_short, crate::proofs::TextLaws::short_twice))]
     pub fn append(&mut self, bytes: &[u8]) -> Result<(), NoMemory>
         ensures ok { OnOk result (self.new ≡ self.old ++ bytes.now) }
         ensures err { OnErr result (self.new ≡ self.old) }
     {
-        if !self.long.is_empty() {
-            self.long.extend_from_slice(bytes)?;
-            return Ok(());
-        }
-        let own = self.short.as_bytes();
-        if bytes.len() <= MOST_SHORT - own.len() {
-            self.short = self.short.with(bytes);
-            return Ok(());
-        }
-        self.long.extend_from_slice(own)?;
-        self.long.extend_from_slice(bytes)?;
+        let long = match &mut self.bytes {
+            Bytes::Long(long) => {
+                long.extend_from_slice(bytes)?;
+                return Ok(());
+            }
+            Bytes::Short(short) => {
+                if bytes.len() <= MOST_SHORT - short.len() {
+                    short.extend(bytes);
+                    return Ok(());
+                }
+                joined(self.alloc, short.as_bytes(), bytes)?
+            }
+        };
+        self.bytes = Bytes::Long(long);
         Ok(())
     }
 }
 
+// These bytes, and those behind them.
+fn joined(alloc: Global, bytes: &[u8], more: &[u8]) -> Result<Vec<u8>, NoMemory>
+    ensures { IfOk result (λ all. all.items ≡ bytes.now ++ more.now) }
+{
+    let mut all = Vec::new(alloc);
+    all.extend_from_slice(bytes)?;
+    all.extend_from_slice(more)?;
+    Ok(all)
+}
+
 impl CloneIn for Text {
     fn clone_in(&self, alloc: Global) -> Result<Text, NoMemory> {
-        if self.long.is_empty() {
-            return Ok(Text {
-                short: self.short.copied(),
-                long: Vec::new(alloc),
+        match &self.bytes {
+            Bytes::Short(short) => Ok(Text {
+                bytes: Bytes::Short(short.copied()),
                 alloc,
-            });
+            }),
+            Bytes::Long(long) => Text::from_slice(alloc, long.as_slice()),
         }
-        Text::from_slice(alloc, self.as_bytes())
     }
 }
 
