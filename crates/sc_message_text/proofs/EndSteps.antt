@@ -1,7 +1,7 @@
 -- Texts cut at the ends of lines.
-use Rattle.std.proofs.Common.{◌≡◌, ℕ, suc, Bool, true, false, cond, ◌&&◌, Option, Some, None, List, [], ◌∷◌, ◌+◌, ◌-◌, ◌≤◌, ◌<◌, length, take, drop, get_or, refl, sym, ap, ◌∙◌, arith}
+use Rattle.std.proofs.Common.{◌≡◌, ℕ, suc, Bool, true, false, cond, ◌&&◌, Option, Some, None, List, [], ◌∷◌, ◌+◌, ◌-◌, ◌≤◌, ◌<◌, ◌==◌, zero, length, take, drop, get_or, refl, sym, ap, ◌∙◌, arith}
 use Rattle.std.specs.Option.{option_map}
-use Rattle.std.proofs.lemmas.List.{at_drop_all, drop_more, take_all, length-drop}
+use Rattle.std.proofs.lemmas.List.{at_drop_all, drop_more, take_all, length-drop, drop-drop}
 use Rattle.sc_syntax.specs.declared.ending.Ending.{Ending}
 use Rattle.sc_syntax.specs.declared.ending.Ending.TheVariants.{Any, Unfolded, Empty}
 use Rattle.sc_tokens.specs.Bytes.{Bytes}
@@ -29,10 +29,10 @@ unfolding end_of
 later_end ending text b bs is h = ap (end_of ending) is ∙ ap (λ c. cond c (Some 0) (option_map (λ n. 1 + n) (end_of ending bs))) (sym (ap (is_end ending) is) ∙ h)
 
 -- what is left from this place on
-abbrev left : ℕ → Bytes → Bytes
+abbrev pub left : ℕ → Bytes → Bytes
 left i text = take (length text - i) (drop i text)
 
-left_is : (i : ℕ) (text : Bytes) → left i text ≡ drop i text
+pub left_is : (i : ℕ) (text : Bytes) → left i text ≡ drop i text
 left_is i text = take_all (length text - i) (drop i text) (omega (arith, length-drop i text))
 
 pub end_here : (ending : Ending) (text : Bytes) (i : ℕ) → i < length text → is_end ending (left i text) ≡ true → end_from ending i text ≡ Some i
@@ -46,6 +46,49 @@ end_later ending text i here h =
 pub end_none : (ending : Ending) (text : Bytes) (i : ℕ) → length text ≤ i → end_from ending i text ≡ None
 unfolding end_of
 end_none ending text i past = ap (option_map (λ n. i + n)) (at_drop_all (end_of ending) text i past)
+
+-- ## No end where no CR stands
+
+not_end : (ending : Ending) (b : ℕ) (bs : Bytes) → (b == 13) ≡ false → is_end ending (b ∷ bs) ≡ false
+unfolding is_end begins_break begins
+not_end Any b bs h = rw h refl
+not_end Unfolded b bs h = rw h refl
+not_end Empty b bs h = rw h refl
+
+from_not : (b : Bool) → ¬ (b ≡ true) → b ≡ false
+from_not true h = absurd (h refl)
+from_not false h = refl
+
+map_none : (o : Option ℕ) → option_map (λ n. 0 + n) o ≡ o
+map_none None = refl
+map_none (Some n) = let same : ◌≡◌ {A = ℕ} (0 + n) n = omega arith in ap Some same
+
+-- so many bytes have no CR among them
+abbrev pub HasNoneIn : Bytes → ℕ → Type 0
+HasNoneIn text k = (j : ℕ) → j < k → ¬ ((get_or text j 0 == 13) ≡ true)
+
+end_past : (ending : Ending) (text : Bytes) (k : ℕ) → k ≤ length text → HasNoneIn text k → end_of ending text ≡ end_from ending k text
+end_past ending text zero within none = sym (map_none (end_of ending text))
+end_past ending [] (suc k) within none = absurd (omega (arith, within))
+end_past ending (b ∷ bs) (suc k) within none =
+    let rest : k ≤ length bs = omega (arith, within) in
+    let first : 0 < suc k = omega arith in
+    let one : ◌≡◌ {A = ℕ} (1 + k) (suc k) = omega arith in
+    later_end ending (b ∷ bs) b bs refl (not_end ending b bs (from_not (b == 13) (none 0 first)))
+    ∙ ap (option_map (λ n. 1 + n)) (end_past ending bs k rest (λ j lt. none (suc j) (omega (arith, lt))))
+    ∙ map_map 1 k (end_of ending (drop k bs))
+    ∙ ap (λ m. option_map (λ n. m + n) (end_of ending (drop k bs))) one
+
+pub end_onto : (ending : Ending) (text : Bytes) (i k : ℕ) → k ≤ length (drop i text) → HasNoneIn (drop i text) k → end_from ending (i + k) text ≡ end_from ending i text
+end_onto ending text i k within none =
+    sym (ap (option_map (λ n. i + n)) (end_past ending (drop i text) k within none)
+    ∙ map_map i k (end_of ending (drop k (drop i text)))
+    ∙ ap (λ rest. option_map (λ n. i + k + n) (end_of ending rest)) (drop-drop k i text))
+
+pub end_nowhere : (ending : Ending) (text : Bytes) (i : ℕ) → HasNoneIn (drop i text) (length (drop i text)) → end_from ending i text ≡ None
+end_nowhere ending text i none =
+    sym (end_onto ending text i (length (drop i text)) (omega arith) none)
+    ∙ end_none ending text (i + length (drop i text)) (omega (arith, length-drop i text))
 
 -- ## The pieces between ends
 

@@ -7,6 +7,7 @@ ghost use Rattle.sc_syntax.specs.declared.ending.Ending.TheVariants.{Empty};
 ghost use Rattle.sc_syntax.specs.Lines.{begins_break, behind_start, end_of, is_end, pieces_at, start_line};
 ghost use Rattle.sc_message_text.specs.Pieces.{pieces_behind};
 
+use memchr::memchr;
 use sc_syntax::Ending;
 use sc_uri_text::begins;
 
@@ -47,16 +48,18 @@ fn is_end(ending: Ending, text: &[u8]) -> bool
 }
 
 /// The place, in bytes from 0, of the first such end; None exactly where there is none.
-#[tactic(auto, using(crate::proofs::EndSteps::end_none))]
 pub fn end_of(ending: Ending, text: &[u8]) -> Option<usize>
     ensures exact { result ≡ end_of ending text.now }
     ensures within { IfSome result (λ end. end + 2 ≤ length text.now) }
     ensures whole { ending ≡ Empty → IfSome result (λ end. end + 4 ≤ length text.now) }
 {
-    for i in 0..text.len() {
-        if is_end(ending, &text[i..]) {
-            return Some(i);
+    let mut place = 0;
+    while let Some(found) = memchr(b'\r', &text[place..]) {
+        let at = place + found;
+        if is_end(ending, &text[at..]) {
+            return Some(at);
         }
+        place = at + 1;
     }
     None
 }
