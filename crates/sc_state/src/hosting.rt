@@ -383,6 +383,16 @@ impl<S: Timed> Host<S> {
         }
     }
 
+    /// How many server transactions there are.
+    pub fn server_count(&self) -> usize
+        ensures { result ≡ length self.now.servers }
+    {
+        match &self.lists {
+            Some(lists) => lists.server_count(),
+            None => 0,
+        }
+    }
+
     /// All server transactions.
     pub fn servers(&self, alloc: Global) -> Result<List<Shared<Server>>, NoMemory>
         ensures { IfOk result (λ all. all ≡ self.now.servers) }

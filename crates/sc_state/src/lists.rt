@@ -304,6 +304,12 @@ impl<S: Timed> HostLists<S> {
         self.servers.find_first(alloc, group, probe)
     }
 
+    pub fn server_count(&self) -> usize
+        ensures { result ≡ length self.now.servers }
+    {
+        self.servers.len()
+    }
+
     pub fn servers(&self, alloc: Global) -> Result<List<Shared<Server>>, NoMemory>
         ensures { IfOk result (λ all. all ≡ self.now.servers) }
     {
