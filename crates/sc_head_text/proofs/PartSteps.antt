@@ -1,11 +1,11 @@
 -- Parts, cut and read from the front.
-use Rattle.std.proofs.Common.{◌≡◌, ℕ, suc, Bool, true, false, cond, Option, Some, None, List, [], ◌∷◌, ◌++◌, ◌+◌, ◌≤◌, ◌<◌, length, take, drop, get_or, refl, sym, ap, ◌∙◌, append_assoc, append-nil, arith}
+use Rattle.std.proofs.Common.{◌≡◌, ℕ, suc, Bool, true, false, cond, ◌&&◌, ◌==◌, Option, Some, None, List, [], ◌∷◌, ◌++◌, ◌+◌, ◌≤◌, ◌<◌, length, take, drop, get_or, refl, sym, ap, ◌∙◌, append_assoc, append-nil, arith}
 use Rattle.std.specs.Option.{option_map}
 use Rattle.std.proofs.lemmas.List.{at_drop_all, at_drop_more}
 use Rattle.sc_syntax.specs.declared.scan.Scan.{Scan}
 use Rattle.sc_tokens.specs.Bytes.{Bytes}
 use Rattle.sc_tokens.specs.Cuts.{onto_first}
-use Rattle.sc_syntax.specs.Scanning.{past, is_part_end, parts, with_first, all_read}
+use Rattle.sc_syntax.specs.Scanning.{past, is_outside, is_part_end, parts, with_first, all_read}
 use Rattle.sc_head_text.specs.declared.unread.Unread.{Unread}
 use Rattle.sc_head_text.specs.declared.unread.Unread.TheVariants.{Fault, NoMemory}
 use Rattle.sc_head_text.specs.Answers.{Fails}
@@ -34,6 +34,32 @@ part_more text sign i at here h = at_drop_more (part_len sign at) text i 0 here 
 
 pub part_past : (text : Bytes) (sign i : ℕ) (at : Scan) → length text ≤ i → part_len sign at (drop i text) ≡ 0
 part_past text sign i at past_end = at_drop_all (part_len sign at) text i past_end ∙ at_none sign at
+
+-- ## Where no byte is the separator
+
+and_false : (x : Bool) → (x && false) ≡ false
+and_false true = refl
+and_false false = refl
+
+no_end : (at : Scan) (sign b : ℕ) → (b == sign) ≡ false → is_part_end at sign b ≡ false
+unfolding is_part_end
+no_end at sign b h = rw h (and_false (is_outside at))
+
+from_not : (b : Bool) → ¬ (b ≡ true) → b ≡ false
+from_not true h = absurd (h refl)
+from_not false h = refl
+
+-- no byte of the text is this one
+abbrev pub HasNo : ℕ → Bytes → Type 0
+HasNo sign text = (j : ℕ) → j < length text → ¬ ((get_or text j 0 == sign) ≡ true)
+
+pub part_whole : (text : Bytes) (sign : ℕ) (at : Scan) → HasNo sign text → part_len sign at text ≡ length text
+part_whole [] sign at none = at_none sign at
+part_whole (b ∷ bs) sign at none =
+    let first : 0 < length (b ∷ bs) = omega arith in
+    let rest : part_len sign (past at b) bs ≡ length bs = part_whole bs sign (past at b) (λ j lt. none (suc j) (omega (arith, lt))) in
+    let more : part_len sign at (b ∷ bs) ≡ 1 + part_len sign (past at b) bs = at_more sign b at bs (no_end at sign b (from_not (b == sign) (none 0 first))) in
+    omega (arith, rest, more)
 
 -- ## The first part, and those behind it
 

@@ -11,6 +11,7 @@ ghost use Rattle.sc_head_text.specs.Parts.{part_len, parts_behind};
 
 use crate::Unread;
 use crate::scanning::{is_part_end, past};
+use memchr::memchr;
 use sc_syntax::Scan;
 use sc_value::{List, NoMemory};
 use std::alloc::Global;
@@ -77,8 +78,20 @@ pub fn split_part(text: &[u8], sign: u8, at: Scan) -> (&[u8], Option<&[u8]>)
     }
 }
 
-#[tactic(auto, using(crate::proofs::PartSteps::part_here, crate::proofs::PartSteps::part_more, crate::proofs::PartSteps::part_past))]
+// How many bytes stand before the first separator that parts. A text without such a byte isn't
+// scanned.
 fn part_len(text: &[u8], sign: u8, at: Scan) -> usize
+    ensures exact { result ≡ part_len sign at text.now }
+    ensures within { result ≤ length text.now }
+{
+    match memchr(sign, text) {
+        Some(_) => scanned_len(text, sign, at),
+        None => text.len(),
+    }
+}
+
+#[tactic(auto, using(crate::proofs::PartSteps::part_here, crate::proofs::PartSteps::part_more, crate::proofs::PartSteps::part_past))]
+fn scanned_len(text: &[u8], sign: u8, at: Scan) -> usize
     ensures exact { result ≡ part_len sign at text.now }
     ensures within { result ≤ length text.now }
 {

@@ -42,6 +42,7 @@ fn behind(alloc: Global, top: Via, vias: &List<Via>) -> Result<List<Via>, NoMemo
     ensures { IfOk result (λ l. l ≡ top ∷ vias.now) }
 {
     let mut copy = vias.clone_in(alloc)?;
+    copy.items.reserve_exact(1)?;
     copy.items.insert(0, top)?;
     Ok(copy)
 }
@@ -288,6 +289,7 @@ fn proxied_routes(
     }
     let own = own_address(alloc, config, view.epoch, view.app)?;
     let mut copy = routes.clone_in(alloc)?;
+    copy.items.reserve_exact(1)?;
     copy.items.insert(0, own)?;
     Ok(copy)
 }
