@@ -34,7 +34,7 @@ fn unclaimed(
     if tag(&request.get().head.to).is_some() {
         return later_arrives(alloc, setup, from, request, net);
     }
-    initial_arrives(alloc, setup, from, request.get(), net)
+    initial_arrives(alloc, setup, from, request, net)
 }
 
 #[tactic(auto, unfolding(crate::specs::Arriving::untaken))]

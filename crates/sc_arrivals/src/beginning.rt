@@ -80,16 +80,6 @@ fn begins_by(
     }
 }
 
-fn shared_unrouted(
-    alloc: Global,
-    setup: &Setup,
-    request: &Request,
-) -> Result<Shared<Request>, NoMemory>
-    ensures { IfOk result (λ r. r ≡ unrouted_initial setup.now.config request.now) }
-{
-    Shared::new(alloc, unrouted_initial(alloc, &setup.config, request)?)
-}
-
 fn chosen(
     alloc: Global,
     setup: &Setup,
@@ -117,7 +107,7 @@ fn begins(
     alloc: Global,
     setup: &Setup,
     from: Place,
-    request: &Request,
+    request: &Shared<Request>,
     net: &mut Net<Session>,
 ) -> Result<(), NoMemory>
     ensures { OnOk result
@@ -130,9 +120,9 @@ fn begins(
         (position_of setup.now.config request.now).directive
         (position_of setup.now.config request.now).state) net.old) }
 {
-    let position = position_of(alloc, &setup.config, request)?;
-    let popped = popped_route(alloc, &setup.config, request)?;
-    let unrouted = shared_unrouted(alloc, setup, request)?;
+    let position = position_of(alloc, &setup.config, request.get())?;
+    let popped = popped_route(alloc, &setup.config, request.get())?;
+    let unrouted = unrouted_initial(alloc, &setup.config, request)?;
     let choice = chosen(alloc, setup, unrouted.get(), position)?;
     begins_by(alloc, setup, from, &unrouted, popped, choice, net)
 }
@@ -144,17 +134,17 @@ pub fn initial_arrives(
     alloc: Global,
     setup: &Setup,
     from: Place,
-    request: &Request,
+    request: &Shared<Request>,
     net: &mut Net<Session>,
 ) -> Result<(), NoMemory>
     ensures { OnOk result
         (net.new ≡ initial_arrives as_session setup.now from request.now net.old) }
 {
-    if is_ack(request) {
+    if is_ack(request.get()) {
         return Ok(());
     }
-    if is_never_initial(request) {
-        return answer_unknown(alloc, &setup.config, from, request, net);
+    if is_never_initial(request.get()) {
+        return answer_unknown(alloc, &setup.config, from, request.get(), net);
     }
     begins(alloc, setup, from, request, net)
 }

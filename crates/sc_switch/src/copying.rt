@@ -25,7 +25,9 @@ pub fn copy_net(alloc: Global, net: &Net<Session>) -> Result<Net<Session>, NoMem
 fn copy_hosts(alloc: Global, hosts: &[Host<Session>]) -> Result<List<Host<Session>>, NoMemory>
     ensures { IfOk result (λ copies. copies ≡ hosts.now) }
 {
-    let mut copies = List::new(alloc);
+    let mut copies = List {
+        items: Vec::with_capacity(alloc, hosts.len())?,
+    };
     add_hosts(alloc, hosts, &mut copies)?;
     Ok(copies)
 }

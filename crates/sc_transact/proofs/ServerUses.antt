@@ -1,5 +1,5 @@
 -- Server transactions that are found by the numbers of their groups.
-use Rattle.std.proofs.Common.{◌≡◌, ◌==◌, ℕ, Bool, true, false, not, ◌&&◌, ◌||◌, T, Option, Some, None, List, refl, ap, sym, subst, ◌∙◌, arith}
+use Rattle.std.proofs.Common.{◌≡◌, ◌==◌, ℕ, Bool, true, false, not, ◌&&◌, ◌||◌, T, Option, Some, None, List, [], ◌∷◌, length, refl, ap, sym, subst, ◌∙◌, arith}
 use Rattle.std.specs.List.{find}
 use Rattle.std.specs.Option.{option_map_or}
 use Rattle.std.proofs.lemmas.Bool.Decides.{nat_tests}
@@ -78,3 +78,8 @@ passed_found event item host x own found made =
     ap (λ s. tidied (record host { servers = change_first (is_server s.event) (λ _. s) host.servers })) made
     ∙ ap (λ n. tidied (record host { servers = change_first (is_server n) (λ _. server_passed item x) host.servers })) (same_number x.event event (found_passes (is_server event) x host.servers (sym found)))
     ∙ ap (λ l. tidied (record host { servers = l })) (change_found (is_server event) (server_passed item) x host.servers (sym found))
+
+-- no request was taken before by a host without server transactions
+pub none_repeated : (from : Peer) (request : Request) (servers : List Server) → length servers ≡ 0 → find (is_repeated_by from request) servers ≡ None
+none_repeated from request [] none = refl
+none_repeated from request (x ∷ xs) none = absurd (omega (arith, none))

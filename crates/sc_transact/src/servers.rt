@@ -51,8 +51,9 @@ pub fn acked_server<'a>(
     host.find_server(alloc, group, &Acked { from, request })
 }
 
-/// The transaction of a request that came before, None where it didn't.
-#[tactic(auto, using(crate::proofs::ServerUses::repeated_grouped))]
+/// The transaction of a request that came before, None where it didn't. Where there is none at all
+/// the request isn't looked at.
+#[tactic(auto, using(crate::proofs::ServerUses::repeated_grouped, crate::proofs::ServerUses::none_repeated))]
 pub fn repeated_server<'a>(
     alloc: Global,
     from: Peer,
@@ -63,6 +64,9 @@ pub fn repeated_server<'a>(
         (λ found.
         option_copied found ≡ find (is_repeated_by from request.now) host.entry.now.servers) }
 {
+    if host.server_count() == 0 {
+        return Ok(None);
+    }
     let group = via_number(request.head.via.as_slice());
     host.find_server(alloc, group, &Repeated { from, request })
 }

@@ -15,7 +15,9 @@ use sc_inboxes::{uri_param, without_top};
 use sc_router::is_own;
 use sc_terms::Config;
 use sc_uri_text::cut;
-use sc_value::{Address, CloneIn, Directive, NoMemory, Region, Request, Text, Uri, write_u64};
+use sc_value::{
+    Address, CloneIn, Directive, NoMemory, Region, Request, Shared, Text, Uri, write_u64,
+};
 use std::alloc::Global;
 use std::marker::Model;
 
@@ -74,17 +76,17 @@ pub fn popped_route<'a>(
     }
 }
 
-/// The request without its own top Route.
+/// The request without its own top Route: one owner more where it has none.
 #[tactic(auto, unfolding(sc_hosts::specs::Routes::unrouted_initial, sc_hosts::specs::Routes::without_top))]
 pub fn unrouted_initial(
     alloc: Global,
     config: &Config,
-    request: &Request,
-) -> Result<Request, NoMemory>
+    request: &Shared<Request>,
+) -> Result<Shared<Request>, NoMemory>
     ensures { IfOk result (λ r. r ≡ unrouted_initial config.now request.now) }
 {
-    match popped_route(alloc, config, request)? {
-        Some(_) => without_top(alloc, request),
+    match popped_route(alloc, config, request.get())? {
+        Some(_) => Shared::new(alloc, without_top(alloc, request.get())?),
         None => request.clone_in(alloc),
     }
 }
