@@ -80,6 +80,7 @@ pub fn queue(
     ensures { IfOk result (λ t. queue serial now event count host.old ≡ taken_by host.new t) }
 {
     if live_in(serial, host).is_none() {
+        drop(event);
         return Ok(quiet(count));
     }
     let number = sum(count, 1)?;
