@@ -44,6 +44,7 @@ use Rattle.sc_serve.specs.Polls.{PollsOften}
 use Rattle.sc_serve.specs.Served.{ComesAt, Leaves, last_epoch}
 use Rattle.sc_serve.proofs.AllClosings.{all_begin, all_waits}
 use Rattle.sc_serve.proofs.Closings.{closes_begin, none_waits}
+use Rattle.sc_serve.proofs.EachClosing.{each_closed}
 use Rattle.sc_serve.proofs.Pollings.{often_none, often_of, part_of}
 
 last-is : (ran : Ran) (known : Known) (journal : Kept Step) → ran.epoch ≡ known.epoch → ran.began ≡ known.began → journal.items ≡ known.journal → last_epoch ran known.handed journal ≡ running known
@@ -132,6 +133,7 @@ leaves-of from obeyed now told known ran journal deeds almost all ends heard epo
   polled = often;
   closes = closes;
   closes_all = closes_all;
+  closes_each = λ done. let (streams, all) = closes_all done in each_closed from.edge now streams all;
   over = λ done. over-last from ran known journal epoch began items (over done);
 }
 

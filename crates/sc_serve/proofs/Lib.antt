@@ -1,7 +1,9 @@
 mod AllClosings
 mod Closings
+mod EachClosing
 mod Endings
 mod Leavings
 mod Names
+mod OnceGivings
 mod Pollings
 mod Roundings

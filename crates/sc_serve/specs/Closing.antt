@@ -1,6 +1,6 @@
 -- What a close does, and which places a server closes (RFC 3261 section 18.3).
-use Rattle.std.specs.Prelude.{◌≡◌, ◌⊎◌, Option, None, Some, List, [], ◌∷◌, ◌++◌, map, IsPermutation}
-use Rattle.std.specs.List.{All}
+use Rattle.std.specs.Prelude.{◌≡◌, ◌⊎◌, IsSome, Option, None, Some, List, [], ◌∷◌, ◌++◌, map, IsPermutation}
+use Rattle.std.specs.List.{All, Contains}
 use Rattle.sc_value.specs.declared.ids.Place.{Place}
 use Rattle.sc_edge.specs.Edges.{EdgeState}
 use Rattle.sc_edge.specs.declared.edge.Closing.{Closing}
@@ -44,6 +44,17 @@ pub record ClosesAll (first now : EdgeState) (streams : Streams) (waiting : List
   pub closed : List Place
   pub closes : ClosedSo first.closes now.closes closed
   pub all : IsPermutation places (closed ++ waiting)
+
+-- an edge told that it closed the place, or it doesn't tell its closes
+unfoldable pub WasClosed : Option (List Closing) → Option (List Closing) → Place → Type 0
+WasClosed first now place =
+    (closed : List Place) × ClosedSo first now closed × Contains closed place
+
+-- where the edge tells its answers, each place that was given up was closed
+unfoldable pub ClosesEach : EdgeState → EdgeState → Type 0
+ClosesEach first now =
+    IsSome now.polled → (place : Place) → GaveUp first.polled now.polled place
+    → WasClosed first.closes now.closes place
 
 -- a place that gave what is no message is to be closed too, and of other answers none
 unfoldable pub Adds : Came → List Place → List Place → Type 0

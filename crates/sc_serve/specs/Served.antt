@@ -25,7 +25,7 @@ use Rattle.sc_courses.specs.Due.{IsDue}
 use Rattle.sc_courses.specs.Endings.{AreInTime, HasToEnd}
 use Rattle.sc_courses.specs.Marks.{Hearing, HearingPart}
 use Rattle.sc_courses.specs.Reports.{TellsLast, TellsLengths}
-use Rattle.sc_serve.specs.Closing.{Closes, ClosesAll}
+use Rattle.sc_serve.specs.Closing.{Closes, ClosesAll, ClosesEach}
 use Rattle.sc_serve.specs.Polls.{PollsOften}
 
 -- CONFIG and DAR of `serve CONFIG DAR`, none of other words
@@ -80,9 +80,10 @@ last_epoch ran handed journal =
 -- is due that the journal has no room for; and each epoch ended where it had to and no later, at
 -- `Done` the last one hasn't to; the clock and the orders were asked equally often, but in the last
 -- round maybe the orders alone, at `Done` not so; and the edge was polled at most once more than
--- orders were asked for, and they at most 16 times for each poll and 15 times besides; and, where the edge
--- tells its answers and its closes, only places were closed that gave a text which is no message
--- or is too long, and at `Done` each of these was closed, as often as it gave one
+-- orders were asked for, and they at most 16 times for each poll and 15 times besides; and, where
+-- the edge tells its answers and its closes, only places were closed that gave a text which is no
+-- message or is too long, and at `Done` each of these was closed (`closes_each`), as often as it
+-- gave one (`closes_all`)
 pub record Leaves (from : Beginning) (now : EdgeState) (told : Told) (ran : Ran)
     (journal : Kept Step) : Type 0 where
   pub ended : List Epoch
@@ -117,6 +118,7 @@ pub record Leaves (from : Beginning) (now : EdgeState) (told : Told) (ran : Ran)
   pub closes : Closes from.edge now []
   pub closes_all : ran.status ≡ statuses.Done
       → (streams : Streams) × ClosesAll from.edge now streams []
+  pub closes_each : ran.status ≡ statuses.Done → ClosesEach from.edge now
   pub over : ran.status ≡ statuses.Done → HasToEnd from.setup (last_epoch ran handed journal) → ⊥
 
 -- ## How a call ends
