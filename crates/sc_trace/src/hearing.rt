@@ -2,13 +2,13 @@
 
 ghost use Rattle.sc_hosts.specs.Runs.{HasVia};
 
-use crate::streams::{Pending, clear, open_stream};
 use crate::telling::{tell_bad, tell_bytes, tell_long, tell_lost, tell_message, tell_sent};
 use sc_ladder::{Stop, Story, Told, told_message};
-use sc_stream::{Heard, Stream};
+use sc_stream::Heard;
+use sc_streams::Streams;
 use sc_switch::{StepRefused, Switch};
 use sc_terms::Bad;
-use sc_value::{Discard, List, Message, NoMemory, Place, same_place};
+use sc_value::{Discard, Message, NoMemory, Place};
 use std::alloc::Global;
 
 /// More messages than bytes may come in a line.
@@ -19,45 +19,29 @@ pub fn hear_text(
     alloc: Global,
     place: Place,
     text: &[u8],
-    streams: &mut List<Pending>,
+    streams: &mut Streams,
     switch: &mut Switch,
     story: &mut Story,
 ) -> Result<(), StepRefused> {
-    open_stream(alloc, place, streams)?;
-    for pending in &mut streams.items {
-        if same_place(place, pending.place) {
-            return hear_in(alloc, place, text, &mut pending.stream, switch, story);
-        }
-    }
-    Ok(())
-}
-
-fn hear_in(
-    alloc: Global,
-    place: Place,
-    text: &[u8],
-    stream: &mut Stream,
-    switch: &mut Switch,
-    story: &mut Story,
-) -> Result<(), StepRefused> {
-    stream.feed(text)?;
+    streams.feed(alloc, place, text)?;
     let before = story.rows.len();
-    hear_all(alloc, place, stream, switch, story)?;
+    hear_all(alloc, place, streams, switch, story)?;
     if story.rows.len() == before {
         tell_bytes(alloc, switch.now(), place, text.len(), story)?;
     }
     Ok(())
 }
 
+/// Takes the steps of all messages that are whole in what is kept of a place.
 fn hear_all(
     alloc: Global,
     place: Place,
-    stream: &mut Stream,
+    streams: &mut Streams,
     switch: &mut Switch,
     story: &mut Story,
 ) -> Result<(), StepRefused> {
     for _ in 0..MOST_MESSAGES {
-        if !hear(alloc, place, stream, switch, story)? {
+        if !hear(alloc, place, streams, switch, story)? {
             return Ok(());
         }
     }
@@ -69,15 +53,15 @@ fn hear_all(
 fn hear(
     alloc: Global,
     place: Place,
-    stream: &mut Stream,
+    streams: &mut Streams,
     switch: &mut Switch,
     story: &mut Story,
 ) -> Result<bool, StepRefused> {
-    match stream.next() {
+    match streams.next(place) {
         Heard::Message(message) => take_message(alloc, place, message, switch, story),
         Heard::NotYet => Ok(false),
-        Heard::Bad(bad) => end_bad(alloc, place, bad, stream, switch, story),
-        Heard::Long => end_long(alloc, place, stream, switch, story),
+        Heard::Bad(bad) => end_bad(alloc, place, bad, streams, switch, story),
+        Heard::Long => end_long(alloc, place, streams, switch, story),
         Heard::NoMemory => Err(StepRefused::NoMemory),
     }
 }
@@ -124,12 +108,12 @@ fn end_bad(
     alloc: Global,
     place: Place,
     bad: Bad,
-    stream: &mut Stream,
+    streams: &mut Streams,
     switch: &mut Switch,
     story: &mut Story,
 ) -> Result<bool, StepRefused> {
     take_bad(alloc, place, bad, switch, story)?;
-    lose(alloc, place, stream, switch, story)?;
+    lose(alloc, place, streams, switch, story)?;
     Ok(false)
 }
 
@@ -153,12 +137,12 @@ pub fn take_bad(
 fn end_long(
     alloc: Global,
     place: Place,
-    stream: &mut Stream,
+    streams: &mut Streams,
     switch: &mut Switch,
     story: &mut Story,
 ) -> Result<bool, StepRefused> {
     tell_long(alloc, switch.now(), place, story)?;
-    lose(alloc, place, stream, switch, story)?;
+    lose(alloc, place, streams, switch, story)?;
     Ok(false)
 }
 
@@ -166,12 +150,12 @@ fn end_long(
 fn lose(
     alloc: Global,
     place: Place,
-    stream: &mut Stream,
+    streams: &mut Streams,
     switch: &mut Switch,
     story: &mut Story,
 ) -> Result<(), StepRefused> {
     lose_place(alloc, place, switch, story)?;
-    clear(alloc, stream);
+    streams.drop_of(place);
     Ok(())
 }
 

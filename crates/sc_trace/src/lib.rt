@@ -9,7 +9,6 @@ mod lines;
 mod putting;
 mod reading;
 mod recorded;
-mod streams;
 mod telling;
 mod tracing;
 mod turns;

@@ -1,14 +1,14 @@
 //! The steps of the lines of a script.
 
 use crate::hearing::{hear_text, lose_place};
-use crate::streams::{Pending, empty_stream};
 use crate::telling::{tell_sent, tell_tick, tell_withdrawn};
 use crate::turns::{take_turn_of, take_turns};
 use sc_ladder::{Stop, Story};
 use sc_servlets::Catalogue;
+use sc_streams::Streams;
 use sc_switch::{StepRefused, Switch};
 use sc_terms::Line;
-use sc_value::{AppId, List, Place};
+use sc_value::{AppId, Place};
 use std::alloc::Global;
 
 /// Takes the steps that the lines of a script say, and tells them.
@@ -24,7 +24,7 @@ pub fn follow(
     switch: &mut Switch,
     story: &mut Story,
 ) -> Result<(), StepRefused> {
-    let mut streams = List::new(alloc);
+    let mut streams = Streams::new(alloc);
     for line in lines {
         do_line(alloc, apps, line, &mut streams, switch, story)?;
     }
@@ -35,7 +35,7 @@ fn do_line(
     alloc: Global,
     apps: &Catalogue,
     line: &Line,
-    streams: &mut List<Pending>,
+    streams: &mut Streams,
     switch: &mut Switch,
     story: &mut Story,
 ) -> Result<(), StepRefused> {
@@ -70,12 +70,12 @@ fn do_tick(
 fn do_lost(
     alloc: Global,
     place: Place,
-    streams: &mut List<Pending>,
+    streams: &mut Streams,
     switch: &mut Switch,
     story: &mut Story,
 ) -> Result<(), StepRefused> {
     lose_place(alloc, place, switch, story)?;
-    empty_stream(alloc, place, &mut streams.items);
+    streams.drop_of(place);
     Ok(())
 }
 
