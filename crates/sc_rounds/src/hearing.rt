@@ -26,7 +26,8 @@ use sc_value::{Message, Place};
 ///
 /// # Errors
 ///
-/// `JournalFull` where the journal has no room for a step, and `NoMemory`. The steps before it stand.
+/// `JournalFull` where the journal has no room for a step, and `NoMemory`. The steps before it
+/// stand.
 pub fn hear_all<N: Notice<Journal<Step>>>(
     core: &mut Core,
     streams: &mut Streams,

@@ -37,12 +37,13 @@ pub enum Came {
     Fault,
 }
 
-/// Takes the steps that an answer of the edge makes. It comes to `Broken` exactly where the place of its
-/// bytes is given up.
+/// Takes the steps that an answer of the edge makes. It comes to `Broken` exactly where the place of
+/// its bytes is given up.
 ///
 /// # Errors
 ///
-/// `JournalFull` where the journal has no room for a step, and `NoMemory`. The steps before it stand.
+/// `JournalFull` where the journal has no room for a step, and `NoMemory`. The steps before it
+/// stand.
 pub fn take_got<N: Notice<Journal<Step>>>(
     core: &mut Core,
     streams: &mut Streams,

@@ -213,8 +213,8 @@ impl Core {
     ///
     /// # Errors
     ///
-    /// `JournalFull` where the journal has no room for the step, and `NoMemory`, also behind the step.
-    /// The run can't go on then.
+    /// `JournalFull` where the journal has no room for the step, and `NoMemory`, also behind the
+    /// step. The run can't go on then.
     pub fn arrive<N: Notice<Journal<Step>>>(
         &mut self,
         notice: &mut N,

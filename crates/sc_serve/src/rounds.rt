@@ -25,7 +25,8 @@ use std::sync::Wait;
 ///
 /// # Errors
 ///
-/// `Edge` where the edge can't listen, `JournalFull` where the journal has no room for a step, and `NoMemory`.
+/// `Edge` where the edge can't listen, `JournalFull` where the journal has no room for a step, and
+/// `NoMemory`.
 pub fn round<R: Wait, E: Edge, T: Clock, O: Orders, N: Notice<Journal<Step>>>(
     rt: &R,
     server: &mut Server,

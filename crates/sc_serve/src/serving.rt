@@ -53,11 +53,12 @@ use std::thread::Threads;
 ///
 /// The status says how it ended:
 ///
-/// - `Done`: all that came was heard, no event waits, and all that was sent was put, but for what went to places
-///   that failed. Each place that gave what is no message was closed, as often as it gave it. The last listing
-///   that the notice was told is that of the last step.
+/// - `Done`: all that came was heard, no event waits, and all that was sent was put, but for what
+///   went to places that failed. Each place that gave what is no message was closed, as often as it
+///   gave it. The last listing that the notice was told is that of the last step.
 /// - `Usage`: the words have another form.
-/// - `Config`, `Dar`: the configuration is refused; it is accepted, and the routing table is refused.
+/// - `Config`, `Dar`: the configuration is refused; it is accepted, and the routing table is
+///   refused.
 /// - `JournalFull`: a step was due that the journal had no room for.
 /// - `Edge`: only where the edge counted a fault of its listener.
 /// - `Read`: only where the shelf's count of faults rose in this call.
