@@ -28,7 +28,8 @@ use Rattle.sc_serve.specs.Served.{Leaves}
 
 -- it stands between two rounds, and closed only places that were given up, and each of them but for
 -- those that it remembers
-pub record Holds (from : Beginning) (edge : EdgeState) (told : Told) (server : Server) : Type 0 where
+pub record Holds (from : Beginning) (edge : EdgeState) (told : Told) (server : Server)
+    : Type 0 where
   pub serves : Serves from edge told server.core server.streams
   pub closes : Closes from.edge edge server.broken
   pub closes_all : ClosesAll from.edge edge (bytes_of server.streams) server.broken
@@ -132,7 +133,8 @@ HaltsOn old new edge edge2 told told2 sources sources2 =
 -- where it stood so, the epoch that runs now hasn't to end
 abbrev pub IsOver : Server → Server → EdgeState → Told → Type 0
 IsOver old new edge told =
-    (from : Beginning) → Holds from edge told old → HasToEnd from.setup (running new.core.switch) → ⊥
+    (from : Beginning) → Holds from edge told old
+    → HasToEnd from.setup (running new.core.switch) → ⊥
 
 -- it stands behind its last round, with nothing left to be put and no place to be closed, the
 -- notice was told what lived behind the last step, and the epoch hasn't to end

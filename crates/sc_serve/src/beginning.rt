@@ -112,8 +112,10 @@ fn begin_over(alloc: Global, settings: Settings, apps: &Catalogue) -> Result<Beg
         (record {
           config = settings.config;
           dar = settings.dar;
-          kinds =
-              (map (λ k. both_charters (stated (k.servlet.vtable, k.servlet.value)) (option_map (λ l. listens (l.vtable, l.value)) k.listener)) apps.now.kinds);
+          kinds = map
+              (λ k.
+              both_charters (stated (k.servlet.vtable, k.servlet.value))
+              (option_map (λ l. listens (l.vtable, l.value)) k.listener)) apps.now.kinds;
         }) }
     ensures new { IfOk result (λ begun. IsNew begun.server) }
     ensures setup { IfOk result
@@ -122,16 +124,24 @@ fn begin_over(alloc: Global, settings: Settings, apps: &Catalogue) -> Result<Beg
         ≡ record {
           config = settings.config;
           dar = settings.dar;
-          kinds =
-              (map (λ k. both_charters (stated (k.servlet.vtable, k.servlet.value)) (option_map (λ l. listens (l.vtable, l.value)) k.listener)) apps.now.kinds);
+          kinds = map
+              (λ k.
+              both_charters (stated (k.servlet.vtable, k.servlet.value))
+              (option_map (λ l. listens (l.vtable, l.value)) k.listener)) apps.now.kinds;
         }) }
     ensures unserved { IfErr result
         (λ ran.
         (edge : EdgeState) (told : Told)
         → IsServed
         (record {
-          setup =
-              record { config = settings.config; dar = settings.dar; kinds = (map (λ k. both_charters (stated (k.servlet.vtable, k.servlet.value)) (option_map (λ l. listens (l.vtable, l.value)) k.listener)) apps.now.kinds) };
+          setup = record {
+            config = settings.config;
+            dar = settings.dar;
+            kinds = map
+                (λ k.
+                both_charters (stated (k.servlet.vtable, k.servlet.value))
+                (option_map (λ l. listens (l.vtable, l.value)) k.listener)) apps.now.kinds;
+          };
           told = told;
           edge = edge;
           moments = [];
