@@ -85,7 +85,7 @@ module _ {S : Type 0} (Good : S → Type 0) where
 
   marks-goes : (entry : DueEntry) (host : Host S) → Goes host (mark_fired entry host)
   unfolding mark_fired
-  marks-goes entry host = λ all. all-first (λ (live : Live S). Good live.session) (is_live entry.app.serial) (λ live. record live { fired = live.fired ++ record { due = entry.due; number = entry.number } ∷ [] }) host.sessions (λ live found good. good) all
+  marks-goes entry host = λ all. all-first (λ (live : Live S). Good live.session) (is_live entry.app.serial) (λ live. record live { fired = live.fired ++ record { due = entry.due; timer = entry.timer } ∷ [] }) host.sessions (λ live found good. good) all
 
   -- the same between two states of a host, as a step's walk asks for it
   abbrev H : ℕ → ℕ → ℕ → Host S → ℕ → Host S → Type 0

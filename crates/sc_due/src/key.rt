@@ -4,18 +4,19 @@ ghost use Rattle.std.specs.Cmp.Rules.{comparing};
 ghost use Rattle.std.specs.Ordering.{as_partial_cmp};
 ghost use Rattle.sc_model.specs.Timers.{due_order};
 
+use sc_parts::TimerName;
 use sc_value::AppId;
 use std::cmp::Ordering;
 use std::marker::Model;
 
 /// What an entry is known by: its due moment in milliseconds, the application session that it
-/// belongs to, and its number there, whose meaning is the caller's. Keys are ordered by the moment,
-/// then by the session's host and serial, then by the number.
+/// belongs to, and the name of its timer there. Keys are ordered by the moment, then by the
+/// session's host and serial, then by the timer's name.
 #[derive(Clone, Copy, Debug, PartialEq, Eq)]
 pub struct DueKey {
     pub due: u64,
     pub app: AppId,
-    pub number: u64,
+    pub timer: TimerName,
 }
 
 impl Model for DueKey {
@@ -23,9 +24,9 @@ impl Model for DueKey {
 
     ghost Value = { DueEntry };
 
-    ghost view = { λ k. record { due = k.due; app = k.app; number = k.number } };
+    ghost view = { λ k. record { due = k.due; app = k.app; timer = k.timer } };
 
-    ghost inverse = { λ e. record { due = e.due; app = e.app; number = e.number } };
+    ghost inverse = { λ e. record { due = e.due; app = e.app; timer = e.timer } };
 }
 
 impl Ord for DueKey {
@@ -42,7 +43,7 @@ impl Ord for DueKey {
             .cmp(&other.due)
             .then(self.app.host.cmp(&other.app.host))
             .then(self.app.serial.cmp(&other.app.serial))
-            .then(self.number.cmp(&other.number))
+            .then(self.timer.cmp(&other.timer))
     }
 }
 

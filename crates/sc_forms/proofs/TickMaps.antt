@@ -55,7 +55,7 @@ module _ {S T : Type 0} (change : S → T) where
 
   mark_fired-maps : (entry : DueEntry) (host : Host S) → mark_fired entry (map_host change host) ≡ map_host change (mark_fired entry host)
   unfolding mark_fired map_host map_live
-  mark_fired-maps entry host = rw (change_first-maps (map_live change) (is_live entry.app.serial) _ (λ live. record live { fired = live.fired ++ record { due = entry.due; number = entry.number } ∷ [] }) (λ live. refl) host.sessions) refl
+  mark_fired-maps entry host = rw (change_first-maps (map_live change) (is_live entry.app.serial) _ (λ live. record live { fired = live.fired ++ record { due = entry.due; timer = entry.timer } ∷ [] }) (λ live. refl) host.sessions) refl
 
   mark_fired_at-maps : (number : ℕ) (entry : DueEntry) (net : Net S) → change_host number (mark_fired entry) (map_net change net) ≡ map_net change (change_host number (mark_fired entry) net)
   mark_fired_at-maps number entry net = change_host-maps change number (mark_fired entry) (mark_fired entry) (mark_fired-maps entry) net

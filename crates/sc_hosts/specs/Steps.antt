@@ -10,6 +10,7 @@ use Rattle.sc_terms.specs.declared.settings.Config.{Config}
 use Rattle.sc_terms.specs.declared.steps.Step.{Step}
 use Rattle.sc_terms.specs.declared.steps.Step.TheVariants as steps
 use Rattle.sc_parts.specs.declared.setup.Setup.{Setup}
+use Rattle.sc_parts.specs.TimerNames.{same_timer}
 use Rattle.sc_state.specs.declared.host.Fired.{Fired}
 use Rattle.sc_state.specs.Hosts.{Host}
 use Rattle.sc_state.specs.declared.host.Live.{Live}
@@ -50,7 +51,8 @@ outcome_by form config session turn =
 unfoldable pub still_fired : Session → List Fired → List Fired
 still_fired session fired =
     filter
-    (λ f. list_any (λ entry. entry.due == f.due && entry.number == f.number) (entries_of session))
+    (λ f.
+    list_any (λ entry. entry.due == f.due && same_timer entry.timer f.timer) (entries_of session))
     fired
 
 -- a live session after a turn: its first event is done, and the next one is first from now on

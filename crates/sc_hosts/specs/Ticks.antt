@@ -1,7 +1,10 @@
 -- A place is lost, and time passes: the events of what is due, and what transactions tell by
 -- themselves (RFC 3261 sections 8.1.3.1, 16.9 and 17).
-use Rattle.std.specs.Prelude.{ℕ, ◌+◌, ◌*◌, ◌==◌, List, [], ◌∷◌, ◌++◌, Bool, ◌&&◌, Option, None, Some, if◌then◌else◌, map, filter}
+use Rattle.std.specs.Prelude.{ℕ, ◌+◌, List, [], ◌∷◌, ◌++◌, Bool, Option, None, Some, if◌then◌else◌, map, filter}
+use Rattle.std.specs.declared.cmp.Ordering.{Ordering}
+use Rattle.std.specs.BTreeSet.{insert_key}
 use Rattle.std.specs.List.{find, filter_map, flat_map, fold}
+use Rattle.std.specs.Ordering.{bool_cmp, eq_by_cmp, nat_cmp, on, then_cmp}
 use Rattle.sc_value.specs.declared.ids.AppId.{AppId}
 use Rattle.sc_value.specs.declared.ids.Place.{Place}
 use Rattle.sc_value.specs.declared.message.Response.{Response}
@@ -10,6 +13,8 @@ use Rattle.sc_terms.specs.declared.settings.Config.{Config}
 use Rattle.sc_parts.specs.declared.transactions.ClientItem.{ClientItem}
 use Rattle.sc_parts.specs.declared.transactions.ClientItem.TheVariants as client_items
 use Rattle.sc_parts.specs.declared.transactions.ServerItem.TheVariants as server_items
+use Rattle.sc_parts.specs.declared.timers.TimerName.{TimerName}
+use Rattle.sc_parts.specs.declared.timers.TimerName.TheVariants as timers
 use Rattle.sc_state.specs.declared.host.Client.{Client}
 use Rattle.sc_state.specs.Hosts.{Host}
 use Rattle.sc_state.specs.declared.host.Live.{Live}
@@ -20,12 +25,12 @@ use Rattle.sc_state.specs.declared.queue.Queued.TheVariants as queued
 unfoldable pub use Rattle.sc_state.specs.Entries.{is_fired}
 use Rattle.sc_grammar.specs.Written.{Bytes}
 use Rattle.sc_model.specs.Names.{edge_tag}
-use Rattle.sc_model.specs.Timers.{DueEntry, in_order, is_due}
+use Rattle.sc_model.specs.Timers.{DueEntry, due_order, in_order, is_due}
 use Rattle.sc_hosts.specs.Messages.{own_response, without_via}
 use Rattle.sc_hosts.specs.Nets.{change_host, queue_for}
 use Rattle.sc_hosts.specs.Sessions.{Form, entries_of}
 use Rattle.sc_hosts.specs.Inboxes.{is_live}
-use Rattle.sc_hosts.specs.Transacting.{due_of_client, due_of_server, goes_to, is_cancel_client, is_same_app, out_of_client, pass_client, pass_server}
+use Rattle.sc_hosts.specs.Transacting.{due_of_client, due_of_server, goes_to, is_cancel_client, out_of_client, pass_client, pass_server}
 use Rattle.sc_hosts.specs.Words.{request_timeout, unavailable}
 
 -- what a transaction tells by itself reaches its session without Vias
@@ -48,28 +53,23 @@ passes config item reason net client =
     (change_host client.app.host
     (pass_client client.app client.branch (is_cancel_client client) item) net)
 
--- by what a client transaction is ordered: session, branch, and a request before its CANCEL
-unfoldable pub client_key : Client → DueEntry
-client_key client =
-    record {
-      due = 0;
-      app = client.app;
-      number = 2 * client.branch + (if is_cancel_client client then 1 else 0);
-    }
-
--- the client transaction of this key
-unfoldable pub has_key : DueEntry → Client → Bool
-has_key key client = is_same_app client.app key.app && (client_key client).number == key.number
+-- the order of client transactions: by host, serial and branch, and a request before its CANCEL
+abbrev pub client_order : Client → Client → Ordering
+client_order =
+    then_cmp (on (λ client. client.app.host) nat_cmp)
+    (then_cmp (on (λ client. client.app.serial) nat_cmp)
+    (then_cmp (on (λ client. client.branch) nat_cmp) (on is_cancel_client bool_cmp)))
 
 -- all client transactions of a net
 unfoldable pub clients_of : {S : Type 0} → Net S → List Client
 clients_of net = flat_map (λ host. host.clients) net.hosts
 
--- the client transactions whose request went to a place, by host, serial and branch
+-- the client transactions whose request went to a place, in their order; of two that it doesn't
+-- tell apart the first stands
 unfoldable pub clients_to : {S : Type 0} → Place → Net S → List Client
 clients_to place net =
-    filter_map (λ key. find (has_key key) (clients_of net))
-    (in_order (map client_key (filter (λ client. goes_to place client.peer) (clients_of net))))
+    fold (insert_key client_order) []
+    (filter (λ client. goes_to place client.peer) (clients_of net))
 
 -- a place is lost: each of these transactions tells 503 (RFC 3261 sections 8.1.3.1 and 16.9)
 unfoldable pub lost : {S : Type 0} → Config → Place → Net S → Net S
@@ -82,34 +82,37 @@ pub data DueItem : Type 0 where
   Of_client : (client : Client) → DueItem
   Of_server : (server : Server) → DueItem
 
--- what is due, with its entry: the moment, the session, and a number that is its own there
+-- what is due, with its entry: the moment, the session, and the timer that is its own there
 pub record Dated : Type 0 where
   pub entry : DueEntry
   pub item : DueItem
 
 -- an entry of this moment, none where nothing runs
-unfoldable pub dated : AppId → ℕ → DueItem → Option ℕ → List Dated
-dated app number item None = []
-dated app number item (Some due) =
-    record { entry = record { due = due; app = app; number = number }; item = item } ∷ []
+unfoldable pub dated : AppId → TimerName → DueItem → Option ℕ → List Dated
+dated app timer item None = []
+dated app timer item (Some due) =
+    record { entry = record { due = due; app = app; timer = timer }; item = item } ∷ []
 
--- the timer of a client transaction; its number is 8*x + 3 for branch x, and 8*x + 4 for the
--- branch's CANCEL
+-- the name of the timer of a client transaction: that of its branch, or of the branch's CANCEL
+abbrev pub client_timer : Client → TimerName
+client_timer client =
+    if is_cancel_client client then timers.Cancel client.branch else timers.Client client.branch
+
+-- the timer of a client transaction
 unfoldable pub client_dated : Client → List Dated
 client_dated client =
-    dated client.app (8 * client.branch + (if is_cancel_client client then 4 else 3))
-    (Of_client client) (due_of_client client)
+    dated client.app (client_timer client) (Of_client client) (due_of_client client)
 
--- the timer of a server transaction; its number is 8*x + 5 for event x
+-- the timer of a server transaction
 unfoldable pub server_dated : Server → List Dated
 server_dated server =
-    dated server.app (8 * server.event + 5) (Of_server server) (due_of_server server)
+    dated server.app (timers.Server server.event) (Of_server server) (due_of_server server)
 
 -- what is due in a live session and hasn't had its event
 unfoldable pub live_dated : {S : Type 0} → Form S → ℕ → Live S → List Dated
 live_dated form host live =
-    flat_map (λ entry. if is_fired live.fired entry.due entry.number then []
-    else dated (record { host = host; serial = live.serial }) entry.number
+    flat_map (λ entry. if is_fired live.fired entry.due entry.timer then []
+    else dated (record { host = host; serial = live.serial }) entry.timer
     (Of_session (record { host = host; serial = live.serial }) entry.event) (Some entry.due))
     (entries_of (form.read live.session))
 
@@ -129,11 +132,11 @@ hosts_dated form number (host ∷ hosts) =
 unfoldable pub all_dated : {S : Type 0} → Form S → Net S → List Dated
 all_dated form net = hosts_dated form 0 net.hosts
 
--- the two entries are equal
+-- the two entries are one: neither comes before the other
 unfoldable pub same_entry : DueEntry → DueEntry → Bool
-same_entry a b = a.due == b.due && is_same_app a.app b.app && a.number == b.number
+same_entry = eq_by_cmp due_order
 
--- what is due at a moment, by due moment, host, serial and number
+-- what is due at a moment, by due moment, host, serial and the timer's name
 unfoldable pub due_items : {S : Type 0} → Form S → ℕ → Net S → List Dated
 due_items form now net =
     filter_map (λ entry. find (λ d. same_entry d.entry entry) (all_dated form net))
@@ -146,7 +149,7 @@ mark_fired entry host = record host {
       change_first (is_live entry.app.serial)
       (λ live.
       record live {
-        fired = live.fired ++ record { due = entry.due; number = entry.number } ∷ [];
+        fired = live.fired ++ record { due = entry.due; timer = entry.timer } ∷ [];
       }) host.sessions;
 }
 

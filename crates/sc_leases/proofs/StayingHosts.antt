@@ -121,7 +121,7 @@ module _ {S : Type 0} (serial : ℕ) where
   unfolding mark_fired
   marks-stay entry count host = record {
     stays = λ live waiting is first.
-        mark-by (serial == entry.app.serial) (λ live. record live { fired = live.fired ++ record { due = entry.due; number = entry.number } ∷ [] }) live waiting _ refl refl refl
+        mark-by (serial == entry.app.serial) (λ live. record live { fired = live.fired ++ record { due = entry.due; timer = entry.timer } ∷ [] }) live waiting _ refl refl refl
         (found-changed host.sessions entry.app.serial _ (λ live. refl) (serial == entry.app.serial) refl ∙ changed-one (serial == entry.app.serial) _ (live_in serial host) live is) first;
   }
 

@@ -12,6 +12,9 @@ use Rattle.std.specs.BTreeSet.{insert_key}
 use Rattle.std.specs.FinMap.Entries.{below_all, is_sorted}
 use Rattle.std.proofs.lemmas.Cmp.{nat_cmp_total, on_total, then_total, alike_right, eq_by_cmp_equiv, by_ranked, ranked}
 use Rattle.std.proofs.lemmas.Map.Lookups.{CmpEqualImpliesEq, exact_unsigned, exact_pairs}
+use Rattle.sc_parts.specs.declared.timers.TimerName.{TimerName}
+use Rattle.sc_parts.specs.TimerNames.{timer_order}
+use Rattle.sc_parts.proofs.TimerLaws.{timers_total, timers_exact}
 use Rattle.sc_model.specs.Timers.{DueEntry, DueEvent, due_order, entry_of, is_met, running, in_order, is_due, due_by}
 use Rattle.sc_model.specs.Timers.DueEvent.{Made, Ended}
 use Rattle.sc_model.proofs.RisingKeys.{marked, has, rises, rises-insert_key, has-insert_key, rises-filter, has-filter, same_keys}
@@ -19,13 +22,13 @@ use Rattle.sc_model.proofs.RisingKeys.{marked, has, rises, rises-insert_key, has
 -- ## The order of entries
 
 pub total : IsTotalOrder due_order
-total = then_total (on_total (λ (e : DueEntry). e.due) nat_cmp_total) (then_total (on_total (λ (e : DueEntry). e.app.host) nat_cmp_total) (then_total (on_total (λ (e : DueEntry). e.app.serial) nat_cmp_total) (on_total (λ (e : DueEntry). e.number) nat_cmp_total)))
+total = then_total (on_total (λ (e : DueEntry). e.due) nat_cmp_total) (then_total (on_total (λ (e : DueEntry). e.app.host) nat_cmp_total) (then_total (on_total (λ (e : DueEntry). e.app.serial) nat_cmp_total) (on_total (λ (e : DueEntry). e.timer) timers_total)))
 
 -- entries that compare alike are one
 pub exact : CmpEqualImpliesEq due_order
 exact a b h =
-    ap (λ (p : ℕ × (ℕ × (ℕ × ℕ))). record { due = p.0; app = record { host = p.1.0; serial = p.1.1.0 }; number = p.1.1.1 })
-    (exact_pairs nat_cmp _ exact_unsigned (exact_pairs nat_cmp _ exact_unsigned (exact_pairs nat_cmp nat_cmp exact_unsigned exact_unsigned)) (a.due, (a.app.host, (a.app.serial, a.number))) (b.due, (b.app.host, (b.app.serial, b.number))) h)
+    ap (λ (p : ℕ × (ℕ × (ℕ × TimerName))). record { due = p.0; app = record { host = p.1.0; serial = p.1.1.0 }; timer = p.1.1.1 })
+    (exact_pairs nat_cmp _ exact_unsigned (exact_pairs nat_cmp _ exact_unsigned (exact_pairs nat_cmp timer_order exact_unsigned timers_exact)) (a.due, (a.app.host, (a.app.serial, a.timer))) (b.due, (b.app.host, (b.app.serial, b.timer))) h)
 
 -- ## What one more event makes of the entries that run
 

@@ -6,20 +6,22 @@ use Rattle.std.specs.declared.cmp.Ordering.{Ordering}
 use Rattle.std.specs.Ordering.{nat_cmp, is_eq, on, then_cmp}
 use Rattle.std.specs.BTreeSet.{insert_key}
 use Rattle.sc_value.specs.declared.ids.AppId.{AppId}
+use Rattle.sc_parts.specs.declared.timers.TimerName.{TimerName}
+use Rattle.sc_parts.specs.TimerNames.{timer_order}
 
--- an entry: its due moment in milliseconds, the application session that it belongs to, and its
--- number there
+-- an entry: its due moment in milliseconds, the application session that it belongs to, and the
+-- name of its timer there
 pub record DueEntry : Type 0 where
   pub due : ℕ
   pub app : AppId
-  pub number : ℕ
+  pub timer : TimerName
 
--- by the due moment, then by the session's host and serial, then by the number
+-- by the due moment, then by the session's host and serial, then by the timer's name
 abbrev pub due_order : DueEntry → DueEntry → Ordering
 due_order =
     then_cmp (on (λ e. e.due) nat_cmp)
     (then_cmp (on (λ e. e.app.host) nat_cmp)
-    (then_cmp (on (λ e. e.app.serial) nat_cmp) (on (λ e. e.number) nat_cmp)))
+    (then_cmp (on (λ e. e.app.serial) nat_cmp) (on (λ e. e.timer) timer_order)))
 
 -- what happens to entries
 pub data DueEvent : Type 0 where

@@ -242,7 +242,7 @@ module _ {S : Type 0} (form : Form S) (app : AppId) (request_of : S → Request)
       (change-kept known of.host (mark_fired entry) net
       (λ host good. record {
         sessions = all-first (IsLiveAs form app request_of Lives Sound kinds known of.host) (is_live entry.app.serial)
-            (λ live. record live { fired = live.fired ++ record { due = entry.due; number = entry.number } ∷ [] }) host.sessions (λ live found ok. ok) good.sessions;
+            (λ live. record live { fired = live.fired ++ record { due = entry.due; timer = entry.timer } ∷ [] }) host.sessions (λ live found ok. ok) good.sessions;
         servers = good.servers;
         clients = good.clients;
         last = good.last;

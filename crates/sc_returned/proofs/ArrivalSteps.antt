@@ -197,7 +197,7 @@ module _ {S : Type 0} (form : Form S) (Lives : List Arrival → AppId → S → 
       (change-kept arrivals of.host (mark_fired entry) net
       (λ host good. record {
         sessions = all-first (LiveIn form Lives kept arrivals of.host) (is_live entry.app.serial)
-            (λ live. record live { fired = live.fired ++ record { due = entry.due; number = entry.number } ∷ [] }) host.sessions (λ live found ok. ok) good.sessions;
+            (λ live. record live { fired = live.fired ++ record { due = entry.due; timer = entry.timer } ∷ [] }) host.sessions (λ live found ok. ok) good.sessions;
         servers = good.servers;
       }) holds)
   fires-kept arrivals config now net entry (Of_client client) none holds = passes-kept arrivals config (client_items.MomentCame now) _ net client holds

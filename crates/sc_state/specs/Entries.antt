@@ -1,31 +1,33 @@
 -- The entries that are due in an application session: its expiry (JSR 289 section 6.1.2), its
 -- servlet timers, and the timers of its proxies' branches (RFC 3261 section 16.8). Moments are in
 -- milliseconds.
-use Rattle.std.specs.Prelude.{ℕ, ◌+◌, ◌*◌, ◌==◌, List, [], ◌∷◌, ◌++◌, Bool, ◌&&◌, Option, None, Some, if◌then◌else◌, min}
+use Rattle.std.specs.Prelude.{ℕ, ◌==◌, List, [], ◌∷◌, ◌++◌, Bool, ◌&&◌, Option, None, Some, if◌then◌else◌, min}
 use Rattle.std.specs.List.{flat_map, list_any}
 use Rattle.sc_terms.specs.declared.views.TimerView.{TimerView}
+use Rattle.sc_parts.specs.declared.timers.TimerName.{TimerName}
+use Rattle.sc_parts.specs.declared.timers.TimerName.TheVariants as timers
+use Rattle.sc_parts.specs.TimerNames.{same_timer}
 use Rattle.sc_state.specs.declared.host.Fired.{Fired}
 use Rattle.sc_state.specs.declared.proxy.Branch.{Branch}
 use Rattle.sc_state.specs.declared.queue.Queued.{Queued}
 use Rattle.sc_state.specs.declared.queue.Queued.TheVariants as queued
 use Rattle.sc_state.specs.declared.session.Session.{Session}
 
--- an entry of a session: the number of one is 8*x + c, with c 0 for the expiry, 1 for the timer x,
--- and 2 for the timer of branch x
+-- an entry of a session: its due moment, its timer, and the event that is queued then
 pub record SessionEntry : Type 0 where
   pub due : ℕ
-  pub number : ℕ
+  pub timer : TimerName
   pub event : Queued
 
 -- the expiry of the application session, none where it never expires
 unfoldable pub expiry_entry : Option ℕ → List SessionEntry
 expiry_entry None = []
-expiry_entry (Some due) = record { due = due; number = 0; event = queued.Expired } ∷ []
+expiry_entry (Some due) = record { due = due; timer = timers.Expiry; event = queued.Expired } ∷ []
 
 -- a servlet timer that is active
 unfoldable pub timer_entry : TimerView → SessionEntry
 timer_entry timer =
-    record { due = timer.due; number = 8 * timer.id.0 + 1; event = queued.Timer timer.id }
+    record { due = timer.due; timer = timers.Servlet timer.id; event = queued.Timer timer.id }
 
 -- the timer of a branch, none where it doesn't run
 unfoldable pub branch_entry : Branch → List SessionEntry
@@ -36,7 +38,7 @@ branch_entry branch = entry_at branch.due
     entry_at (Some due) =
         record {
           due = due;
-          number = 8 * branch.number + 2;
+          timer = timers.Branch branch.number;
           event = queued.BranchTimer branch.number due;
         } ∷ []
 
@@ -48,8 +50,8 @@ entries_of session =
     ++ flat_map (λ proxy. flat_map branch_entry proxy.branches) session.known.proxies
 
 -- the entry has had its event
-unfoldable pub is_fired : List Fired → ℕ → ℕ → Bool
-is_fired fired due number = list_any (λ f. f.due == due && f.number == number) fired
+unfoldable pub is_fired : List Fired → ℕ → TimerName → Bool
+is_fired fired due timer = list_any (λ f. f.due == due && same_timer f.timer timer) fired
 
 -- ## The least due moment
 
@@ -61,7 +63,7 @@ lower (Some a) (Some b) = Some (min a b)
 
 -- of an entry, where it hasn't had its event
 abbrev pub due_of_entry : List Fired → SessionEntry → Option ℕ
-due_of_entry fired entry = if is_fired fired entry.due entry.number then None else Some entry.due
+due_of_entry fired entry = if is_fired fired entry.due entry.timer then None else Some entry.due
 
 -- of those that haven't had their event
 unfoldable pub least_due : List Fired → List SessionEntry → Option ℕ

@@ -1,5 +1,5 @@
 use crate::{Host, Timed, Waiting};
-use sc_parts::{ClientItem, ServerItem};
+use sc_parts::{ClientItem, ServerItem, TimerName};
 use sc_value::{AppId, List, Message, Place, Request, Response, Shared, Text};
 
 /// The other end of a transaction.
@@ -58,11 +58,11 @@ pub struct Server {
     pub last: Option<Shared<Response>>,
 }
 
-/// A due entry whose event was queued.
+/// A timer whose event was queued, with the moment at which it was due, in milliseconds.
 #[derive(Clone, Copy, Debug, PartialEq, Eq)]
 pub struct Fired {
     pub due: u64,
-    pub number: u64,
+    pub timer: TimerName,
 }
 
 /// An application session that lives, in one form or another.

@@ -88,7 +88,7 @@ impl<S: Timed> Item for Live<S> {
     }
 
     fn due(&self) -> Result<Option<u64>, NoMemory> {
-        self.session.get().least_due(self.fired.as_slice())
+        Ok(self.session.get().least_due(self.fired.as_slice()))
     }
 
     fn first(&self) -> Option<u64> {

@@ -32,5 +32,5 @@ pub use standing::{
     due_of_client, due_of_server, is_cancel_client, is_client, is_invite_client, is_invite_server,
     is_same_app, state_of_client, state_of_server,
 };
-pub use timed::Timed;
+pub use timed::{Timed, is_fired};
 pub use working::{Asked, Draft, Play, Prepared, Working, Written};

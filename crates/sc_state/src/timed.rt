@@ -1,31 +1,31 @@
 //! When something of an application session is due.
 
-ghost use Rattle.std.specs.Prelude.{◌≡◌, ◌+◌, ◌*◌, [], ◌∷◌, List as Items, IfOk};
+ghost use Rattle.std.specs.Prelude.{◌≡◌, [], ◌∷◌, List as Items};
 ghost use Rattle.std.specs.List.{flat_map};
 ghost use Rattle.sc_state.specs.Entries.{SessionEntry, expiry_entry, timer_entry, branch_entry, entries_of, is_fired, lower, least_due};
 
 use crate::{Branch, Fired, Proxy, Session};
+use sc_parts::TimerName;
 use sc_terms::TimerView;
-use sc_value::NoMemory;
 
 /// What runs in an application session.
 pub trait Timed: Drop {
     ghost entries: { Self → Items SessionEntry };
 
     /// The least due moment of the entries that haven't had their event, None where there is none.
-    fn least_due(&self, fired: &[Fired]) -> Result<Option<u64>, NoMemory>
-        ensures { IfOk result (λ due. due ≡ least_due fired.now (entries self.now)) };
+    fn least_due(&self, fired: &[Fired]) -> Option<u64>
+        ensures { result ≡ least_due fired.now (entries self.now) };
 }
 
 impl Timed for Session {
     ghost entries = { λ session. entries_of session };
 
     #[tactic(auto, unfolding(crate::specs::Entries::entries_of), using(crate::proofs::LeastDue::least_of))]
-    fn least_due(&self, fired: &[Fired]) -> Result<Option<u64>, NoMemory> {
+    fn least_due(&self, fired: &[Fired]) -> Option<u64> {
         let expiry = expiry_due(self.view.expires, fired);
-        let timers = timers_due(self.view.timers.as_slice(), fired)?;
-        let branches = proxies_due(self.known.proxies.as_slice(), fired)?;
-        Ok(lower(lower(expiry, timers), branches))
+        let timers = timers_due(self.view.timers.as_slice(), fired);
+        let branches = proxies_due(self.known.proxies.as_slice(), fired);
+        lower(lower(expiry, timers), branches)
     }
 }
 
@@ -39,21 +39,12 @@ fn lower(a: Option<u64>, b: Option<u64>) -> Option<u64>
     }
 }
 
-// The number of an entry of this kind.
-fn entry_number(kind: u64, number: u64) -> Result<u64, NoMemory>
-    ensures { IfOk result (λ n. n ≡ 8 * number + kind) }
-{
-    match number.checked_mul(8) {
-        Some(first) => first.checked_add(kind).ok_or(NoMemory),
-        None => Err(NoMemory),
-    }
-}
-
+/// Whether the timer that was due at this moment, in milliseconds, has had its event.
 #[tactic(auto, unfolding(crate::specs::Entries::is_fired))]
-fn is_fired(fired: &[Fired], due: u64, number: u64) -> bool
-    ensures { result ≡ is_fired fired.now due number }
+pub fn is_fired(fired: &[Fired], due: u64, timer: TimerName) -> bool
+    ensures { result ≡ is_fired fired.now due timer }
 {
-    fired.iter().any(|f| f.due == due && f.number == number)
+    fired.iter().any(|f| f.due == due && f.timer == timer)
 }
 
 #[tactic(auto, unfolding(crate::specs::Entries::expiry_entry, crate::specs::Entries::least_due))]
@@ -61,71 +52,63 @@ fn expiry_due(expires: Option<u64>, fired: &[Fired]) -> Option<u64>
     ensures { result ≡ least_due fired.now (expiry_entry expires) }
 {
     match expires {
-        Some(due) if !is_fired(fired, due, 0) => Some(due),
+        Some(due) if !is_fired(fired, due, TimerName::Expiry) => Some(due),
         Some(_) | None => None,
     }
 }
 
 #[tactic(auto, unfolding(crate::specs::Entries::timer_entry, crate::specs::Entries::least_due))]
-fn timer_due(timer: &TimerView, fired: &[Fired]) -> Result<Option<u64>, NoMemory>
-    ensures { IfOk result (λ due. due ≡ least_due fired.now (timer_entry timer.now ∷ [])) }
+fn timer_due(timer: &TimerView, fired: &[Fired]) -> Option<u64>
+    ensures { result ≡ least_due fired.now (timer_entry timer.now ∷ []) }
 {
-    let number = entry_number(1, u64::from(timer.id.0))?;
-    if is_fired(fired, timer.due, number) {
-        return Ok(None);
+    if is_fired(fired, timer.due, TimerName::Servlet(timer.id)) {
+        return None;
     }
-    Ok(Some(timer.due))
+    Some(timer.due)
 }
 
 #[tactic(auto, using(crate::proofs::LeastDue::least_none, crate::proofs::LeastDue::least_both))]
-fn timers_due(timers: &[TimerView], fired: &[Fired]) -> Result<Option<u64>, NoMemory>
-    ensures { IfOk result
-        (λ due. due ≡ least_due fired.now (flat_map (λ timer. timer_entry timer ∷ []) timers.now)) }
+fn timers_due(timers: &[TimerView], fired: &[Fired]) -> Option<u64>
+    ensures { result
+        ≡ least_due fired.now (flat_map (λ timer. timer_entry timer ∷ []) timers.now) }
 {
     let mut least = None;
     for timer in timers {
-        least = lower(least, timer_due(timer, fired)?);
+        least = lower(least, timer_due(timer, fired));
     }
-    Ok(least)
+    least
 }
 
 #[tactic(auto, unfolding(crate::specs::Entries::branch_entry, crate::specs::Entries::least_due))]
-fn branch_due(branch: &Branch, fired: &[Fired]) -> Result<Option<u64>, NoMemory>
-    ensures { IfOk result (λ due. due ≡ least_due fired.now (branch_entry branch.now)) }
+fn branch_due(branch: &Branch, fired: &[Fired]) -> Option<u64>
+    ensures { result ≡ least_due fired.now (branch_entry branch.now) }
 {
-    let due = match branch.due {
-        Some(due) => due,
-        None => return Ok(None),
-    };
-    let number = entry_number(2, branch.number)?;
-    if is_fired(fired, due, number) {
-        return Ok(None);
+    match branch.due {
+        Some(due) if !is_fired(fired, due, TimerName::Branch(branch.number)) => Some(due),
+        Some(_) | None => None,
     }
-    Ok(Some(due))
 }
 
 #[tactic(auto, using(crate::proofs::LeastDue::least_none, crate::proofs::LeastDue::least_both))]
-fn branches_due(branches: &[Branch], fired: &[Fired]) -> Result<Option<u64>, NoMemory>
-    ensures { IfOk result (λ due. due ≡ least_due fired.now (flat_map branch_entry branches.now)) }
+fn branches_due(branches: &[Branch], fired: &[Fired]) -> Option<u64>
+    ensures { result ≡ least_due fired.now (flat_map branch_entry branches.now) }
 {
     let mut least = None;
     for branch in branches {
-        least = lower(least, branch_due(branch, fired)?);
+        least = lower(least, branch_due(branch, fired));
     }
-    Ok(least)
+    least
 }
 
 #[tactic(auto, using(crate::proofs::LeastDue::least_none, crate::proofs::LeastDue::least_both))]
-fn proxies_due(proxies: &[Proxy], fired: &[Fired]) -> Result<Option<u64>, NoMemory>
-    ensures { IfOk result
-        (λ due.
-        due
+fn proxies_due(proxies: &[Proxy], fired: &[Fired]) -> Option<u64>
+    ensures { result
         ≡ least_due fired.now
-        (flat_map (λ proxy. flat_map branch_entry proxy.branches) proxies.now)) }
+        (flat_map (λ proxy. flat_map branch_entry proxy.branches) proxies.now) }
 {
     let mut least = None;
     for proxy in proxies {
-        least = lower(least, branches_due(proxy.branches.as_slice(), fired)?);
+        least = lower(least, branches_due(proxy.branches.as_slice(), fired));
     }
-    Ok(least)
+    least
 }

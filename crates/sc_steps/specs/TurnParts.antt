@@ -8,6 +8,7 @@ use Rattle.sc_terms.specs.declared.calls.CallRecord.{CallRecord}
 use Rattle.sc_terms.specs.declared.calls.End.{End}
 use Rattle.sc_terms.specs.declared.settings.Config.{Config}
 use Rattle.sc_parts.specs.declared.setup.Setup.{Setup}
+use Rattle.sc_parts.specs.TimerNames.{same_timer}
 use Rattle.sc_state.specs.declared.host.Fired.{Fired}
 use Rattle.sc_state.specs.Hosts.{Host}
 use Rattle.sc_state.specs.declared.host.Live.{Live}
@@ -31,7 +32,8 @@ use Rattle.sc_hosts.specs.Transacting.{tidied}
 -- the entry still runs in the session
 unfoldable pub is_running : Session → Fired → Bool
 is_running session fired =
-    list_any (λ entry. entry.due == fired.due && entry.number == fired.number) (entries_of session)
+    list_any (λ entry. entry.due == fired.due && same_timer entry.timer fired.timer)
+    (entries_of session)
 
 -- the live session after its turn, which made this of its session
 unfoldable pub live_after : ℕ → Session → Live Session → Live Session

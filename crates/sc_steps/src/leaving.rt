@@ -14,7 +14,7 @@ use std::alloc::Global;
 fn is_running(session: &Session, fired: Fired) -> bool
     ensures { result ≡ is_running session.now fired }
 {
-    runs(session, fired.due, fired.number)
+    runs(session, fired.due, fired.timer)
 }
 
 fn add_running(

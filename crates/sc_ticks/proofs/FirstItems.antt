@@ -1,5 +1,5 @@
 -- The first item of each key that is due, in the order of the keys.
-use Rattle.std.proofs.Common.{◌≡◌, ◌≢◌, ◌+◌, ◌*◌, ℕ, Bool, true, false, ◌&&◌, T, Option, None, List, [], ◌∷◌, ◌++◌, Some, map, refl, sym, ap, subst, ◌∙◌, arith}
+use Rattle.std.proofs.Common.{◌≡◌, ◌≢◌, ◌+◌, ℕ, Bool, true, false, ◌&&◌, T, Option, None, List, [], ◌∷◌, ◌++◌, Some, map, refl, sym, ap, subst, ◌∙◌, arith}
 use Rattle.std.proofs.lemmas.Bool.{false≢true}
 use Rattle.std.proofs.lemmas.Bool.Decides.{nat_tests}
 use Rattle.std.proofs.lemmas.Cmp.{tied_itself}
@@ -11,17 +11,19 @@ use Rattle.std.specs.BTreeSet.{insert_key}
 use Rattle.std.specs.FinMap.Entries.{below_all}
 use Rattle.std.specs.List.{find, filter_map, flat_map}
 use Rattle.std.specs.Map.{keys_of, values_of}
-use Rattle.std.specs.Ordering.{is_lt, is_gt, match_ordering}
+use Rattle.std.specs.Ordering.{is_eq, is_lt, is_gt, match_ordering}
 use Rattle.sc_model.specs.Timers.{DueEntry, due_order, in_order, is_due}
 use Rattle.sc_model.proofs.DueLaws.{total, exact, rises-in_order, rises_after}
 use Rattle.sc_model.proofs.RisingKeys.{marked, rises}
 use Rattle.sc_state.specs.declared.net.Net.{Net}
 use Rattle.sc_state.specs.declared.session.Session.{Session}
 use Rattle.sc_hosts.specs.Histories.{as_session}
-use Rattle.sc_hosts.specs.Ticks.{DueItem, Of_session, Of_client, Of_server, Dated, dated, same_entry, is_fired, client_dated, server_dated, live_dated, host_dated, hosts_dated, all_dated, due_items}
-use Rattle.sc_hosts.specs.Transacting.{is_cancel_client, due_of_client, due_of_server}
+use Rattle.sc_hosts.specs.Ticks.{DueItem, Of_session, Of_client, Of_server, Dated, dated, same_entry, is_fired, client_timer, client_dated, server_dated, live_dated, host_dated, hosts_dated, all_dated, due_items}
+use Rattle.sc_hosts.specs.Transacting.{due_of_client, due_of_server}
 use Rattle.sc_value.specs.declared.ids.AppId.{AppId}
 use Rattle.sc_book.specs.Words.{is_before}
+use Rattle.sc_parts.specs.declared.timers.TimerName.{TimerName}
+use Rattle.sc_parts.specs.declared.timers.TimerName.TheVariants as timers
 use Rattle.sc_state.specs.declared.host.Client.{Client}
 use Rattle.sc_state.specs.declared.host.Fired.{Fired}
 use Rattle.sc_state.specs.declared.host.Live.{Live}
@@ -33,13 +35,18 @@ use Rattle.sc_ticks.specs.Firsts.{kept_first, kept_firsts}
 
 -- ## Keys that are the same, and keys that aren't
 
+tied : (o : Ordering) → is_eq o ≡ true → o ≡ Equal
+tied Equal h = refl
+tied Less h = absurd (false≢true h)
+tied Greater h = absurd (false≢true h)
+
 same-is : (a b : DueEntry) → same_entry a b ≡ true → a ≡ b
 unfolding same_entry
-same-is a b e = grind (arith, nat_tests, e)
+same-is a b e = exact a b (tied (due_order a b) e)
 
 same-itself : (a b : DueEntry) → a ≡ b → same_entry a b ≡ true
 unfolding same_entry
-same-itself a b e = grind (arith, nat_tests, e)
+same-itself a b e = subst (λ (x : DueEntry). is_eq (due_order a x) ≡ true) e (ap is_eq (tied_itself total a))
 
 apart-by : (a b : DueEntry) (s : Bool) → same_entry a b ≡ s → due_order a b ≢ Equal → same_entry a b ≡ false
 apart-by a b true e h = absurd (h (subst (λ x. due_order a x ≡ Equal) (same-is a b e) (tied_itself total a)))
@@ -76,7 +83,7 @@ and-second true b h = h
 and-second false b h = absurd h
 
 -- it holds of each
-abbrev pub Each : {A : Type 0} → (A → Type 0) → List A → Type 0
+abbrev Each : {A : Type 0} → (A → Type 0) → List A → Type 0
 Each P [] = ⊤
 Each P (x ∷ xs) = P x × Each P xs
 
@@ -192,10 +199,10 @@ kept-joined now kept (x ∷ xs) ys = ap (kept_first now x) (kept-joined now kept
 abbrev Idle : ℕ → List Dated → Type 0
 Idle now ds = (kept : List (DueEntry × Dated)) → kept_firsts now kept ds ≡ kept
 
-idle-one : (now : ℕ) (app : AppId) (number : ℕ) (item : DueItem) (due : Option ℕ) → is_before (now + 1) due ≡ false → Idle now (dated app number item due)
+idle-one : (now : ℕ) (app : AppId) (timer : TimerName) (item : DueItem) (due : Option ℕ) → is_before (now + 1) due ≡ false → Idle now (dated app timer item due)
 unfolding kept_firsts kept_first dated
-idle-one now app number item None e kept = refl
-idle-one now app number item (Some due) e kept = let late : nat_le due now ≡ false = grind (arith, nat_tests, e) in rw late refl
+idle-one now app timer item None e kept = refl
+idle-one now app timer item (Some due) e kept = let late : nat_le due now ≡ false = grind (arith, nat_tests, e) in rw late refl
 
 idle-both : (now : ℕ) (xs ys : List Dated) → Idle now xs → Idle now ys → Idle now (xs ++ ys)
 idle-both now xs ys a b kept = kept-joined now kept xs ys ∙ ap (λ k. kept_firsts now k xs) (b kept) ∙ a kept
@@ -216,11 +223,11 @@ some-due now all may idle (x ∷ xs) kept = one-due now all may x xs kept (may x
 
 client-idle : (now : ℕ) (client : Client) → is_before (now + 1) (due_of_client client) ≡ false → Idle now (client_dated client)
 unfolding client_dated
-client-idle now client e = idle-one now client.app (8 * client.branch + (if is_cancel_client client then 4 else 3)) (Of_client client) (due_of_client client) e
+client-idle now client e = idle-one now client.app (client_timer client) (Of_client client) (due_of_client client) e
 
 server-idle : (now : ℕ) (server : Server) → is_before (now + 1) (due_of_server server) ≡ false → Idle now (server_dated server)
 unfolding server_dated
-server-idle now server e = idle-one now server.app (8 * server.event + 5) (Of_server server) (due_of_server server) e
+server-idle now server e = idle-one now server.app (timers.Server server.event) (Of_server server) (due_of_server server) e
 
 -- of two moments neither is before another where the lower one isn't
 first-late : (past : ℕ) (a b : Option ℕ) → is_before past (lower a b) ≡ false → is_before past a ≡ false
@@ -234,21 +241,21 @@ second-late past (Some x) None h = refl
 second-late past (Some x) (Some y) h = grind (arith, nat_tests, h)
 
 abbrev entry_of : AppId → List Fired → SessionEntry → List Dated
-entry_of app fired entry = if is_fired fired entry.due entry.number then [] else dated app entry.number (Of_session app entry.event) (Some entry.due)
+entry_of app fired entry = if is_fired fired entry.due entry.timer then [] else dated app entry.timer (Of_session app entry.event) (Some entry.due)
 
-entry-idle : (now : ℕ) (app : AppId) (fired : List Fired) (entry : SessionEntry) (b : Bool) → is_fired fired entry.due entry.number ≡ b → is_before (now + 1) (due_of_entry fired entry) ≡ false → Idle now (entry_of app fired entry)
+entry-idle : (now : ℕ) (app : AppId) (fired : List Fired) (entry : SessionEntry) (b : Bool) → is_fired fired entry.due entry.timer ≡ b → is_before (now + 1) (due_of_entry fired entry) ≡ false → Idle now (entry_of app fired entry)
 unfolding kept_firsts
 entry-idle now app fired entry true e late kept = rw e refl
 entry-idle now app fired entry false e late kept =
     let own : is_before (now + 1) (Some entry.due) ≡ false = sym (ap (λ t. is_before (now + 1) (if t then None else Some entry.due)) e) ∙ late in
-    ap (λ t. kept_firsts now kept (if t then [] else dated app entry.number (Of_session app entry.event) (Some entry.due))) e ∙ idle-one now app entry.number (Of_session app entry.event) (Some entry.due) own kept
+    ap (λ t. kept_firsts now kept (if t then [] else dated app entry.timer (Of_session app entry.event) (Some entry.due))) e ∙ idle-one now app entry.timer (Of_session app entry.event) (Some entry.due) own kept
 
 entries-idle : (now : ℕ) (app : AppId) (fired : List Fired) (entries : List SessionEntry) → is_before (now + 1) (least_due fired entries) ≡ false → Idle now (flat_map (entry_of app fired) entries)
 unfolding least_due kept_firsts
 entries-idle now app fired [] late = λ kept. refl
 entries-idle now app fired (entry ∷ entries) late =
     idle-both now (entry_of app fired entry) (flat_map (entry_of app fired) entries)
-    (entry-idle now app fired entry (is_fired fired entry.due entry.number) refl (first-late (now + 1) (due_of_entry fired entry) (least_due fired entries) late))
+    (entry-idle now app fired entry (is_fired fired entry.due entry.timer) refl (first-late (now + 1) (due_of_entry fired entry) (least_due fired entries) late))
     (entries-idle now app fired entries (second-late (now + 1) (due_of_entry fired entry) (least_due fired entries) late))
 
 live-idle : (now number : ℕ) (live : Live Session) → is_before (now + 1) (least_due live.fired (entries_of live.session)) ≡ false → Idle now (live_dated as_session number live)

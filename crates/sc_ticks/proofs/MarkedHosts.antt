@@ -19,10 +19,10 @@ then_same (Err x) a b c e h = h
 
 pub marked_none : (key : DueEntry) (host : Host Session) → None ≡ find (is_live key.app.serial) host.sessions → host ≡ mark_fired key host
 unfolding mark_fired with_fired
-marked_none key host none = ap (λ l. record host { sessions = l }) (unset_absent (λ live. live.serial) key.app.serial (with_fired key.due key.number) host.sessions none)
+marked_none key host none = ap (λ l. record host { sessions = l }) (unset_absent (λ live. live.serial) key.app.serial (with_fired key.due key.timer) host.sessions none)
 
-pub marked_found : (key : DueEntry) (host : Host Session) (x own : Live Session) → Some x ≡ find (is_live key.app.serial) host.sessions → own ≡ with_fired key.due key.number x
+pub marked_found : (key : DueEntry) (host : Host Session) (x own : Live Session) → Some x ≡ find (is_live key.app.serial) host.sessions → own ≡ with_fired key.due key.timer x
     → record host { sessions = change_first (is_live own.serial) (λ _. own) host.sessions } ≡ mark_fired key host
 unfolding mark_fired with_fired
 marked_found key host x own found made =
-    ap (λ l. record host { sessions = l }) (set_found (λ live. live.serial) key.app.serial (with_fired key.due key.number) x own host.sessions (change_first (is_live own.serial) (λ _. own) host.sessions) refl found made refl)
+    ap (λ l. record host { sessions = l }) (set_found (λ live. live.serial) key.app.serial (with_fired key.due key.timer) x own host.sessions (change_first (is_live own.serial) (λ _. own) host.sessions) refl found made refl)

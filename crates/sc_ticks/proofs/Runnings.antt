@@ -3,6 +3,7 @@ use Rattle.std.proofs.Common.{◌≡◌, ℕ, Bool, ◌||◌, List, [], ◌∷�
 use Rattle.std.specs.List.{list_any, flat_map}
 use Rattle.std.proofs.lemmas.List.Folds.{list_any-append}
 use Rattle.sc_terms.specs.declared.views.TimerView.{TimerView}
+use Rattle.sc_parts.specs.declared.timers.TimerName.{TimerName}
 use Rattle.sc_state.specs.declared.proxy.Proxy.{Proxy}
 use Rattle.sc_state.specs.declared.session.Session.{Session}
 use Rattle.sc_hosts.specs.Sessions.{SessionEntry, expiry_entry, timer_entry, branch_entry, entries_of}
@@ -23,8 +24,8 @@ of-proxies p (proxy ∷ proxies) =
     list_any-append p (flat_map branch_entry proxy.branches) (flat_map (λ proxy. flat_map branch_entry proxy.branches) proxies)
     ∙ rw (of-each p branch_entry proxy.branches, of-proxies p proxies) refl
 
-pub any_entry : (due number : ℕ) (session : Session) → list_any (is_entry due number) (entries_of session)
-    ≡ ((list_any (is_entry due number) (expiry_entry session.view.expires) || list_any (λ timer. is_entry due number (timer_entry timer)) session.view.timers)
-    || list_any (λ proxy. list_any (λ branch. list_any (is_entry due number) (branch_entry branch)) proxy.branches) session.known.proxies)
+pub any_entry : (due : ℕ) (name : TimerName) (session : Session) → list_any (is_entry due name) (entries_of session)
+    ≡ ((list_any (is_entry due name) (expiry_entry session.view.expires) || list_any (λ timer. is_entry due name (timer_entry timer)) session.view.timers)
+    || list_any (λ proxy. list_any (λ branch. list_any (is_entry due name) (branch_entry branch)) proxy.branches) session.known.proxies)
 unfolding entries_of
-any_entry due number session = rw (list_any-append, list_any-append, of-timers, of-proxies) refl
+any_entry due name session = rw (list_any-append, list_any-append, of-timers, of-proxies) refl

@@ -1,6 +1,7 @@
 -- What is due in a net, as the code keeps it.
 use Rattle.std.specs.Prelude.{ℕ, List, [], ◌∷◌, ◌++◌, Some, if◌then◌else◌}
 use Rattle.sc_value.specs.declared.ids.AppId.{AppId}
+use Rattle.sc_parts.specs.declared.timers.TimerName.{TimerName}
 use Rattle.sc_state.specs.declared.host.Fired.{Fired}
 use Rattle.sc_state.specs.declared.host.Live.{Live}
 use Rattle.sc_state.specs.declared.session.Session.{Session}
@@ -18,10 +19,10 @@ item_of (items.Server server) = Of_server server
 -- an entry of a session, where it hasn't had its event
 unfoldable pub entry_dated : AppId → List Fired → SessionEntry → List Dated
 entry_dated app fired entry =
-    if is_fired fired entry.due entry.number then []
-    else dated app entry.number (Of_session app entry.event) (Some entry.due)
+    if is_fired fired entry.due entry.timer then []
+    else dated app entry.timer (Of_session app entry.event) (Some entry.due)
 
 -- the session with one entry more that has had its event
-unfoldable pub with_fired : ℕ → ℕ → Live Session → Live Session
-with_fired due number live =
-    record live { fired = live.fired ++ record { due = due; number = number } ∷ [] }
+unfoldable pub with_fired : ℕ → TimerName → Live Session → Live Session
+with_fired due timer live =
+    record live { fired = live.fired ++ record { due = due; timer = timer } ∷ [] }

@@ -1,7 +1,9 @@
--- The entries of a session by their names.
+-- The entries of a session by their moments and timers.
 use Rattle.std.specs.Prelude.{ℕ, ◌==◌, Bool, ◌&&◌}
+use Rattle.sc_parts.specs.declared.timers.TimerName.{TimerName}
+use Rattle.sc_parts.specs.TimerNames.{same_timer}
 use Rattle.sc_hosts.specs.Sessions.{SessionEntry}
 
--- it has this due moment and number
-abbrev pub is_entry : ℕ → ℕ → SessionEntry → Bool
-is_entry due number entry = entry.due == due && entry.number == number
+-- it has this due moment and timer
+abbrev pub is_entry : ℕ → TimerName → SessionEntry → Bool
+is_entry due name entry = entry.due == due && same_timer entry.timer name

@@ -1,17 +1,16 @@
 //! What runs in a net and may be due, each with its key and what is due there.
 
-ghost use Rattle.std.specs.Prelude.{◌≡◌, ◌++◌, if◌then◌else◌, Some, IfOk, OnOk};
+ghost use Rattle.std.specs.Prelude.{◌≡◌, ◌++◌, IfOk, OnOk};
 ghost use Rattle.std.specs.List.{flat_map};
 ghost use Rattle.sc_hosts.specs.Histories.{as_session};
-ghost use Rattle.sc_hosts.specs.Ticks.{dated, client_dated, server_dated, is_fired, live_dated};
+ghost use Rattle.sc_hosts.specs.Ticks.{dated, client_timer, client_dated, server_dated, live_dated};
 ghost use Rattle.sc_ticks.specs.Due.{host_due, hosts_due};
-ghost use Rattle.sc_hosts.specs.Transacting.{is_cancel_client};
 ghost use Rattle.sc_ticks.specs.Items.{item_of, entry_dated};
 
 use crate::entries::{SessionEntry, entries_of};
-use crate::numbers::numbered;
 use sc_due::DueKey;
-use sc_state::{Client, Fired, Host, Live, Net, Queued, Server, Session};
+use sc_parts::TimerName;
+use sc_state::{Client, Fired, Host, Live, Net, Queued, Server, Session, is_fired};
 use sc_transact::{due_of_client, due_of_server, is_cancel_client};
 use sc_value::{AppId, CloneIn, List, NoMemory, Shared, sum_u32};
 use std::alloc::Global;
@@ -47,16 +46,16 @@ impl Model for Dated {
 #[tactic(auto, unfolding(sc_hosts::specs::Ticks::dated))]
 fn put_dated(
     app: AppId,
-    number: u64,
+    timer: TimerName,
     item: Item,
     due: Option<u64>,
     out: &mut List<Dated>,
 ) -> Result<(), NoMemory>
-    ensures { OnOk result (out.new ≡ out.old ++ dated app number (item_of item) due) }
+    ensures { OnOk result (out.new ≡ out.old ++ dated app timer (item_of item) due) }
 {
     match due {
         Some(due) => {
-            let key = DueKey { due, app, number };
+            let key = DueKey { due, app, timer };
             out.push(Dated { key, item })?;
             Ok(())
         }
@@ -64,10 +63,14 @@ fn put_dated(
     }
 }
 
-fn client_timer(client: &Client) -> u64
-    ensures { result ≡ (if is_cancel_client client.now then 4 else 3) }
+fn client_timer(client: &Client) -> TimerName
+    ensures { result ≡ client_timer client.now }
 {
-    if is_cancel_client(client) { 4 } else { 3 }
+    if is_cancel_client(client) {
+        TimerName::Cancel(client.branch)
+    } else {
+        TimerName::Client(client.branch)
+    }
 }
 
 #[tactic(auto, unfolding(sc_hosts::specs::Ticks::client_dated))]
@@ -76,9 +79,8 @@ fn put_client(alloc: Global, client: &Shared<Client>, out: &mut List<Dated>) -> 
 {
     let own = client.get();
     let due = due_of_client(own)?;
-    let number = numbered(8, own.branch, client_timer(own))?;
     let item = Item::Client(client.clone_in(alloc)?);
-    put_dated(own.app, number, item, due, out)
+    put_dated(own.app, client_timer(own), item, due, out)
 }
 
 fn put_clients(
@@ -100,9 +102,8 @@ fn put_server(alloc: Global, server: &Shared<Server>, out: &mut List<Dated>) -> 
 {
     let own = server.get();
     let due = due_of_server(own)?;
-    let number = numbered(8, own.event, 5)?;
     let item = Item::Server(server.clone_in(alloc)?);
-    put_dated(own.app, number, item, due, out)
+    put_dated(own.app, TimerName::Server(own.event), item, due, out)
 }
 
 fn put_servers(
@@ -118,13 +119,6 @@ fn put_servers(
     Ok(())
 }
 
-#[tactic(auto, unfolding(sc_hosts::specs::Ticks::is_fired))]
-fn is_fired(fired: &[Fired], due: u64, number: u64) -> bool
-    ensures { result ≡ is_fired fired.now due number }
-{
-    fired.iter().any(|f| f.due == due && f.number == number)
-}
-
 // An entry that has had its event is left out.
 #[tactic(auto, unfolding(crate::specs::Items::entry_dated))]
 fn put_entry(
@@ -136,12 +130,12 @@ fn put_entry(
 ) -> Result<(), NoMemory>
     ensures { OnOk result (out.new ≡ out.old ++ entry_dated app fired.now entry.now) }
 {
-    if is_fired(fired, entry.due, entry.number) {
+    if is_fired(fired, entry.due, entry.timer) {
         return Ok(());
     }
     let event = entry.event.clone_in(alloc)?;
     let item = Item::Event { app, event };
-    put_dated(app, entry.number, item, Some(entry.due), out)
+    put_dated(app, entry.timer, item, Some(entry.due), out)
 }
 
 fn put_entries(

@@ -4,20 +4,19 @@ ghost use Rattle.std.specs.Prelude.{◌≡◌, ◌++◌, [], ◌∷◌, IfOk, On
 ghost use Rattle.std.specs.List.{flat_map};
 ghost use Rattle.sc_hosts.specs.Sessions.{expiry_entry, timer_entry, branch_entry, entries_of};
 
-use crate::numbers::numbered;
+use sc_parts::TimerName;
 use sc_state::{Branch, Proxy, Queued, Session};
 use sc_terms::TimerView;
 use sc_value::{List, NoMemory};
 use std::alloc::Global;
 use std::marker::Model;
 
-/// An entry of an application session: when it is due, its number there, and the event that is
-/// queued then. The number tells the kind: 0 for the expiry, 8x + 1 for the timer x, and 8x + 2
-/// for the timer of branch x.
+/// An entry of an application session: the moment at which it is due, in milliseconds, its timer,
+/// and the event that is queued then.
 #[derive(Drop)]
 pub struct SessionEntry {
     pub due: u64,
-    pub number: u64,
+    pub timer: TimerName,
     pub event: Queued,
 }
 
@@ -26,7 +25,7 @@ impl Model for SessionEntry {
 
     ghost Value = { Seen };
 
-    ghost view = { λ e. record { due = e.due; number = e.number; event = e.event } };
+    ghost view = { λ e. record { due = e.due; timer = e.timer; event = e.event } };
 }
 
 #[tactic(auto, unfolding(sc_hosts::specs::Sessions::expiry_entry))]
@@ -37,7 +36,7 @@ fn put_expiry(expires: Option<u64>, out: &mut List<SessionEntry>) -> Result<(), 
         Some(due) => {
             out.push(SessionEntry {
                 due,
-                number: 0,
+                timer: TimerName::Expiry,
                 event: Queued::Expired,
             })?;
             Ok(())
@@ -47,15 +46,14 @@ fn put_expiry(expires: Option<u64>, out: &mut List<SessionEntry>) -> Result<(), 
 }
 
 #[tactic(auto, unfolding(sc_hosts::specs::Sessions::timer_entry))]
-fn timer_entry(timer: &TimerView) -> Result<SessionEntry, NoMemory>
-    ensures { IfOk result (λ entry. entry ≡ timer_entry timer.now) }
+fn timer_entry(timer: &TimerView) -> SessionEntry
+    ensures { result ≡ timer_entry timer.now }
 {
-    let number = numbered(8, u64::from(timer.id.0), 1)?;
-    Ok(SessionEntry {
+    SessionEntry {
         due: timer.due,
-        number,
+        timer: TimerName::Servlet(timer.id),
         event: Queued::Timer { id: timer.id },
-    })
+    }
 }
 
 fn put_timers(timers: &[TimerView], out: &mut List<SessionEntry>) -> Result<(), NoMemory>
@@ -63,7 +61,7 @@ fn put_timers(timers: &[TimerView], out: &mut List<SessionEntry>) -> Result<(), 
         (out.new ≡ out.old ++ flat_map (λ timer. timer_entry timer ∷ []) timers.now) }
 {
     for timer in timers {
-        out.push(timer_entry(timer)?)?;
+        out.push(timer_entry(timer))?;
     }
     Ok(())
 }
@@ -76,11 +74,10 @@ fn put_branch(branch: &Branch, out: &mut List<SessionEntry>) -> Result<(), NoMem
         Some(due) => due,
         None => return Ok(()),
     };
-    let number = numbered(8, branch.number, 2)?;
     let branch = branch.number;
     out.push(SessionEntry {
         due,
-        number,
+        timer: TimerName::Branch(branch),
         event: Queued::BranchTimer { branch, due },
     })?;
     Ok(())

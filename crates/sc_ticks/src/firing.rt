@@ -91,8 +91,8 @@ fn all_fired(
     Ok(())
 }
 
-/// Time passes: all that is due at this moment takes place, by due moment, host, serial and
-/// number. The events of sessions are queued, and the timers of transactions pass them.
+/// Time passes: all that is due at this moment takes place, by due moment, host, serial and the
+/// timer's name. The events of sessions are queued, and the timers of transactions pass them.
 #[tactic(auto, unfolding(sc_hosts::specs::Ticks::ticked))]
 pub fn ticked(
     alloc: Global,

@@ -37,7 +37,7 @@ fn keep_firsts(
     Ok(())
 }
 
-/// What is due at a moment, by due moment, host, serial and number.
+/// What is due at a moment, by due moment, host, serial and the timer's name.
 #[tactic(auto, using(crate::proofs::FirstItems::due_kept))]
 pub fn due_items(
     alloc: Global,

@@ -6,10 +6,9 @@ mod due;
 mod entries;
 mod firing;
 mod firsts;
-mod keys;
 mod losses;
 mod marking;
-mod numbers;
+mod ordered;
 mod passing;
 mod running;
 

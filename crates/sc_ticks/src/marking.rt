@@ -7,6 +7,7 @@ ghost use Rattle.sc_hosts.specs.Ticks.{mark_fired};
 ghost use Rattle.sc_ticks.specs.Items.{with_fired};
 
 use sc_due::DueKey;
+use sc_parts::TimerName;
 use sc_state::{Fired, Host, Live, Net, Session};
 use sc_value::{CloneIn, NoMemory, Shared};
 use std::alloc::Global;
@@ -15,13 +16,13 @@ use std::alloc::Global;
 fn with_fired(
     alloc: Global,
     due: u64,
-    number: u64,
+    timer: TimerName,
     live: &Live<Session>,
 ) -> Result<Shared<Live<Session>>, NoMemory>
-    ensures { IfOk result (λ own. own ≡ with_fired due number live.now) }
+    ensures { IfOk result (λ own. own ≡ with_fired due timer live.now) }
 {
     let mut own = live.clone_in(alloc)?;
-    own.fired.push(Fired { due, number })?;
+    own.fired.push(Fired { due, timer })?;
     Shared::new(alloc, own)
 }
 
@@ -30,7 +31,7 @@ fn mark_fired(alloc: Global, key: DueKey, host: &mut Host<Session>) -> Result<()
     ensures { OnOk result (host.new ≡ mark_fired key host.old) }
 {
     let own = match host.live(key.app.serial) {
-        Some(live) => with_fired(alloc, key.due, key.number, live.get())?,
+        Some(live) => with_fired(alloc, key.due, key.timer, live.get())?,
         None => return Ok(()),
     };
     host.set_live(own)

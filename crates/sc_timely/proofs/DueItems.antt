@@ -1,15 +1,18 @@
 -- What is due in a session is among what a tick fires.
-use Rattle.std.proofs.Common.{◌≡◌, ◌≤◌, inl, inr, ℕ, zero, suc, ◌+◌, ◌*◌, ◌++◌, Bool, true, false, Option, None, Some, List, [], ◌∷◌, refl, sym, ap, subst, ◌∙◌, arith}
+use Rattle.std.proofs.Common.{◌≡◌, inl, inr, ℕ, zero, suc, ◌+◌, ◌++◌, Bool, true, false, Option, None, Some, List, [], ◌∷◌, refl, sym, ap, subst, ◌∙◌, arith}
 use Rattle.std.specs.Prelude.{◌==◌, ◌&&◌, ◌||◌, cond, slice_get, map, filter, nat_le}
 use Rattle.std.specs.List.{find, list_any, filter_map, flat_map, cons_option}
 use Rattle.std.specs.BTreeSet.{insert_key}
-use Rattle.std.specs.Ordering.{match_ordering}
+use Rattle.std.specs.Ordering.{is_eq, match_ordering}
 use Rattle.std.specs.declared.cmp.Ordering.{Ordering}
 use Rattle.std.specs.declared.cmp.Ordering.TheVariants.{Less, Equal, Greater}
 use Rattle.std.proofs.lemmas.Bool.Decides.{nat_tests}
+use Rattle.std.proofs.lemmas.Cmp.{tied_itself}
 use Rattle.std.proofs.lemmas.List.Folds.{list_any-append}
 use Rattle.sc_value.specs.declared.ids.AppId.{AppId}
 use Rattle.sc_terms.specs.declared.views.TimerView.{TimerView}
+use Rattle.sc_parts.specs.declared.timers.TimerName.{TimerName}
+use Rattle.sc_parts.specs.declared.timers.TimerName.TheVariants as timers
 use Rattle.sc_state.specs.Entries.{SessionEntry, expiry_entry, timer_entry, branch_entry, entries_of, is_fired}
 use Rattle.sc_state.specs.Hosts.{Host}
 use Rattle.sc_state.specs.declared.host.Client.{Client}
@@ -20,23 +23,28 @@ use Rattle.sc_state.specs.declared.proxy.Branch.{Branch}
 use Rattle.sc_state.specs.declared.proxy.Proxy.{Proxy}
 use Rattle.sc_state.specs.declared.session.Session.{Session}
 use Rattle.sc_model.specs.Timers.{DueEntry, due_order, in_order, is_due}
-use Rattle.sc_model.proofs.DueLaws.{exact}
+use Rattle.sc_model.proofs.DueLaws.{exact, total}
 use Rattle.sc_hosts.specs.Inboxes.{is_live}
 use Rattle.sc_hosts.specs.Nets.{host_at}
 use Rattle.sc_hosts.specs.Sessions.{Form}
-use Rattle.sc_hosts.specs.Ticks.{DueItem, Of_session, Of_client, Of_server, Dated, dated, client_dated, server_dated, live_dated, host_dated, hosts_dated, all_dated, same_entry, due_items}
+use Rattle.sc_hosts.specs.Ticks.{DueItem, Of_session, Of_client, Of_server, Dated, dated, client_timer, client_dated, server_dated, live_dated, host_dated, hosts_dated, all_dated, same_entry, due_items}
 use Rattle.sc_hosts.specs.Transacting.{is_cancel_client, is_same_app, due_of_client, due_of_server}
 use Rattle.sc_keyed.specs.Keyed.{IsIn}
 
 -- ## Keys
 
+tied : (o : Ordering) → is_eq o ≡ true → o ≡ Equal
+tied Equal is = refl
+tied Less is = cc
+tied Greater is = cc
+
 pub same-is : (a b : DueEntry) → same_entry a b ≡ true → a ≡ b
 unfolding same_entry
-same-is a b e = grind (arith, nat_tests, e)
+same-is a b e = exact a b (tied (due_order a b) e)
 
 pub same-itself : (a b : DueEntry) → a ≡ b → same_entry a b ≡ true
 unfolding same_entry
-same-itself a b e = grind (arith, nat_tests, e)
+same-itself a b e = subst (λ (x : DueEntry). is_eq (due_order a x) ≡ true) e (ap is_eq (tied_itself total a))
 
 pub app-is : (a b : AppId) → is_same_app a b ≡ true → a ≡ b
 app-is a b e = grind (arith, nat_tests, e)
@@ -45,7 +53,7 @@ app-itself : (a : AppId) → is_same_app a a ≡ true
 app-itself a = grind (arith, nat_tests)
 
 abbrev pub key_of : AppId → SessionEntry → DueEntry
-key_of app entry = record { due = entry.due; app = app; number = entry.number }
+key_of app entry = record { due = entry.due; app = app; timer = entry.timer }
 
 -- the item is an event of this session
 unfoldable pub is_event_of : AppId → DueItem → Bool
@@ -56,21 +64,30 @@ is_event_of app (Of_server server) = false
 abbrev pub fires_key : AppId → DueEntry → Dated → Bool
 fires_key app key d = is_event_of app d.item && same_entry d.entry key
 
--- ## Numbers of entries
+-- ## Timers of entries
+
+-- it is a timer of a session, and not of a transaction
+abbrev pub is_of_session : TimerName → Bool
+is_of_session timers.Expiry = true
+is_of_session (timers.Servlet id) = true
+is_of_session (timers.Branch number) = true
+is_of_session (timers.Client branch) = false
+is_of_session (timers.Cancel branch) = false
+is_of_session (timers.Server event) = false
 
 -- those of sessions, and those of transactions
-pub IsEvent : ℕ → Type 0
-IsEvent n = (x : ℕ) × (c : ℕ) × (c ≤ 2) × (n ≡ 8 * x + c)
+pub IsEvent : TimerName → Type 0
+IsEvent timer = is_of_session timer ≡ true
 
-pub IsOther : ℕ → Type 0
-IsOther n = (x : ℕ) × (c : ℕ) × (3 ≤ c) × (c ≤ 7) × (n ≡ 8 * x + c)
+pub IsOther : TimerName → Type 0
+IsOther timer = is_of_session timer ≡ false
 
-pub never-both : (n x c y d : ℕ) → c ≤ 2 → n ≡ 8 * x + c → 3 ≤ d → d ≤ 7 → n ≡ 8 * y + d → ⊥
-never-both n x c y d low one high most two = omega (arith, low, one, high, most, two)
+never-both : (b : Bool) → b ≡ true → b ≡ false → ⊥
+never-both b p q = cc
 
-pub not-both : (n : ℕ) → IsEvent n → IsOther n → ⊥
+pub not-both : (timer : TimerName) → IsEvent timer → IsOther timer → ⊥
 unfolding IsEvent IsOther
-not-both n event other = never-both n event.0 event.1 other.0 other.1 event.2 event.3 other.2 other.3 other.4
+not-both timer event other = never-both (is_of_session timer) event other
 
 unfoldable pub All : {A : Type 0} → (A → Type 0) → List A → Type 0
 All P [] = Unit {0}
@@ -119,62 +136,62 @@ test-found {A = A} test (y ∷ xs) x is = by (test y) refl is (test-found test x
     by true at is later = subst (λ z. test z ≡ true) (same y is) at
     by false at is later = later is
 
-EventNumber : SessionEntry → Type 0
-EventNumber entry = IsEvent entry.number
+HasEvent : SessionEntry → Type 0
+HasEvent entry = IsEvent entry.timer
 
-event-number : (entry : SessionEntry) → EventNumber entry → IsEvent entry.number
-unfolding EventNumber
-event-number entry is = is
+has-event : (entry : SessionEntry) → HasEvent entry → IsEvent entry.timer
+unfolding HasEvent
+has-event entry is = is
 
-expiry-number : (due : Option ℕ) → All EventNumber (expiry_entry due)
-unfolding All EventNumber IsEvent expiry_entry
-expiry-number None = tt
-expiry-number (Some due) = ((0, 0, omega arith, refl), tt)
+expiry-has : (due : Option ℕ) → All HasEvent (expiry_entry due)
+unfolding All HasEvent IsEvent expiry_entry
+expiry-has None = tt
+expiry-has (Some due) = (refl, tt)
 
-timer-number : (timer : TimerView) → All EventNumber (timer_entry timer ∷ [])
-unfolding All EventNumber IsEvent timer_entry
-timer-number timer = ((timer.id.0, 1, omega arith, refl), tt)
+timer-has : (timer : TimerView) → All HasEvent (timer_entry timer ∷ [])
+unfolding All HasEvent IsEvent timer_entry
+timer-has timer = (refl, tt)
 
-branch-number : (branch : Branch) → All EventNumber (branch_entry branch)
-unfolding branch_entry All EventNumber IsEvent
-branch-number branch = by branch.due
+branch-has : (branch : Branch) → All HasEvent (branch_entry branch)
+unfolding branch_entry All HasEvent IsEvent
+branch-has branch = by branch.due
   where
-    by : (due : Option ℕ) → All EventNumber (branch_entry (record branch { due = due }))
+    by : (due : Option ℕ) → All HasEvent (branch_entry (record branch { due = due }))
     by None = tt
-    by (Some due) = ((branch.number, 2, omega arith, refl), tt)
+    by (Some due) = (refl, tt)
 
-entry-numbers : (session : Session) → All EventNumber (entries_of session)
+entries-have : (session : Session) → All HasEvent (entries_of session)
 unfolding entries_of
-entry-numbers session =
-    all-both EventNumber (expiry_entry session.view.expires ++ flat_map (λ timer. timer_entry timer ∷ []) session.view.timers) _
-    (all-both EventNumber (expiry_entry session.view.expires) _ (expiry-number session.view.expires) (all-flat EventNumber (λ timer. timer_entry timer ∷ []) session.view.timers timer-number))
-    (all-flat EventNumber (λ (proxy : Proxy). flat_map branch_entry proxy.branches) session.known.proxies (λ proxy. all-flat EventNumber branch_entry proxy.branches branch-number))
+entries-have session =
+    all-both HasEvent (expiry_entry session.view.expires ++ flat_map (λ timer. timer_entry timer ∷ []) session.view.timers) _
+    (all-both HasEvent (expiry_entry session.view.expires) _ (expiry-has session.view.expires) (all-flat HasEvent (λ timer. timer_entry timer ∷ []) session.view.timers timer-has))
+    (all-flat HasEvent (λ (proxy : Proxy). flat_map branch_entry proxy.branches) session.known.proxies (λ proxy. all-flat HasEvent branch_entry proxy.branches branch-has))
 
 -- ## Each item is of its entry
 
 unfoldable pub OfEntry : DueItem → DueEntry → Type 0
-OfEntry (Of_session at event) entry = (is_same_app at entry.app ≡ true) × IsEvent entry.number
-OfEntry (Of_client client) entry = (entry.app ≡ client.app) × (entry.number ≡ 8 * client.branch + cond (is_cancel_client client) 4 3)
-OfEntry (Of_server server) entry = (entry.app ≡ server.app) × (entry.number ≡ 8 * server.event + 5)
+OfEntry (Of_session at event) entry = (is_same_app at entry.app ≡ true) × IsEvent entry.timer
+OfEntry (Of_client client) entry = (entry.app ≡ client.app) × (entry.timer ≡ client_timer client)
+OfEntry (Of_server server) entry = (entry.app ≡ server.app) × (entry.timer ≡ timers.Server server.event)
 
 pub WellMade : Dated → Type 0
 WellMade d = OfEntry d.item d.entry
 
-dated-made : (app : AppId) (number : ℕ) (item : DueItem) (due : Option ℕ)
-    → ((at : ℕ) → OfEntry item (record { due = at; app = app; number = number }))
-    → All WellMade (dated app number item due)
+dated-made : (app : AppId) (timer : TimerName) (item : DueItem) (due : Option ℕ)
+    → ((at : ℕ) → OfEntry item (record { due = at; app = app; timer = timer }))
+    → All WellMade (dated app timer item due)
 unfolding dated All WellMade
-dated-made app number item None of = tt
-dated-made app number item (Some due) of = (of due, tt)
+dated-made app timer item None of = tt
+dated-made app timer item (Some due) of = (of due, tt)
 
-pub client-number : (branch : ℕ) (b : Bool) → IsOther (8 * branch + cond b 4 3)
+pub client-other : (branch : ℕ) (b : Bool) → IsOther (cond b (timers.Cancel branch) (timers.Client branch))
 unfolding IsOther
-client-number branch true = (branch, 4, omega arith, omega arith, refl)
-client-number branch false = (branch, 3, omega arith, omega arith, refl)
+client-other branch true = refl
+client-other branch false = refl
 
-pub server-number : (event : ℕ) → IsOther (8 * event + 5)
+pub server-other : (event : ℕ) → IsOther (timers.Server event)
 unfolding IsOther
-server-number event = (event, 5, omega arith, omega arith, refl)
+server-other event = refl
 
 client-made : (client : Client) → All WellMade (client_dated client)
 unfolding client_dated OfEntry
@@ -196,11 +213,11 @@ module _ {S : Type 0} (form : Form S) where
   live-made : (number : ℕ) (live : Live S) → All WellMade (live_dated form number live)
   unfolding live_dated OfEntry
   live-made number live =
-      all-flat-of EventNumber WellMade _ (entries_of (form.read live.session)) (λ entry event. if-all (is_fired live.fired entry.due entry.number) [] _ none-made (one entry event)) (entry-numbers (form.read live.session))
+      all-flat-of HasEvent WellMade _ (entries_of (form.read live.session)) (λ entry event. if-all (is_fired live.fired entry.due entry.timer) [] _ none-made (one entry event)) (entries-have (form.read live.session))
     where
-      one : (entry : SessionEntry) → EventNumber entry
-          → All WellMade (dated (record { host = number; serial = live.serial }) entry.number (Of_session (record { host = number; serial = live.serial }) entry.event) (Some entry.due))
-      one entry event = dated-made (record { host = number; serial = live.serial }) entry.number _ (Some entry.due) (λ at. (app-itself (record { host = number; serial = live.serial }), event-number entry event))
+      one : (entry : SessionEntry) → HasEvent entry
+          → All WellMade (dated (record { host = number; serial = live.serial }) entry.timer (Of_session (record { host = number; serial = live.serial }) entry.event) (Some entry.due))
+      one entry event = dated-made (record { host = number; serial = live.serial }) entry.timer _ (Some entry.due) (λ at. (app-itself (record { host = number; serial = live.serial }), has-event entry event))
 
   host-made : (number : ℕ) (host : Host S) → All WellMade (host_dated form number host)
   unfolding host_dated
@@ -291,7 +308,7 @@ module _ {S : Type 0} (form : Form S) where
       any-right (runs_as key) (flat_map client_dated host.clients ++ flat_map server_dated host.servers) _ (any-flat (runs_as key) (live_dated form number) (is_live serial) host.sessions live is has)
 
   live-has : (number : ℕ) (live : Live S) (entry : SessionEntry) → IsIn entry (entries_of (form.read live.session))
-      → is_fired live.fired entry.due entry.number ≡ false
+      → is_fired live.fired entry.due entry.timer ≡ false
       → list_any (runs_as (key_of (record { host = number; serial = live.serial }) entry)) (live_dated form number live) ≡ true
   unfolding live_dated dated
   live-has number live entry is unfired =
@@ -362,14 +379,14 @@ found-some {A = A} test (y ∷ xs) has = by (test y) has (found-some test xs)
     by true has later = (y, refl)
     by false has later = later has
 
-item-is : (app : AppId) (entry : SessionEntry) (d : Dated) (item : DueItem) → IsEvent entry.number
+item-is : (app : AppId) (entry : SessionEntry) (d : Dated) (item : DueItem) → IsEvent entry.timer
     → OfEntry item d.entry → d.entry ≡ key_of app entry → is_event_of app item ≡ true
 unfolding OfEntry is_event_of
-item-is app entry d (Of_session at event) number of same = subst (λ (e : DueEntry). is_same_app at e.app ≡ true) same of.0
-item-is app entry d (Of_client client) number of same =
-    absurd (not-both entry.number number (subst IsOther (sym of.1 ∙ ap (λ (e : DueEntry). e.number) same) (client-number client.branch (is_cancel_client client))))
-item-is app entry d (Of_server server) number of same =
-    absurd (not-both entry.number number (subst IsOther (sym of.1 ∙ ap (λ (e : DueEntry). e.number) same) (server-number server.event)))
+item-is app entry d (Of_session at event) is of same = subst (λ (e : DueEntry). is_same_app at e.app ≡ true) same of.0
+item-is app entry d (Of_client client) is of same =
+    absurd (not-both entry.timer is (subst IsOther (sym of.1 ∙ ap (λ (e : DueEntry). e.timer) same) (client-other client.branch (is_cancel_client client))))
+item-is app entry d (Of_server server) is of same =
+    absurd (not-both entry.timer is (subst IsOther (sym of.1 ∙ ap (λ (e : DueEntry). e.timer) same) (server-other server.event)))
 
 and-both : (a b : Bool) → a ≡ true → b ≡ true → (a && b) ≡ true
 and-both a b p q = rw (p, q) refl
@@ -378,13 +395,13 @@ pub made-of : (d : Dated) → WellMade d → OfEntry d.item d.entry
 unfolding WellMade
 made-of d of = of
 
-found-fires : (app : AppId) (entry : SessionEntry) (ds : List Dated) (d : Dated) → IsEvent entry.number
+found-fires : (app : AppId) (entry : SessionEntry) (ds : List Dated) (d : Dated) → IsEvent entry.timer
     → All WellMade ds → find (λ d. same_entry d.entry (key_of app entry)) ds ≡ Some d
     → fires_key app (key_of app entry) d ≡ true
-found-fires app entry ds d number made is =
+found-fires app entry ds d event made is =
     let same = test-found (runs_as (key_of app entry)) ds d is in
     and-both (is_event_of app d.item) (same_entry d.entry (key_of app entry))
-    (item-is app entry d d.item number (made-of d (all-found WellMade (runs_as (key_of app entry)) ds d is made)) (same-is d.entry (key_of app entry) same)) same
+    (item-is app entry d d.item event (made-of d (all-found WellMade (runs_as (key_of app entry)) ds d is made)) (same-is d.entry (key_of app entry) same)) same
 
 -- what is found under a key is among the items
 pub kept-has : (key : DueEntry) (test : Dated → Bool) (all : List Dated) (ks : List DueEntry)
@@ -414,7 +431,7 @@ module _ {S : Type 0} (form : Form S) where
   pub due-fires : (net : Net S) (now : ℕ) (app : AppId) (host : Host S) (live : Live S) (entry : SessionEntry)
       → host_at app.host net ≡ Some host → find (is_live app.serial) host.sessions ≡ Some live
       → IsIn entry (entries_of (form.read live.session)) → nat_le entry.due now ≡ true
-      → is_fired live.fired entry.due entry.number ≡ false
+      → is_fired live.fired entry.due entry.timer ≡ false
       → list_any (fires_key app (key_of app entry)) (due_items form now net) ≡ true
   unfolding due_items all_dated
   due-fires net now app host live entry at is within due unfired =
@@ -422,8 +439,8 @@ module _ {S : Type 0} (form : Form S) where
       let runs : list_any (runs_as (key_of app entry)) (live_dated form app.host live) ≡ true =
       subst (λ (a : AppId). list_any (runs_as (key_of a entry)) (live_dated form app.host live) ≡ true) named (live-has form app.host live entry within unfired) in
       let has : list_any (runs_as (key_of app entry)) (hosts_dated form 0 net.hosts) ≡ true = hosts-have form (key_of app entry) net.hosts 0 app.host host at (subst (λ (n : ℕ). list_any (runs_as (key_of app entry)) (host_dated form n host) ≡ true) (from-none app.host) (host-has form (key_of app entry) app.host host app.serial live is runs)) in
-      let number : IsEvent entry.number = event-number entry (all-in EventNumber (entries_of (form.read live.session)) entry within (entry-numbers (form.read live.session))) in
-      kept-has (key_of app entry) (fires_key app (key_of app entry)) (hosts_dated form 0 net.hosts) _ (λ d found. found-fires app entry (hosts_dated form 0 net.hosts) d number (hosts-made form net.hosts 0) found) has
+      let event : IsEvent entry.timer = has-event entry (all-in HasEvent (entries_of (form.read live.session)) entry within (entries-have (form.read live.session))) in
+      kept-has (key_of app entry) (fires_key app (key_of app entry)) (hosts_dated form 0 net.hosts) _ (λ d found. found-fires app entry (hosts_dated form 0 net.hosts) d event (hosts-made form net.hosts 0) found) has
       (ordered-has (key_of app entry) _ (any-map (key_of app entry) now (hosts_dated form 0 net.hosts) due has))
     where
       serial-is : (a b : ℕ) → (a == b) ≡ true → a ≡ b

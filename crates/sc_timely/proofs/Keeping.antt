@@ -7,6 +7,8 @@ use Rattle.std.proofs.lemmas.List.Folds.{list_any-append}
 use Rattle.sc_value.specs.Lists.{change_first, change_nth}
 use Rattle.sc_value.proofs.ListFacts.{slice_get-change_nth}
 use Rattle.sc_value.specs.declared.ids.AppId.{AppId}
+use Rattle.sc_parts.specs.declared.timers.TimerName.{TimerName}
+use Rattle.sc_parts.specs.TimerNames.{same_timer}
 use Rattle.sc_state.specs.Entries.{is_fired}
 use Rattle.sc_state.specs.Hosts.{Host}
 use Rattle.sc_state.specs.declared.host.Client.{Client}
@@ -28,7 +30,7 @@ pub record LivesOn {S : Type 0} (live : Live S) (found : Option (Live S)) : Type
   pub later : Live S
   pub found_is : found ≡ Some later
   pub same : later.session ≡ live.session
-  pub before : (due number : ℕ) → is_fired live.fired due number ≡ true → is_fired later.fired due number ≡ true
+  pub before : (due : ℕ) (timer : TimerName) → is_fired live.fired due timer ≡ true → is_fired later.fired due timer ≡ true
 
 apart : (serial other n : ℕ) → (serial == other) ≡ false → (n == other) ≡ true → (n == serial) ≡ false
 apart serial other n differ is = grind (arith, nat_tests, differ, is)
@@ -43,19 +45,19 @@ or-first : (a b : Bool) → a ≡ true → (a || b) ≡ true
 or-first a b is = rw is refl
 
 -- one more that had its event
-pub fired-more : (fired : List Fired) (new : Fired) (due number : ℕ) → is_fired fired due number ≡ true
-    → is_fired (fired ++ new ∷ []) due number ≡ true
+pub fired-more : (fired : List Fired) (new : Fired) (due : ℕ) (timer : TimerName) → is_fired fired due timer ≡ true
+    → is_fired (fired ++ new ∷ []) due timer ≡ true
 unfolding is_fired
-fired-more fired new due number is = list_any-append (λ f. f.due == due && f.number == number) fired (new ∷ []) ∙ or-first _ _ is
+fired-more fired new due timer is = list_any-append (λ f. f.due == due && same_timer f.timer timer) fired (new ∷ []) ∙ or-first _ _ is
 
 module _ {S : Type 0} where
   pub stays-on : (live later : Live S) (found : Option (Live S)) → found ≡ Some later → later.session ≡ live.session
       → later.fired ≡ live.fired → LivesOn live found
-  stays-on live later found is session fired = record { later = later; found_is = is; same = session; before = λ due number had. ap (λ f. is_fired f due number) fired ∙ had }
+  stays-on live later found is session fired = record { later = later; found_is = is; same = session; before = λ due timer had. ap (λ f. is_fired f due timer) fired ∙ had }
 
   pub on-then : (live : Live S) (found last : Option (Live S)) → (on : LivesOn live found) → LivesOn on.later last
       → LivesOn live last
-  on-then live found last p q = record { later = q.later; found_is = q.found_is; same = q.same ∙ p.same; before = λ due number had. q.before due number (p.before due number had) }
+  on-then live found last p q = record { later = q.later; found_is = q.found_is; same = q.same ∙ p.same; before = λ due timer had. q.before due timer (p.before due timer had) }
 
   -- of a host
   abbrev pub HostKeeps : ℕ → ℕ → Host S → ℕ → Host S → Type 0
@@ -93,7 +95,7 @@ module _ {S : Type 0} where
         → HostKeeps serial count host count (mark_fired entry host)
     unfolding mark_fired
     marks-keep entry count host = λ live is. changed-keeps host.sessions entry.app.serial _ (λ live. refl)
-        (λ live. record { later = _; found_is = refl; same = refl; before = λ due number had. fired-more live.fired _ due number had }) live is (serial == entry.app.serial) refl
+        (λ live. record { later = _; found_is = refl; same = refl; before = λ due timer had. fired-more live.fired _ due timer had }) live is (serial == entry.app.serial) refl
 
     queue-at : (other now : ℕ) (event : Queued) (count : ℕ) (host : Host S) (some : Bool) → (live : Live S)
         → live_in serial host ≡ Some live

@@ -1,11 +1,14 @@
 -- After a tick nothing is due.
-use Rattle.std.proofs.Common.{◌≡◌, ℕ, zero, suc, ◌+◌, ◌*◌, ◌++◌, Bool, true, false, Option, None, Some, List, [], ◌∷◌, inl, inr, refl, sym, ap, subst, ◌∙◌, arith}
+use Rattle.std.proofs.Common.{◌≡◌, ℕ, zero, suc, ◌+◌, ◌++◌, Bool, true, false, Option, None, Some, List, [], ◌∷◌, inl, inr, refl, sym, ap, subst, ◌∙◌, arith}
 use Rattle.std.specs.Prelude.{◌==◌, ◌||◌, cond, map, filter, slice_get}
 use Rattle.std.specs.List.{find, list_any, filter_map, flat_map}
 use Rattle.std.proofs.lemmas.Bool.Decides.{nat_tests}
 use Rattle.sc_value.specs.declared.ids.AppId.{AppId}
 use Rattle.sc_terms.specs.declared.steps.Step.TheVariants as steps
 use Rattle.sc_parts.specs.declared.setup.Setup.{Setup}
+use Rattle.sc_parts.specs.declared.timers.TimerName.{TimerName}
+use Rattle.sc_parts.specs.declared.timers.TimerName.TheVariants as timers
+use Rattle.sc_parts.specs.TimerNames.{number_of, rank_of}
 use Rattle.sc_state.specs.Hosts.{Host}
 use Rattle.sc_state.specs.Standing.{is_cancel_client, is_same_app}
 use Rattle.sc_state.specs.declared.host.Client.{Client}
@@ -18,12 +21,12 @@ use Rattle.sc_hosts.specs.Nets.{host_at, is_busy}
 use Rattle.sc_hosts.specs.Runs.{after_step}
 use Rattle.sc_hosts.specs.Sessions.{Form}
 use Rattle.sc_hosts.specs.Steps.{live_at, stepped}
-use Rattle.sc_hosts.specs.Ticks.{Dated, DueItem, Of_client, Of_server, Of_session, all_dated, client_dated, dated, due_items, host_dated, hosts_dated, live_dated, same_entry, server_dated, ticked}
+use Rattle.sc_hosts.specs.Ticks.{Dated, DueItem, Of_client, Of_server, Of_session, all_dated, client_dated, client_timer, dated, due_items, host_dated, hosts_dated, live_dated, same_entry, server_dated, ticked}
 use Rattle.sc_hosts.specs.Transacting.{due_of_client, due_of_server}
 use Rattle.sc_hosts.proofs.Deliveries.{none-delivered}
 use Rattle.sc_keyed.specs.Keyed.{HasOwnKeys, HaveOwnKeys, IsIn}
 use Rattle.sc_keyed.proofs.ClientKeys.{same-key}
-use Rattle.sc_timely.proofs.DueItems.{All, IsOther, OfEntry, WellMade, all-both, all-found, any-in, any-left, any-map, any-right, client-number, from-none, hosts-have, hosts-made, kept-has, made-of, not-both, one-more, or-first, ordered-has, runs_as, same-is, same-itself, server-number, test-found, zero-more}
+use Rattle.sc_timely.proofs.DueItems.{All, IsOther, OfEntry, WellMade, all-both, all-found, any-in, any-left, any-map, any-right, client-other, from-none, hosts-have, hosts-made, kept-has, made-of, not-both, one-more, or-first, ordered-has, runs_as, same-is, same-itself, server-other, test-found, zero-more}
 use Rattle.sc_timely.proofs.NoneComes.{ticked-none}
 use Rattle.sc_timely.proofs.Pending.{AllAwait, all-fired, is_for_client, is_for_server}
 use Rattle.sc_timely.proofs.Silence.{idle-of, ticked-silent}
@@ -31,18 +34,25 @@ use Rattle.sc_timely.proofs.Taken.{step-takes}
 
 -- ## The item of a transaction's key
 
-same-branch : (a b : ℕ) (p q : Bool) → 8 * a + cond p 4 3 ≡ 8 * b + cond q 4 3 → (a ≡ b) × (p ≡ q)
-same-branch a b true true is = (omega (arith, is), refl)
-same-branch a b true false is = absurd (omega (arith, is))
-same-branch a b false true is = absurd (omega (arith, is))
-same-branch a b false false is = (omega (arith, is), refl)
+-- the timer of a client transaction of this branch, or of its CANCEL
+abbrev timer_of : ℕ → Bool → TimerName
+timer_of branch cancelling = cond cancelling (timers.Cancel branch) (timers.Client branch)
 
-no-server : (branch event : ℕ) (p : Bool) → 8 * branch + cond p 4 3 ≡ 8 * event + 5 → ⊥
-no-server branch event true is = omega (arith, is)
-no-server branch event false is = omega (arith, is)
+unlike : (a b : ℕ) → a ≡ b → (a == b) ≡ false → ⊥
+unlike a b is differ = grind (arith, nat_tests, is, differ)
 
-one-event : (a b : ℕ) → 8 * a + 5 ≡ 8 * b + 5 → a ≡ b
-one-event a b is = omega (arith, is)
+same-branch : (a b : ℕ) (p q : Bool) → timer_of a p ≡ timer_of b q → (a ≡ b) × (p ≡ q)
+same-branch a b true true is = (ap number_of is, refl)
+same-branch a b true false is = absurd (unlike 4 3 (ap rank_of is) refl)
+same-branch a b false true is = absurd (unlike 3 4 (ap rank_of is) refl)
+same-branch a b false false is = (ap number_of is, refl)
+
+no-server : (branch event : ℕ) (p : Bool) → timer_of branch p ≡ timers.Server event → ⊥
+no-server branch event true is = unlike 4 5 (ap rank_of is) refl
+no-server branch event false is = unlike 3 5 (ap rank_of is) refl
+
+one-event : (a b : ℕ) → timers.Server a ≡ timers.Server b → a ≡ b
+one-event a b is = ap number_of is
 
 app-itself : (a : AppId) → is_same_app a a ≡ true
 app-itself a = grind (arith, nat_tests)
@@ -51,31 +61,31 @@ number-itself : (n : ℕ) → (n == n) ≡ true
 number-itself n = grind (arith, nat_tests)
 
 abbrev key_of_client : Client → ℕ → DueEntry
-key_of_client client due = record { due = due; app = client.app; number = 8 * client.branch + cond (is_cancel_client client) 4 3 }
+key_of_client client due = record { due = due; app = client.app; timer = client_timer client }
 
 abbrev key_of_server : Server → ℕ → DueEntry
-key_of_server server due = record { due = due; app = server.app; number = 8 * server.event + 5 }
+key_of_server server due = record { due = due; app = server.app; timer = timers.Server server.event }
 
 for-client : (client : Client) (due : ℕ) (item : DueItem) (entry : DueEntry) → OfEntry item entry
     → entry ≡ key_of_client client due → is_for_client client item ≡ true
 unfolding OfEntry is_for_client
 for-client client due (Of_session app event) entry of same =
-    absurd (not-both entry.number of.1 (subst (λ (e : DueEntry). IsOther e.number) (sym same) (client-number client.branch (is_cancel_client client))))
+    absurd (not-both entry.timer of.1 (subst (λ (e : DueEntry). IsOther e.timer) (sym same) (client-other client.branch (is_cancel_client client))))
 for-client client due (Of_client other) entry of same =
-    let number = same-branch other.branch client.branch (is_cancel_client other) (is_cancel_client client) (sym of.1 ∙ ap (λ (e : DueEntry). e.number) same) in
-    same-key other client (sym of.0 ∙ ap (λ (e : DueEntry). e.app) same) number.0 number.1
+    let timer = same-branch other.branch client.branch (is_cancel_client other) (is_cancel_client client) (sym of.1 ∙ ap (λ (e : DueEntry). e.timer) same) in
+    same-key other client (sym of.0 ∙ ap (λ (e : DueEntry). e.app) same) timer.0 timer.1
 for-client client due (Of_server server) entry of same =
-    absurd (no-server client.branch server.event (is_cancel_client client) (sym (ap (λ (e : DueEntry). e.number) same) ∙ of.1))
+    absurd (no-server client.branch server.event (is_cancel_client client) (sym (ap (λ (e : DueEntry). e.timer) same) ∙ of.1))
 
 for-server : (server : Server) (due : ℕ) (item : DueItem) (entry : DueEntry) → OfEntry item entry
     → entry ≡ key_of_server server due → is_for_server server item ≡ true
 unfolding OfEntry is_for_server
 for-server server due (Of_session app event) entry of same =
-    absurd (not-both entry.number of.1 (subst (λ (e : DueEntry). IsOther e.number) (sym same) (server-number server.event)))
+    absurd (not-both entry.timer of.1 (subst (λ (e : DueEntry). IsOther e.timer) (sym same) (server-other server.event)))
 for-server server due (Of_client client) entry of same =
-    absurd (no-server client.branch server.event (is_cancel_client client) (sym of.1 ∙ ap (λ (e : DueEntry). e.number) same))
+    absurd (no-server client.branch server.event (is_cancel_client client) (sym of.1 ∙ ap (λ (e : DueEntry). e.timer) same))
 for-server server due (Of_server other) entry of same =
-    rw (sym of.0 ∙ ap (λ (e : DueEntry). e.app) same, one-event other.event server.event (sym of.1 ∙ ap (λ (e : DueEntry). e.number) same), app-itself server.app) (number-itself server.event)
+    rw (sym of.0 ∙ ap (λ (e : DueEntry). e.app) same, one-event other.event server.event (sym of.1 ∙ ap (λ (e : DueEntry). e.timer) same), app-itself server.app) (number-itself server.event)
 
 -- each session that lives is the one of its name
 unfoldable pub AreFound : {S : Type 0} → Net S → Type 0
@@ -85,11 +95,11 @@ AreFound {S = S} net = (number : ℕ) (host : Host S) → host_at number net ≡
 module _ {S : Type 0} (form : Form S) (now : ℕ) where
   -- ## What is due is among the items
 
-  dated-runs : (app : AppId) (number : ℕ) (item : DueItem) (at : ℕ) (due : Option ℕ) → due ≡ Some at
-      → list_any (runs_as (record { due = at; app = app; number = number })) (dated app number item due) ≡ true
+  dated-runs : (app : AppId) (timer : TimerName) (item : DueItem) (at : ℕ) (due : Option ℕ) → due ≡ Some at
+      → list_any (runs_as (record { due = at; app = app; timer = timer })) (dated app timer item due) ≡ true
   unfolding dated
-  dated-runs app number item at None is = cc
-  dated-runs app number item at (Some due) is = or-first _ false (same-itself (record { due = due; app = app; number = number }) (record { due = at; app = app; number = number }) (ap (λ (d : ℕ). record { due = d; app = app; number = number }) (inside due at is)))
+  dated-runs app timer item at None is = cc
+  dated-runs app timer item at (Some due) is = or-first _ false (same-itself (record { due = due; app = app; timer = timer }) (record { due = at; app = app; timer = timer }) (ap (λ (d : ℕ). record { due = d; app = app; timer = timer }) (inside due at is)))
     where
       inside : (due at : ℕ) → Some due ≡ Some at → due ≡ at
       inside due at is = cc
@@ -158,11 +168,11 @@ module _ {S : Type 0} (form : Form S) (now : ℕ) where
   NotDue : Dated → Type 0
   NotDue d = is_due now d.entry ≡ false
 
-  none-dated : (app : AppId) (number : ℕ) (item : DueItem) (due : Option ℕ) → is_reached due now ≡ false
-      → All NotDue (dated app number item due)
+  none-dated : (app : AppId) (timer : TimerName) (item : DueItem) (due : Option ℕ) → is_reached due now ≡ false
+      → All NotDue (dated app timer item due)
   unfolding dated is_reached All NotDue
-  none-dated app number item None late = tt
-  none-dated app number item (Some due) late = (late, tt)
+  none-dated app timer item None late = tt
+  none-dated app timer item (Some due) late = (late, tt)
 
   flat-in : {A : Type 0} (f : A → List Dated) (xs : List A) → ((x : A) → IsIn x xs → All NotDue (f x))
       → All NotDue (flat_map f xs)

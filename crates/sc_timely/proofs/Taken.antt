@@ -12,6 +12,9 @@ use Rattle.sc_terms.specs.declared.steps.Step.TheVariants as steps
 use Rattle.sc_parts.specs.declared.setup.Setup.{Setup}
 use Rattle.sc_parts.specs.declared.transactions.ClientItem.{ClientItem}
 use Rattle.sc_parts.specs.declared.transactions.ClientItem.TheVariants as client_items
+use Rattle.sc_parts.specs.declared.timers.TimerName.{TimerName}
+use Rattle.sc_parts.specs.TimerNames.{same_timer}
+use Rattle.sc_parts.proofs.TimerLaws.{timer_itself}
 use Rattle.sc_state.specs.Entries.{SessionEntry, entries_of, is_fired}
 use Rattle.sc_state.specs.Hosts.{Host}
 use Rattle.sc_state.specs.declared.host.Client.{Client}
@@ -84,36 +87,39 @@ module _ {S : Type 0} (app : AppId) where
 
 -- ## One entry is fired
 
-last-fired : (due number : ℕ) → (due == due && number == number) ≡ true
-last-fired due number = grind (arith, nat_tests)
+same-moment : (due : ℕ) → (due == due) ≡ true
+same-moment due = grind (arith, nat_tests)
+
+last-fired : (due : ℕ) (timer : TimerName) → (due == due && same_timer timer timer) ≡ true
+last-fired due timer = rw (same-moment due) (timer_itself timer)
 
 or-last : (a b : Bool) → b ≡ true → (a || (b || false)) ≡ true
 or-last true b is = refl
 or-last false true is = refl
 or-last false false is = is
 
-fired-last : (fired : List Fired) (due number : ℕ)
-    → is_fired (fired ++ record { due = due; number = number } ∷ []) due number ≡ true
+fired-last : (fired : List Fired) (due : ℕ) (timer : TimerName)
+    → is_fired (fired ++ record { due = due; timer = timer } ∷ []) due timer ≡ true
 unfolding is_fired
-fired-last fired due number = list_any-append (λ f. f.due == due && f.number == number) fired (record { due = due; number = number } ∷ []) ∙ or-last (list_any (λ f. f.due == due && f.number == number) fired) _ (last-fired due number)
+fired-last fired due timer = list_any-append (λ f. f.due == due && same_timer f.timer timer) fired (record { due = due; timer = timer } ∷ []) ∙ or-last (list_any (λ f. f.due == due && same_timer f.timer timer) fired) _ (last-fired due timer)
 
 and-both : (a b : Bool) → (a && b) ≡ true → (a ≡ true) × (b ≡ true)
 and-both true b is = (refl, is)
 and-both false b is = cc
 
 had-all : (now : ℕ) (fired : List Fired) (entries : List SessionEntry)
-    → ((entry : SessionEntry) → IsIn entry entries → nat_le entry.due now ≡ true → is_fired fired entry.due entry.number ≡ true)
+    → ((entry : SessionEntry) → IsIn entry entries → nat_le entry.due now ≡ true → is_fired fired entry.due entry.timer ≡ true)
     → HadEvents now fired entries
 unfolding HadEvents IsIn
 had-all now fired [] each = tt
 had-all now fired (entry ∷ entries) each = (each entry (inl refl), had-all now fired entries (λ e within. each e (inr within)))
 
 had-later : (now : ℕ) (fired later : List Fired) (entries : List SessionEntry)
-    → ((due number : ℕ) → is_fired fired due number ≡ true → is_fired later due number ≡ true)
+    → ((due : ℕ) (timer : TimerName) → is_fired fired due timer ≡ true → is_fired later due timer ≡ true)
     → HadEvents now fired entries → HadEvents now later entries
 unfolding HadEvents
 had-later now fired later [] before had = tt
-had-later now fired later (entry ∷ entries) before had = ((λ due. before entry.due entry.number (had.0 due)), had-later now fired later entries before had.1)
+had-later now fired later (entry ∷ entries) before had = ((λ due. before entry.due entry.timer (had.0 due)), had-later now fired later entries before had.1)
 
 -- what had its event isn't due any more
 not-due : (now due : ℕ) (fired : Bool) → (nat_le due now ≡ true → fired ≡ true) → fired ≡ false → nat_le due now ≡ false
@@ -130,26 +136,26 @@ none-both : (a b : Bool) → a ≡ false → b ≡ false → (a || b) ≡ false
 none-both a b p q = rw (p, q) refl
 
 none-left : (now : ℕ) (app : AppId) (fired : List Fired) (entries : List SessionEntry) → HadEvents now fired entries
-    → list_any (λ (d : Dated). is_due now d.entry) (flat_map (λ entry. cond (is_fired fired entry.due entry.number) [] (dated app entry.number (Of_session app entry.event) (Some entry.due))) entries) ≡ false
+    → list_any (λ (d : Dated). is_due now d.entry) (flat_map (λ entry. cond (is_fired fired entry.due entry.timer) [] (dated app entry.timer (Of_session app entry.event) (Some entry.due))) entries) ≡ false
 unfolding HadEvents dated
 none-left now app fired [] had = refl
 none-left now app fired (entry ∷ entries) had =
-    list_any-append (λ (d : Dated). is_due now d.entry) (cond (is_fired fired entry.due entry.number) [] (record { entry = record { due = entry.due; app = app; number = entry.number }; item = Of_session app entry.event } ∷ [])) _
-    ∙ none-both _ _ (by (is_fired fired entry.due entry.number) refl) (none-left now app fired entries had.1)
+    list_any-append (λ (d : Dated). is_due now d.entry) (cond (is_fired fired entry.due entry.timer) [] (record { entry = record { due = entry.due; app = app; timer = entry.timer }; item = Of_session app entry.event } ∷ [])) _
+    ∙ none-both _ _ (by (is_fired fired entry.due entry.timer) refl) (none-left now app fired entries had.1)
   where
-    by : (b : Bool) → is_fired fired entry.due entry.number ≡ b
-        → list_any (λ (d : Dated). is_due now d.entry) (cond b [] (record { entry = record { due = entry.due; app = app; number = entry.number }; item = Of_session app entry.event } ∷ [])) ≡ false
+    by : (b : Bool) → is_fired fired entry.due entry.timer ≡ b
+        → list_any (λ (d : Dated). is_due now d.entry) (cond b [] (record { entry = record { due = entry.due; app = app; timer = entry.timer }; item = Of_session app entry.event } ∷ [])) ≡ false
     by true is = refl
-    by false is = none-both (nat_le entry.due now) false (not-due now entry.due (is_fired fired entry.due entry.number) had.0 is) refl
+    by false is = none-both (nat_le entry.due now) false (not-due now entry.due (is_fired fired entry.due entry.timer) had.0 is) refl
 
 -- it lives on, and this entry had its event
-record Fires {S : Type 0} (due number : ℕ) (live : Live S) (found : Option (Live S)) : Type 0 where
+record Fires {S : Type 0} (due : ℕ) (timer : TimerName) (live : Live S) (found : Option (Live S)) : Type 0 where
   pub on : LivesOn live found
-  pub fired : is_fired on.later.fired due number ≡ true
+  pub fired : is_fired on.later.fired due timer ≡ true
 
 module _ {S : Type 0} where
   with_mark : DueEntry → Live S → Live S
-  with_mark entry live = record live { fired = live.fired ++ record { due = entry.due; number = entry.number } ∷ [] }
+  with_mark entry live = record live { fired = live.fired ++ record { due = entry.due; timer = entry.timer } ∷ [] }
 
   at-host : (app : AppId) (live : Live S) (found : Option (Host S)) → live_of app found ≡ Some live
       → (host : Host S) × (found ≡ Some host) × (find (is_live app.serial) host.sessions ≡ Some live)
@@ -174,45 +180,45 @@ module _ {S : Type 0} where
 
   fires-one : (app : AppId) (config : Config) (now : ℕ) (net : Net S) (live : Live S) (key entry : DueEntry) (item : DueItem)
       → key.app ≡ app → live_at app net ≡ Some live → is_event_of app item ≡ true → entry ≡ key
-      → Fires key.due key.number live (live_at app (fires config now net entry item))
+      → Fires key.due key.timer live (live_at app (fires config now net entry item))
   unfolding fires is_event_of with_mark
   fires-one app config now net live key entry (Of_session at event) of is event-is same =
-      subst (λ (e : DueEntry). Fires key.due key.number live (live_at app (queue_for at event (change_host at.host (mark_fired e) net)))) (sym same)
-      (subst (λ (a : AppId). Fires key.due key.number live (live_at app (queue_for a event (change_host a.host (mark_fired key) net)))) (sym (app-is at app event-is)) here)
+      subst (λ (e : DueEntry). Fires key.due key.timer live (live_at app (queue_for at event (change_host at.host (mark_fired e) net)))) (sym same)
+      (subst (λ (a : AppId). Fires key.due key.timer live (live_at app (queue_for a event (change_host a.host (mark_fired key) net)))) (sym (app-is at app event-is)) here)
     where
-      here : Fires key.due key.number live (live_at app (queue_for app event (change_host app.host (mark_fired key) net)))
+      here : Fires key.due key.timer live (live_at app (queue_for app event (change_host app.host (mark_fired key) net)))
       here =
           let on = queue-keeps app app event (change_host app.host (mark_fired key) net) (with_mark key live) (mark-at app key net live of is) in record {
-            on = record { later = on.later; found_is = on.found_is; same = on.same; before = λ due number had. on.before due number (fired-more live.fired (record { due = key.due; number = key.number }) due number had) };
-            fired = on.before key.due key.number (fired-last live.fired key.due key.number);
+            on = record { later = on.later; found_is = on.found_is; same = on.same; before = λ due timer had. on.before due timer (fired-more live.fired (record { due = key.due; timer = key.timer }) due timer had) };
+            fired = on.before key.due key.timer (fired-last live.fired key.due key.timer);
           }
   fires-one app config now net live key entry (Of_client client) of is event-is same = cc
   fires-one app config now net live key entry (Of_server server) of is event-is same = cc
 
   fires-all : (app : AppId) (config : Config) (now : ℕ) (ds : List Dated) (net : Net S) (live : Live S) (key : DueEntry)
       → key.app ≡ app → live_at app net ≡ Some live → list_any (fires_key app key) ds ≡ true
-      → Fires key.due key.number live (live_at app (fold (λ net d. fires config now net d.entry d.item) net ds))
+      → Fires key.due key.timer live (live_at app (fold (λ net d. fires config now net d.entry d.item) net ds))
   fires-all app config now [] net live key of is has = cc
   fires-all app config now (d ∷ ds) net live key of is has =
       by (fires_key app key d) refl has (λ later is has. fires-all app config now ds (fires config now net d.entry d.item) later key of is has)
     where
       by : (b : Bool) → fires_key app key d ≡ b → (b || list_any (fires_key app key) ds) ≡ true
           → ((later : Live S) → live_at app (fires config now net d.entry d.item) ≡ Some later → list_any (fires_key app key) ds ≡ true
-          → Fires key.due key.number later (live_at app (fold (λ net d. fires config now net d.entry d.item) (fires config now net d.entry d.item) ds)))
-          → Fires key.due key.number live (live_at app (fold (λ net d. fires config now net d.entry d.item) (fires config now net d.entry d.item) ds))
+          → Fires key.due key.timer later (live_at app (fold (λ net d. fires config now net d.entry d.item) (fires config now net d.entry d.item) ds)))
+          → Fires key.due key.timer live (live_at app (fold (λ net d. fires config now net d.entry d.item) (fires config now net d.entry d.item) ds))
       by true at has later =
           let both = and-both (is_event_of app d.item) _ at in
           let one = fires-one app config now net live key d.entry d.item of is both.0 (same-is d.entry key both.1) in
           let rest = all-keep app config now ds (fires config now net d.entry d.item) one.on.later one.on.found_is in
           record {
-            on = record { later = rest.later; found_is = rest.found_is; same = rest.same ∙ one.on.same; before = λ due number had. rest.before due number (one.on.before due number had) };
-            fired = rest.before key.due key.number one.fired;
+            on = record { later = rest.later; found_is = rest.found_is; same = rest.same ∙ one.on.same; before = λ due timer had. rest.before due timer (one.on.before due timer had) };
+            fired = rest.before key.due key.timer one.fired;
           }
       by false at has later =
           let one = fires-keep app config now net d.entry d.item live is in
           let rest = later one.later one.found_is has in
           record {
-            on = record { later = rest.on.later; found_is = rest.on.found_is; same = rest.on.same ∙ one.same; before = λ due number had. rest.on.before due number (one.before due number had) };
+            on = record { later = rest.on.later; found_is = rest.on.found_is; same = rest.on.same ∙ one.same; before = λ due timer had. rest.on.before due timer (one.before due timer had) };
             fired = rest.fired;
           }
 
@@ -223,15 +229,15 @@ module _ {S : Type 0} where
 
   entry-fired : (form : Form S) (config : Config) (now : ℕ) (net : Net S) (app : AppId) (live later : Live S) (entry : SessionEntry)
       → live_at app net ≡ Some live → live_at app (ticked form config now net) ≡ Some later
-      → ((due number : ℕ) → is_fired live.fired due number ≡ true → is_fired later.fired due number ≡ true)
+      → ((due : ℕ) (timer : TimerName) → is_fired live.fired due timer ≡ true → is_fired later.fired due timer ≡ true)
       → IsIn entry (entries_of (form.read live.session)) → nat_le entry.due now ≡ true → (b : Bool)
-      → is_fired live.fired entry.due entry.number ≡ b → is_fired later.fired entry.due entry.number ≡ true
+      → is_fired live.fired entry.due entry.timer ≡ b → is_fired later.fired entry.due entry.timer ≡ true
   unfolding ticked
-  entry-fired form config now net app live later entry is after before within due true had = before entry.due entry.number had
+  entry-fired form config now net app live later entry is after before within due true had = before entry.due entry.timer had
   entry-fired form config now net app live later entry is after before within due false unfired =
       let at = at-host app live (host_at app.host net) is in
       let one = fires-all app config now (due_items form now net) (record net { moment = now }) live (key_of app entry) refl is (due-fires form net now app at.0 live entry at.1 at.2 within due unfired) in
-      subst (λ (l : Live S). is_fired l.fired entry.due entry.number ≡ true) (some-same _ one.on.later later one.on.found_is after) one.fired
+      subst (λ (l : Live S). is_fired l.fired entry.due entry.timer ≡ true) (some-same _ one.on.later later one.on.found_is after) one.fired
 
   tick-on : (form : Form S) (config : Config) (now : ℕ) (net : Net S) (app : AppId) (live : Live S)
       → live_at app net ≡ Some live → LivesOn live (live_at app (ticked form config now net))
@@ -271,7 +277,7 @@ module _ {S : Type 0} where
         later = rest.later;
         found_is = rest.found_is;
         same = rest.same ∙ taken.same;
-        before = λ due number had. rest.before due number (taken.before due number had);
+        before = λ due timer had. rest.before due timer (taken.before due timer had);
         taken = had;
         left = nothing-left form now app.host rest.later had;
       }

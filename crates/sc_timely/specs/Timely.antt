@@ -2,6 +2,7 @@
 use Rattle.std.specs.Prelude.{◌≡◌, ℕ, List, [], ◌∷◌, Bool, true, false, Option, Some, nat_le}
 use Rattle.std.specs.List.{list_any}
 use Rattle.sc_value.specs.declared.ids.AppId.{AppId}
+use Rattle.sc_parts.specs.declared.timers.TimerName.{TimerName}
 use Rattle.sc_state.specs.Entries.{SessionEntry, entries_of, is_fired}
 use Rattle.sc_state.specs.declared.host.Fired.{Fired}
 use Rattle.sc_state.specs.declared.host.Live.{Live}
@@ -13,7 +14,7 @@ use Rattle.sc_hosts.specs.Ticks.{Dated, live_dated, same_entry}
 unfoldable pub HadEvents : ℕ → List Fired → List SessionEntry → Type 0
 HadEvents now fired [] = Unit {0}
 HadEvents now fired (entry ∷ entries) =
-    (nat_le entry.due now ≡ true → is_fired fired entry.due entry.number ≡ true)
+    (nat_le entry.due now ≡ true → is_fired fired entry.due entry.timer ≡ true)
     × HadEvents now fired entries
 
 -- the session of this name lives on and is what it was, what had its event had it, whatever is due
@@ -23,8 +24,8 @@ pub record IsTaken {S : Type 0} (form : Form S) (now : ℕ) (app : AppId) (live 
   pub later : Live S
   pub found_is : found ≡ Some later
   pub same : later.session ≡ live.session
-  pub before : (due number : ℕ) → is_fired live.fired due number ≡ true
-      → is_fired later.fired due number ≡ true
+  pub before : (due : ℕ) (timer : TimerName) → is_fired live.fired due timer ≡ true
+      → is_fired later.fired due timer ≡ true
   pub taken : HadEvents now later.fired (entries_of (form.read later.session))
   pub left : list_any (λ d. is_due now d.entry) (live_dated form app.host later) ≡ false
 

@@ -181,7 +181,7 @@ module _ {S : Type 0} (form : Form S) (epoch : ℕ) (Named : AppId → S → Typ
   fires-kept config now net entry (Of_session app event) kept =
       queue_for-holds form epoch Named Fits kinds app event _
       (change-kept app.host (mark_fired entry) net
-      (λ host good. (all-first (IsNamed form epoch Named Fits kinds app.host) (is_live entry.app.serial) (λ live. record live { fired = live.fired ++ record { due = entry.due; number = entry.number } ∷ [] }) host.sessions (λ live found named. named) good.0, good.1)) kept)
+      (λ host good. (all-first (IsNamed form epoch Named Fits kinds app.host) (is_live entry.app.serial) (λ live. record live { fired = live.fired ++ record { due = entry.due; timer = entry.timer } ∷ [] }) host.sessions (λ live found named. named) good.0, good.1)) kept)
   fires-kept config now net entry (Of_client client) kept = passes-kept config (client_items.MomentCame now) _ net client kept
   fires-kept config now net entry (Of_server server) kept =
       change-kept server.app.host _ net (λ host good. pass_server-good form epoch Named Fits kinds server.app.host server.event (server_items.MomentCame now) host good) kept

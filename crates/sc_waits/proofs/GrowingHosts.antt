@@ -81,7 +81,7 @@ module _ {S : Type 0} (serial : ℕ) where
   unfolding mark_fired
   marks-grow entry count host =
       let at = found-changed host.sessions entry.app.serial _ (λ live. refl) (serial == entry.app.serial) refl in
-      still count host (mark_fired entry host) (ap events_of at ∙ same-numbers (serial == entry.app.serial) (λ live. record live { fired = live.fired ++ record { due = entry.due; number = entry.number } ∷ [] }) (live_in serial host) (λ live. refl)) (omega arith) (λ k none. at ∙ none-changed _ _ _ none)
+      still count host (mark_fired entry host) (ap events_of at ∙ same-numbers (serial == entry.app.serial) (λ live. record live { fired = live.fired ++ record { due = entry.due; timer = entry.timer } ∷ [] }) (live_in serial host) (λ live. refl)) (omega arith) (λ k none. at ∙ none-changed _ _ _ none)
 
   -- ## An event is queued
 

@@ -17,6 +17,7 @@ use Rattle.sc_state.specs.declared.queue.Queued.{Queued}
 use Rattle.sc_state.specs.declared.queue.Queued.TheVariants as queued
 use Rattle.sc_state.specs.declared.session.Session.{Session}
 use Rattle.sc_state.specs.Entries.{SessionEntry, expiry_entry, timer_entry, branch_entry, entries_of, is_fired}
+use Rattle.sc_parts.specs.declared.timers.TimerName.{TimerName}
 use Rattle.sc_model.specs.Timers.{DueEntry}
 use Rattle.sc_hosts.specs.Sessions.{Form}
 use Rattle.sc_hosts.specs.Ticks.{Dated, DueItem, Of_session, Of_client, Of_server, all_dated, client_dated, dated, due_items, host_dated, hosts_dated, live_dated, same_entry, server_dated}
@@ -122,11 +123,11 @@ module _ (Good : Queued → Type 0) (expired : Good queued.Expired) (fires : (id
 
   -- ## All that runs
 
-  dated-good : (app : AppId) (number : ℕ) (item : DueItem) (due : Option ℕ) → IsGoodItem Good item
-      → AreGood Good (dated app number item due)
+  dated-good : (app : AppId) (timer : TimerName) (item : DueItem) (due : Option ℕ) → IsGoodItem Good item
+      → AreGood Good (dated app timer item due)
   unfolding dated AreGood
-  dated-good app number item None good = tt
-  dated-good app number item (Some due) good = (good, tt)
+  dated-good app timer item None good = tt
+  dated-good app timer item (Some due) good = (good, tt)
 
   if-good : (b : Bool) (xs ys : List Dated) → AreGood Good xs → AreGood Good ys → AreGood Good (cond b xs ys)
   if-good true xs ys p q = p
@@ -144,8 +145,8 @@ module _ (Good : Queued → Type 0) (expired : Good queued.Expired) (fires : (id
     live-good : (number : ℕ) (live : Live S) → AreGood Good (live_dated form number live)
     unfolding live_dated AreGood IsGoodItem
     live-good number live =
-        good-flat IsGoodEntry _ (entries_of (form.read live.session)) (λ entry good. if-good (is_fired live.fired entry.due entry.number) [] _ tt
-        (dated-good (record { host = number; serial = live.serial }) entry.number (Of_session (record { host = number; serial = live.serial }) entry.event) (Some entry.due) good)) (entries-good (form.read live.session))
+        good-flat IsGoodEntry _ (entries_of (form.read live.session)) (λ entry good. if-good (is_fired live.fired entry.due entry.timer) [] _ tt
+        (dated-good (record { host = number; serial = live.serial }) entry.timer (Of_session (record { host = number; serial = live.serial }) entry.event) (Some entry.due) good)) (entries-good (form.read live.session))
 
     host-good : (number : ℕ) (host : Host S) → AreGood Good (host_dated form number host)
     unfolding host_dated

@@ -7,4 +7,4 @@ use Rattle.sc_state.proofs.timed.proxies_due.Goals as goal
 pub loop-proxy-preserved : goal.loop-proxy-preserved
 loop-proxy-preserved c =
     due_more c.args.fired.now (λ proxy. flat_map branch_entry proxy.branches) c.args.proxies.now c.loop-proxy.proxy-index _ _ _ _ c.loop-proxy-test.true c.proxy-item.is c.loop-proxy.invariant
-    (c.in_ok-branches_due.ensures ∙ ap (λ l. least_due c.args.fired.now (flat_map branch_entry l)) c.as_slice.ensures) c.lower-least.ensures
+    (c.branches_due.ensures ∙ ap (λ l. least_due c.args.fired.now (flat_map branch_entry l)) c.as_slice.ensures) c.lower-least.ensures

@@ -1,7 +1,11 @@
 use Rattle.std.proofs.Common.{◌≡◌}
 use Rattle.std.specs.List.{fold}
-use Rattle.sc_ticks.specs.Lost.{lost_at}
+use Rattle.sc_parts.specs.declared.transactions.ClientItem.TheVariants as client_items
+use Rattle.sc_hosts.specs.Ticks.{passes}
+use Rattle.sc_hosts.specs.Words.{unavailable}
 use Rattle.sc_ticks.proofs.losses.all_lost.Given as goal
 
-abbrev pub invariant-loop-key : goal.invariant-loop-key
-invariant-loop-key l = fold (lost_at l.config l.kept.entries) l.net l.key-iterator ≡ fold (lost_at l.config l.kept.entries) l.fn.net l.keys.keys
+abbrev pub invariant-loop-client : goal.invariant-loop-client
+invariant-loop-client l =
+    fold (passes l.config client_items.PlaceLost unavailable) l.net l.client-iterator
+    ≡ fold (passes l.config client_items.PlaceLost unavailable) l.fn.net l.clients.keys
