@@ -7,12 +7,12 @@ use Rattle.sc_state.specs.Hosts.{Host}
 use Rattle.sc_state.specs.declared.host.Peer.TheVariants as peers
 use Rattle.sc_state.specs.declared.session.Session.{Session}
 use Rattle.sc_grammar.specs.Written.{Bytes}
-use Rattle.sc_hosts.specs.Taking.{claim_of, is_claimed}
+use Rattle.sc_hosts.specs.Taking.{server_for}
 use Rattle.sc_hosts.specs.Transacting.{client_for}
 
 -- a server transaction of the host takes the request
 unfoldable pub claims : Place → Request → Host Session → Bool
-claims from request host = is_claimed (claim_of (peers.Outside from) request host)
+claims from request host = is_some (server_for (peers.Outside from) request host)
 
 -- a client transaction of the host has asked for the response
 unfoldable pub awaits : Bytes → ℕ → Place → Response → Host Session → Bool

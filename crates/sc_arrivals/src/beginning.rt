@@ -1,4 +1,4 @@
-//! Requests without To tag: the router says which application they begin a session of.
+//! Requests that may begin a session: the router says of which application.
 
 ghost use Rattle.std.specs.Prelude.{◌≡◌, is_some, if◌then◌else◌, IfOk, OnOk};
 ghost use Rattle.std.specs.Option.{option_copied};
@@ -7,12 +7,11 @@ ghost use Rattle.sc_hosts.specs.Histories.{as_session};
 ghost use Rattle.sc_hosts.specs.Routes.{position_of, popped_route, unrouted_initial};
 ghost use Rattle.sc_hosts.specs.Arrivals.{begins_by, initial_arrives};
 
-use crate::answers::{answer_not_found, answer_unknown};
+use crate::answers::answer_not_found;
 use crate::messages::take_request;
 use sc_parts::{Choice, Setup};
 use sc_router::next;
 use sc_state::{Net, Note, Session};
-use sc_take::is_never_initial;
 use sc_transact::is_ack;
 use sc_value::{Address, CloneIn, NoMemory, Place, Request, Shared};
 use sc_wire::{Position, popped_route, position_of, unrouted_initial};
@@ -127,8 +126,7 @@ fn begins(
     begins_by(alloc, setup, from, &unrouted, popped, choice, net)
 }
 
-/// A request without To tag, which no transaction takes, begins a session where the router has an
-/// application for it.
+/// A request that may begin a session does so where the router has an application for it.
 #[tactic(auto, unfolding(sc_hosts::specs::Arrivals::initial_arrives))]
 pub fn initial_arrives(
     alloc: Global,
@@ -142,9 +140,6 @@ pub fn initial_arrives(
 {
     if is_ack(request.get()) {
         return Ok(());
-    }
-    if is_never_initial(request.get()) {
-        return answer_unknown(alloc, &setup.config, from, request.get(), net);
     }
     begins(alloc, setup, from, request, net)
 }

@@ -1,14 +1,13 @@
-//! The first host with a transaction that a message belongs to.
+//! The first host with the transaction of a message.
 
 ghost use Rattle.std.specs.Prelude.{◌≡◌, IfOk};
 ghost use Rattle.sc_hosts.specs.Arrivals.{first_host};
-ghost use Rattle.sc_arrivals.specs.Arriving.{first_for};
 ghost use Rattle.sc_arrivals.specs.HostTests.{claims, awaits};
 
-use sc_state::{Host, Net, Peer, Session};
-use sc_take::is_claimed;
+use sc_state::{Host, Peer, Session};
+use sc_take::server_for;
 use sc_transact::client_for;
-use sc_value::{Message, NoMemory, Place, Request, Response, Text, sum_u32};
+use sc_value::{NoMemory, Place, Request, Response, sum_u32};
 use std::alloc::Global;
 
 #[tactic(auto, unfolding(crate::specs::HostTests::claims))]
@@ -20,12 +19,13 @@ fn claims(
 ) -> Result<bool, NoMemory>
     ensures { IfOk result (λ has. has ≡ claims from request.now host.now) }
 {
-    is_claimed(alloc, Peer::Outside(from), request, host)
+    Ok(server_for(alloc, Peer::Outside(from), request, host)?.is_some())
 }
 
-// The host with the server transaction of a request (RFC 3261 section 17.2.3).
+/// The number of the first host with the server transaction of a request (RFC 3261 section 17.2.3),
+/// None where there is none.
 #[tactic(auto, using(crate::proofs::FirstHosts::claimed_here, crate::proofs::FirstHosts::claimed_later, crate::proofs::FirstHosts::found_nowhere))]
-fn claiming_host(
+pub fn claiming_host(
     alloc: Global,
     from: Place,
     request: &Request,
@@ -57,9 +57,10 @@ fn awaits(
     Ok(client_for(alloc, salt, epoch, Peer::Outside(from), response, host)?.is_some())
 }
 
-// The host with the client transaction of a response (RFC 3261 section 17.1.3).
+/// The number of the first host with the client transaction of a response (RFC 3261 section
+/// 17.1.3), None where there is none.
 #[tactic(auto, using(crate::proofs::FirstHosts::awaited_here, crate::proofs::FirstHosts::awaited_later, crate::proofs::FirstHosts::found_nowhere))]
-fn awaiting_host(
+pub fn awaiting_host(
     alloc: Global,
     salt: &[u8],
     epoch: u32,
@@ -78,32 +79,4 @@ fn awaiting_host(
         number = sum_u32(number, 1)?;
     }
     Ok(None)
-}
-
-/// The number of the first host with a transaction that the message belongs to, None where there is
-/// none.
-#[tactic(auto, unfolding(crate::specs::Arriving::first_for))]
-pub fn first_for(
-    alloc: Global,
-    salt: &Text,
-    from: Place,
-    message: &Message,
-    net: &Net<Session>,
-) -> Result<Option<u32>, NoMemory>
-    ensures { IfOk result (λ number. number ≡ first_for salt.now from message.now net.now) }
-{
-    let hosts = net.hosts.as_slice();
-    match message {
-        Message::Request(request) => claiming_host(alloc, from, request.get(), hosts),
-        Message::Response(response) => {
-            awaiting_host(
-                alloc,
-                salt.as_bytes(),
-                net.epoch,
-                from,
-                response.get(),
-                hosts,
-            )
-        }
-    }
 }

@@ -1,18 +1,15 @@
 //! Requests with a To tag: the own URI with which they come names their session (RFC 3261 section
 //! 12.2.2).
 
-ghost use Rattle.std.specs.Prelude.{◌≡◌, option_and_then, IfOk, OnOk};
+ghost use Rattle.std.specs.Prelude.{◌≡◌, option_and_then, IfOk};
 ghost use Rattle.std.specs.Option.{option_copied};
-ghost use Rattle.sc_hosts.specs.Histories.{as_session};
 ghost use Rattle.sc_hosts.specs.Nets.{named_host};
-ghost use Rattle.sc_hosts.specs.Arrivals.{later_at, later_arrives};
+ghost use Rattle.sc_hosts.specs.Taking.{own_uri};
 
-use crate::answers::answer_unknown;
-use crate::messages::take_request;
 use sc_inboxes::own_uri;
-use sc_parts::Setup;
 use sc_state::{Net, Session};
-use sc_value::{NoMemory, Place, Request, Shared, Uri};
+use sc_terms::Config;
+use sc_value::{NoMemory, Request, Uri};
 use sc_wire::named_host;
 use std::alloc::Global;
 
@@ -27,35 +24,17 @@ fn host_named(alloc: Global, uri: Option<&Uri>, net: &Net<Session>) -> Result<Op
     }
 }
 
-#[tactic(auto, unfolding(sc_hosts::specs::Arrivals::later_at))]
-fn later_at(
+/// The host with the session that a request's own URI names, None where it names none.
+pub fn own_host(
     alloc: Global,
-    setup: &Setup,
-    from: Place,
-    request: &Shared<Request>,
-    host: Option<u32>,
-    net: &mut Net<Session>,
-) -> Result<(), NoMemory>
-    ensures { OnOk result (net.new ≡ later_at as_session setup.now from request.now host net.old) }
+    config: &Config,
+    request: &Request,
+    net: &Net<Session>,
+) -> Result<Option<u32>, NoMemory>
+    ensures { IfOk result
+        (λ number.
+        number ≡ option_and_then (λ uri. named_host uri net.now) (own_uri config.now request.now)) }
 {
-    match host {
-        Some(host) => take_request(alloc, setup, from, &None, request, host, net),
-        None => answer_unknown(alloc, &setup.config, from, request.get(), net),
-    }
-}
-
-/// A request with a To tag, which no transaction takes, goes to the session that it names.
-#[tactic(auto, unfolding(sc_hosts::specs::Arrivals::later_arrives))]
-pub fn later_arrives(
-    alloc: Global,
-    setup: &Setup,
-    from: Place,
-    request: &Shared<Request>,
-    net: &mut Net<Session>,
-) -> Result<(), NoMemory>
-    ensures { OnOk result (net.new ≡ later_arrives as_session setup.now from request.now net.old) }
-{
-    let uri = own_uri(alloc, &setup.config, request.get())?;
-    let host = host_named(alloc, uri, net)?;
-    later_at(alloc, setup, from, request, host, net)
+    let uri = own_uri(alloc, config, request)?;
+    host_named(alloc, uri, net)
 }

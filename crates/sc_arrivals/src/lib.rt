@@ -9,6 +9,7 @@ mod beginning;
 mod finding;
 mod later;
 mod messages;
+mod sorting;
 
 pub use answers::{answer_bad, bad_by};
 pub use arriving::arrived;

@@ -19,7 +19,8 @@ use Rattle.sc_state.specs.declared.net.Entry.{Entry}
 use Rattle.sc_state.specs.declared.net.Net.{Net}
 use Rattle.sc_state.specs.declared.net.Note.{Note}
 use Rattle.sc_grammar.specs.Written.{Bytes}
-use Rattle.sc_hosts.specs.Arrivals.{host_takes, taken_at, edge_answer, begins_by, initial_arrives, later_at, later_arrives, unclaimed, request_by, response_by, arrived}
+use Rattle.sc_hosts.proofs.EachSort.{arrives-each}
+use Rattle.sc_hosts.specs.Arrivals.{host_takes, taken_at, edge_answer, begins_by, initial_arrives, response_by, arrived}
 use Rattle.sc_hosts.specs.Taking.{begun_live, takes}
 use Rattle.sc_hosts.specs.Nets.{host_at, is_busy, deliver_at, deliver_entry, deliver_first, weight}
 use Rattle.sc_hosts.specs.Routes.{popped_route, unrouted_initial}
@@ -101,23 +102,7 @@ module _ {S : Type 0} (H : ℕ → ℕ → ℕ → Host S → ℕ → Host S →
   unfolding initial_arrives
   initial_arrives-keeps from request net =
       if-walks H P hosts law _ net net _ (law.same net)
-      (if-walks H P hosts law _ net _ _ (edge_answer-keeps setup.config from 481 _ request net) (begins_by-keeps from (unrouted_initial setup.config request) (popped_route setup.config request) _ net))
-
-  later_at-keeps : (from : Place) (request : Request) (number : Option ℕ) (net : Net S) → P net (later_at form setup from request number net)
-  unfolding later_at
-  later_at-keeps from request None net = edge_answer-keeps setup.config from 481 _ request net
-  later_at-keeps from request (Some number) net = taken_at-keeps from None _ number net
-
-  unclaimed-keeps : (from : Place) (request : Request) (net : Net S) → P net (unclaimed form setup from request net)
-  unfolding unclaimed later_arrives
-  unclaimed-keeps from request net =
-      if-walks H P hosts law _ net _ _ (edge_answer-keeps setup.config from 481 _ request net)
-      (if-walks H P hosts law _ net _ _ (later_at-keeps from request _ net) (initial_arrives-keeps from request net))
-
-  request_by-keeps : (from : Place) (request : Request) (number : Option ℕ) (net : Net S) → P net (request_by form setup from request number net)
-  unfolding request_by
-  request_by-keeps from request None net = unclaimed-keeps from request net
-  request_by-keeps from request (Some number) net = taken_at-keeps from None _ number net
+      (begins_by-keeps from (unrouted_initial setup.config request) (popped_route setup.config request) _ net)
 
   response_by-keeps : (from : Place) (response : Response) (number : Option ℕ) (net : Net S) → P net (response_by form setup from response number net)
   unfolding response_by
@@ -126,5 +111,7 @@ module _ {S : Type 0} (H : ℕ → ℕ → ℕ → Host S → ℕ → Host S →
 
   pub arrived-keeps : (from : Place) (message : Message) (net : Net S) → P net (arrived form setup from message net)
   unfolding arrived
-  arrived-keeps from (messages.Request request) net = request_by-keeps from request _ net
+  arrived-keeps from (messages.Request request) net =
+      arrives-each (P net) form setup from request net (λ number. taken_at-keeps from None _ number net)
+      (λ untagged. initial_arrives-keeps from request net) (edge_answer-keeps setup.config from 481 _ request net)
   arrived-keeps from (messages.Response response) net = response_by-keeps from response _ net

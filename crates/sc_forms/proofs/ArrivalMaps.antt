@@ -4,17 +4,18 @@ use Rattle.std.specs.Prelude.{◌≡◌, ℕ, ◌+◌, List, [], ◌∷◌, Bool
 use Rattle.sc_forms.proofs.HostMaps.{client_for-maps}
 use Rattle.sc_forms.proofs.ListMaps.{if-maps}
 use Rattle.sc_forms.proofs.NetMaps.{host_at-maps, put-maps, placed-maps, named_host-maps}
-use Rattle.sc_forms.proofs.TakingMaps.{claim_of-maps, takes-maps}
+use Rattle.sc_forms.proofs.TakingMaps.{server_for-maps, takes-maps}
 use Rattle.sc_forms.specs.Simulations.{map_host, map_net, IsSimulation}
 use Rattle.sc_grammar.specs.Written.{Bytes}
-use Rattle.sc_hosts.specs.Arrivals.{first_host, host_takes, taken_at, edge_answer, begins_by, initial_arrives, later_at, later_arrives, unclaimed, request_by, response_by, arrived, bad_by}
+use Rattle.sc_hosts.specs.declared.sorts.Sort.{Sort}
+use Rattle.sc_hosts.specs.declared.sorts.Sort.TheVariants.{Cancels, Acks, Repeats, Later, Begins, Nobodys}
+use Rattle.sc_hosts.specs.Arrivals.{first_host, host_takes, taken_at, edge_answer, begins_by, initial_arrives, response_by, arrived, bad_by, sort_in, arrives_as}
 use Rattle.sc_hosts.specs.Nets.{host_at, named_host, deliver_at, deliver_entry, deliver_first}
 use Rattle.sc_hosts.specs.Routes.{unrouted_initial, popped_route}
 use Rattle.sc_hosts.specs.Sessions.{Form}
-use Rattle.sc_hosts.specs.Taking.{claim_of, is_claimed, own_uri, is_never_initial}
+use Rattle.sc_hosts.specs.Taking.{own_uri, server_for}
 use Rattle.sc_hosts.specs.Transacting.{method_of, client_for}
 use Rattle.sc_hosts.specs.Words.{does_not_exist, not_found}
-use Rattle.sc_model.specs.Dialogs.{tag_of}
 use Rattle.sc_parts.specs.declared.choice.Choice.TheVariants as choices
 use Rattle.sc_parts.specs.declared.choice.Choice.{Choice}
 use Rattle.sc_parts.specs.declared.setup.Setup.{Setup}
@@ -34,7 +35,6 @@ use Rattle.sc_value.specs.declared.message.Response.{Response}
 use Rattle.sc_value.specs.declared.parts.Address.{Address}
 use Rattle.sc_value.specs.declared.parts.Uri.{Uri}
 use Rattle.sc_model.specs.SessionStates.{ack}
-use Rattle.sc_model.specs.DialogRequests.{cancel}
 
 -- ## What reads the hosts alone
 
@@ -51,15 +51,15 @@ module _ {S T : Type 0} (change : S → T) where
   edge_answer-maps config from code reason request net = if-maps (map_net change) (same_bytes (method_of request) ack) refl (put-maps change 0 (peers.Outside from) _ None net)
 
   claimed-maps : (from : Place) (request : Request) (host : Host S)
-      → is_claimed (claim_of (peers.Outside from) request (map_host change host)) ≡ is_claimed (claim_of (peers.Outside from) request host)
-  claimed-maps from request host = rw claim_of-maps refl
+      → is_some (server_for (peers.Outside from) request (map_host change host)) ≡ is_some (server_for (peers.Outside from) request host)
+  claimed-maps from request host = rw server_for-maps refl
 
   answered-maps : (salt : Bytes) (epoch : ℕ) (from : Place) (response : Response) (host : Host S)
       → is_some (client_for salt epoch (peers.Outside from) response (map_host change host)) ≡ is_some (client_for salt epoch (peers.Outside from) response host)
   answered-maps salt epoch from response host = rw client_for-maps refl
 
   host_claiming-maps : (from : Place) (request : Request) (net : Net S)
-      → first_host (λ host. is_claimed (claim_of (peers.Outside from) request host)) 0 (map_net change net).hosts ≡ first_host (λ host. is_claimed (claim_of (peers.Outside from) request host)) 0 net.hosts
+      → first_host (λ host. is_some (server_for (peers.Outside from) request host)) 0 (map_net change net).hosts ≡ first_host (λ host. is_some (server_for (peers.Outside from) request host)) 0 net.hosts
   unfolding map_net
   host_claiming-maps from request net = first_host-maps _ _ (claimed-maps from request) net.hosts 0
 
@@ -72,6 +72,10 @@ module _ {S T : Type 0} (change : S → T) where
   named_by-maps : (uri : Option Uri) (net : Net S) → option_and_then (λ uri. named_host uri (map_net change net)) uri ≡ option_and_then (λ uri. named_host uri net) uri
   named_by-maps None net = refl
   named_by-maps (Some uri) net = named_host-maps change uri net
+
+  sort_in-maps : (config : Config) (from : Place) (request : Request) (net : Net S) → sort_in config from request (map_net change net) ≡ sort_in config from request net
+  unfolding sort_in
+  sort_in-maps config from request net = rw (host_claiming-maps from request net, named_by-maps (own_uri config request) net) refl
 
   pub bad_by-maps : (config : Config) (from : Place) (heads : Option Answerable) (net : Net S) → bad_by config from heads (map_net change net) ≡ map_net change (bad_by config from heads net)
   unfolding bad_by
@@ -104,30 +108,18 @@ module _ {S T : Type 0} (change : S → T) (setup : Setup) (form : Form S) (othe
   initial_arrives-maps : (from : Place) (request : Request) (net : Net S) → initial_arrives other setup from request (map_net change net) ≡ map_net change (initial_arrives form setup from request net)
   unfolding initial_arrives
   initial_arrives-maps from request net =
-      if-maps (map_net change) (same_bytes (method_of request) ack) refl (if-maps (map_net change) (is_never_initial request)
-      (edge_answer-maps change setup.config from 481 does_not_exist request net) (begins_by-maps from (unrouted_initial setup.config request) (popped_route setup.config request) _ net))
+      if-maps (map_net change) (same_bytes (method_of request) ack) refl
+      (begins_by-maps from (unrouted_initial setup.config request) (popped_route setup.config request) _ net)
 
-  later_at-maps : (from : Place) (request : Request) (number : Option ℕ) (net : Net S)
-      → later_at other setup from request number (map_net change net) ≡ map_net change (later_at form setup from request number net)
-  unfolding later_at
-  later_at-maps from request None net = edge_answer-maps change setup.config from 481 does_not_exist request net
-  later_at-maps from request (Some number) net = taken_at-maps from None (messages.Request request) number net
-
-  later_arrives-maps : (from : Place) (request : Request) (net : Net S) → later_arrives other setup from request (map_net change net) ≡ map_net change (later_arrives form setup from request net)
-  unfolding later_arrives
-  later_arrives-maps from request net = rw (named_by-maps change (own_uri setup.config request) net) (later_at-maps from request _ net)
-
-  unclaimed-maps : (from : Place) (request : Request) (net : Net S) → unclaimed other setup from request (map_net change net) ≡ map_net change (unclaimed form setup from request net)
-  unfolding unclaimed
-  unclaimed-maps from request net =
-      if-maps (map_net change) (same_bytes (method_of request) cancel) (edge_answer-maps change setup.config from 481 does_not_exist request net)
-      (if-maps (map_net change) (is_some (tag_of request.head.to)) (later_arrives-maps from request net) (initial_arrives-maps from request net))
-
-  request_by-maps : (from : Place) (request : Request) (number : Option ℕ) (net : Net S)
-      → request_by other setup from request number (map_net change net) ≡ map_net change (request_by form setup from request number net)
-  unfolding request_by
-  request_by-maps from request None net = unclaimed-maps from request net
-  request_by-maps from request (Some number) net = taken_at-maps from None (messages.Request request) number net
+  arrives_as-maps : (from : Place) (request : Request) (sort : Sort ℕ ℕ) (net : Net S)
+      → arrives_as other setup from request sort (map_net change net) ≡ map_net change (arrives_as form setup from request sort net)
+  unfolding arrives_as
+  arrives_as-maps from request (Cancels number) net = taken_at-maps from None (messages.Request request) number net
+  arrives_as-maps from request (Acks number) net = taken_at-maps from None (messages.Request request) number net
+  arrives_as-maps from request (Repeats number) net = taken_at-maps from None (messages.Request request) number net
+  arrives_as-maps from request (Later number) net = taken_at-maps from None (messages.Request request) number net
+  arrives_as-maps from request Begins net = initial_arrives-maps from request net
+  arrives_as-maps from request Nobodys net = edge_answer-maps change setup.config from 481 does_not_exist request net
 
   response_by-maps : (from : Place) (response : Response) (number : Option ℕ) (net : Net S)
       → response_by other setup from response number (map_net change net) ≡ map_net change (response_by form setup from response number net)
@@ -137,7 +129,7 @@ module _ {S T : Type 0} (change : S → T) (setup : Setup) (form : Form S) (othe
 
   pub arrived-maps : (from : Place) (message : Message) (net : Net S) → arrived other setup from message (map_net change net) ≡ map_net change (arrived form setup from message net)
   unfolding arrived
-  arrived-maps from (messages.Request request) net = rw (host_claiming-maps change from request net) (request_by-maps from request _ net)
+  arrived-maps from (messages.Request request) net = rw (sort_in-maps change setup.config from request net) (arrives_as-maps from request _ net)
   arrived-maps from (messages.Response response) net = rw (host_answered-maps change setup.config.salt from response net) (response_by-maps from response _ net)
 
   -- ## Deliveries

@@ -6,16 +6,20 @@ use Rattle.sc_forms.proofs.HostMaps.{pass_server-maps, quiet-maps, queue-maps, t
 use Rattle.sc_forms.proofs.ListMaps.{if-maps, find-maps}
 use Rattle.sc_forms.specs.Simulations.{map_live, map_host, map_taken, IsSimulation}
 use Rattle.sc_grammar.specs.Written.{Bytes}
+use Rattle.std.specs.Option.{option_map_or}
+use Rattle.sc_hosts.specs.declared.sorts.Sort.{Sort}
+use Rattle.sc_hosts.specs.declared.sorts.Sort.TheVariants.{Cancels, Acks, Repeats, Later, Begins, Nobodys}
 use Rattle.sc_hosts.specs.Messages.{own_response}
 use Rattle.sc_hosts.specs.Sessions.{Form}
 use Rattle.sc_hosts.specs.Inboxes.{MOST_LIVE, quiet, is_full, replying}
-use Rattle.sc_hosts.specs.Taking.{cancelled, last_again, again_if, repeated, Claim, claim_of, refuse, own_uri, is_named_live, named_live, with_server, with_trying, queue_later, later_by, take_later, begun_live, begun, take_initial, is_never_initial, take_begun, take_new, take_unclaimed, take_claimed, take_request, takes, Cancels, Acks, Repeats, Unclaimed}
+use Rattle.sc_hosts.specs.Taking.{cancelled, last_again, again_if, repeated, refuse, own_uri, is_named_live, named_live, with_server, with_trying, queue_later, begun_live, begun, take_initial, is_never_initial, takes, server_for, sort_of, sort_at, taken_as}
 use Rattle.sc_hosts.specs.Transacting.{method_of, has_final}
 use Rattle.sc_hosts.specs.Words.{ok, does_not_exist, unavailable}
 use Rattle.sc_model.specs.Dialogs.{tag_of}
 use Rattle.sc_model.specs.Names.{tag_text}
 use Rattle.sc_model.specs.SessionStates.{invite, ack}
 use Rattle.sc_state.specs.Hosts.{Host}
+use Rattle.sc_state.specs.declared.host.Coming.{Coming}
 use Rattle.sc_state.specs.declared.host.Live.{Live}
 use Rattle.sc_state.specs.declared.host.Peer.{Peer}
 use Rattle.sc_state.specs.declared.host.Server.{Server}
@@ -56,9 +60,9 @@ module _ {S T : Type 0} (change : S → T) where
   unfolding repeated
   repeated-maps server count host = rw (pass_server-maps, quiet-maps, again_if-maps) refl
 
-  pub claim_of-maps : (from : Peer) (request : Request) (host : Host S) → claim_of from request (map_host change host) ≡ claim_of from request host
-  unfolding claim_of map_host
-  claim_of-maps from request host = refl
+  pub server_for-maps : (from : Peer) (request : Request) (host : Host S) → server_for from request (map_host change host) ≡ server_for from request host
+  unfolding server_for map_host
+  server_for-maps from request host = refl
 
   -- ## Answers without a transaction
 
@@ -93,17 +97,33 @@ module _ {S T : Type 0} (change : S → T) where
   queue_later-maps config epoch number from now request count live host =
       if-maps (map_taken change) (is_full live) (refuse-maps config from 503 unavailable request count host) (rw (with_server-maps, queue-maps, with_trying-maps) refl)
 
-  later_by-maps : (config : Config) (epoch number : ℕ) (from : Peer) (now : ℕ) (request : Request) (count : ℕ) (live : Option (Live S)) (host : Host S)
-      → later_by config (record { host = number; epoch = epoch; from = from; now = now; count = count }) request (option_map (map_live change) live) (map_host change host) ≡ map_taken change (later_by config (record { host = number; epoch = epoch; from = from; now = now; count = count }) request live host)
-  unfolding later_by
-  later_by-maps config epoch number from now request count None host = refuse-maps config from 481 does_not_exist request count host
-  later_by-maps config epoch number from now request count (Some live) host = queue_later-maps config epoch number from now request count live host
+  -- ## The sort of a request
 
-  take_later-maps : (config : Config) (epoch number : ℕ) (from : Peer) (now : ℕ) (request : Request) (count : ℕ) (host : Host S)
-      → take_later config (record { host = number; epoch = epoch; from = from; now = now; count = count }) request (map_host change host) ≡ map_taken change (take_later config (record { host = number; epoch = epoch; from = from; now = now; count = count }) request host)
-  unfolding take_later
-  take_later-maps config epoch number from now request count host =
-      rw (named_by-maps epoch number (own_uri config request) host) (later_by-maps config epoch number from now request count _ host)
+  unfoldable map_sort : Sort Server (Live S) → Sort Server (Live T)
+  map_sort (Cancels server) = Cancels server
+  map_sort (Acks server) = Acks server
+  map_sort (Repeats server) = Repeats server
+  map_sort (Later live) = Later (map_live change live)
+  map_sort Begins = Begins
+  map_sort Nobodys = Nobodys
+
+  named_sort-maps : (named : Option (Live S)) → option_map_or Later (option_map (map_live change) named) Nobodys ≡ map_sort (option_map_or Later named Nobodys)
+  unfolding map_sort
+  named_sort-maps None = refl
+  named_sort-maps (Some live) = refl
+
+  sort_of-maps : (request : Request) (found : Option Server) (named : Option (Live S)) → sort_of request found (option_map (map_live change) named) ≡ map_sort (sort_of request found named)
+  unfolding sort_of map_sort
+  sort_of-maps request (Some server) named =
+      if-maps map_sort (same_bytes (method_of request) cancel) refl (if-maps map_sort (same_bytes (method_of request) ack) refl refl)
+  sort_of-maps request None named =
+      if-maps map_sort (same_bytes (method_of request) cancel) refl
+      (if-maps map_sort (is_some (tag_of request.head.to)) (named_sort-maps named) (if-maps map_sort (is_never_initial request) refl refl))
+
+  sort_at-maps : (config : Config) (coming : Coming) (request : Request) (host : Host S) → sort_at config coming request (map_host change host) ≡ map_sort (sort_at config coming request host)
+  unfolding sort_at
+  sort_at-maps config coming request host =
+      rw (server_for-maps coming.from request host, named_by-maps coming.epoch coming.host (own_uri config request) host) (sort_of-maps request (server_for coming.from request host) _)
 
 -- ## Requests that begin a session, and every request
 
@@ -129,46 +149,27 @@ module _ {S T : Type 0} (change : S → T) (config : Config) (form : Form S) (ot
       )
       (with_trying-maps change from now request (quiet served (count + 1)))
 
-  take_initial-maps : (epoch number : ℕ) (from : Peer) (now : ℕ) (noted : Note) (request : Request) (count : ℕ) (host : Host S)
+  take_initial-maps : (epoch number : ℕ) (from : Peer) (now : ℕ) (noted : Option Note) (request : Request) (count : ℕ) (host : Host S)
       → take_initial other config (record { host = number; epoch = epoch; from = from; now = now; count = count }) noted request (map_host change host) ≡ map_taken change (take_initial form config (record { host = number; epoch = epoch; from = from; now = now; count = count }) noted request host)
   unfolding take_initial map_host
-  take_initial-maps epoch number from now noted request count host =
+  take_initial-maps epoch number from now None request count host = refuse-maps change config from 481 does_not_exist request count host
+  take_initial-maps epoch number from now (Some noted) request count host =
       rw (length-map host.sessions (map_live change)) (if-maps (map_taken change) (nat_le MOST_LIVE (length host.sessions))
       (refuse-maps change config from 503 unavailable request count host) (begun-maps epoch number from now noted request count host))
 
-  take_begun-maps : (epoch number : ℕ) (from : Peer) (now : ℕ) (noted : Option Note) (request : Request) (count : ℕ) (host : Host S)
-      → take_begun other config (record { host = number; epoch = epoch; from = from; now = now; count = count }) noted request (map_host change host) ≡ map_taken change (take_begun form config (record { host = number; epoch = epoch; from = from; now = now; count = count }) noted request host)
-  unfolding take_begun
-  take_begun-maps epoch number from now None request count host = refuse-maps change config from 481 does_not_exist request count host
-  take_begun-maps epoch number from now (Some noted) request count host =
-      if-maps (map_taken change) (is_never_initial request) (refuse-maps change config from 481 does_not_exist request count host)
-      (take_initial-maps epoch number from now noted request count host)
-
-  take_new-maps : (epoch number : ℕ) (from : Peer) (now : ℕ) (noted : Option Note) (request : Request) (count : ℕ) (host : Host S)
-      → take_new other config (record { host = number; epoch = epoch; from = from; now = now; count = count }) noted request (map_host change host) ≡ map_taken change (take_new form config (record { host = number; epoch = epoch; from = from; now = now; count = count }) noted request host)
-  unfolding take_new
-  take_new-maps epoch number from now noted request count host =
-      if-maps (map_taken change) (is_some (tag_of request.head.to)) (take_later-maps change config epoch number from now request count host)
-      (take_begun-maps epoch number from now noted request count host)
-
-  take_unclaimed-maps : (epoch number : ℕ) (from : Peer) (now : ℕ) (noted : Option Note) (request : Request) (count : ℕ) (host : Host S)
-      → take_unclaimed other config (record { host = number; epoch = epoch; from = from; now = now; count = count }) noted request (map_host change host) ≡ map_taken change (take_unclaimed form config (record { host = number; epoch = epoch; from = from; now = now; count = count }) noted request host)
-  unfolding take_unclaimed
-  take_unclaimed-maps epoch number from now noted request count host =
-      if-maps (map_taken change) (same_bytes (method_of request) cancel) (refuse-maps change config from 481 does_not_exist request count host)
-      (take_new-maps epoch number from now noted request count host)
-
-  take_claimed-maps : (epoch number : ℕ) (from : Peer) (now : ℕ) (noted : Option Note) (request : Request) (claim : Claim) (count : ℕ) (host : Host S)
-      → take_claimed other config (record { host = number; epoch = epoch; from = from; now = now; count = count }) noted request claim (map_host change host) ≡ map_taken change (take_claimed form config (record { host = number; epoch = epoch; from = from; now = now; count = count }) noted request claim host)
-  unfolding take_claimed
-  take_claimed-maps epoch number from now noted request (Cancels server) count host = cancelled-maps change from now server request count host
-  take_claimed-maps epoch number from now noted request (Acks server) count host = rw (pass_server-maps, quiet-maps) refl
-  take_claimed-maps epoch number from now noted request (Repeats server) count host = repeated-maps change server count host
-  take_claimed-maps epoch number from now noted request Unclaimed count host = take_unclaimed-maps epoch number from now noted request count host
+  taken_as-maps : (epoch number : ℕ) (from : Peer) (now : ℕ) (noted : Option Note) (request : Request) (sort : Sort Server (Live S)) (count : ℕ) (host : Host S)
+      → taken_as other config (record { host = number; epoch = epoch; from = from; now = now; count = count }) noted request (map_sort change sort) (map_host change host) ≡ map_taken change (taken_as form config (record { host = number; epoch = epoch; from = from; now = now; count = count }) noted request sort host)
+  unfolding taken_as map_sort
+  taken_as-maps epoch number from now noted request (Cancels server) count host = cancelled-maps change from now server request count host
+  taken_as-maps epoch number from now noted request (Acks server) count host = rw (pass_server-maps, quiet-maps) refl
+  taken_as-maps epoch number from now noted request (Repeats server) count host = repeated-maps change server count host
+  taken_as-maps epoch number from now noted request (Later live) count host = queue_later-maps change config epoch number from now request count live host
+  taken_as-maps epoch number from now noted request Begins count host = take_initial-maps epoch number from now noted request count host
+  taken_as-maps epoch number from now noted request Nobodys count host = refuse-maps change config from 481 does_not_exist request count host
 
   pub takes-maps : (epoch number : ℕ) (from : Peer) (now : ℕ) (noted : Option Note) (message : Message) (count : ℕ) (host : Host S)
       → takes other config (record { host = number; epoch = epoch; from = from; now = now; count = count }) noted message (map_host change host) ≡ map_taken change (takes form config (record { host = number; epoch = epoch; from = from; now = now; count = count }) noted message host)
-  unfolding takes take_request
+  unfolding takes
   takes-maps epoch number from now noted (messages.Request request) count host =
-      rw claim_of-maps (take_claimed-maps epoch number from now noted request (claim_of from request host) count host)
+      rw (sort_at-maps change config (record { host = number; epoch = epoch; from = from; now = now; count = count }) request host) (taken_as-maps epoch number from now noted request _ count host)
   takes-maps epoch number from now noted (messages.Response response) count host = take_response-maps change config epoch from now response count host

@@ -29,16 +29,16 @@ use Rattle.sc_state.specs.declared.queue.Queued.TheVariants as queued
 use Rattle.sc_state.specs.declared.session.Session.{Session}
 use Rattle.sc_grammar.specs.Written.{Bytes}
 use Rattle.sc_model.specs.DialogRequests.{cancel}
-use Rattle.sc_model.specs.Dialogs.{tag_of}
 use Rattle.sc_model.specs.Names.{branch_text, edge_tag}
 use Rattle.sc_model.specs.Responses.{response_head, response_to as made_to}
 use Rattle.sc_model.specs.SessionStates.{ack}
+use Rattle.sc_hosts.proofs.EachSort.{takes-by}
 use Rattle.sc_hosts.specs.Inboxes.{MOST_LIVE, is_live, live_in, queue, quiet, replying, with_event}
 use Rattle.sc_hosts.specs.Messages.{ack_of, cancel_of, kin, own_response, trying_response, without_via}
 use Rattle.sc_hosts.specs.Sessions.{Form}
-use Rattle.sc_hosts.specs.Taking.{Acks, Cancels, Claim, Repeats, Unclaimed, again_if, begun, cancelled, claim_by, claim_of, is_never_initial, last_again, later_by, queue_later, refuse, repeated, take_begun, take_claimed, take_initial, take_later, take_new, take_request, take_unclaimed, takes, tried, unrouted, with_server, with_trying}
+use Rattle.sc_hosts.specs.Taking.{again_if, begun, cancelled, last_again, queue_later, refuse, repeated, take_initial, takes, tried, unrouted, with_server, with_trying, server_for}
 use Rattle.sc_hosts.specs.TakingResponses.{cancelling, response_for, response_to, take_response, told, told_by, with_reply}
-use Rattle.sc_hosts.specs.Transacting.{branch_of, client_for, client_passed, has_final, is_answered_by, is_cancel_client, is_client, is_kept_client, is_over, is_repeated_by, is_server, method_of, pass_client, pass_server, server_passed, state_of_client, takes_from, tidied, top_via, with_client}
+use Rattle.sc_hosts.specs.Transacting.{branch_of, client_for, client_passed, has_final, is_answered_by, is_cancel_client, is_client, is_kept_client, is_over, is_repeated_by, is_server, method_of, pass_client, pass_server, server_passed, state_of_client, takes_from, tidied, top_via, with_client, is_acked_by, is_cancelled_by}
 use Rattle.sc_hosts.specs.Words.{does_not_exist, ok as fine_reason, trying, unavailable}
 use Rattle.sc_lasting.specs.Lasting.{All}
 use Rattle.sc_lasting.proofs.Began.{test-found}
@@ -319,11 +319,10 @@ module _ (salt : Bytes) (epoch : ℕ) (C : Client) where
     popped : (config : Config) (request : Request) → Free request.head.via → Free (unrouted config request).head.via
     popped config request free = subst (λ (vias : List Via). Free vias) (sym (unrouted-vias config request)) free
 
-    later-took : (config : Config) (other number : ℕ) (from : Peer) (now : ℕ) (request : Request) (count : ℕ) (found : Option (Live Session)) (host : Host Session) → Free request.head.via → Well number host
-        → Took number (later_by config (record { host = number; epoch = other; from = from; now = now; count = count }) request found host)
-    unfolding later_by queue_later
-    later-took config other number from now request count None host free ok = refuse-took number config from 481 does_not_exist request count host free ok
-    later-took config other number from now request count (Some live) host free ok =
+    later-took : (config : Config) (other number : ℕ) (from : Peer) (now : ℕ) (request : Request) (count : ℕ) (live : Live Session) (host : Host Session) → Free request.head.via → Well number host
+        → Took number (queue_later config (record { host = number; epoch = other; from = from; now = now; count = count }) request live host)
+    unfolding queue_later
+    later-took config other number from now request count live host free ok =
         if-took number _ _ _ (refuse-took number config from 503 unavailable request count host free ok)
         (trying-took number from now request _ free (queue-took number live.serial now (queued.Request (unrouted config request)) count _ (server-well number _ _ from _ (unrouted config request) host ok)))
 
@@ -333,91 +332,35 @@ module _ (salt : Bytes) (epoch : ℕ) (C : Client) where
     begun-took form config other number from now noted request count host free ok =
         trying-took number from now request _ free (kept-quiet number _ (count + 1) (server-well number (record { host = number; serial = host.last + 1 }) (count + 1) from _ request _ ok))
 
-    begins-took : (form : Form Session) (config : Config) (other number : ℕ) (from : Peer) (now : ℕ) (noted : Note) (request : Request) (count : ℕ) (host : Host Session) → Free request.head.via → Well number host
+    initial-took : (form : Form Session) (config : Config) (other number : ℕ) (from : Peer) (now : ℕ) (noted : Option Note) (request : Request) (count : ℕ) (host : Host Session) → Free request.head.via → Well number host
         → Took number (take_initial form config (record { host = number; epoch = other; from = from; now = now; count = count }) noted request host)
     unfolding take_initial
-    begins-took form config other number from now noted request count host free ok =
+    initial-took form config other number from now None request count host free ok = refuse-took number config from 481 does_not_exist request count host free ok
+    initial-took form config other number from now (Some noted) request count host free ok =
         if-took number (nat_le MOST_LIVE (length host.sessions)) (refuse config from 503 unavailable request count host)
         (begun form config (record { host = number; epoch = other; from = from; now = now; count = count }) noted request host) (refuse-took number config from 503 unavailable request count host free ok)
         (begun-took form config other number from now noted request count host free ok)
 
-    initial-took : (form : Form Session) (config : Config) (other number : ℕ) (from : Peer) (now : ℕ) (noted : Option Note) (request : Request) (count : ℕ) (host : Host Session) → Free request.head.via → Well number host
-        → Took number (take_begun form config (record { host = number; epoch = other; from = from; now = now; count = count }) noted request host)
-    unfolding take_begun
-    initial-took form config other number from now None request count host free ok = refuse-took number config from 481 does_not_exist request count host free ok
-    initial-took form config other number from now (Some noted) request count host free ok =
-        if-took number (is_never_initial request) (refuse config from 481 does_not_exist request count host)
-        (take_initial form config (record { host = number; epoch = other; from = from; now = now; count = count }) noted request host) (refuse-took number config from 481 does_not_exist request count host free ok)
-        (begins-took form config other number from now noted request count host free ok)
-
-    take_later-took : (config : Config) (other number : ℕ) (from : Peer) (now : ℕ) (request : Request) (count : ℕ) (host : Host Session) → Free request.head.via → Well number host
-        → Took number (take_later config (record { host = number; epoch = other; from = from; now = now; count = count }) request host)
-    unfolding take_later
-    take_later-took config other number from now request count host free ok = later-took config other number from now request count _ host free ok
-
-    new-took : (form : Form Session) (config : Config) (other number : ℕ) (from : Peer) (now : ℕ) (noted : Option Note) (request : Request) (count : ℕ) (host : Host Session) → Free request.head.via → Well number host
-        → Took number (take_new form config (record { host = number; epoch = other; from = from; now = now; count = count }) noted request host)
-    unfolding take_new
-    new-took form config other number from now noted request count host free ok =
-        if-took number (is_some (tag_of request.head.to)) (take_later config (record { host = number; epoch = other; from = from; now = now; count = count }) request host)
-        (take_begun form config (record { host = number; epoch = other; from = from; now = now; count = count }) noted request host)
-        (take_later-took config other number from now request count host free ok) (initial-took form config other number from now noted request count host free ok)
-
-    unclaimed-took : (form : Form Session) (config : Config) (other number : ℕ) (from : Peer) (now : ℕ) (noted : Option Note) (request : Request) (count : ℕ) (host : Host Session) → Free request.head.via → Well number host
-        → Took number (take_unclaimed form config (record { host = number; epoch = other; from = from; now = now; count = count }) noted request host)
-    unfolding take_unclaimed
-    unclaimed-took form config other number from now noted request count host free ok =
-        if-took number (same_bytes (method_of request) cancel) (refuse config from 481 does_not_exist request count host)
-        (take_new form config (record { host = number; epoch = other; from = from; now = now; count = count }) noted request host)
-        (refuse-took number config from 481 does_not_exist request count host free ok) (new-took form config other number from now noted request count host free ok)
-
     -- the last answer of the transaction that a request belongs to
-    unfoldable ClaimFree : Claim → Type 0
-    ClaimFree (Cancels server) = Unit {0}
-    ClaimFree (Acks server) = Unit {0}
-    ClaimFree (Repeats server) = LastFree server
-    ClaimFree Unclaimed = Unit {0}
-
-    if-claim : (b : Bool) (x y : Claim) → ClaimFree x → ClaimFree y → ClaimFree (cond b x y)
-    if-claim true x y p q = p
-    if-claim false x y p q = q
-
-    cancels-free : (found : Option Server) → ClaimFree (claim_by Cancels found Unclaimed)
-    unfolding claim_by ClaimFree
-    cancels-free None = tt
-    cancels-free (Some server) = tt
-
-    acks-free : (found : Option Server) → ClaimFree (claim_by Acks found Unclaimed)
-    unfolding claim_by ClaimFree
-    acks-free None = tt
-    acks-free (Some server) = tt
-
-    repeats-free : (found : Option Server) → ((server : Server) → found ≡ Some server → LastFree server) → ClaimFree (claim_by Repeats found Unclaimed)
-    unfolding claim_by ClaimFree
-    repeats-free None each = tt
-    repeats-free (Some server) each = each server refl
-
-    claim-free : (number : ℕ) (from : Peer) (request : Request) (host : Host Session) → Well number host → ClaimFree (claim_of from request host)
-    unfolding claim_of
-    claim-free number from request host ok =
-        if-claim (same_bytes (method_of request) cancel) _ _ (cancels-free _)
-        (if-claim (same_bytes (method_of request) ack) _ _ (acks-free _)
-        (repeats-free (find (is_repeated_by from request) host.servers) (λ server is. all-found LastFree (is_repeated_by from request) host.servers server is ok.1)))
-
-    claimed-took : (form : Form Session) (config : Config) (other number : ℕ) (from : Peer) (now : ℕ) (noted : Option Note) (request : Request) (claim : Claim) (count : ℕ) (host : Host Session) → Free request.head.via
-        → ClaimFree claim → Well number host → Took number (take_claimed form config (record { host = number; epoch = other; from = from; now = now; count = count }) noted request claim host)
-    unfolding take_claimed ClaimFree
-    claimed-took form config other number from now noted request (Cancels server) count host free of ok = cancelled-took number from now server request count host free ok
-    claimed-took form config other number from now noted request (Acks server) count host free of ok = kept-quiet number _ count (pass_server-well number server.event _ host ok)
-    claimed-took form config other number from now noted request (Repeats server) count host free of ok = repeated-took number server count host of ok
-    claimed-took form config other number from now noted request Unclaimed count host free of ok = unclaimed-took form config other number from now noted request count host free ok
+    server-free : (number : ℕ) (from : Peer) (request : Request) (host : Host Session) (server : Server) → server_for from request host ≡ Some server → Well number host → LastFree server
+    unfolding server_for
+    server-free number from request host server is ok = by (same_bytes (method_of request) cancel) (same_bytes (method_of request) ack) is
+      where
+        by : (c a : Bool) → cond c (find (is_cancelled_by from request) host.servers) (cond a (find (is_acked_by from request) host.servers) (find (is_repeated_by from request) host.servers)) ≡ Some server → LastFree server
+        by true a is = all-found LastFree (is_cancelled_by from request) host.servers server is ok.1
+        by false true is = all-found LastFree (is_acked_by from request) host.servers server is ok.1
+        by false false is = all-found LastFree (is_repeated_by from request) host.servers server is ok.1
 
     -- whatever comes between hosts that hasn't its branch
     pub takes-took : (form : Form Session) (config : Config) (number : ℕ) (from : Peer) (now : ℕ) (noted : Option Note) (message : Message) (count : ℕ) (host : Host Session) → config.salt ≡ salt → IsFree message
         → Well number host → Took number (takes form config (record { host = number; epoch = epoch; from = from; now = now; count = count }) noted message host)
-    unfolding takes take_request take_response client_for IsFree
+    unfolding takes take_response client_for IsFree
     takes-took form config number from now noted (messages.Request request) count host is free ok =
-        claimed-took form config epoch number from now noted request (claim_of from request host) count host free (claim-free number from request host ok) ok
+        takes-by (Took number) form config (record { host = number; epoch = epoch; from = from; now = now; count = count }) noted request host (λ server found. cancelled-took number from now server request count host free ok)
+        (λ server found. kept-quiet number _ count (pass_server-well number server.event _ host ok))
+        (λ server found. repeated-took number server count host (server-free number from request host server found ok) ok)
+        (λ live no_cancel tagged is. later-took config epoch number from now request count live host free ok)
+        (λ untagged. initial-took form config epoch number from now noted request count host free ok) (refuse-took number config from 481 does_not_exist request count host free ok)
     takes-took form config number from now noted (messages.Response response) count host is free ok =
         subst (λ (s : Bytes). Took number (response_to now (find (is_answered_by s epoch from response) host.clients) response count host)) (sym is)
         (response_to-took number from now response count host free ok (find (is_answered_by salt epoch from response) host.clients) refl)

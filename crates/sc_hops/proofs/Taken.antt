@@ -27,10 +27,11 @@ use Rattle.sc_grammar.specs.Written.{Bytes}
 use Rattle.sc_model.specs.SessionStates.{invite}
 use Rattle.sc_model.specs.Dialogs.{tag_of}
 use Rattle.sc_model.specs.DialogRequests.{cancel}
+use Rattle.sc_hosts.proofs.EachSort.{takes-by}
 use Rattle.sc_hosts.specs.Inboxes.{is_live, live_in, queue, quiet, replying, with_event}
 use Rattle.sc_hosts.specs.Messages.{ack_of, cancel_of, kin, trying_response}
 use Rattle.sc_hosts.specs.Sessions.{Form}
-use Rattle.sc_hosts.specs.Taking.{cancelled, last_again, again_if, repeated, Claim, Cancels, Acks, Repeats, Unclaimed, begun_live, refuse, named_live, own_uri, unrouted, tried, with_server, with_trying, queue_later, later_by, take_later, begun, take_initial, take_begun, take_new, take_unclaimed, take_claimed, take_request}
+use Rattle.sc_hosts.specs.Taking.{cancelled, last_again, again_if, repeated, begun_live, refuse, named_live, own_uri, unrouted, tried, with_server, with_trying, queue_later, begun, take_initial, takes}
 use Rattle.sc_hosts.specs.TakingResponses.{cancelling, told, told_by, with_reply, response_for, response_to, take_response}
 use Rattle.sc_hosts.specs.Transacting.{client_for, client_passed, has_final, is_answered_by, is_server, method_of, tidied, pass_client, pass_server}
 use Rattle.sc_hosts.specs.Words.{trying}
@@ -178,14 +179,12 @@ module _ {S : Type 0} (Way Sound : Request → Type 0) (Fits : AppId → Queued 
       let after : Taken S = record taken { host = record taken.host { servers = change_first (is_server taken.count) (tried request now) taken.host.servers } } in
       if-ok (same_bytes (method_of request) invite) (replying from (messages.Response (trying_response trying request)) after) taken (responds from (trying_response trying request) after ok.good) ok
 
-  later_by-ok : (config : Config) (epoch : ℕ) (from : Peer) (request : Request) (count : ℕ) (found : Option (Live S)) (host : Host S)
-      → ((live : Live S) → found ≡ Some live → Right Fits number live.serial (queued.Request (unrouted config request))) → Good host
-      → Ok (later_by config (record { host = number; epoch = epoch; from = from; now = now; count = count }) request found host)
-  unfolding later_by queue_later
-  later_by-ok config epoch from request count None host right good = refuse-ok config from 481 _ request count host good
-  later_by-ok config epoch from request count (Some live) host right good =
+  queue_later-ok : (config : Config) (epoch : ℕ) (from : Peer) (request : Request) (count : ℕ) (live : Live S) (host : Host S)
+      → Right Fits number live.serial (queued.Request (unrouted config request)) → Good host → Ok (queue_later config (record { host = number; epoch = epoch; from = from; now = now; count = count }) request live host)
+  unfolding queue_later
+  queue_later-ok config epoch from request count live host right good =
       if-ok _ _ _ (refuse-ok config from 503 _ request count host good)
-      (with_trying-ok from request _ (queue-ok live.serial _ count _ (right live refl) (with_server-good _ _ from _ _ host good)))
+      (with_trying-ok from request _ (queue-ok live.serial _ count _ right (with_server-good _ _ from _ _ host good)))
 
   -- the request comes here by an own URI that names a live session, and is right for it
   abbrev pub Comes : Config → ℕ → Request → Host S → Type 0
@@ -193,12 +192,9 @@ module _ {S : Type 0} (Way Sound : Request → Type 0) (Fits : AppId → Queued 
       is_some (tag_of request.head.to) ≡ true → (uri : Uri) → own_uri config request ≡ Some uri → (live : Live S) → named_live epoch number uri host ≡ Some live
       → Right Fits number live.serial (queued.Request (unrouted config request))
 
-  pub take_later-ok : (config : Config) (epoch : ℕ) (from : Peer) (request : Request) (count : ℕ) (host : Host S) → is_some (tag_of request.head.to) ≡ true
-      → Comes config epoch request host → Good host → Ok (take_later config (record { host = number; epoch = epoch; from = from; now = now; count = count }) request host)
-  unfolding take_later through
-  take_later-ok config epoch from request count host tagged comes good =
-      later_by-ok config epoch from request count _ host
-      (λ live is. let way = through (λ uri. named_live epoch number uri host) (own_uri config request) live is in comes tagged way.0 way.1 live way.2) good
+  -- the same, where the request is no CANCEL
+  abbrev pub ComesNew : Config → ℕ → Request → Host S → Type 0
+  ComesNew config epoch request host = same_bytes (method_of request) cancel ≡ false → Comes config epoch request host
 
   -- ## Requests that begin a session
 
@@ -208,45 +204,21 @@ module _ {S : Type 0} (Way Sound : Request → Type 0) (Fits : AppId → Queued 
   begun-ok form config epoch from noted request count host good =
       with_trying-ok from request _ (quiet-ok _ (count + 1) (with_server-good _ _ from _ request _ (all-append Session host.sessions _ good.0 ((λ above. plain _ _ tt), tt), good.1)))
 
-  take_begun-ok : (form : Form S) (config : Config) (epoch : ℕ) (from : Peer) (noted : Option Note) (request : Request) (count : ℕ) (host : Host S)
-      → Good host → Ok (take_begun form config (record { host = number; epoch = epoch; from = from; now = now; count = count }) noted request host)
-  unfolding take_begun take_initial
-  take_begun-ok form config epoch from None request count host good = refuse-ok config from 481 _ request count host good
-  take_begun-ok form config epoch from (Some noted) request count host good =
-      if-ok _ _ _ (refuse-ok config from 481 _ request count host good)
-      (if-ok _ _ _ (refuse-ok config from 503 _ request count host good) (begun-ok form config epoch from noted request count host good))
+  take_initial-ok : (form : Form S) (config : Config) (epoch : ℕ) (from : Peer) (noted : Option Note) (request : Request) (count : ℕ) (host : Host S)
+      → Good host → Ok (take_initial form config (record { host = number; epoch = epoch; from = from; now = now; count = count }) noted request host)
+  unfolding take_initial
+  take_initial-ok form config epoch from None request count host good = refuse-ok config from 481 _ request count host good
+  take_initial-ok form config epoch from (Some noted) request count host good =
+      if-ok _ _ _ (refuse-ok config from 503 _ request count host good) (begun-ok form config epoch from noted request count host good)
 
   -- ## Every request
 
-  new-by : (b : Bool) (x y : Taken S) (tagged : Bool) → tagged ≡ b → (tagged ≡ true → Ok x) → Ok y → Ok (cond b x y)
-  new-by true x y tagged is p q = p is
-  new-by false x y tagged is p q = q
-
-  cancel-by : (b : Bool) (x y : Taken S) (cancels : Bool) → cancels ≡ b → Ok x → (cancels ≡ false → Ok y) → Ok (cond b x y)
-  cancel-by true x y cancels is p q = p
-  cancel-by false x y cancels is p q = q is
-
-  -- the same, where the request is no CANCEL
-  abbrev pub ComesNew : Config → ℕ → Request → Host S → Type 0
-  ComesNew config epoch request host = same_bytes (method_of request) cancel ≡ false → Comes config epoch request host
-
-  take_unclaimed-ok : (form : Form S) (config : Config) (epoch : ℕ) (from : Peer) (noted : Option Note) (request : Request) (count : ℕ) (host : Host S)
-      → ComesNew config epoch request host → Good host → Ok (take_unclaimed form config (record { host = number; epoch = epoch; from = from; now = now; count = count }) noted request host)
-  unfolding take_unclaimed take_new
-  take_unclaimed-ok form config epoch from noted request count host comes good =
-      cancel-by (same_bytes (method_of request) cancel) _ _ (same_bytes (method_of request) cancel) refl (refuse-ok config from 481 _ request count host good)
-      (λ no_cancel. new-by (is_some (tag_of request.head.to)) _ _ (is_some (tag_of request.head.to)) refl (λ tagged. take_later-ok config epoch from request count host tagged (comes no_cancel) good)
-      (take_begun-ok form config epoch from noted request count host good))
-
-  take_claimed-ok : (form : Form S) (config : Config) (epoch : ℕ) (from : Peer) (noted : Option Note) (request : Request) (claim : Claim) (count : ℕ) (host : Host S)
-      → ComesNew config epoch request host → Good host → Ok (take_claimed form config (record { host = number; epoch = epoch; from = from; now = now; count = count }) noted request claim host)
-  unfolding take_claimed
-  take_claimed-ok form config epoch from noted request (Cancels server) count host comes good = cancelled-ok from server request count host good
-  take_claimed-ok form config epoch from noted request (Acks server) count host comes good = quiet-ok _ count (pass_server-good server.event _ host good)
-  take_claimed-ok form config epoch from noted request (Repeats server) count host comes good = repeated-ok server count host good
-  take_claimed-ok form config epoch from noted request Unclaimed count host comes good = take_unclaimed-ok form config epoch from noted request count host comes good
-
   pub take_request-ok : (form : Form S) (config : Config) (epoch : ℕ) (from : Peer) (noted : Option Note) (request : Request) (count : ℕ) (host : Host S)
-      → ComesNew config epoch request host → Good host → Ok (take_request form config (record { host = number; epoch = epoch; from = from; now = now; count = count }) noted request host)
-  unfolding take_request
-  take_request-ok form config epoch from noted request count host comes good = take_claimed-ok form config epoch from noted request _ count host comes good
+      → ComesNew config epoch request host → Good host → Ok (takes form config (record { host = number; epoch = epoch; from = from; now = now; count = count }) noted (messages.Request request) host)
+  unfolding through
+  take_request-ok form config epoch from noted request count host comes good =
+      takes-by Ok form config (record { host = number; epoch = epoch; from = from; now = now; count = count }) noted request host (λ server found. cancelled-ok from server request count host good)
+      (λ server found. quiet-ok _ count (pass_server-good server.event _ host good)) (λ server found. repeated-ok server count host good)
+      (λ live no_cancel tagged is. let way = through (λ uri. named_live epoch number uri host) (own_uri config request) live is in
+      queue_later-ok config epoch from request count live host (comes no_cancel tagged way.0 way.1 live way.2) good)
+      (λ untagged. take_initial-ok form config epoch from noted request count host good) (refuse-ok config from 481 _ request count host good)

@@ -39,7 +39,8 @@ use Rattle.sc_hosts.specs.Nets.{put, put_reply, placed, host_at, is_busy, delive
 use Rattle.sc_hosts.specs.Sessions.{Form}
 use Rattle.sc_hosts.specs.Inboxes.{quiet, queue, replying}
 use Rattle.sc_hosts.specs.TakingResponses.{told, told_by, with_reply, response_for, response_to as answer_to, take_response}
-use Rattle.sc_hosts.specs.Taking.{refuse, cancelled, repeated, again_if, last_again, with_trying, queue_later, later_by, take_later, begun, take_initial, take_begun, take_new, take_unclaimed, take_claimed, take_request, takes, Cancels, Acks, Repeats, Unclaimed, claim_by, claim_of}
+use Rattle.sc_hosts.proofs.EachSort.{by_sort}
+use Rattle.sc_hosts.specs.Taking.{refuse, cancelled, repeated, again_if, last_again, with_trying, queue_later, begun, take_initial, sort_of, sort_at, taken_as, takes}
 use Rattle.sc_hosts.specs.Transacting.{method_of, takes_from, is_over, state_of_client, is_answered_by, client_for, out_of_client, is_invite_client}
 use Rattle.sc_model.specs.DialogRequests.{cancel}
 
@@ -116,11 +117,10 @@ trying-taken-below : {S : Type 0} (n : ℕ) (from : Peer) (now : ℕ) (request :
 unfolding with_trying
 trying-taken-below n from now request taken more p = below-if n _ _ _ (below-replying n from _ taken (trying-below n _ request more)) p
 
-later-below : {S : Type 0} (n : ℕ) (config : Config) (epoch number : ℕ) (from : Peer) (now : ℕ) (request : Request) (count : ℕ) (live : Option (Live S)) (host : Host S)
-    → 4 < n → Below n (later_by config (record { host = number; epoch = epoch; from = from; now = now; count = count }) request live host).reply
-unfolding later_by queue_later
-later-below n config epoch number from now request count None host more = refuse-below n config from _ _ request count host more
-later-below n config epoch number from now request count (Some live) host more =
+later-below : {S : Type 0} (n : ℕ) (config : Config) (epoch number : ℕ) (from : Peer) (now : ℕ) (request : Request) (count : ℕ) (live : Live S) (host : Host S)
+    → 4 < n → Below n (queue_later config (record { host = number; epoch = epoch; from = from; now = now; count = count }) request live host).reply
+unfolding queue_later
+later-below n config epoch number from now request count live host more =
     below-if n _ _ _ (refuse-below n config from _ _ request count host more)
     (trying-taken-below n from now request _ more (below-queue n live.serial now _ count _))
 
@@ -129,18 +129,12 @@ first-below : {S : Type 0} (n : ℕ) (form : Form S) (config : Config) (epoch nu
 unfolding begun
 first-below n form config epoch number from now noted request count host more = trying-taken-below n from now request (quiet _ _) more (below-quiet n _ _)
 
-initial-below : {S : Type 0} (n : ℕ) (form : Form S) (config : Config) (epoch number : ℕ) (from : Peer) (now : ℕ) (noted : Note) (request : Request) (count : ℕ) (host : Host S)
+initial-below : {S : Type 0} (n : ℕ) (form : Form S) (config : Config) (epoch number : ℕ) (from : Peer) (now : ℕ) (noted : Option Note) (request : Request) (count : ℕ) (host : Host S)
     → 4 < n → Below n (take_initial form config (record { host = number; epoch = epoch; from = from; now = now; count = count }) noted request host).reply
 unfolding take_initial
-initial-below n form config epoch number from now noted request count host more =
+initial-below n form config epoch number from now None request count host more = refuse-below n config from _ _ request count host more
+initial-below n form config epoch number from now (Some noted) request count host more =
     below-if n _ _ _ (refuse-below n config from _ _ request count host more) (first-below n form config epoch number from now noted request count host more)
-
-begun-below : {S : Type 0} (n : ℕ) (form : Form S) (config : Config) (epoch number : ℕ) (from : Peer) (now : ℕ) (noted : Option Note) (request : Request) (count : ℕ) (host : Host S)
-    → 4 < n → Below n (take_begun form config (record { host = number; epoch = epoch; from = from; now = now; count = count }) noted request host).reply
-unfolding take_begun
-begun-below n form config epoch number from now None request count host more = refuse-below n config from _ _ request count host more
-begun-below n form config epoch number from now (Some noted) request count host more =
-    below-if n _ _ _ (refuse-below n config from _ _ request count host more) (initial-below n form config epoch number from now noted request count host more)
 
 last-below : {S : Type 0} (n : ℕ) (server : Server) (last : Option Response) (taken : Taken S) → 4 < n → Below n taken.reply → Below n (last_again server last taken).reply
 unfolding last_again rank
@@ -152,34 +146,20 @@ unfolding again_if
 again-below n true server taken more p = last-below n server server.last taken more p
 again-below n false server taken more p = p
 
--- ## Claims
-
-named-below : {S : Type 0} (n : ℕ) (config : Config) (epoch number : ℕ) (from : Peer) (now : ℕ) (request : Request) (count : ℕ) (host : Host S)
-    → 4 < n → Below n (take_later config (record { host = number; epoch = epoch; from = from; now = now; count = count }) request host).reply
-unfolding take_later
-named-below n config epoch number from now request count host more = later-below n config epoch number from now request count _ host more
-
-new-below : {S : Type 0} (n : ℕ) (form : Form S) (config : Config) (epoch number : ℕ) (from : Peer) (now : ℕ) (noted : Option Note) (request : Request) (count : ℕ) (host : Host S)
-    → 4 < n → Below n (take_new form config (record { host = number; epoch = epoch; from = from; now = now; count = count }) noted request host).reply
-unfolding take_new
-new-below n form config epoch number from now noted request count host more =
-    below-if n _ _ _ (named-below n config epoch number from now request count host more) (begun-below n form config epoch number from now noted request count host more)
-
-unclaimed-below : {S : Type 0} (n : ℕ) (form : Form S) (config : Config) (epoch number : ℕ) (from : Peer) (now : ℕ) (noted : Option Note) (request : Request) (count : ℕ) (host : Host S)
-    → 4 < n → Below n (take_unclaimed form config (record { host = number; epoch = epoch; from = from; now = now; count = count }) noted request host).reply
-unfolding take_unclaimed
-unclaimed-below n form config epoch number from now noted request count host more =
-    below-if n _ _ _ (refuse-below n config from _ _ request count host more) (new-below n form config epoch number from now noted request count host more)
+-- ## Sorts
 
 repeated-below : {S : Type 0} (n : ℕ) (server : Server) (count : ℕ) (host : Host S) → 4 < n → Below n (repeated server count host).reply
 unfolding repeated
 repeated-below n server count host more = again-below n _ server (quiet _ _) more (below-quiet n _ _)
 
-repeats-below : {S : Type 0} (n : ℕ) (form : Form S) (config : Config) (epoch number : ℕ) (from : Peer) (now : ℕ) (noted : Option Note) (request : Request) (found : Option Server) (count : ℕ) (host : Host S)
-    → 4 < n → Below n (take_claimed form config (record { host = number; epoch = epoch; from = from; now = now; count = count }) noted request (claim_by Repeats found Unclaimed) host).reply
-unfolding claim_by take_claimed
-repeats-below n form config epoch number from now noted request None count host more = unclaimed-below n form config epoch number from now noted request count host more
-repeats-below n form config epoch number from now noted request (Some server) count host more = repeated-below n server count host more
+others-below : {S : Type 0} (n : ℕ) (form : Form S) (config : Config) (epoch number : ℕ) (from : Peer) (now : ℕ) (noted : Option Note) (request : Request) (found : Option Server) (named : Option (Live S)) (count : ℕ) (host : Host S)
+    → same_bytes (method_of request) cancel ≡ false → 4 < n → Below n (taken_as form config (record { host = number; epoch = epoch; from = from; now = now; count = count }) noted request (sort_of request found named) host).reply
+unfolding taken_as
+others-below n form config epoch number from now noted request found named count host no_cancel more =
+    by_sort (λ sort. Below n (taken_as form config (record { host = number; epoch = epoch; from = from; now = now; count = count }) noted request sort host).reply) request found named
+    (λ server is_found is_cancel. cc) (λ server is_found is_ack. below-quiet n _ _) (λ server is_found other no_ack. repeated-below n server count host more)
+    (λ live none other tagged is. later-below n config epoch number from now request count live host more)
+    (λ untagged. initial-below n form config epoch number from now noted request count host more) (refuse-below n config from _ _ request count host more)
 
 -- ## An ACK: nothing is answered
 
@@ -200,11 +180,10 @@ trying-ack : {S : Type 0} (n : ℕ) (from : Peer) (now : ℕ) (request : Request
 unfolding with_trying
 trying-ack n from now request taken e p = rw (not-invite request e) p
 
-later-ack : {S : Type 0} (n : ℕ) (config : Config) (epoch number : ℕ) (from : Peer) (now : ℕ) (request : Request) (count : ℕ) (live : Option (Live S)) (host : Host S)
-    → same_bytes (method_of request) ack ≡ true → Below n (later_by config (record { host = number; epoch = epoch; from = from; now = now; count = count }) request live host).reply
-unfolding later_by queue_later
-later-ack n config epoch number from now request count None host e = refuse-ack n config from _ _ request count host e
-later-ack n config epoch number from now request count (Some live) host e =
+later-ack : {S : Type 0} (n : ℕ) (config : Config) (epoch number : ℕ) (from : Peer) (now : ℕ) (request : Request) (count : ℕ) (live : Live S) (host : Host S)
+    → same_bytes (method_of request) ack ≡ true → Below n (queue_later config (record { host = number; epoch = epoch; from = from; now = now; count = count }) request live host).reply
+unfolding queue_later
+later-ack n config epoch number from now request count live host e =
     below-if n _ _ _ (refuse-ack n config from _ _ request count host e) (trying-ack n from now request _ e (below-queue n live.serial now _ count _))
 
 first-ack : {S : Type 0} (n : ℕ) (form : Form S) (config : Config) (epoch number : ℕ) (from : Peer) (now : ℕ) (noted : Note) (request : Request) (count : ℕ) (host : Host S)
@@ -212,41 +191,22 @@ first-ack : {S : Type 0} (n : ℕ) (form : Form S) (config : Config) (epoch numb
 unfolding begun
 first-ack n form config epoch number from now noted request count host e = trying-ack n from now request (quiet _ _) e (below-quiet n _ _)
 
-initial-ack : {S : Type 0} (n : ℕ) (form : Form S) (config : Config) (epoch number : ℕ) (from : Peer) (now : ℕ) (noted : Note) (request : Request) (count : ℕ) (host : Host S)
+initial-ack : {S : Type 0} (n : ℕ) (form : Form S) (config : Config) (epoch number : ℕ) (from : Peer) (now : ℕ) (noted : Option Note) (request : Request) (count : ℕ) (host : Host S)
     → same_bytes (method_of request) ack ≡ true → Below n (take_initial form config (record { host = number; epoch = epoch; from = from; now = now; count = count }) noted request host).reply
 unfolding take_initial
-initial-ack n form config epoch number from now noted request count host e =
+initial-ack n form config epoch number from now None request count host e = refuse-ack n config from _ _ request count host e
+initial-ack n form config epoch number from now (Some noted) request count host e =
     below-if n _ _ _ (refuse-ack n config from _ _ request count host e) (first-ack n form config epoch number from now noted request count host e)
 
-begun-ack : {S : Type 0} (n : ℕ) (form : Form S) (config : Config) (epoch number : ℕ) (from : Peer) (now : ℕ) (noted : Option Note) (request : Request) (count : ℕ) (host : Host S)
-    → same_bytes (method_of request) ack ≡ true → Below n (take_begun form config (record { host = number; epoch = epoch; from = from; now = now; count = count }) noted request host).reply
-unfolding take_begun
-begun-ack n form config epoch number from now None request count host e = refuse-ack n config from _ _ request count host e
-begun-ack n form config epoch number from now (Some noted) request count host e =
-    below-if n _ _ _ (refuse-ack n config from _ _ request count host e) (initial-ack n form config epoch number from now noted request count host e)
-
-named-ack : {S : Type 0} (n : ℕ) (config : Config) (epoch number : ℕ) (from : Peer) (now : ℕ) (request : Request) (count : ℕ) (host : Host S)
-    → same_bytes (method_of request) ack ≡ true → Below n (take_later config (record { host = number; epoch = epoch; from = from; now = now; count = count }) request host).reply
-unfolding take_later
-named-ack n config epoch number from now request count host e = later-ack n config epoch number from now request count _ host e
-
-new-ack : {S : Type 0} (n : ℕ) (form : Form S) (config : Config) (epoch number : ℕ) (from : Peer) (now : ℕ) (noted : Option Note) (request : Request) (count : ℕ) (host : Host S)
-    → same_bytes (method_of request) ack ≡ true → Below n (take_new form config (record { host = number; epoch = epoch; from = from; now = now; count = count }) noted request host).reply
-unfolding take_new
-new-ack n form config epoch number from now noted request count host e =
-    below-if n _ _ _ (named-ack n config epoch number from now request count host e) (begun-ack n form config epoch number from now noted request count host e)
-
-unclaimed-ack : {S : Type 0} (n : ℕ) (form : Form S) (config : Config) (epoch number : ℕ) (from : Peer) (now : ℕ) (noted : Option Note) (request : Request) (count : ℕ) (host : Host S)
-    → same_bytes (method_of request) ack ≡ true → Below n (take_unclaimed form config (record { host = number; epoch = epoch; from = from; now = now; count = count }) noted request host).reply
-unfolding take_unclaimed
-unclaimed-ack n form config epoch number from now noted request count host e =
-    below-if n _ _ _ (refuse-ack n config from _ _ request count host e) (new-ack n form config epoch number from now noted request count host e)
-
-acks-below : {S : Type 0} (n : ℕ) (form : Form S) (config : Config) (epoch number : ℕ) (from : Peer) (now : ℕ) (noted : Option Note) (request : Request) (found : Option Server) (count : ℕ) (host : Host S)
-    → same_bytes (method_of request) ack ≡ true → Below n (take_claimed form config (record { host = number; epoch = epoch; from = from; now = now; count = count }) noted request (claim_by Acks found Unclaimed) host).reply
-unfolding claim_by take_claimed
-acks-below n form config epoch number from now noted request None count host e = unclaimed-ack n form config epoch number from now noted request count host e
-acks-below n form config epoch number from now noted request (Some server) count host e = below-quiet n _ _
+acks-below : {S : Type 0} (n : ℕ) (form : Form S) (config : Config) (epoch number : ℕ) (from : Peer) (now : ℕ) (noted : Option Note) (request : Request) (found : Option Server) (named : Option (Live S)) (count : ℕ) (host : Host S)
+    → same_bytes (method_of request) cancel ≡ false → same_bytes (method_of request) ack ≡ true
+    → Below n (taken_as form config (record { host = number; epoch = epoch; from = from; now = now; count = count }) noted request (sort_of request found named) host).reply
+unfolding taken_as
+acks-below n form config epoch number from now noted request found named count host no_cancel e =
+    by_sort (λ sort. Below n (taken_as form config (record { host = number; epoch = epoch; from = from; now = now; count = count }) noted request sort host).reply) request found named
+    (λ server is_found is_cancel. cc) (λ server is_found is_ack. below-quiet n _ _) (λ server is_found other no_ack. cc)
+    (λ live none other tagged is. later-ack n config epoch number from now request count live host e)
+    (λ untagged. initial-ack n form config epoch number from now noted request count host e) (refuse-ack n config from _ _ request count host e)
 
 -- ## A CANCEL: only its answer
 
@@ -257,21 +217,16 @@ refuse-cancel config from code reason request count host e =
     below-if 2 _ _ _ (below-quiet 2 host count)
     (below-replying 2 from _ (quiet host count) (rw (answer-rank _ code reason request e) (omega arith)))
 
-unclaimed-cancel : {S : Type 0} (form : Form S) (config : Config) (epoch number : ℕ) (from : Peer) (now : ℕ) (noted : Option Note) (request : Request) (count : ℕ) (host : Host S)
-    → same_bytes (method_of request) cancel ≡ true → Below 2 (take_unclaimed form config (record { host = number; epoch = epoch; from = from; now = now; count = count }) noted request host).reply
-unfolding take_unclaimed
-unclaimed-cancel form config epoch number from now noted request count host e = rw e (refuse-cancel config from _ _ request count host e)
-
 cancelled-below : {S : Type 0} (from : Peer) (now : ℕ) (server : Server) (request : Request) (count : ℕ) (host : Host S)
     → same_bytes (method_of request) cancel ≡ true → Below 2 (cancelled from now server request count host).reply
 unfolding cancelled
 cancelled-below from now server request count host e = below-replying 2 from _ (quiet host count) (rw (answer-rank server.tag 200 _ request e) (omega arith))
 
-cancels-below : {S : Type 0} (form : Form S) (config : Config) (epoch number : ℕ) (from : Peer) (now : ℕ) (noted : Option Note) (request : Request) (found : Option Server) (count : ℕ) (host : Host S)
-    → same_bytes (method_of request) cancel ≡ true → Below 2 (take_claimed form config (record { host = number; epoch = epoch; from = from; now = now; count = count }) noted request (claim_by Cancels found Unclaimed) host).reply
-unfolding claim_by take_claimed
-cancels-below form config epoch number from now noted request None count host e = unclaimed-cancel form config epoch number from now noted request count host e
-cancels-below form config epoch number from now noted request (Some server) count host e = cancelled-below from now server request count host e
+cancels-below : {S : Type 0} (form : Form S) (config : Config) (epoch number : ℕ) (from : Peer) (now : ℕ) (noted : Option Note) (request : Request) (found : Option Server) (named : Option (Live S)) (count : ℕ) (host : Host S)
+    → same_bytes (method_of request) cancel ≡ true → Below 2 (taken_as form config (record { host = number; epoch = epoch; from = from; now = now; count = count }) noted request (sort_of request found named) host).reply
+unfolding sort_of taken_as
+cancels-below form config epoch number from now noted request None named count host e = rw e (refuse-cancel config from _ _ request count host e)
+cancels-below form config epoch number from now noted request (Some server) named count host e = rw e (cancelled-below from now server request count host e)
 
 -- ## Each request
 
@@ -281,23 +236,20 @@ unfolding rank_of_request
 request-rank c a request p q = rw (p, q) refl
 
 -- what a request is answered is of a lower rank
-request-by : {S : Type 0} (c a : Bool) (form : Form S) (config : Config) (epoch number : ℕ) (from : Peer) (now : ℕ) (noted : Option Note) (request : Request) (count : ℕ) (host : Host S)
+request-by : {S : Type 0} (c a : Bool) (form : Form S) (config : Config) (epoch number : ℕ) (from : Peer) (now : ℕ) (noted : Option Note) (request : Request) (found : Option Server) (named : Option (Live S)) (count : ℕ) (host : Host S)
     → same_bytes (method_of request) cancel ≡ c → same_bytes (method_of request) ack ≡ a
-    → Below (cond (c || a) 2 5) (take_claimed form config (record { host = number; epoch = epoch; from = from; now = now; count = count }) noted request (claim_of from request host) host).reply
-unfolding claim_of
-request-by true a form config epoch number from now noted request count host p q =
-    rw (p, claim_of) (cancels-below form config epoch number from now noted request _ count host p)
-request-by false true form config epoch number from now noted request count host p q =
-    rw (p, q, claim_of) (acks-below 2 form config epoch number from now noted request _ count host q)
-request-by false false form config epoch number from now noted request count host p q =
-    rw (p, q, claim_of) (repeats-below 5 form config epoch number from now noted request _ count host (omega arith))
+    → Below (cond (c || a) 2 5) (taken_as form config (record { host = number; epoch = epoch; from = from; now = now; count = count }) noted request (sort_of request found named) host).reply
+request-by true a form config epoch number from now noted request found named count host p q = cancels-below form config epoch number from now noted request found named count host p
+request-by false true form config epoch number from now noted request found named count host p q = acks-below 2 form config epoch number from now noted request found named count host p q
+request-by false false form config epoch number from now noted request found named count host p q =
+    others-below 5 form config epoch number from now noted request found named count host p (omega arith)
 
 pub request-below : {S : Type 0} (form : Form S) (config : Config) (epoch number : ℕ) (from : Peer) (now : ℕ) (noted : Option Note) (request : Request) (count : ℕ) (host : Host S)
-    → Below (rank_of_request request) (take_request form config (record { host = number; epoch = epoch; from = from; now = now; count = count }) noted request host).reply
-unfolding take_request
+    → Below (rank_of_request request) (taken_as form config (record { host = number; epoch = epoch; from = from; now = now; count = count }) noted request (sort_at config (record { host = number; epoch = epoch; from = from; now = now; count = count }) request host) host).reply
+unfolding sort_at
 request-below form config epoch number from now noted request count host =
     rw (request-rank (same_bytes (method_of request) cancel) (same_bytes (method_of request) ack) request refl refl)
-    (request-by (same_bytes (method_of request) cancel) (same_bytes (method_of request) ack) form config epoch number from now noted request count host refl refl)
+    (request-by (same_bytes (method_of request) cancel) (same_bytes (method_of request) ack) form config epoch number from now noted request _ _ count host refl refl)
 
 -- ## Responses
 

@@ -29,8 +29,9 @@ use Rattle.sc_hosts.specs.Nets.{put, put_reply, placed, host_at, deliver_at, del
 use Rattle.sc_hosts.specs.Sessions.{Form}
 use Rattle.sc_hosts.specs.Inboxes.{quiet, queue, replying}
 use Rattle.sc_hosts.specs.TakingResponses.{told, told_by, with_reply, response_for, response_to as answer_to, take_response}
-use Rattle.sc_hosts.specs.Taking.{refuse, cancelled, repeated, again_if, last_again, with_trying, queue_later, later_by, take_later, begun, take_initial, take_begun, take_new, take_unclaimed, take_claimed, take_request, takes, Cancels, Acks, Repeats, Unclaimed, claim_by, claim_of}
-use Rattle.sc_hosts.specs.Transacting.{method_of, takes_from, is_over, state_of_client, state_of_server, same_top, is_kin, is_repeated_by, is_answered_by, client_for, out_of_client}
+use Rattle.sc_hosts.proofs.EachSort.{takes-by}
+use Rattle.sc_hosts.specs.Taking.{refuse, cancelled, repeated, again_if, last_again, with_trying, queue_later, begun, take_initial, server_for, takes}
+use Rattle.sc_hosts.specs.Transacting.{method_of, takes_from, is_over, state_of_client, state_of_server, same_top, is_kin, is_invite_server, is_cancelled_by, is_acked_by, is_repeated_by, is_answered_by, client_for, out_of_client}
 use Rattle.sc_model.specs.SessionStates.{ack}
 use Rattle.sc_model.specs.DialogRequests.{cancel}
 
@@ -77,47 +78,23 @@ inner-trying : {S : Type 0} (from : Peer) (now : ℕ) (request : Request) (taken
 unfolding with_trying
 inner-trying from now request taken p q = inner-if _ _ _ (inner-replying from _ taken p) q
 
-inner-later : {S : Type 0} (config : Config) (epoch number : ℕ) (from : Peer) (now : ℕ) (request : Request) (count : ℕ) (live : Option (Live S)) (host : Host S)
-    → is_inner from ≡ true → Inner (later_by config (record { host = number; epoch = epoch; from = from; now = now; count = count }) request live host).reply
-unfolding later_by queue_later
-inner-later config epoch number from now request count None host p = inner-refuse config from _ _ request count host p
-inner-later config epoch number from now request count (Some live) host p =
+inner-later : {S : Type 0} (config : Config) (epoch number : ℕ) (from : Peer) (now : ℕ) (request : Request) (count : ℕ) (live : Live S) (host : Host S)
+    → is_inner from ≡ true → Inner (queue_later config (record { host = number; epoch = epoch; from = from; now = now; count = count }) request live host).reply
+unfolding queue_later
+inner-later config epoch number from now request count live host p =
     inner-if _ _ _ (inner-refuse config from _ _ request count host p) (inner-trying from now request _ p (inner-queue live.serial now _ count _))
-
-inner-named : {S : Type 0} (config : Config) (epoch number : ℕ) (from : Peer) (now : ℕ) (request : Request) (count : ℕ) (host : Host S)
-    → is_inner from ≡ true → Inner (take_later config (record { host = number; epoch = epoch; from = from; now = now; count = count }) request host).reply
-unfolding take_later
-inner-named config epoch number from now request count host p = inner-later config epoch number from now request count _ host p
 
 inner-first : {S : Type 0} (form : Form S) (config : Config) (epoch number : ℕ) (from : Peer) (now : ℕ) (noted : Note) (request : Request) (count : ℕ) (host : Host S)
     → is_inner from ≡ true → Inner (begun form config (record { host = number; epoch = epoch; from = from; now = now; count = count }) noted request host).reply
 unfolding begun
 inner-first form config epoch number from now noted request count host p = inner-trying from now request (quiet _ _) p (inner-quiet _ _)
 
-inner-initial : {S : Type 0} (form : Form S) (config : Config) (epoch number : ℕ) (from : Peer) (now : ℕ) (noted : Note) (request : Request) (count : ℕ) (host : Host S)
+inner-initial : {S : Type 0} (form : Form S) (config : Config) (epoch number : ℕ) (from : Peer) (now : ℕ) (noted : Option Note) (request : Request) (count : ℕ) (host : Host S)
     → is_inner from ≡ true → Inner (take_initial form config (record { host = number; epoch = epoch; from = from; now = now; count = count }) noted request host).reply
 unfolding take_initial
-inner-initial form config epoch number from now noted request count host p =
+inner-initial form config epoch number from now None request count host p = inner-refuse config from _ _ request count host p
+inner-initial form config epoch number from now (Some noted) request count host p =
     inner-if _ _ _ (inner-refuse config from _ _ request count host p) (inner-first form config epoch number from now noted request count host p)
-
-inner-begun : {S : Type 0} (form : Form S) (config : Config) (epoch number : ℕ) (from : Peer) (now : ℕ) (noted : Option Note) (request : Request) (count : ℕ) (host : Host S)
-    → is_inner from ≡ true → Inner (take_begun form config (record { host = number; epoch = epoch; from = from; now = now; count = count }) noted request host).reply
-unfolding take_begun
-inner-begun form config epoch number from now None request count host p = inner-refuse config from _ _ request count host p
-inner-begun form config epoch number from now (Some noted) request count host p =
-    inner-if _ _ _ (inner-refuse config from _ _ request count host p) (inner-initial form config epoch number from now noted request count host p)
-
-inner-new : {S : Type 0} (form : Form S) (config : Config) (epoch number : ℕ) (from : Peer) (now : ℕ) (noted : Option Note) (request : Request) (count : ℕ) (host : Host S)
-    → is_inner from ≡ true → Inner (take_new form config (record { host = number; epoch = epoch; from = from; now = now; count = count }) noted request host).reply
-unfolding take_new
-inner-new form config epoch number from now noted request count host p =
-    inner-if _ _ _ (inner-named config epoch number from now request count host p) (inner-begun form config epoch number from now noted request count host p)
-
-inner-unclaimed : {S : Type 0} (form : Form S) (config : Config) (epoch number : ℕ) (from : Peer) (now : ℕ) (noted : Option Note) (request : Request) (count : ℕ) (host : Host S)
-    → is_inner from ≡ true → Inner (take_unclaimed form config (record { host = number; epoch = epoch; from = from; now = now; count = count }) noted request host).reply
-unfolding take_unclaimed
-inner-unclaimed form config epoch number from now noted request count host p =
-    inner-if _ _ _ (inner-refuse config from _ _ request count host p) (inner-new form config epoch number from now noted request count host p)
 
 inner-last : {S : Type 0} (server : Server) (last : Option Response) (taken : Taken S) → is_inner server.peer ≡ true → Inner taken.reply → Inner (last_again server last taken).reply
 unfolding last_again
@@ -140,48 +117,26 @@ kin-from host request server e =
     (both (takes_from server.peer (peers.Inside host)) (not (is_over (state_of_server server)))
     (both (takes_from server.peer (peers.Inside host) && not (is_over (state_of_server server))) (same_top server.request.head.via request.head.via) e).0).0
 
-inner-repeats : {S : Type 0} (form : Form S) (config : Config) (epoch number sender now : ℕ) (noted : Option Note) (request : Request) (found : Option Server) (count : ℕ) (host : Host S)
-    → find (is_repeated_by (peers.Inside sender) request) host.servers ≡ found
-    → Inner (take_claimed form config (record { host = number; epoch = epoch; from = peers.Inside sender; now = now; count = count }) noted request (claim_by Repeats found Unclaimed) host).reply
-unfolding claim_by take_claimed is_inner
-inner-repeats form config epoch number sender now noted request None count host e = inner-unclaimed form config epoch number (peers.Inside sender) now noted request count host refl
-inner-repeats form config epoch number sender now noted request (Some server) count host e =
-    inner-repeated server count host (kin-from sender request server
-    (both (is_kin (peers.Inside sender) request server) _ (found-passes host.servers (is_repeated_by (peers.Inside sender) request) server e)).0)
+-- the transaction that a request belongs to has its end
+server-from : {S : Type 0} (sender : ℕ) (request : Request) (host : Host S) (server : Server) → server_for (peers.Inside sender) request host ≡ Some server → is_inner server.peer ≡ true
+unfolding server_for
+server-from sender request host server = by (same_bytes (method_of request) cancel) (same_bytes (method_of request) ack)
+  where
+    from : Peer
+    from = peers.Inside sender
+
+    by : (c a : Bool) → cond c (find (is_cancelled_by from request) host.servers) (cond a (find (is_acked_by from request) host.servers) (find (is_repeated_by from request) host.servers)) ≡ Some server
+        → is_inner server.peer ≡ true
+    by true a e = kin-from sender request server (both (is_kin from request server) _ (found-passes host.servers (is_cancelled_by from request) server e)).0
+    by false true e =
+        kin-from sender request server
+        (both (is_kin from request server) _ (both (is_kin from request server && is_invite_server server) _ (found-passes host.servers (is_acked_by from request) server e)).0).0
+    by false false e = kin-from sender request server (both (is_kin from request server) _ (found-passes host.servers (is_repeated_by from request) server e)).0
 
 inner-cancelled : {S : Type 0} (from : Peer) (now : ℕ) (server : Server) (request : Request) (count : ℕ) (host : Host S)
     → is_inner from ≡ true → Inner (cancelled from now server request count host).reply
 unfolding cancelled
 inner-cancelled from now server request count host p = inner-replying from _ (quiet host count) p
-
-inner-cancels : {S : Type 0} (form : Form S) (config : Config) (epoch number : ℕ) (from : Peer) (now : ℕ) (noted : Option Note) (request : Request) (found : Option Server) (count : ℕ) (host : Host S)
-    → is_inner from ≡ true → Inner (take_claimed form config (record { host = number; epoch = epoch; from = from; now = now; count = count }) noted request (claim_by Cancels found Unclaimed) host).reply
-unfolding claim_by take_claimed
-inner-cancels form config epoch number from now noted request None count host p = inner-unclaimed form config epoch number from now noted request count host p
-inner-cancels form config epoch number from now noted request (Some server) count host p = inner-cancelled from now server request count host p
-
-inner-acks : {S : Type 0} (form : Form S) (config : Config) (epoch number : ℕ) (from : Peer) (now : ℕ) (noted : Option Note) (request : Request) (found : Option Server) (count : ℕ) (host : Host S)
-    → is_inner from ≡ true → Inner (take_claimed form config (record { host = number; epoch = epoch; from = from; now = now; count = count }) noted request (claim_by Acks found Unclaimed) host).reply
-unfolding claim_by take_claimed
-inner-acks form config epoch number from now noted request None count host p = inner-unclaimed form config epoch number from now noted request count host p
-inner-acks form config epoch number from now noted request (Some server) count host p = inner-quiet _ _
-
-inner-request-by : {S : Type 0} (c a : Bool) (form : Form S) (config : Config) (epoch number sender now : ℕ) (noted : Option Note) (request : Request) (count : ℕ) (host : Host S)
-    → same_bytes (method_of request) cancel ≡ c → same_bytes (method_of request) ack ≡ a
-    → Inner (take_claimed form config (record { host = number; epoch = epoch; from = peers.Inside sender; now = now; count = count }) noted request (claim_of (peers.Inside sender) request host) host).reply
-unfolding claim_of is_inner
-inner-request-by true a form config epoch number sender now noted request count host p q =
-    rw (p, claim_of) (inner-cancels form config epoch number (peers.Inside sender) now noted request _ count host refl)
-inner-request-by false true form config epoch number sender now noted request count host p q =
-    rw (p, q, claim_of) (inner-acks form config epoch number (peers.Inside sender) now noted request _ count host refl)
-inner-request-by false false form config epoch number sender now noted request count host p q =
-    rw (p, q, claim_of) (inner-repeats form config epoch number sender now noted request _ count host refl)
-
-inner-request : {S : Type 0} (form : Form S) (config : Config) (epoch number sender now : ℕ) (noted : Option Note) (request : Request) (count : ℕ) (host : Host S)
-    → Inner (take_request form config (record { host = number; epoch = epoch; from = peers.Inside sender; now = now; count = count }) noted request host).reply
-unfolding take_request
-inner-request form config epoch number sender now noted request count host =
-    inner-request-by (same_bytes (method_of request) cancel) (same_bytes (method_of request) ack) form config epoch number sender now noted request count host refl refl
 
 -- ## Responses
 
@@ -224,8 +179,14 @@ inner-response config epoch sender now response count host = inner-answer config
 
 pub inner-takes : {S : Type 0} (form : Form S) (config : Config) (epoch number sender now : ℕ) (noted : Option Note) (message : Message) (count : ℕ) (host : Host S)
     → Inner (takes form config (record { host = number; epoch = epoch; from = peers.Inside sender; now = now; count = count }) noted message host).reply
-unfolding takes
-inner-takes form config epoch number sender now noted (messages.Request request) count host = inner-request form config epoch number sender now noted request count host
+unfolding takes is_inner
+inner-takes form config epoch number sender now noted (messages.Request request) count host =
+    takes-by (λ taken. Inner taken.reply) form config (record { host = number; epoch = epoch; from = peers.Inside sender; now = now; count = count }) noted request host
+    (λ server found. inner-cancelled (peers.Inside sender) now server request count host refl) (λ server found. inner-quiet _ _)
+    (λ server found. inner-repeated server count host (server-from sender request host server found))
+    (λ live no_cancel tagged is. inner-later config epoch number (peers.Inside sender) now request count live host refl)
+    (λ untagged. inner-initial form config epoch number (peers.Inside sender) now noted request count host refl)
+    (inner-refuse config (peers.Inside sender) _ _ request count host refl)
 inner-takes form config epoch number sender now noted (messages.Response response) count host = inner-response config epoch sender now response count host
 
 -- ## What is sent outside stays

@@ -1,4 +1,5 @@
 pub mod SettleLaws
+pub mod EachSort
 pub mod Deliveries
 pub mod InnerReplies
 pub mod RunLaws

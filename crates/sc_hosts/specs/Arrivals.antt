@@ -19,17 +19,17 @@ use Rattle.sc_state.specs.declared.net.Net.{Net}
 use Rattle.sc_state.specs.declared.net.Note.{Note}
 use Rattle.sc_grammar.specs.Written.{Bytes}
 use Rattle.sc_model.specs.Choices.{choice_of}
-use Rattle.sc_model.specs.Dialogs.{tag_of}
 use Rattle.sc_model.specs.Names.{edge_tag}
+use Rattle.sc_hosts.specs.declared.sorts.Sort.{Sort}
+use Rattle.sc_hosts.specs.declared.sorts.Sort.TheVariants.{Cancels, Acks, Repeats, Later, Begins, Nobodys}
 use Rattle.sc_hosts.specs.Messages.{bad_response, own_response}
 use Rattle.sc_hosts.specs.Nets.{host_at, placed, put, named_host}
 use Rattle.sc_hosts.specs.Routes.{Position, position_of, unrouted_initial, popped_route}
 use Rattle.sc_hosts.specs.Sessions.{Form}
-use Rattle.sc_hosts.specs.Taking.{claim_of, is_claimed, is_never_initial, own_uri, takes}
+use Rattle.sc_hosts.specs.Taking.{own_uri, server_for, sort_of, takes}
 use Rattle.sc_hosts.specs.Transacting.{method_of, client_for}
 use Rattle.sc_hosts.specs.Words.{does_not_exist, not_found}
 use Rattle.sc_model.specs.SessionStates.{ack}
-use Rattle.sc_model.specs.DialogRequests.{cancel}
 
 -- ## A message comes from outside
 
@@ -86,45 +86,40 @@ begins_by form setup from request popped choices.Onward net =
 begins_by form setup from request popped choices.NotFound net =
     edge_answer setup.config from 404 not_found request net
 
--- a request without To tag; an ACK is dropped, and BYE, PRACK and UPDATE begin nothing
+-- a request that may begin a session, by the router's choice; an ACK is dropped
 unfoldable pub initial_arrives : {S : Type 0} → Form S → Setup → Place → Request → Net S → Net S
 initial_arrives form setup from request net =
     if same_bytes (method_of request) ack then net
     else
-    (if is_never_initial request then edge_answer setup.config from 481 does_not_exist request net
-    else (let position : Position = position_of setup.config request in
+    (let position : Position = position_of setup.config request in
     let unrouted : Request = unrouted_initial setup.config request in
     begins_by form setup from unrouted (popped_route setup.config request)
     (choice_of setup.config setup.dar unrouted position.region position.directive position.state)
-    net))
+    net)
 
--- a request with a To tag, at the host whose session it names; 481 where there is none
-unfoldable pub later_at : {S : Type 0} → Form S → Setup → Place → Request → Option ℕ → Net S → Net S
-later_at form setup from request None net =
-    edge_answer setup.config from 481 does_not_exist request net
-later_at form setup from request (Some number) net =
-    taken_at form setup from None (messages.Request request) number net
+-- the sort of a request to the net: which host has its transaction, and which the session that it
+-- names by the own URI with which it comes
+unfoldable pub sort_in : {S : Type 0} → Config → Place → Request → Net S → Sort ℕ ℕ
+sort_in config from request net =
+    sort_of request
+    (first_host (λ host. is_some (server_for (peers.Outside from) request host)) 0 net.hosts)
+    (option_and_then (λ uri. named_host uri net) (own_uri config request))
 
--- by the own URI with which it comes
-unfoldable pub later_arrives : {S : Type 0} → Form S → Setup → Place → Request → Net S → Net S
-later_arrives form setup from request net =
-    later_at form setup from request
-    (option_and_then (λ uri. named_host uri net) (own_uri setup.config request)) net
-
--- a request that belongs to no transaction; a CANCEL gets 481 (RFC 3261 section 9.2)
-unfoldable pub unclaimed : {S : Type 0} → Form S → Setup → Place → Request → Net S → Net S
-unclaimed form setup from request net =
-    if same_bytes (method_of request) cancel
-    then edge_answer setup.config from 481 does_not_exist request net
-    else (if is_some (tag_of request.head.to) then later_arrives form setup from request net
-    else initial_arrives form setup from request net)
-
--- a transaction takes it first
-unfoldable pub request_by : {S : Type 0} → Form S → Setup → Place → Request → Option ℕ → Net S
+-- a request of each sort: the host of its transaction or of its session takes it, one may begin a
+-- session, and nobody's gets 481
+unfoldable pub arrives_as : {S : Type 0} → Form S → Setup → Place → Request → Sort ℕ ℕ → Net S
     → Net S
-request_by form setup from request None net = unclaimed form setup from request net
-request_by form setup from request (Some number) net =
+arrives_as form setup from request (Cancels number) net =
     taken_at form setup from None (messages.Request request) number net
+arrives_as form setup from request (Acks number) net =
+    taken_at form setup from None (messages.Request request) number net
+arrives_as form setup from request (Repeats number) net =
+    taken_at form setup from None (messages.Request request) number net
+arrives_as form setup from request (Later number) net =
+    taken_at form setup from None (messages.Request request) number net
+arrives_as form setup from request Begins net = initial_arrives form setup from request net
+arrives_as form setup from request Nobodys net =
+    edge_answer setup.config from 481 does_not_exist request net
 
 -- a response, at the host whose client transaction it belongs to; others are dropped
 unfoldable pub response_by : {S : Type 0} → Form S → Setup → Place → Response → Option ℕ → Net S
@@ -136,8 +131,7 @@ response_by form setup from response (Some number) net =
 -- what a message that comes from outside makes of the net
 unfoldable pub arrived : {S : Type 0} → Form S → Setup → Place → Message → Net S → Net S
 arrived form setup from (messages.Request request) net =
-    request_by form setup from request
-    (first_host (λ host. is_claimed (claim_of (peers.Outside from) request host)) 0 net.hosts) net
+    arrives_as form setup from request (sort_in setup.config from request net) net
 arrived form setup from (messages.Response response) net =
     response_by form setup from response
     (first_host

@@ -29,6 +29,8 @@ use Rattle.sc_model.specs.Names.{ap_name, ap_value, edge_tag, tag_text}
 use Rattle.sc_model.specs.OwnHosts.{is_own}
 use Rattle.sc_model.specs.ServerTransactions.{is_sent_again}
 use Rattle.sc_model.specs.SessionStates.{invite, bye, ack}
+use Rattle.sc_hosts.specs.declared.sorts.Sort.{Sort}
+use Rattle.sc_hosts.specs.declared.sorts.Sort.TheVariants.{Cancels, Acks, Repeats, Later, Begins, Nobodys}
 use Rattle.sc_hosts.specs.Messages.{own_response, trying_response}
 use Rattle.sc_hosts.specs.Sessions.{Form}
 use Rattle.sc_hosts.specs.Transacting.{method_of, is_cancelled_by, is_acked_by, is_repeated_by, has_final, is_server, pass_server}
@@ -62,34 +64,6 @@ unfoldable pub repeated : {S : Type 0} → Server → ℕ → Host S → Taken S
 repeated server count host =
     again_if (is_sent_again (same_bytes (method_of server.request) invite) server.passed) server
     (quiet (pass_server server.event server_items.RequestAgain host) count)
-
--- which live transaction a request belongs to
-pub data Claim : Type 0 where
-  Cancels : Server → Claim
-  Acks : Server → Claim
-  Repeats : Server → Claim
-  Unclaimed : Claim
-
--- a claim of the transaction that was found, else another one
-unfoldable pub claim_by : (Server → Claim) → Option Server → Claim → Claim
-claim_by make None other = other
-claim_by make (Some server) other = make server
-
--- the claim of a request, by its method and its top Via (RFC 3261 section 17.2.3)
-unfoldable pub claim_of : {S : Type 0} → Peer → Request → Host S → Claim
-claim_of from request host =
-    if same_bytes (method_of request) cancel
-    then claim_by Cancels (find (is_cancelled_by from request) host.servers) Unclaimed
-    else
-    (if same_bytes (method_of request) ack then claim_by Acks (find (is_acked_by from request) host.servers) Unclaimed
-    else claim_by Repeats (find (is_repeated_by from request) host.servers) Unclaimed)
-
--- the request belongs to a live transaction
-unfoldable pub is_claimed : Claim → Bool
-is_claimed (Cancels server) = true
-is_claimed (Acks server) = true
-is_claimed (Repeats server) = true
-is_claimed Unclaimed = false
 
 -- ## Answers without a transaction; an ACK gets none
 
@@ -184,20 +158,6 @@ queue_later config coming request live host =
     (with_server app (coming.count + 1) coming.from (own_tag config coming.epoch app)
     (unrouted config request) host))
 
--- the same, where no session is named: 481
-unfoldable pub later_by : {S : Type 0} → Config → Coming → Request → Option (Live S) → Host S
-    → Taken S
-later_by config coming request None host =
-    refuse config coming.from 481 does_not_exist request coming.count host
-later_by config coming request (Some live) host = queue_later config coming request live host
-
--- a request with a To tag, for the live session of the own URI by which it came
-unfoldable pub take_later : {S : Type 0} → Config → Coming → Request → Host S → Taken S
-take_later config coming request host =
-    later_by config coming request
-    (option_and_then (λ uri. named_live coming.epoch coming.host uri host)
-    (own_uri config request)) host
-
 -- ## Requests that begin a session
 
 -- a session as it begins to live, its first request waiting
@@ -228,13 +188,26 @@ begun form config coming noted request host =
       last = host.last + 1;
     })) (coming.count + 1))
 
--- a request that may begin a session; 503 where as many live as may
-unfoldable pub take_initial : {S : Type 0} → Form S → Config → Coming → Note → Request → Host S
-    → Taken S
-take_initial form config coming noted request host =
+-- a request that may begin a session does so where it has its note; 503 where as many live as may
+unfoldable pub take_initial : {S : Type 0} → Form S → Config → Coming → Option Note → Request
+    → Host S → Taken S
+take_initial form config coming None request host =
+    refuse config coming.from 481 does_not_exist request coming.count host
+take_initial form config coming (Some noted) request host =
     if nat_le MOST_LIVE (length host.sessions)
     then refuse config coming.from 503 unavailable request coming.count host
     else begun form config coming noted request host
+
+-- ## The sorts of requests
+
+-- the server transaction that a request belongs to: a CANCEL and an ACK to that of their INVITE,
+-- another one to its own (RFC 3261 sections 9.2 and 17.2.3)
+unfoldable pub server_for : {S : Type 0} → Peer → Request → Host S → Option Server
+server_for from request host =
+    if same_bytes (method_of request) cancel
+    then find (is_cancelled_by from request) host.servers
+    else (if same_bytes (method_of request) ack then find (is_acked_by from request) host.servers
+    else find (is_repeated_by from request) host.servers)
 
 -- a request of these methods begins nothing
 unfoldable pub is_never_initial : Request → Bool
@@ -242,55 +215,50 @@ is_never_initial request =
     same_bytes (method_of request) bye || same_bytes (method_of request) prack
     || same_bytes (method_of request) update
 
--- a request without To tag that begins a session where it has its note
-unfoldable pub take_begun : {S : Type 0} → Form S → Config → Coming → Option Note → Request → Host S
-    → Taken S
-take_begun form config coming None request host =
-    refuse config coming.from 481 does_not_exist request coming.count host
-take_begun form config coming (Some noted) request host =
-    if is_never_initial request
-    then refuse config coming.from 481 does_not_exist request coming.count host
-    else take_initial form config coming noted request host
+-- the sort of a request, by the transaction that it belongs to and the session that it names, where
+-- there are such. Without a transaction a CANCEL is nobody's (RFC 3261 section 9.2); one with a To
+-- tag is for the session that it names, and nobody's where it names none (section 12.2.2); another
+-- one may begin a session, where its method begins one
+unfoldable pub sort_of : {T L : Type 0} → Request → Option T → Option L → Sort T L
+sort_of request (Some transaction) named =
+    if same_bytes (method_of request) cancel then Cancels transaction
+    else (if same_bytes (method_of request) ack then Acks transaction else Repeats transaction)
+sort_of request None named =
+    if same_bytes (method_of request) cancel then Nobodys
+    else (if is_some (tag_of request.head.to) then option_map_or Later named Nobodys
+    else (if is_never_initial request then Nobodys else Begins))
 
--- ## Every request that comes to a host
+-- the sort of a request to a host
+unfoldable pub sort_at : {S : Type 0} → Config → Coming → Request → Host S → Sort Server (Live S)
+sort_at config coming request host =
+    sort_of request (server_for coming.from request host)
+    (option_and_then (λ uri. named_live coming.epoch coming.host uri host)
+    (own_uri config request))
 
--- a request that belongs to no transaction, and is no CANCEL
-unfoldable pub take_new : {S : Type 0} → Form S → Config → Coming → Option Note → Request → Host S
-    → Taken S
-take_new form config coming noted request host =
-    if is_some (tag_of request.head.to) then take_later config coming request host
-    else take_begun form config coming noted request host
+-- ## All that a host takes
 
--- a request that belongs to no transaction; a CANCEL gets 481 (RFC 3261 section 9.2)
-unfoldable pub take_unclaimed : {S : Type 0} → Form S → Config → Coming → Option Note → Request
-    → Host S → Taken S
-take_unclaimed form config coming noted request host =
-    if same_bytes (method_of request) cancel
-    then refuse config coming.from 481 does_not_exist request coming.count host
-    else take_new form config coming noted request host
-
--- a request, by its claim
-unfoldable pub take_claimed : {S : Type 0} → Form S → Config → Coming → Option Note → Request
-    → Claim → Host S → Taken S
-take_claimed form config coming noted request (Cancels server) host =
+-- a request of each sort: a CANCEL tells the session, an ACK passes the transaction, what comes
+-- again gets the last answer again, a later request waits for its session, one may begin, and
+-- nobody's gets 481
+unfoldable pub taken_as : {S : Type 0} → Form S → Config → Coming → Option Note → Request
+    → Sort Server (Live S) → Host S → Taken S
+taken_as form config coming noted request (Cancels server) host =
     cancelled coming.from coming.now server request coming.count host
-take_claimed form config coming noted request (Acks server) host =
+taken_as form config coming noted request (Acks server) host =
     quiet (pass_server server.event server_items.AckCame host) coming.count
-take_claimed form config coming noted request (Repeats server) host =
+taken_as form config coming noted request (Repeats server) host =
     repeated server coming.count host
-take_claimed form config coming noted request Unclaimed host =
-    take_unclaimed form config coming noted request host
-
--- a request that comes to a host
-unfoldable pub take_request : {S : Type 0} → Form S → Config → Coming → Option Note → Request
-    → Host S → Taken S
-take_request form config coming noted request host =
-    take_claimed form config coming noted request (claim_of coming.from request host) host
+taken_as form config coming noted request (Later live) host =
+    queue_later config coming request live host
+taken_as form config coming noted request Begins host =
+    take_initial form config coming noted request host
+taken_as form config coming noted request Nobodys host =
+    refuse config coming.from 481 does_not_exist request coming.count host
 
 -- what a host takes
 unfoldable pub takes : {S : Type 0} → Form S → Config → Coming → Option Note → Message → Host S
     → Taken S
 takes form config coming noted (messages.Request request) host =
-    take_request form config coming noted request host
+    taken_as form config coming noted request (sort_at config coming request host) host
 takes form config coming noted (messages.Response response) host =
     take_response config coming.epoch coming.from coming.now response coming.count host

@@ -3,5 +3,7 @@
 #![tactic(auto)]
 
 mod laws;
+mod sorts;
 
 pub use laws::{beginnings_send_beginnings, deliveries_end};
+pub use sorts::Sort;

@@ -28,9 +28,10 @@ use Rattle.sc_grammar.specs.Written.{Bytes}
 use Rattle.sc_model.specs.DialogRequests.{cancel}
 use Rattle.sc_model.specs.SessionStates.{invite}
 use Rattle.sc_model.specs.Timers.{DueEntry}
+use Rattle.sc_hosts.proofs.EachSort.{takes-by}
 use Rattle.sc_hosts.specs.Inboxes.{is_live, live_in, quiet, queue, with_event}
 use Rattle.sc_hosts.specs.Sessions.{Form}
-use Rattle.sc_hosts.specs.Taking.{begun_live, cancelled, last_again, again_if, repeated, Claim, Cancels, Acks, Repeats, Unclaimed, refuse, with_server, with_trying, tried, queue_later, later_by, is_named_live, named_live, take_later, own_uri, begun, take_initial, take_begun, take_new, take_unclaimed, take_claimed, take_request, takes}
+use Rattle.sc_hosts.specs.Taking.{begun_live, cancelled, last_again, again_if, repeated, refuse, with_server, with_trying, tried, queue_later, is_named_live, named_live, own_uri, begun, take_initial, takes}
 use Rattle.sc_hosts.specs.TakingResponses.{told, told_by, cancelling, with_reply, response_for, response_to, take_response}
 use Rattle.sc_hosts.specs.Ticks.{mark_fired}
 use Rattle.sc_hosts.specs.Transacting.{client_for, is_answered_by, method_of, out_of_client, pass_client, pass_server, server_passed, tidied, with_client}
@@ -453,25 +454,11 @@ module _ {S : Type 0} (form : Form S) (Own : AppId → Type 0) (low high number 
       by true is false at more = absurd (clash _ (ap (λ (l : Live S). l.serial == live.serial) (same is) ∙ itself live.serial) at)
       by false is false at more = more is
 
-  later_by-keyed : (config : Config) (epoch : ℕ) (from : Peer) (now : ℕ) (request : Request) (count : ℕ) (live : Option (Live S)) (host : Host S)
-      → ((l : Live S) → live ≡ Some l → is_some (live_in l.serial host) ≡ true) → Keyed count host
-      → Took (later_by config (record { host = number; epoch = epoch; from = from; now = now; count = count }) request live host)
-  unfolding later_by
-  later_by-keyed config epoch from now request count None host there keyed = refuse-keyed config from 481 _ request count host keyed
-  later_by-keyed config epoch from now request count (Some live) host there keyed =
-      queue_later-keyed config epoch from now request count live host (there live refl) keyed
-
   named-there : (epoch : ℕ) (uri : Option Uri) (host : Host S) (l : Live S)
       → option_and_then (λ (u : Uri). named_live epoch number u host) uri ≡ Some l → is_some (live_in l.serial host) ≡ true
   unfolding named_live
   named-there epoch None host l is = cc
   named-there epoch (Some uri) host l is = some-in (is_named_live epoch number uri) host.sessions l is
-
-  take_later-keyed : (config : Config) (epoch : ℕ) (from : Peer) (now : ℕ) (request : Request) (count : ℕ) (host : Host S) → Keyed count host
-      → Took (take_later config (record { host = number; epoch = epoch; from = from; now = now; count = count }) request host)
-  unfolding take_later
-  take_later-keyed config epoch from now request count host keyed =
-      later_by-keyed config epoch from now request count _ host (λ l is. named-there epoch (own_uri config request) host l is) keyed
 
   -- ## Requests that begin a session
 
@@ -503,38 +490,21 @@ module _ {S : Type 0} (form : Form S) (Own : AppId → Type 0) (low high number 
   begun-keyed config epoch from now noted request count host keyed =
       with_trying-keyed from now request _ (with_server-keyed (host.last + 1) from _ request count _ (omega arith) (begins-keyed count host _ refl keyed))
 
-  take_initial-keyed : (config : Config) (epoch : ℕ) (from : Peer) (now : ℕ) (noted : Note) (request : Request) (count : ℕ) (host : Host S) → Keyed count host
+  take_initial-keyed : (config : Config) (epoch : ℕ) (from : Peer) (now : ℕ) (noted : Option Note) (request : Request) (count : ℕ) (host : Host S) → Keyed count host
       → Took (take_initial form config (record { host = number; epoch = epoch; from = from; now = now; count = count }) noted request host)
   unfolding take_initial
-  take_initial-keyed config epoch from now noted request count host keyed =
+  take_initial-keyed config epoch from now None request count host keyed = refuse-keyed config from 481 _ request count host keyed
+  take_initial-keyed config epoch from now (Some noted) request count host keyed =
       if-took _ _ _ (refuse-keyed config from 503 _ request count host keyed) (begun-keyed config epoch from now noted request count host keyed)
-
-  take_begun-keyed : (config : Config) (epoch : ℕ) (from : Peer) (now : ℕ) (noted : Option Note) (request : Request) (count : ℕ) (host : Host S)
-      → Keyed count host → Took (take_begun form config (record { host = number; epoch = epoch; from = from; now = now; count = count }) noted request host)
-  unfolding take_begun
-  take_begun-keyed config epoch from now None request count host keyed = refuse-keyed config from 481 _ request count host keyed
-  take_begun-keyed config epoch from now (Some noted) request count host keyed =
-      if-took _ _ _ (refuse-keyed config from 481 _ request count host keyed) (take_initial-keyed config epoch from now noted request count host keyed)
 
   -- ## All that a host takes
 
-  take_unclaimed-keyed : (config : Config) (epoch : ℕ) (from : Peer) (now : ℕ) (noted : Option Note) (request : Request) (count : ℕ) (host : Host S)
-      → Keyed count host → Took (take_unclaimed form config (record { host = number; epoch = epoch; from = from; now = now; count = count }) noted request host)
-  unfolding take_unclaimed take_new
-  take_unclaimed-keyed config epoch from now noted request count host keyed =
-      if-took _ _ _ (refuse-keyed config from 481 _ request count host keyed)
-      (if-took _ _ _ (take_later-keyed config epoch from now request count host keyed) (take_begun-keyed config epoch from now noted request count host keyed))
-
-  take_claimed-keyed : (config : Config) (epoch : ℕ) (from : Peer) (now : ℕ) (noted : Option Note) (request : Request) (claim : Claim) (count : ℕ) (host : Host S)
-      → Keyed count host → Took (take_claimed form config (record { host = number; epoch = epoch; from = from; now = now; count = count }) noted request claim host)
-  unfolding take_claimed quiet
-  take_claimed-keyed config epoch from now noted request (Cancels server) count host keyed = cancelled-keyed from now server request count host keyed
-  take_claimed-keyed config epoch from now noted request (Acks server) count host keyed = pass_server-keyed server.event _ count host keyed
-  take_claimed-keyed config epoch from now noted request (Repeats server) count host keyed = repeated-keyed server count host keyed
-  take_claimed-keyed config epoch from now noted request Unclaimed count host keyed = take_unclaimed-keyed config epoch from now noted request count host keyed
-
   pub takes-keyed : (config : Config) (epoch : ℕ) (from : Peer) (now : ℕ) (noted : Option Note) (message : Message) (count : ℕ) (host : Host S)
       → Keyed count host → Took (takes form config (record { host = number; epoch = epoch; from = from; now = now; count = count }) noted message host)
-  unfolding takes take_request
-  takes-keyed config epoch from now noted (messages.Request request) count host keyed = take_claimed-keyed config epoch from now noted request _ count host keyed
+  unfolding takes quiet
+  takes-keyed config epoch from now noted (messages.Request request) count host keyed =
+      takes-by Took form config (record { host = number; epoch = epoch; from = from; now = now; count = count }) noted request host (λ server found. cancelled-keyed from now server request count host keyed)
+      (λ server found. pass_server-keyed server.event _ count host keyed) (λ server found. repeated-keyed server count host keyed)
+      (λ live no_cancel tagged is. queue_later-keyed config epoch from now request count live host (named-there epoch (own_uri config request) host live is) keyed)
+      (λ untagged. take_initial-keyed config epoch from now noted request count host keyed) (refuse-keyed config from 481 _ request count host keyed)
   takes-keyed config epoch from now noted (messages.Response response) count host keyed = take_response-keyed config epoch from now response count host keyed

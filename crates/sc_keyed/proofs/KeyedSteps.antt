@@ -27,7 +27,8 @@ use Rattle.sc_state.specs.declared.orders.Outcome.{Outcome}
 use Rattle.sc_state.specs.declared.queue.Queued.TheVariants as queued
 use Rattle.sc_grammar.specs.Written.{Bytes}
 use Rattle.sc_model.specs.Timers.{DueEntry}
-use Rattle.sc_hosts.specs.Arrivals.{host_takes, taken_at, edge_answer, begins_by, initial_arrives, later_at, later_arrives, unclaimed, request_by, response_by, arrived, bad_by}
+use Rattle.sc_hosts.proofs.EachSort.{arrives-each}
+use Rattle.sc_hosts.specs.Arrivals.{host_takes, taken_at, edge_answer, begins_by, initial_arrives, response_by, arrived, bad_by}
 use Rattle.sc_hosts.specs.Nets.{host_at}
 use Rattle.sc_hosts.specs.Routes.{unrouted_initial, popped_route}
 use Rattle.sc_hosts.specs.Sessions.{Form}
@@ -81,26 +82,7 @@ module _ {S : Type 0} (form : Form S) (Own : AppId → Type 0) (high low : ℕ) 
   unfolding initial_arrives
   initial_arrives-keyed setup from request net kept =
       if-keyed form Own high low _ net _ kept
-      (if-keyed form Own high low _ _ _ (edge_answer-keyed setup.config from 481 _ request net kept)
-      (begins_by-keyed setup from (unrouted_initial setup.config request) (popped_route setup.config request) _ net kept))
-
-  later_at-keyed : (setup : Setup) (from : Place) (request : Request) (number : Option ℕ) (net : Net S) → Kept net
-      → Kept (later_at form setup from request number net)
-  unfolding later_at
-  later_at-keyed setup from request None net kept = edge_answer-keyed setup.config from 481 _ request net kept
-  later_at-keyed setup from request (Some number) net kept = taken_at-keyed setup from None _ number net kept
-
-  unclaimed-keyed : (setup : Setup) (from : Place) (request : Request) (net : Net S) → Kept net → Kept (unclaimed form setup from request net)
-  unfolding unclaimed later_arrives
-  unclaimed-keyed setup from request net kept =
-      if-keyed form Own high low _ _ _ (edge_answer-keyed setup.config from 481 _ request net kept)
-      (if-keyed form Own high low _ _ _ (later_at-keyed setup from request _ net kept) (initial_arrives-keyed setup from request net kept))
-
-  request_by-keyed : (setup : Setup) (from : Place) (request : Request) (number : Option ℕ) (net : Net S) → Kept net
-      → Kept (request_by form setup from request number net)
-  unfolding request_by
-  request_by-keyed setup from request None net kept = unclaimed-keyed setup from request net kept
-  request_by-keyed setup from request (Some number) net kept = taken_at-keyed setup from None _ number net kept
+      (begins_by-keyed setup from (unrouted_initial setup.config request) (popped_route setup.config request) _ net kept)
 
   response_by-keyed : (setup : Setup) (from : Place) (response : Response) (number : Option ℕ) (net : Net S) → Kept net
       → Kept (response_by form setup from response number net)
@@ -110,7 +92,9 @@ module _ {S : Type 0} (form : Form S) (Own : AppId → Type 0) (high low : ℕ) 
 
   pub arrived-keyed : (setup : Setup) (from : Place) (message : Message) (net : Net S) → Kept net → Kept (arrived form setup from message net)
   unfolding arrived
-  arrived-keyed setup from (messages.Request request) net kept = request_by-keyed setup from request _ net kept
+  arrived-keyed setup from (messages.Request request) net kept =
+      arrives-each Kept form setup from request net (λ number. taken_at-keyed setup from None _ number net kept)
+      (λ untagged. initial_arrives-keyed setup from request net kept) (edge_answer-keyed setup.config from 481 _ request net kept)
   arrived-keyed setup from (messages.Response response) net kept = response_by-keyed setup from response _ net kept
 
   pub bad_by-keyed : (config : Config) (from : Place) (heads : Option Answerable) (net : Net S) → Kept net → Kept (bad_by config from heads net)

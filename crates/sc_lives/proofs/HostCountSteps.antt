@@ -1,6 +1,5 @@
 -- A step leaves as many hosts as there were, so after any journal there is one for each application.
 use Rattle.std.proofs.Common.{◌≡◌, ℕ, Bool, true, false, Option, None, Some, List, [], ◌∷◌, length, refl, ◌∙◌}
-use Rattle.std.specs.Prelude.{is_some}
 use Rattle.std.proofs.lemmas.List.{length-map}
 use Rattle.sc_value.specs.declared.ids.AppId.{AppId}
 use Rattle.sc_value.specs.declared.ids.Place.{Place}
@@ -32,19 +31,17 @@ use Rattle.sc_state.specs.declared.queue.Queued.TheVariants as queued
 use Rattle.sc_state.specs.declared.queue.Waiting.{Waiting}
 use Rattle.sc_state.specs.declared.session.Session.{Session}
 use Rattle.sc_grammar.specs.Written.{Bytes}
-use Rattle.sc_model.specs.DialogRequests.{cancel}
-use Rattle.sc_model.specs.Dialogs.{tag_of}
 use Rattle.sc_model.specs.SessionStates.{ack}
 use Rattle.sc_model.specs.Timers.{DueEntry}
-use Rattle.sc_hosts.specs.Arrivals.{host_takes, taken_at, edge_answer, begins_by, initial_arrives, later_at, later_arrives, unclaimed, request_by, response_by, arrived, bad_by}
+use Rattle.sc_hosts.proofs.EachSort.{arrives-each}
+use Rattle.sc_hosts.specs.Arrivals.{host_takes, taken_at, edge_answer, begins_by, initial_arrives, response_by, arrived, bad_by}
 use Rattle.sc_hosts.specs.Routes.{unrouted_initial, popped_route}
 use Rattle.sc_hosts.specs.Runs.{start, after_step, chained_from, chained}
 use Rattle.sc_hosts.specs.Sessions.{Form, Turn}
 use Rattle.sc_hosts.specs.Steps.{without_live, with_ready, invalidated, closed_turn, turned, turns_first, turns, withdrawn, stepped}
 use Rattle.sc_hosts.specs.Ticks.{told_at, passes, clients_to, lost, DueItem, Of_session, Of_client, Of_server, fires, due_items, ticked}
-use Rattle.sc_hosts.specs.Taking.{is_never_initial}
 use Rattle.sc_hosts.specs.Transacting.{method_of}
-use Rattle.sc_hosts.specs.Words.{does_not_exist, unavailable}
+use Rattle.sc_hosts.specs.Words.{unavailable}
 use Rattle.sc_lives.proofs.HostCounts.{if-hosts, fold-hosts, change_host-hosts, put-hosts, placed-hosts, queue_for-hosts, obeyed-hosts, delivered-hosts}
 
 -- ## A message or a text comes from outside
@@ -77,30 +74,7 @@ initial_arrives-hosts : {S : Type 0} (form : Form S) (setup : Setup) (from : Pla
 unfolding initial_arrives
 initial_arrives-hosts form setup from request net =
     if-hosts (same_bytes (method_of request) ack) (length net.hosts) net _ refl
-    (if-hosts (is_never_initial request) (length net.hosts) _ _ (edge_answer-hosts setup.config from 481 does_not_exist request net)
-    (begins_by-hosts form setup from (unrouted_initial setup.config request) (popped_route setup.config request) _ net))
-
-later_at-hosts : {S : Type 0} (form : Form S) (setup : Setup) (from : Place) (request : Request) (number : Option ℕ) (net : Net S)
-    → length (later_at form setup from request number net).hosts ≡ length net.hosts
-unfolding later_at
-later_at-hosts form setup from request None net = edge_answer-hosts setup.config from 481 _ request net
-later_at-hosts form setup from request (Some number) net = taken_at-hosts form setup from None _ number net
-
-later_arrives-hosts : {S : Type 0} (form : Form S) (setup : Setup) (from : Place) (request : Request) (net : Net S) → length (later_arrives form setup from request net).hosts ≡ length net.hosts
-unfolding later_arrives
-later_arrives-hosts form setup from request net = later_at-hosts form setup from request _ net
-
-unclaimed-hosts : {S : Type 0} (form : Form S) (setup : Setup) (from : Place) (request : Request) (net : Net S) → length (unclaimed form setup from request net).hosts ≡ length net.hosts
-unfolding unclaimed
-unclaimed-hosts form setup from request net =
-    if-hosts (same_bytes (method_of request) cancel) (length net.hosts) _ _ (edge_answer-hosts setup.config from 481 does_not_exist request net)
-    (if-hosts (is_some (tag_of request.head.to)) (length net.hosts) _ _ (later_arrives-hosts form setup from request net) (initial_arrives-hosts form setup from request net))
-
-request_by-hosts : {S : Type 0} (form : Form S) (setup : Setup) (from : Place) (request : Request) (number : Option ℕ) (net : Net S)
-    → length (request_by form setup from request number net).hosts ≡ length net.hosts
-unfolding request_by
-request_by-hosts form setup from request None net = unclaimed-hosts form setup from request net
-request_by-hosts form setup from request (Some number) net = taken_at-hosts form setup from None _ number net
+    (begins_by-hosts form setup from (unrouted_initial setup.config request) (popped_route setup.config request) _ net)
 
 response_by-hosts : {S : Type 0} (form : Form S) (setup : Setup) (from : Place) (response : Response) (number : Option ℕ) (net : Net S)
     → length (response_by form setup from response number net).hosts ≡ length net.hosts
@@ -110,7 +84,9 @@ response_by-hosts form setup from response (Some number) net = taken_at-hosts fo
 
 arrived-hosts : {S : Type 0} (form : Form S) (setup : Setup) (from : Place) (message : Message) (net : Net S) → length (arrived form setup from message net).hosts ≡ length net.hosts
 unfolding arrived
-arrived-hosts form setup from (messages.Request request) net = request_by-hosts form setup from request _ net
+arrived-hosts form setup from (messages.Request request) net =
+    arrives-each (λ after. length after.hosts ≡ length net.hosts) form setup from request net (λ number. taken_at-hosts form setup from None _ number net)
+    (λ untagged. initial_arrives-hosts form setup from request net) (edge_answer-hosts setup.config from 481 _ request net)
 arrived-hosts form setup from (messages.Response response) net = response_by-hosts form setup from response _ net
 
 bad_by-hosts : {S : Type 0} (config : Config) (from : Place) (heads : Option Answerable) (net : Net S) → length (bad_by config from heads net).hosts ≡ length net.hosts

@@ -19,10 +19,11 @@ use Rattle.sc_state.specs.declared.host.Taken.{Taken}
 use Rattle.sc_state.specs.declared.net.Note.{Note}
 use Rattle.sc_state.specs.declared.queue.Queued.{Queued}
 use Rattle.sc_grammar.specs.Written.{Bytes}
+use Rattle.sc_hosts.proofs.EachSort.{takes-each}
 use Rattle.sc_hosts.specs.Inboxes.{is_live, with_event, quiet, queue, replying}
 use Rattle.sc_hosts.specs.Messages.{ack_of, cancel_of}
 use Rattle.sc_hosts.specs.Sessions.{Form}
-use Rattle.sc_hosts.specs.Taking.{cancelled, last_again, again_if, repeated, Claim, Cancels, Acks, Repeats, Unclaimed, refuse, with_server, with_trying, queue_later, later_by, take_later, begun_live, begun, take_initial, take_begun, take_new, take_unclaimed, take_claimed, take_request, takes}
+use Rattle.sc_hosts.specs.Taking.{cancelled, last_again, again_if, repeated, refuse, with_server, with_trying, queue_later, begun_live, begun, take_initial, takes}
 use Rattle.sc_hosts.specs.TakingResponses.{told, told_by, cancelling, with_reply, response_for, response_to, take_response}
 use Rattle.sc_hosts.specs.Transacting.{tidied, pass_client, with_client, pass_server}
 use Rattle.sc_lives.proofs.Serials.{append-rising, change-rising}
@@ -130,17 +131,6 @@ module _ {S : Type 0} where
       if-taken _ _ _ (refuse-numbered config from 503 _ request count host numbered)
       (with_trying-numbered from now request _ (queue-numbered live.serial now _ count _ (with_server-numbered _ _ from _ _ host numbered)))
 
-  later_by-numbered : (config : Config) (epoch number : ℕ) (from : Peer) (now : ℕ) (request : Request) (count : ℕ) (live : Option (Live S)) (host : Host S)
-      → IsNumbered host → IsNumbered (later_by config (record { host = number; epoch = epoch; from = from; now = now; count = count }) request live host).host
-  unfolding later_by
-  later_by-numbered config epoch number from now request count None host numbered = refuse-numbered config from 481 _ request count host numbered
-  later_by-numbered config epoch number from now request count (Some live) host numbered = queue_later-numbered config epoch number from now request count live host numbered
-
-  take_later-numbered : (config : Config) (epoch number : ℕ) (from : Peer) (now : ℕ) (request : Request) (count : ℕ) (host : Host S)
-      → IsNumbered host → IsNumbered (take_later config (record { host = number; epoch = epoch; from = from; now = now; count = count }) request host).host
-  unfolding take_later
-  take_later-numbered config epoch number from now request count host numbered = later_by-numbered config epoch number from now request count _ host numbered
-
   -- ## Requests that begin a session: it has the serial after the last
 
   begun-numbered : (form : Form S) (config : Config) (epoch number : ℕ) (from : Peer) (now : ℕ) (noted : Note) (request : Request) (count : ℕ) (host : Host S)
@@ -149,44 +139,21 @@ module _ {S : Type 0} where
   begun-numbered form config epoch number from now noted request count host numbered =
       with_trying-numbered from now request _ (with_server-numbered _ _ from _ request _ (append-rising host.sessions 0 host.last _ refl numbered))
 
-  take_initial-numbered : (form : Form S) (config : Config) (epoch number : ℕ) (from : Peer) (now : ℕ) (noted : Note) (request : Request) (count : ℕ) (host : Host S)
+  take_initial-numbered : (form : Form S) (config : Config) (epoch number : ℕ) (from : Peer) (now : ℕ) (noted : Option Note) (request : Request) (count : ℕ) (host : Host S)
       → IsNumbered host → IsNumbered (take_initial form config (record { host = number; epoch = epoch; from = from; now = now; count = count }) noted request host).host
   unfolding take_initial
-  take_initial-numbered form config epoch number from now noted request count host numbered =
+  take_initial-numbered form config epoch number from now None request count host numbered = refuse-numbered config from 481 _ request count host numbered
+  take_initial-numbered form config epoch number from now (Some noted) request count host numbered =
       if-taken _ _ _ (refuse-numbered config from 503 _ request count host numbered) (begun-numbered form config epoch number from now noted request count host numbered)
 
-  take_begun-numbered : (form : Form S) (config : Config) (epoch number : ℕ) (from : Peer) (now : ℕ) (noted : Option Note) (request : Request) (count : ℕ) (host : Host S)
-      → IsNumbered host → IsNumbered (take_begun form config (record { host = number; epoch = epoch; from = from; now = now; count = count }) noted request host).host
-  unfolding take_begun
-  take_begun-numbered form config epoch number from now None request count host numbered = refuse-numbered config from 481 _ request count host numbered
-  take_begun-numbered form config epoch number from now (Some noted) request count host numbered =
-      if-taken _ _ _ (refuse-numbered config from 481 _ request count host numbered) (take_initial-numbered form config epoch number from now noted request count host numbered)
-
-  -- ## Every request that comes to a host
-
-  take_new-numbered : (form : Form S) (config : Config) (epoch number : ℕ) (from : Peer) (now : ℕ) (noted : Option Note) (request : Request) (count : ℕ) (host : Host S)
-      → IsNumbered host → IsNumbered (take_new form config (record { host = number; epoch = epoch; from = from; now = now; count = count }) noted request host).host
-  unfolding take_new
-  take_new-numbered form config epoch number from now noted request count host numbered =
-      if-taken _ _ _ (take_later-numbered config epoch number from now request count host numbered) (take_begun-numbered form config epoch number from now noted request count host numbered)
-
-  take_unclaimed-numbered : (form : Form S) (config : Config) (epoch number : ℕ) (from : Peer) (now : ℕ) (noted : Option Note) (request : Request) (count : ℕ) (host : Host S)
-      → IsNumbered host → IsNumbered (take_unclaimed form config (record { host = number; epoch = epoch; from = from; now = now; count = count }) noted request host).host
-  unfolding take_unclaimed
-  take_unclaimed-numbered form config epoch number from now noted request count host numbered =
-      if-taken _ _ _ (refuse-numbered config from 481 _ request count host numbered) (take_new-numbered form config epoch number from now noted request count host numbered)
-
-  take_claimed-numbered : (form : Form S) (config : Config) (epoch number : ℕ) (from : Peer) (now : ℕ) (noted : Option Note) (request : Request) (claim : Claim) (count : ℕ) (host : Host S)
-      → IsNumbered host → IsNumbered (take_claimed form config (record { host = number; epoch = epoch; from = from; now = now; count = count }) noted request claim host).host
-  unfolding take_claimed quiet
-  take_claimed-numbered form config epoch number from now noted request (Cancels server) count host numbered = cancelled-numbered from now server request count host numbered
-  take_claimed-numbered form config epoch number from now noted request (Acks server) count host numbered = pass_server-numbered server.event _ host numbered
-  take_claimed-numbered form config epoch number from now noted request (Repeats server) count host numbered = repeated-numbered server count host numbered
-  take_claimed-numbered form config epoch number from now noted request Unclaimed count host numbered = take_unclaimed-numbered form config epoch number from now noted request count host numbered
+  -- ## All that comes to a host
 
   pub takes-numbered : (form : Form S) (config : Config) (epoch number : ℕ) (from : Peer) (now : ℕ) (noted : Option Note) (message : Message) (count : ℕ) (host : Host S)
       → IsNumbered host → IsNumbered (takes form config (record { host = number; epoch = epoch; from = from; now = now; count = count }) noted message host).host
-  unfolding takes take_request
+  unfolding takes quiet
   takes-numbered form config epoch number from now noted (messages.Request request) count host numbered =
-      take_claimed-numbered form config epoch number from now noted request _ count host numbered
+      takes-each (λ taken. IsNumbered taken.host) form config (record { host = number; epoch = epoch; from = from; now = now; count = count }) noted request host
+      (λ server. cancelled-numbered from now server request count host numbered) (λ server. pass_server-numbered server.event _ host numbered)
+      (λ server. repeated-numbered server count host numbered) (λ live. queue_later-numbered config epoch number from now request count live host numbered)
+      (take_initial-numbered form config epoch number from now noted request count host numbered) (refuse-numbered config from 481 _ request count host numbered)
   takes-numbered form config epoch number from now noted (messages.Response response) count host numbered = take_response-numbered config epoch from now response count host numbered

@@ -1,6 +1,5 @@
 -- A step leaves the serials of all hosts rising.
 use Rattle.std.proofs.Common.{ℕ, Bool, true, false, Option, None, Some, List, refl}
-use Rattle.std.specs.Prelude.{is_some}
 use Rattle.sc_value.specs.declared.ids.AppId.{AppId}
 use Rattle.sc_value.specs.declared.ids.Place.{Place}
 use Rattle.sc_value.specs.declared.message.Message.{Message}
@@ -31,19 +30,17 @@ use Rattle.sc_state.specs.declared.queue.Queued.TheVariants as queued
 use Rattle.sc_state.specs.declared.queue.Waiting.{Waiting}
 use Rattle.sc_state.specs.declared.session.Session.{Session}
 use Rattle.sc_grammar.specs.Written.{Bytes}
-use Rattle.sc_model.specs.DialogRequests.{cancel}
-use Rattle.sc_model.specs.Dialogs.{tag_of}
 use Rattle.sc_model.specs.SessionStates.{ack}
 use Rattle.sc_model.specs.Timers.{DueEntry}
-use Rattle.sc_hosts.specs.Arrivals.{host_takes, taken_at, edge_answer, begins_by, initial_arrives, later_at, later_arrives, unclaimed, request_by, response_by, arrived, bad_by}
+use Rattle.sc_hosts.proofs.EachSort.{arrives-each}
+use Rattle.sc_hosts.specs.Arrivals.{host_takes, taken_at, edge_answer, begins_by, initial_arrives, response_by, arrived, bad_by}
 use Rattle.sc_hosts.specs.Inboxes.{is_live}
 use Rattle.sc_hosts.specs.Routes.{unrouted_initial, popped_route}
 use Rattle.sc_hosts.specs.Sessions.{Form, Turn}
 use Rattle.sc_hosts.specs.Steps.{turned_live, without_live, with_ready, invalidated, closed_turn, turned, turns_first, turns, withdrawn, stepped}
-use Rattle.sc_hosts.specs.Taking.{is_never_initial}
 use Rattle.sc_hosts.specs.Ticks.{told_at, passes, clients_to, lost, DueItem, Of_session, Of_client, Of_server, mark_fired, fires, due_items, ticked}
 use Rattle.sc_hosts.specs.Transacting.{method_of, tidied}
-use Rattle.sc_hosts.specs.Words.{does_not_exist, unavailable}
+use Rattle.sc_hosts.specs.Words.{unavailable}
 use Rattle.sc_lives.proofs.NumberedHosts.{pass_server-numbered, takes-numbered}
 use Rattle.sc_lives.proofs.NumberedNets.{if-net, fold-numbered, change_host-numbered, host_at-numbered, put-numbered, placed-numbered, queue_for-numbered, passed-numbered, obeyed-numbered}
 use Rattle.sc_lives.proofs.Serials.{change-rising, remove-rising}
@@ -80,28 +77,7 @@ module _ {S : Type 0} where
   unfolding initial_arrives
   initial_arrives-numbered form setup from request net numbered =
       if-net (same_bytes (method_of request) ack) net _ numbered
-      (if-net (is_never_initial request) _ _ (edge_answer-numbered setup.config from 481 does_not_exist request net numbered)
-      (begins_by-numbered form setup from (unrouted_initial setup.config request) (popped_route setup.config request) _ net numbered))
-
-  later_at-numbered : (form : Form S) (setup : Setup) (from : Place) (request : Request) (number : Option ℕ) (net : Net S) → AreNumbered net → AreNumbered (later_at form setup from request number net)
-  unfolding later_at
-  later_at-numbered form setup from request None net numbered = edge_answer-numbered setup.config from 481 _ request net numbered
-  later_at-numbered form setup from request (Some number) net numbered = taken_at-numbered form setup from None _ number net numbered
-
-  later_arrives-numbered : (form : Form S) (setup : Setup) (from : Place) (request : Request) (net : Net S) → AreNumbered net → AreNumbered (later_arrives form setup from request net)
-  unfolding later_arrives
-  later_arrives-numbered form setup from request net numbered = later_at-numbered form setup from request _ net numbered
-
-  unclaimed-numbered : (form : Form S) (setup : Setup) (from : Place) (request : Request) (net : Net S) → AreNumbered net → AreNumbered (unclaimed form setup from request net)
-  unfolding unclaimed
-  unclaimed-numbered form setup from request net numbered =
-      if-net (same_bytes (method_of request) cancel) _ _ (edge_answer-numbered setup.config from 481 does_not_exist request net numbered)
-      (if-net (is_some (tag_of request.head.to)) _ _ (later_arrives-numbered form setup from request net numbered) (initial_arrives-numbered form setup from request net numbered))
-
-  request_by-numbered : (form : Form S) (setup : Setup) (from : Place) (request : Request) (number : Option ℕ) (net : Net S) → AreNumbered net → AreNumbered (request_by form setup from request number net)
-  unfolding request_by
-  request_by-numbered form setup from request None net numbered = unclaimed-numbered form setup from request net numbered
-  request_by-numbered form setup from request (Some number) net numbered = taken_at-numbered form setup from None _ number net numbered
+      (begins_by-numbered form setup from (unrouted_initial setup.config request) (popped_route setup.config request) _ net numbered)
 
   response_by-numbered : (form : Form S) (setup : Setup) (from : Place) (response : Response) (number : Option ℕ) (net : Net S) → AreNumbered net → AreNumbered (response_by form setup from response number net)
   unfolding response_by
@@ -110,7 +86,9 @@ module _ {S : Type 0} where
 
   arrived-numbered : (form : Form S) (setup : Setup) (from : Place) (message : Message) (net : Net S) → AreNumbered net → AreNumbered (arrived form setup from message net)
   unfolding arrived
-  arrived-numbered form setup from (messages.Request request) net numbered = request_by-numbered form setup from request _ net numbered
+  arrived-numbered form setup from (messages.Request request) net numbered =
+      arrives-each AreNumbered form setup from request net (λ number. taken_at-numbered form setup from None _ number net numbered)
+      (λ untagged. initial_arrives-numbered form setup from request net numbered) (edge_answer-numbered setup.config from 481 _ request net numbered)
   arrived-numbered form setup from (messages.Response response) net numbered = response_by-numbered form setup from response _ net numbered
 
   bad_by-numbered : (config : Config) (from : Place) (heads : Option Answerable) (net : Net S) → AreNumbered net → AreNumbered (bad_by config from heads net)

@@ -32,7 +32,8 @@ use Rattle.sc_state.specs.declared.queue.Waiting.{Waiting}
 use Rattle.sc_state.specs.declared.session.Session.{Session}
 use Rattle.sc_grammar.specs.Written.{Bytes}
 use Rattle.sc_model.specs.Timers.{DueEntry}
-use Rattle.sc_hosts.specs.Arrivals.{host_takes, taken_at, edge_answer, begins_by, initial_arrives, later_at, later_arrives, unclaimed, request_by, response_by, arrived, bad_by}
+use Rattle.sc_hosts.proofs.EachSort.{arrives-each}
+use Rattle.sc_hosts.specs.Arrivals.{host_takes, taken_at, edge_answer, begins_by, initial_arrives, response_by, arrived, bad_by}
 use Rattle.sc_hosts.specs.Inboxes.{is_live}
 use Rattle.sc_hosts.specs.Routes.{unrouted_initial, popped_route}
 use Rattle.sc_hosts.specs.Sessions.{Form, Turn}
@@ -75,28 +76,7 @@ module _ {S : Type 0} (most : ℕ) where
   unfolding initial_arrives
   initial_arrives-early form setup from request net early =
       net-if most _ net _ early
-      (net-if most _ _ _ (edge_answer-early setup.config from 481 _ request net early)
-      (begins_by-early form setup from (unrouted_initial setup.config request) (popped_route setup.config request) _ net early))
-
-  later_at-early : (form : Form S) (setup : Setup) (from : Place) (request : Request) (number : Option ℕ) (net : Net S) → Early most net → Early most (later_at form setup from request number net)
-  unfolding later_at
-  later_at-early form setup from request None net early = edge_answer-early setup.config from 481 _ request net early
-  later_at-early form setup from request (Some number) net early = taken_at-early form setup from None _ number net early
-
-  later_arrives-early : (form : Form S) (setup : Setup) (from : Place) (request : Request) (net : Net S) → Early most net → Early most (later_arrives form setup from request net)
-  unfolding later_arrives
-  later_arrives-early form setup from request net early = later_at-early form setup from request _ net early
-
-  unclaimed-early : (form : Form S) (setup : Setup) (from : Place) (request : Request) (net : Net S) → Early most net → Early most (unclaimed form setup from request net)
-  unfolding unclaimed
-  unclaimed-early form setup from request net early =
-      net-if most _ _ _ (edge_answer-early setup.config from 481 _ request net early)
-      (net-if most _ _ _ (later_arrives-early form setup from request net early) (initial_arrives-early form setup from request net early))
-
-  request_by-early : (form : Form S) (setup : Setup) (from : Place) (request : Request) (number : Option ℕ) (net : Net S) → Early most net → Early most (request_by form setup from request number net)
-  unfolding request_by
-  request_by-early form setup from request None net early = unclaimed-early form setup from request net early
-  request_by-early form setup from request (Some number) net early = taken_at-early form setup from None _ number net early
+      (begins_by-early form setup from (unrouted_initial setup.config request) (popped_route setup.config request) _ net early)
 
   response_by-early : (form : Form S) (setup : Setup) (from : Place) (response : Response) (number : Option ℕ) (net : Net S) → Early most net
       → Early most (response_by form setup from response number net)
@@ -106,7 +86,9 @@ module _ {S : Type 0} (most : ℕ) where
 
   arrived-early : (form : Form S) (setup : Setup) (from : Place) (message : Message) (net : Net S) → Early most net → Early most (arrived form setup from message net)
   unfolding arrived
-  arrived-early form setup from (messages.Request request) net early = request_by-early form setup from request _ net early
+  arrived-early form setup from (messages.Request request) net early =
+      arrives-each (Early most) form setup from request net (λ number. taken_at-early form setup from None _ number net early)
+      (λ untagged. initial_arrives-early form setup from request net early) (edge_answer-early setup.config from 481 _ request net early)
   arrived-early form setup from (messages.Response response) net early = response_by-early form setup from response _ net early
 
   bad_by-early : (config : Config) (from : Place) (heads : Option Answerable) (net : Net S) → Early most net → Early most (bad_by config from heads net)

@@ -16,9 +16,10 @@ use Rattle.sc_state.specs.declared.host.Server.{Server}
 use Rattle.sc_state.specs.declared.host.Taken.{Taken}
 use Rattle.sc_state.specs.declared.net.Note.{Note}
 use Rattle.sc_grammar.specs.Written.{Bytes}
+use Rattle.sc_hosts.proofs.EachSort.{takes-each}
 use Rattle.sc_hosts.specs.Inboxes.{quiet}
 use Rattle.sc_hosts.specs.Sessions.{Form}
-use Rattle.sc_hosts.specs.Taking.{cancelled, last_again, again_if, repeated, Claim, Cancels, Acks, Repeats, Unclaimed, refuse, with_server, with_trying, queue_later, later_by, take_later, begun_live, begun, take_initial, take_begun, take_new, take_unclaimed, take_claimed, take_request, takes}
+use Rattle.sc_hosts.specs.Taking.{cancelled, last_again, again_if, repeated, refuse, with_server, with_trying, queue_later, begun_live, begun, take_initial, takes}
 use Rattle.sc_hosts.specs.TakingResponses.{told, told_by, with_reply, response_for, response_to, take_response}
 use Rattle.sc_moments.proofs.PastHosts.{HostPast, append-past, pass_client-past, pass_server-past, taken-if, queue-past}
 
@@ -63,18 +64,12 @@ module _ {S : Type 0} (most : ℕ) where
   unfolding with_trying HostPast
   with_trying-past from now request taken past = taken-if most _ _ taken past past
 
-  later_by-past : (config : Config) (epoch number : ℕ) (from : Peer) (now : ℕ) (request : Request) (count : ℕ) (live : Option (Live S)) (host : Host S) → now ≤ most → HostPast most host
-      → HostPast most (later_by config (record { host = number; epoch = epoch; from = from; now = now; count = count }) request live host).host
-  unfolding later_by queue_later
-  later_by-past config epoch number from now request count None host in_time past = refuse-past config from 481 _ request count host past
-  later_by-past config epoch number from now request count (Some live) host in_time past =
+  queue_later-past : (config : Config) (epoch number : ℕ) (from : Peer) (now : ℕ) (request : Request) (count : ℕ) (live : Live S) (host : Host S) → now ≤ most → HostPast most host
+      → HostPast most (queue_later config (record { host = number; epoch = epoch; from = from; now = now; count = count }) request live host).host
+  unfolding queue_later
+  queue_later-past config epoch number from now request count live host in_time past =
       taken-if most _ _ _ (refuse-past config from 503 _ request count host past)
       (with_trying-past from now request _ (queue-past most live.serial now _ count _ in_time (with_server-past _ _ from _ _ host past)))
-
-  take_later-past : (config : Config) (epoch number : ℕ) (from : Peer) (now : ℕ) (request : Request) (count : ℕ) (host : Host S) → now ≤ most → HostPast most host
-      → HostPast most (take_later config (record { host = number; epoch = epoch; from = from; now = now; count = count }) request host).host
-  unfolding take_later
-  take_later-past config epoch number from now request count host in_time past = later_by-past config epoch number from now request count _ host in_time past
 
   -- ## Requests that begin a session
 
@@ -84,48 +79,12 @@ module _ {S : Type 0} (most : ℕ) where
   begun-past form config epoch number from now noted request count host in_time past =
       with_trying-past from now request _ (with_server-past _ _ from _ request _ (append-past most host.sessions _ past in_time))
 
-  take_initial-past : (form : Form S) (config : Config) (epoch number : ℕ) (from : Peer) (now : ℕ) (noted : Note) (request : Request) (count : ℕ) (host : Host S) → now ≤ most → HostPast most host
+  take_initial-past : (form : Form S) (config : Config) (epoch number : ℕ) (from : Peer) (now : ℕ) (noted : Option Note) (request : Request) (count : ℕ) (host : Host S) → now ≤ most → HostPast most host
       → HostPast most (take_initial form config (record { host = number; epoch = epoch; from = from; now = now; count = count }) noted request host).host
   unfolding take_initial
-  take_initial-past form config epoch number from now noted request count host in_time past =
+  take_initial-past form config epoch number from now None request count host in_time past = refuse-past config from 481 _ request count host past
+  take_initial-past form config epoch number from now (Some noted) request count host in_time past =
       taken-if most _ _ _ (refuse-past config from 503 _ request count host past) (begun-past form config epoch number from now noted request count host in_time past)
-
-  take_begun-past : (form : Form S) (config : Config) (epoch number : ℕ) (from : Peer) (now : ℕ) (noted : Option Note) (request : Request) (count : ℕ) (host : Host S) → now ≤ most → HostPast most host
-      → HostPast most (take_begun form config (record { host = number; epoch = epoch; from = from; now = now; count = count }) noted request host).host
-  unfolding take_begun
-  take_begun-past form config epoch number from now None request count host in_time past = refuse-past config from 481 _ request count host past
-  take_begun-past form config epoch number from now (Some noted) request count host in_time past =
-      taken-if most _ _ _ (refuse-past config from 481 _ request count host past) (take_initial-past form config epoch number from now noted request count host in_time past)
-
-  -- ## Every request
-
-  take_new-past : (form : Form S) (config : Config) (epoch number : ℕ) (from : Peer) (now : ℕ) (noted : Option Note) (request : Request) (count : ℕ) (host : Host S) → now ≤ most → HostPast most host
-      → HostPast most (take_new form config (record { host = number; epoch = epoch; from = from; now = now; count = count }) noted request host).host
-  unfolding take_new
-  take_new-past form config epoch number from now noted request count host in_time past =
-      taken-if most _ _ _ (take_later-past config epoch number from now request count host in_time past)
-      (take_begun-past form config epoch number from now noted request count host in_time past)
-
-  take_unclaimed-past : (form : Form S) (config : Config) (epoch number : ℕ) (from : Peer) (now : ℕ) (noted : Option Note) (request : Request) (count : ℕ) (host : Host S) → now ≤ most
-      → HostPast most host → HostPast most (take_unclaimed form config (record { host = number; epoch = epoch; from = from; now = now; count = count }) noted request host).host
-  unfolding take_unclaimed
-  take_unclaimed-past form config epoch number from now noted request count host in_time past =
-      taken-if most _ _ _ (refuse-past config from 481 _ request count host past) (take_new-past form config epoch number from now noted request count host in_time past)
-
-  take_claimed-past : (form : Form S) (config : Config) (epoch number : ℕ) (from : Peer) (now : ℕ) (noted : Option Note) (request : Request) (claim : Claim) (count : ℕ) (host : Host S) → now ≤ most
-      → HostPast most host → HostPast most (take_claimed form config (record { host = number; epoch = epoch; from = from; now = now; count = count }) noted request claim host).host
-  unfolding take_claimed quiet
-  take_claimed-past form config epoch number from now noted request (Cancels server) count host in_time past = cancelled-past from now server request count host in_time past
-  take_claimed-past form config epoch number from now noted request (Acks server) count host in_time past = pass_server-past most server.event _ host past
-  take_claimed-past form config epoch number from now noted request (Repeats server) count host in_time past = repeated-past server count host past
-  take_claimed-past form config epoch number from now noted request Unclaimed count host in_time past =
-      take_unclaimed-past form config epoch number from now noted request count host in_time past
-
-  take_request-past : (form : Form S) (config : Config) (epoch number : ℕ) (from : Peer) (now : ℕ) (noted : Option Note) (request : Request) (count : ℕ) (host : Host S) → now ≤ most
-      → HostPast most host → HostPast most (take_request form config (record { host = number; epoch = epoch; from = from; now = now; count = count }) noted request host).host
-  unfolding take_request
-  take_request-past form config epoch number from now noted request count host in_time past =
-      take_claimed-past form config epoch number from now noted request _ count host in_time past
 
   -- ## Responses
 
@@ -150,7 +109,10 @@ module _ {S : Type 0} (most : ℕ) where
 
   pub takes-past : (form : Form S) (config : Config) (epoch number : ℕ) (from : Peer) (now : ℕ) (noted : Option Note) (message : Message) (count : ℕ) (host : Host S) → now ≤ most
       → HostPast most host → HostPast most (takes form config (record { host = number; epoch = epoch; from = from; now = now; count = count }) noted message host).host
-  unfolding takes take_response
+  unfolding takes take_response quiet
   takes-past form config epoch number from now noted (messages.Request request) count host in_time past =
-      take_request-past form config epoch number from now noted request count host in_time past
+      takes-each (λ taken. HostPast most taken.host) form config (record { host = number; epoch = epoch; from = from; now = now; count = count }) noted request host
+      (λ server. cancelled-past from now server request count host in_time past) (λ server. pass_server-past most server.event _ host past)
+      (λ server. repeated-past server count host past) (λ live. queue_later-past config epoch number from now request count live host in_time past)
+      (take_initial-past form config epoch number from now noted request count host in_time past) (refuse-past config from 481 _ request count host past)
   takes-past form config epoch number from now noted (messages.Response response) count host in_time past = response_to-past now _ response count host in_time past

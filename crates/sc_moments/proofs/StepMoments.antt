@@ -1,6 +1,5 @@
 -- A step leaves the moment of the net as it is, and a tick makes it its own.
 use Rattle.std.proofs.Common.{◌≡◌, ℕ, Bool, true, false, Option, None, Some, List, refl, ◌∙◌}
-use Rattle.std.specs.Prelude.{is_some}
 use Rattle.sc_value.specs.declared.ids.AppId.{AppId}
 use Rattle.sc_value.specs.declared.ids.Place.{Place}
 use Rattle.sc_value.specs.declared.message.Message.{Message}
@@ -31,18 +30,16 @@ use Rattle.sc_state.specs.declared.queue.Queued.TheVariants as queued
 use Rattle.sc_state.specs.declared.queue.Waiting.{Waiting}
 use Rattle.sc_state.specs.declared.session.Session.{Session}
 use Rattle.sc_grammar.specs.Written.{Bytes}
-use Rattle.sc_model.specs.DialogRequests.{cancel}
-use Rattle.sc_model.specs.Dialogs.{tag_of}
 use Rattle.sc_model.specs.SessionStates.{ack}
 use Rattle.sc_model.specs.Timers.{DueEntry}
-use Rattle.sc_hosts.specs.Arrivals.{host_takes, taken_at, edge_answer, begins_by, initial_arrives, later_at, later_arrives, unclaimed, request_by, response_by, arrived, bad_by}
+use Rattle.sc_hosts.proofs.EachSort.{arrives-each}
+use Rattle.sc_hosts.specs.Arrivals.{host_takes, taken_at, edge_answer, begins_by, initial_arrives, response_by, arrived, bad_by}
 use Rattle.sc_hosts.specs.Routes.{unrouted_initial, popped_route}
 use Rattle.sc_hosts.specs.Sessions.{Form, Turn}
 use Rattle.sc_hosts.specs.Steps.{without_live, with_ready, invalidated, closed_turn, turned, turns_first, turns, withdrawn, stepped}
 use Rattle.sc_hosts.specs.Ticks.{told_at, passes, clients_to, lost, DueItem, Of_session, Of_client, Of_server, fires, due_items, ticked}
-use Rattle.sc_hosts.specs.Taking.{is_never_initial}
 use Rattle.sc_hosts.specs.Transacting.{method_of}
-use Rattle.sc_hosts.specs.Words.{does_not_exist, unavailable}
+use Rattle.sc_hosts.specs.Words.{unavailable}
 use Rattle.sc_moments.proofs.NetMoments.{if-moment, fold-moment, put-moment, placed-moment, queue_for-moment, obeyed-moment}
 use Rattle.sc_moments.specs.Moments.{moment_of}
 
@@ -76,30 +73,7 @@ initial_arrives-moment : {S : Type 0} (form : Form S) (setup : Setup) (from : Pl
 unfolding initial_arrives
 initial_arrives-moment form setup from request net =
     if-moment (same_bytes (method_of request) ack) net.moment net _ refl
-    (if-moment (is_never_initial request) net.moment _ _ (edge_answer-moment setup.config from 481 does_not_exist request net)
-    (begins_by-moment form setup from (unrouted_initial setup.config request) (popped_route setup.config request) _ net))
-
-later_at-moment : {S : Type 0} (form : Form S) (setup : Setup) (from : Place) (request : Request) (number : Option ℕ) (net : Net S)
-    → (later_at form setup from request number net).moment ≡ net.moment
-unfolding later_at
-later_at-moment form setup from request None net = edge_answer-moment setup.config from 481 _ request net
-later_at-moment form setup from request (Some number) net = taken_at-moment form setup from None _ number net
-
-later_arrives-moment : {S : Type 0} (form : Form S) (setup : Setup) (from : Place) (request : Request) (net : Net S) → (later_arrives form setup from request net).moment ≡ net.moment
-unfolding later_arrives
-later_arrives-moment form setup from request net = later_at-moment form setup from request _ net
-
-unclaimed-moment : {S : Type 0} (form : Form S) (setup : Setup) (from : Place) (request : Request) (net : Net S) → (unclaimed form setup from request net).moment ≡ net.moment
-unfolding unclaimed
-unclaimed-moment form setup from request net =
-    if-moment (same_bytes (method_of request) cancel) net.moment _ _ (edge_answer-moment setup.config from 481 does_not_exist request net)
-    (if-moment (is_some (tag_of request.head.to)) net.moment _ _ (later_arrives-moment form setup from request net) (initial_arrives-moment form setup from request net))
-
-request_by-moment : {S : Type 0} (form : Form S) (setup : Setup) (from : Place) (request : Request) (number : Option ℕ) (net : Net S)
-    → (request_by form setup from request number net).moment ≡ net.moment
-unfolding request_by
-request_by-moment form setup from request None net = unclaimed-moment form setup from request net
-request_by-moment form setup from request (Some number) net = taken_at-moment form setup from None _ number net
+    (begins_by-moment form setup from (unrouted_initial setup.config request) (popped_route setup.config request) _ net)
 
 response_by-moment : {S : Type 0} (form : Form S) (setup : Setup) (from : Place) (response : Response) (number : Option ℕ) (net : Net S)
     → (response_by form setup from response number net).moment ≡ net.moment
@@ -109,7 +83,9 @@ response_by-moment form setup from response (Some number) net = taken_at-moment 
 
 arrived-moment : {S : Type 0} (form : Form S) (setup : Setup) (from : Place) (message : Message) (net : Net S) → (arrived form setup from message net).moment ≡ net.moment
 unfolding arrived
-arrived-moment form setup from (messages.Request request) net = request_by-moment form setup from request _ net
+arrived-moment form setup from (messages.Request request) net =
+    arrives-each (λ after. after.moment ≡ net.moment) form setup from request net (λ number. taken_at-moment form setup from None _ number net)
+    (λ untagged. initial_arrives-moment form setup from request net) (edge_answer-moment setup.config from 481 _ request net)
 arrived-moment form setup from (messages.Response response) net = response_by-moment form setup from response _ net
 
 bad_by-moment : {S : Type 0} (config : Config) (from : Place) (heads : Option Answerable) (net : Net S) → (bad_by config from heads net).moment ≡ net.moment

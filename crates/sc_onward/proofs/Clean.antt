@@ -1,6 +1,6 @@
 -- Server transactions over inner hops: none has the branch of a request, while that one isn't delivered; and the wire grows at its end.
 use Rattle.std.proofs.Common.{◌≡◌, ℕ, ◌+◌, ◌++◌, Bool, true, false, Option, None, Some, List, [], ◌∷◌, refl, sym, ap, subst, ◌∙◌, append_assoc, append-nil}
-use Rattle.std.specs.Prelude.{◌==◌, cond, is_some, length, nat_le, slice_get}
+use Rattle.std.specs.Prelude.{◌==◌, cond, length, nat_le, slice_get}
 use Rattle.sc_value.specs.declared.ids.AppId.{AppId}
 use Rattle.sc_value.specs.declared.ids.Place.{Place}
 use Rattle.sc_value.specs.declared.message.Message.{Message}
@@ -35,18 +35,17 @@ use Rattle.sc_state.specs.declared.queue.Queued.TheVariants as queued
 use Rattle.sc_state.specs.declared.queue.Waiting.{Waiting}
 use Rattle.sc_state.specs.declared.session.Session.{Session}
 use Rattle.sc_grammar.specs.Written.{Bytes}
-use Rattle.sc_tokens.specs.Names.{same_bytes}
 use Rattle.sc_model.specs.DialogRequests.{cancel}
-use Rattle.sc_model.specs.Dialogs.{tag_of}
+use Rattle.sc_hosts.proofs.EachSort.{takes-each}
 use Rattle.sc_hosts.specs.Inboxes.{MOST_LIVE, queue, quiet}
 use Rattle.sc_hosts.specs.Messages.{ack_of, cancel_of}
 use Rattle.sc_hosts.specs.Nets.{acknowledge, answered_server, begin_by, cancel_by, cancel_for, change_host, deliver_at, deliver_entry, deliver_first, host_at, leave, leave_for, obey, obeyed, placed, put, put_reply, queue_for, queued_at, respond_by, send_cancel, send_later, send_named, send_to, tell_own}
 use Rattle.sc_hosts.specs.Sessions.{Form}
 use Rattle.sc_hosts.specs.Steps.{closed_turn, invalidated, with_ready, without_live}
-use Rattle.sc_hosts.specs.Taking.{cancelled, last_again, again_if, repeated, Claim, Cancels, Acks, Repeats, Unclaimed, is_never_initial, refuse, tried, unrouted, with_server, with_trying, queue_later, later_by, take_later, begun, take_initial, take_begun, take_new, take_unclaimed, take_claimed, take_request, takes}
+use Rattle.sc_hosts.specs.Taking.{cancelled, last_again, again_if, repeated, refuse, tried, unrouted, with_server, with_trying, queue_later, begun, take_initial, takes}
 use Rattle.sc_hosts.specs.TakingResponses.{cancelling, told, told_by, with_reply, response_for, response_to, take_response}
 use Rattle.sc_hosts.specs.Words.{does_not_exist, unavailable}
-use Rattle.sc_hosts.specs.Transacting.{client_for, has_final, is_server, method_of, pass_client, pass_server, same_top, server_passed, tidied, with_client}
+use Rattle.sc_hosts.specs.Transacting.{client_for, has_final, is_server, pass_client, pass_server, same_top, server_passed, tidied, with_client}
 use Rattle.sc_lasting.specs.Lasting.{All}
 use Rattle.sc_lasting.proofs.Parts.{all-append, all-filter, all-first}
 use Rattle.sc_once.proofs.ChangedHosts.{changed_hosts}
@@ -146,11 +145,10 @@ module _ {S : Type 0} (sent : Request) where
   unfolding with_trying tried
   trying-clean from now request taken ok = if-clean _ _ taken (all-first (Free sent) (is_server taken.count) (tried request now) taken.host.servers (λ server found free. free) ok) ok
 
-  later-clean : (config : Config) (other number : ℕ) (from : Peer) (now : ℕ) (request : Request) (count : ℕ) (found : Option (Live S)) (host : Host S) → Comes sent from request → Clean host
-      → Clean (later_by config (record { host = number; epoch = other; from = from; now = now; count = count }) request found host).host
-  unfolding later_by queue_later
-  later-clean config other number from now request count None host comes ok = refuse-clean config from 481 _ request count host ok
-  later-clean config other number from now request count (Some live) host comes ok =
+  later-clean : (config : Config) (other number : ℕ) (from : Peer) (now : ℕ) (request : Request) (count : ℕ) (live : Live S) (host : Host S) → Comes sent from request → Clean host
+      → Clean (queue_later config (record { host = number; epoch = other; from = from; now = now; count = count }) request live host).host
+  unfolding queue_later
+  later-clean config other number from now request count live host comes ok =
       if-clean _ _ _ (refuse-clean config from 503 _ request count host ok)
       (trying-clean from now request _ (queue-clean live.serial now (queued.Request (unrouted config request)) count _ (server-clean _ _ from _ (unrouted config request) host (popped sent config from request comes) ok)))
 
@@ -160,57 +158,23 @@ module _ {S : Type 0} (sent : Request) where
   begun-clean form config other number from now noted request count host comes ok =
       trying-clean from now request _ (server-clean (record { host = number; serial = host.last + 1 }) (count + 1) from _ request _ comes ok)
 
-  begins-clean : (form : Form S) (config : Config) (other number : ℕ) (from : Peer) (now : ℕ) (noted : Note) (request : Request) (count : ℕ) (host : Host S) → Comes sent from request → Clean host
+  initial-clean : (form : Form S) (config : Config) (other number : ℕ) (from : Peer) (now : ℕ) (noted : Option Note) (request : Request) (count : ℕ) (host : Host S) → Comes sent from request → Clean host
       → Clean (take_initial form config (record { host = number; epoch = other; from = from; now = now; count = count }) noted request host).host
   unfolding take_initial
-  begins-clean form config other number from now noted request count host comes ok =
+  initial-clean form config other number from now None request count host comes ok = refuse-clean config from 481 does_not_exist request count host ok
+  initial-clean form config other number from now (Some noted) request count host comes ok =
       if-clean (nat_le MOST_LIVE (length host.sessions)) (refuse config from 503 unavailable request count host)
       (begun form config (record { host = number; epoch = other; from = from; now = now; count = count }) noted request host) (refuse-clean config from 503 unavailable request count host ok)
       (begun-clean form config other number from now noted request count host comes ok)
 
-  initial-clean : (form : Form S) (config : Config) (other number : ℕ) (from : Peer) (now : ℕ) (noted : Option Note) (request : Request) (count : ℕ) (host : Host S) → Comes sent from request → Clean host
-      → Clean (take_begun form config (record { host = number; epoch = other; from = from; now = now; count = count }) noted request host).host
-  unfolding take_begun
-  initial-clean form config other number from now None request count host comes ok = refuse-clean config from 481 does_not_exist request count host ok
-  initial-clean form config other number from now (Some noted) request count host comes ok =
-      if-clean (is_never_initial request) (refuse config from 481 does_not_exist request count host)
-      (take_initial form config (record { host = number; epoch = other; from = from; now = now; count = count }) noted request host) (refuse-clean config from 481 does_not_exist request count host ok)
-      (begins-clean form config other number from now noted request count host comes ok)
-
-  take_later-clean : (config : Config) (other number : ℕ) (from : Peer) (now : ℕ) (request : Request) (count : ℕ) (host : Host S) → Comes sent from request → Clean host
-      → Clean (take_later config (record { host = number; epoch = other; from = from; now = now; count = count }) request host).host
-  unfolding take_later
-  take_later-clean config other number from now request count host comes ok = later-clean config other number from now request count _ host comes ok
-
-  new-clean : (form : Form S) (config : Config) (other number : ℕ) (from : Peer) (now : ℕ) (noted : Option Note) (request : Request) (count : ℕ) (host : Host S) → Comes sent from request → Clean host
-      → Clean (take_new form config (record { host = number; epoch = other; from = from; now = now; count = count }) noted request host).host
-  unfolding take_new
-  new-clean form config other number from now noted request count host comes ok =
-      if-clean (is_some (tag_of request.head.to)) (take_later config (record { host = number; epoch = other; from = from; now = now; count = count }) request host)
-      (take_begun form config (record { host = number; epoch = other; from = from; now = now; count = count }) noted request host)
-      (take_later-clean config other number from now request count host comes ok) (initial-clean form config other number from now noted request count host comes ok)
-
-  unclaimed-clean : (form : Form S) (config : Config) (other number : ℕ) (from : Peer) (now : ℕ) (noted : Option Note) (request : Request) (count : ℕ) (host : Host S) → Comes sent from request → Clean host
-      → Clean (take_unclaimed form config (record { host = number; epoch = other; from = from; now = now; count = count }) noted request host).host
-  unfolding take_unclaimed
-  unclaimed-clean form config other number from now noted request count host comes ok =
-      if-clean (same_bytes (method_of request) cancel) (refuse config from 481 does_not_exist request count host)
-      (take_new form config (record { host = number; epoch = other; from = from; now = now; count = count }) noted request host)
-      (refuse-clean config from 481 does_not_exist request count host ok) (new-clean form config other number from now noted request count host comes ok)
-
-  claimed-clean : (form : Form S) (config : Config) (other number : ℕ) (from : Peer) (now : ℕ) (noted : Option Note) (request : Request) (claim : Claim) (count : ℕ) (host : Host S) → Comes sent from request
-      → Clean host → Clean (take_claimed form config (record { host = number; epoch = other; from = from; now = now; count = count }) noted request claim host).host
-  unfolding take_claimed quiet
-  claimed-clean form config other number from now noted request (Cancels server) count host comes ok = cancelled-clean from now server request count host ok
-  claimed-clean form config other number from now noted request (Acks server) count host comes ok = pass_server-clean server.event _ host ok
-  claimed-clean form config other number from now noted request (Repeats server) count host comes ok = repeated-clean server count host ok
-  claimed-clean form config other number from now noted request Unclaimed count host comes ok = unclaimed-clean form config other number from now noted request count host comes ok
-
   takes-clean : (form : Form S) (config : Config) (other number sender : ℕ) (now : ℕ) (noted : Option Note) (message : Message) (count : ℕ) (host : Host S) → IsOnWay (IsApartFrom sent) message → Clean host
       → Clean (takes form config (record { host = number; epoch = other; from = peers.Inside sender; now = now; count = count }) noted message host).host
-  unfolding takes take_request IsOnWay
+  unfolding takes quiet IsOnWay
   takes-clean form config other number sender now noted (messages.Request request) count host way ok =
-      claimed-clean form config other number (peers.Inside sender) now noted request _ count host (λ inner. way) ok
+      takes-each (λ taken. Clean taken.host) form config (record { host = number; epoch = other; from = peers.Inside sender; now = now; count = count }) noted request host
+      (λ server. cancelled-clean (peers.Inside sender) now server request count host ok) (λ server. pass_server-clean server.event _ host ok)
+      (λ server. repeated-clean server count host ok) (λ live. later-clean config other number (peers.Inside sender) now request count live host (λ inner. way) ok)
+      (initial-clean form config other number (peers.Inside sender) now noted request count host (λ inner. way) ok) (refuse-clean config (peers.Inside sender) 481 does_not_exist request count host ok)
   takes-clean form config other number sender now noted (messages.Response response) count host way ok = take_response-clean config other (peers.Inside sender) now response count host ok
 
   -- ## Nets

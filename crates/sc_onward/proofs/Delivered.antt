@@ -34,7 +34,7 @@ use Rattle.sc_hosts.specs.Nets.{deliver_at, deliver_entry, deliver_first, host_a
 use Rattle.sc_hosts.specs.Runs.{delivered}
 use Rattle.sc_hosts.specs.Sessions.{Form}
 use Rattle.sc_hosts.specs.Steps.{live_at}
-use Rattle.sc_hosts.specs.Taking.{claim_by, claim_of, is_claimed, Acks, Repeats, Unclaimed, names, own_uri, unrouted}
+use Rattle.sc_hosts.specs.Taking.{names, own_uri, unrouted, server_for}
 use Rattle.sc_hosts.specs.Transacting.{branch_of, is_acked_by, is_completed, is_invite_server, is_kin, is_over, is_repeated_by, method_of, port_of, same_top, same_via, state_of_server, takes_from, top_via}
 use Rattle.sc_hosts.proofs.Deliveries.{one-delivery, same_bytes-equal}
 use Rattle.sc_lasting.specs.Lasting.{All}
@@ -186,11 +186,11 @@ and-both : (a b c : Bool) → a ≡ false → (a && b && c) ≡ false
 and-both true b c is = cc
 and-both false b c is = refl
 
-pub unclaimed-is : {S : Type 0} (sender : ℕ) (sent : Request) (host : Host S) → same_bytes (method_of sent) cancel ≡ false → All (Free sent) host.servers → is_claimed (claim_of (peers.Inside sender) sent host) ≡ false
-unfolding claim_of claim_by is_claimed
+pub unclaimed-is : {S : Type 0} (sender : ℕ) (sent : Request) (host : Host S) → same_bytes (method_of sent) cancel ≡ false → All (Free sent) host.servers → is_some (server_for (peers.Inside sender) sent host) ≡ false
+unfolding server_for
 unclaimed-is sender sent host other free = rw other (by (same_bytes (method_of sent) ack))
   where
-    by : (b : Bool) → is_claimed (cond b (claim_by Acks (find (is_acked_by (peers.Inside sender) sent) host.servers) Unclaimed) (claim_by Repeats (find (is_repeated_by (peers.Inside sender) sent) host.servers) Unclaimed)) ≡ false
+    by : (b : Bool) → is_some (cond b (find (is_acked_by (peers.Inside sender) sent) host.servers) (find (is_repeated_by (peers.Inside sender) sent) host.servers)) ≡ false
     by true = rw (none-found (is_acked_by (peers.Inside sender) sent) sender sent host.servers
         (λ server none. and-both (is_kin (peers.Inside sender) sent server) (is_invite_server server) (is_completed (state_of_server server)) none) free) refl
     by false = rw (none-found (is_repeated_by (peers.Inside sender) sent) sender sent host.servers

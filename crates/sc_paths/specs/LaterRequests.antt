@@ -23,7 +23,7 @@ use Rattle.sc_grammar.specs.Written.{Bytes}
 use Rattle.sc_model.specs.OwnHosts.{is_own}
 use Rattle.sc_hosts.specs.Destinations.{next_uri}
 use Rattle.sc_hosts.specs.Legs.{from_tag, to_tag, same_tag}
-use Rattle.sc_hosts.specs.Taking.{claim_of, is_claimed, names, own_uri, unrouted}
+use Rattle.sc_hosts.specs.Taking.{names, own_uri, unrouted, server_for}
 use Rattle.sc_hosts.specs.Transacting.{is_same_app, method_of}
 use Rattle.sc_paths.specs.Moments.{Moment, Got, got_in, given_in, same_vias}
 use Rattle.sc_paths.specs.Pieces.{Dialog, Direction, From_caller, From_callee, Piece, ahead, along, end_of, recorders}
@@ -72,7 +72,7 @@ unfoldable pub is_new : SetOut → Bool
 is_new out =
     not (same_bytes (method_of out.request) cancel)
     && not
-    (list_any (λ host. is_claimed (claim_of out.sender out.request host)) out.moment.before.hosts)
+    (list_any (λ host. is_some (server_for out.sender out.request host)) out.moment.before.hosts)
 
 -- a later request with these tags of From and To
 unfoldable pub is_between : Option Bytes → Option Bytes → Request → Bool

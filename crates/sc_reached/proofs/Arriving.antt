@@ -9,10 +9,10 @@ use Rattle.sc_state.specs.Hosts.{Host}
 use Rattle.sc_state.specs.declared.host.Live.{Live}
 use Rattle.sc_state.specs.declared.host.Peer.TheVariants as peers
 use Rattle.sc_state.specs.declared.net.Net.{Net}
-use Rattle.sc_hosts.specs.Arrivals.{host_takes, taken_at, later_at, later_arrives, unclaimed, request_by, arrived}
+use Rattle.sc_hosts.specs.Arrivals.{host_takes, taken_at, arrived, sort_in, arrives_as}
 use Rattle.sc_hosts.specs.Nets.{host_at, named_host, placed}
 use Rattle.sc_hosts.specs.Sessions.{Form}
-use Rattle.sc_hosts.specs.Taking.{Unclaimed, claim_of, own_uri, named_live, queue_later, later_by, take_later, take_new, take_unclaimed, take_claimed, take_request, takes}
+use Rattle.sc_hosts.specs.Taking.{own_uri, named_live, queue_later, takes, server_for, sort_of, sort_at, taken_as}
 use Rattle.sc_reached.specs.Reached.{IsLater}
 
 -- the live session that it comes to
@@ -25,17 +25,17 @@ pub record ComesTo {S : Type 0} (setup : Setup) (from : Place) (request : Reques
   pub there : host_at number net ≡ Some host
   pub live : Live S
   pub lives : named_live net.epoch number uri host ≡ Some live
-  pub fresh : claim_of (peers.Outside from) request host ≡ Unclaimed
+  pub fresh : server_for (peers.Outside from) request host ≡ None
 
 module _ {S : Type 0} (form : Form S) (setup : Setup) (from : Place) (request : Request) where
   at-host : (net : Net S) → IsLater from request net → (to : ComesTo setup from request net)
-      → take_request form setup.config (record { host = to.number; epoch = net.epoch; from = peers.Outside from; now = net.moment; count = net.count }) None request to.host
+      → takes form setup.config (record { host = to.number; epoch = net.epoch; from = peers.Outside from; now = net.moment; count = net.count }) None (messages.Request request) to.host
       ≡ queue_later setup.config (record { host = to.number; epoch = net.epoch; from = peers.Outside from; now = net.moment; count = net.count }) request to.live to.host
-  unfolding take_request take_claimed take_unclaimed take_new take_later later_by
+  unfolding takes sort_at sort_of taken_as
   at-host net later to = rw (to.fresh, later.no_cancel, later.tagged, to.by, to.lives) refl
 
   -- it is queued there
   pub arrived-later : (net : Net S) → IsLater from request net → (to : ComesTo setup from request net)
       → arrived form setup from (messages.Request request) net ≡ placed to.number (queue_later setup.config (record { host = to.number; epoch = net.epoch; from = peers.Outside from; now = net.moment; count = net.count }) request to.live to.host) net
-  unfolding arrived request_by unclaimed later_arrives later_at taken_at host_takes takes
+  unfolding arrived sort_in sort_of arrives_as taken_at host_takes
   arrived-later net later to = rw (later.unclaimed, later.no_cancel, later.tagged, to.by, to.named, to.there, at-host net later to) refl

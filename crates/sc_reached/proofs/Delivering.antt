@@ -25,7 +25,7 @@ use Rattle.sc_hosts.specs.Messages.{trying_response}
 use Rattle.sc_hosts.specs.Nets.{placed, put, put_reply, deliver_at, deliver_entry, deliver_first}
 use Rattle.sc_hosts.specs.Sessions.{Form}
 use Rattle.sc_hosts.specs.Steps.{live_at, live_of}
-use Rattle.sc_hosts.specs.Taking.{named_live, own_tag, queue_later, unrouted, with_server, with_trying, later_by, take_later, take_new, take_unclaimed, take_claimed, take_request, takes}
+use Rattle.sc_hosts.specs.Taking.{named_live, own_tag, queue_later, unrouted, with_server, with_trying, takes, sort_of, sort_at, taken_as}
 use Rattle.sc_hosts.specs.Transacting.{method_of}
 use Rattle.sc_hosts.specs.Words.{trying}
 use Rattle.sc_reached.specs.Reached.{IsDeliveredAlone, IsFirstFor, answered_at_once}
@@ -78,9 +78,9 @@ module _ {S : Type 0} where
 
   taken-later : (form : Form S) (setup : Setup) (entry : Entry) (request : Request) (net : Net S) (app : AppId) (live : Live S)
       → (to : IsFirstFor setup entry request net app live) → find (is_live app.serial) to.host.sessions ≡ Some live
-      → take_request form setup.config (record { host = app.host; epoch = net.epoch; from = peers.Inside entry.sender; now = net.moment; count = net.count }) entry.note request to.host
+      → takes form setup.config (record { host = app.host; epoch = net.epoch; from = peers.Inside entry.sender; now = net.moment; count = net.count }) entry.note (messages.Request request) to.host
       ≡ queue_later setup.config (record { host = app.host; epoch = net.epoch; from = peers.Inside entry.sender; now = net.moment; count = net.count }) request live to.host
-  unfolding take_request take_claimed take_unclaimed take_new take_later later_by
+  unfolding takes sort_at sort_of taken_as
   taken-later form setup entry request net app live to is =
       let lives : named_live net.epoch app.host to.uri to.host ≡ Some live = named_live-is net.epoch app.host app.serial to.uri to.host to.within to.small to.named ∙ is in
       rw (not-claimed _ to.unclaimed, to.no_cancel, to.tagged, to.by, lives) refl
@@ -88,7 +88,7 @@ module _ {S : Type 0} where
   delivered-later : (form : Form S) (setup : Setup) (entry : Entry) (request : Request) (net : Net S) (app : AppId) (live : Live S)
       → (to : IsFirstFor setup entry request net app live) → find (is_live app.serial) to.host.sessions ≡ Some live
       → deliver_first form setup net ≡ placed app.host (queue_later setup.config (record { host = app.host; epoch = net.epoch; from = peers.Inside entry.sender; now = net.moment; count = net.count }) request live to.host) (record net { wire = drop 1 net.wire })
-  unfolding deliver_first deliver_entry deliver_at takes
+  unfolding deliver_first deliver_entry deliver_at
   delivered-later form setup entry request net app live to is =
       rw (to.first, to.receiver, to.there, to.message, taken-later form setup entry request net app live to is) refl
 

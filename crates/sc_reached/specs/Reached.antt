@@ -23,7 +23,7 @@ use Rattle.sc_hosts.specs.Inboxes.{is_full}
 use Rattle.sc_hosts.specs.Messages.{trying_response}
 use Rattle.sc_hosts.specs.Nets.{host_at}
 use Rattle.sc_hosts.specs.Steps.{live_at}
-use Rattle.sc_hosts.specs.Taking.{claim_of, is_claimed, names, own_uri}
+use Rattle.sc_hosts.specs.Taking.{names, own_uri, server_for}
 use Rattle.sc_hosts.specs.Transacting.{is_same_app, method_of}
 use Rattle.sc_hosts.specs.Words.{trying}
 
@@ -41,7 +41,7 @@ AllSmall (host ∷ hosts) = AreSmall host.sessions × AllSmall hosts
 pub record IsLater {S : Type 0} (from : Place) (request : Request) (net : Net S) : Type 0 where
   pub no_cancel : same_bytes (method_of request) cancel ≡ false
   pub tagged : is_some (tag_of request.head.to) ≡ true
-  pub unclaimed : first_host (λ host. is_claimed (claim_of (peers.Outside from) request host)) 0
+  pub unclaimed : first_host (λ host. is_some (server_for (peers.Outside from) request host)) 0
       net.hosts ≡ None
 
 -- its own URI, the top Route or the Request-URI, names this session, which lives and has room; and
@@ -95,7 +95,7 @@ pub record IsFirstFor {S : Type 0} (setup : Setup) (entry : Entry) (request : Re
   pub tagged : is_some (tag_of request.head.to) ≡ true
   pub host : Host S
   pub there : host_at app.host net ≡ Some host
-  pub unclaimed : is_claimed (claim_of (peers.Inside entry.sender) request host) ≡ false
+  pub unclaimed : is_some (server_for (peers.Inside entry.sender) request host) ≡ false
   pub uri : Uri
   pub by : own_uri setup.config request ≡ Some uri
   pub named : names net.epoch app uri ≡ true

@@ -28,11 +28,12 @@ use Rattle.sc_state.specs.declared.queue.Waiting.{Waiting}
 use Rattle.sc_grammar.specs.Written.{Bytes}
 use Rattle.sc_model.specs.Dialogs.{tag_of}
 use Rattle.sc_model.specs.OwnHosts.{is_own}
+use Rattle.sc_hosts.proofs.EachSort.{takes-by}
 use Rattle.sc_hosts.specs.Inboxes.{is_live, queue, quiet, replying, with_event}
 use Rattle.sc_hosts.specs.Messages.{ack_of, cancel_of, kin}
 use Rattle.sc_hosts.specs.Nets.{with_routes}
 use Rattle.sc_hosts.specs.Sessions.{Form, Turn}
-use Rattle.sc_hosts.specs.Taking.{cancelled, last_again, again_if, repeated, Claim, Cancels, Acks, Repeats, Unclaimed, begun_live, refuse, tried, unrouted, with_server, with_trying, queue_later, later_by, take_later, begun, take_initial, take_begun, take_new, take_unclaimed, take_claimed, take_request, takes}
+use Rattle.sc_hosts.specs.Taking.{cancelled, last_again, again_if, repeated, begun_live, refuse, tried, unrouted, with_server, with_trying, queue_later, begun, take_initial, takes}
 use Rattle.sc_hosts.specs.TakingResponses.{cancelling, told, told_by, with_reply, response_for, response_to, take_response}
 use Rattle.sc_hosts.specs.Transacting.{client_for, client_passed, has_final, is_answered_by, is_same_app, is_server, pass_client, pass_server, server_passed, tidied}
 use Rattle.sc_lasting.specs.Lasting.{All}
@@ -297,20 +298,14 @@ module _ {S : Type 0} (form : Form S) (app : AppId) (request_of : S → Request)
     unfolding IsTaggedEvent
     later-tagged config request tagged = subst (λ (to : Address). is_some (tag_of to) ≡ true) (sym (unrouted-to config request)) tagged
 
-    later_by-took : (known : Option Request) (config : Config) (other : ℕ) (from : Peer) (now : ℕ) (request : Request) (count : ℕ) (found : Option (Live S)) (host : Host S)
-        → is_some (tag_of request.head.to) ≡ true → Comes known from request → Good known number host → Took known number (later_by config (record { host = number; epoch = other; from = from; now = now; count = count }) request found host)
-    unfolding later_by queue_later
-    later_by-took known config other from now request count None host tagged comes good = refuse-took known config from 481 _ request count host good
-    later_by-took known config other from now request count (Some live) host tagged comes good =
+    queue_later-took : (known : Option Request) (config : Config) (other : ℕ) (from : Peer) (now : ℕ) (request : Request) (count : ℕ) (live : Live S) (host : Host S)
+        → is_some (tag_of request.head.to) ≡ true → Comes known from request → Good known number host → Took known number (queue_later config (record { host = number; epoch = other; from = from; now = now; count = count }) request live host)
+    unfolding queue_later
+    queue_later-took known config other from now request count live host tagged comes good =
         if-took known _ _ _ (refuse-took known config from 503 _ request count host good)
         (with_trying-took known from now request _
         (queue-took known live.serial now (queued.Request (unrouted config request)) count _ (later-tagged config request tagged)
         (with_server-good known _ _ from _ (unrouted config request) host (later-admits known config _ from request tagged comes) good)))
-
-    take_later-took : (known : Option Request) (config : Config) (other : ℕ) (from : Peer) (now : ℕ) (request : Request) (count : ℕ) (host : Host S) → is_some (tag_of request.head.to) ≡ true
-        → Comes known from request → Good known number host → Took known number (take_later config (record { host = number; epoch = other; from = from; now = now; count = count }) request host)
-    unfolding take_later
-    take_later-took known config other from now request count host tagged comes good = later_by-took known config other from now request count _ host tagged comes good
 
     -- ## A session begins
 
@@ -378,33 +373,12 @@ module _ {S : Type 0} (form : Form S) (app : AppId) (request_of : S → Request)
       begun-by known true is comes good = first known (app-is (named host) app is) comes good
       begun-by known false is comes good = stays known is comes good
 
-    take_begun-began : (known : Option Request) (config : Config) (other : ℕ) (from : Peer) (now : ℕ) (noted : Option Note) (request : Request) (count : ℕ) (host : Host S)
-        → Comes known from request → Good known number host → Began known number (take_begun form config (record { host = number; epoch = other; from = from; now = now; count = count }) noted request host)
-    unfolding take_begun take_initial
-    take_begun-began known config other from now None request count host comes good = began known _ (refuse-took known config from 481 _ request count host good)
-    take_begun-began known config other from now (Some noted) request count host comes good =
-        if-began known _ _ _ (began known _ (refuse-took known config from 481 _ request count host good))
-        (if-began known _ _ _ (began known _ (refuse-took known config from 503 _ request count host good)) (begun-by other now config from noted request count host known _ refl comes good))
-
-    take_new-by : (known : Option Request) (config : Config) (other : ℕ) (from : Peer) (now : ℕ) (noted : Option Note) (request : Request) (count : ℕ) (host : Host S) (b : Bool)
-        → is_some (tag_of request.head.to) ≡ b → Comes known from request → Good known number host
-        → Began known number (cond b (take_later config (record { host = number; epoch = other; from = from; now = now; count = count }) request host) (take_begun form config (record { host = number; epoch = other; from = from; now = now; count = count }) noted request host))
-    take_new-by known config other from now noted request count host true is comes good = began known _ (take_later-took known config other from now request count host is comes good)
-    take_new-by known config other from now noted request count host false is comes good = take_begun-began known config other from now noted request count host comes good
-
-    take_unclaimed-began : (known : Option Request) (config : Config) (other : ℕ) (from : Peer) (now : ℕ) (noted : Option Note) (request : Request) (count : ℕ) (host : Host S)
-        → Comes known from request → Good known number host → Began known number (take_unclaimed form config (record { host = number; epoch = other; from = from; now = now; count = count }) noted request host)
-    unfolding take_unclaimed take_new
-    take_unclaimed-began known config other from now noted request count host comes good =
-        if-began known _ _ _ (began known _ (refuse-took known config from 481 _ request count host good)) (take_new-by known config other from now noted request count host _ refl comes good)
-
-    take_claimed-began : (known : Option Request) (config : Config) (other : ℕ) (from : Peer) (now : ℕ) (noted : Option Note) (request : Request) (claim : Claim) (count : ℕ) (host : Host S)
-        → Comes known from request → Good known number host → Began known number (take_claimed form config (record { host = number; epoch = other; from = from; now = now; count = count }) noted request claim host)
-    unfolding take_claimed
-    take_claimed-began known config other from now noted request (Cancels server) count host comes good = began known _ (cancelled-took known from now server request count host good)
-    take_claimed-began known config other from now noted request (Acks server) count host comes good = began known _ (quiet-took known count _ (pass_server-good known server.event _ host good))
-    take_claimed-began known config other from now noted request (Repeats server) count host comes good = began known _ (repeated-took known server count host good)
-    take_claimed-began known config other from now noted request Unclaimed count host comes good = take_unclaimed-began known config other from now noted request count host comes good
+    take_initial-began : (known : Option Request) (config : Config) (other : ℕ) (from : Peer) (now : ℕ) (noted : Option Note) (request : Request) (count : ℕ) (host : Host S)
+        → Comes known from request → Good known number host → Began known number (take_initial form config (record { host = number; epoch = other; from = from; now = now; count = count }) noted request host)
+    unfolding take_initial
+    take_initial-began known config other from now None request count host comes good = began known _ (refuse-took known config from 481 _ request count host good)
+    take_initial-began known config other from now (Some noted) request count host comes good =
+        if-began known _ _ _ (began known _ (refuse-took known config from 503 _ request count host good)) (begun-by other now config from noted request count host known _ refl comes good)
 
     -- a message comes
     unfoldable pub MessageComes : Option Request → Peer → Message → Type 0
@@ -414,6 +388,12 @@ module _ {S : Type 0} (form : Form S) (app : AppId) (request_of : S → Request)
     -- all that a host takes
     pub takes-began : (known : Option Request) (config : Config) (other : ℕ) (from : Peer) (now : ℕ) (noted : Option Note) (message : Message) (count : ℕ) (host : Host S)
         → MessageComes known from message → Good known number host → Began known number (takes form config (record { host = number; epoch = other; from = from; now = now; count = count }) noted message host)
-    unfolding takes take_request MessageComes
-    takes-began known config other from now noted (messages.Request request) count host comes good = take_claimed-began known config other from now noted request _ count host comes good
+    unfolding takes MessageComes
+    takes-began known config other from now noted (messages.Request request) count host comes good =
+        takes-by (Began known number) form config (record { host = number; epoch = other; from = from; now = now; count = count }) noted request host
+        (λ server found. began known _ (cancelled-took known from now server request count host good))
+        (λ server found. began known _ (quiet-took known count _ (pass_server-good known server.event _ host good)))
+        (λ server found. began known _ (repeated-took known server count host good))
+        (λ live no_cancel tagged is. began known _ (queue_later-took known config other from now request count live host tagged comes good))
+        (λ untagged. take_initial-began known config other from now noted request count host comes good) (began known _ (refuse-took known config from 481 _ request count host good))
     takes-began known config other from now noted (messages.Response response) count host comes good = began known _ (take_response-took known config other from now response count host good)

@@ -38,7 +38,8 @@ use Rattle.sc_state.specs.declared.queue.Waiting.{Waiting}
 use Rattle.sc_state.specs.declared.session.Session.{Session}
 use Rattle.sc_grammar.specs.Written.{Bytes}
 use Rattle.sc_model.specs.Timers.{DueEntry}
-use Rattle.sc_hosts.specs.Arrivals.{host_takes, taken_at, edge_answer, begins_by, initial_arrives, later_at, later_arrives, unclaimed, request_by, response_by, arrived, bad_by}
+use Rattle.sc_hosts.proofs.EachSort.{arrives-each}
+use Rattle.sc_hosts.specs.Arrivals.{host_takes, taken_at, edge_answer, begins_by, initial_arrives, response_by, arrived, bad_by}
 use Rattle.sc_hosts.specs.Inboxes.{is_live, live_in}
 use Rattle.sc_hosts.specs.Nets.{change_host, host_at, put}
 use Rattle.sc_hosts.specs.Routes.{unrouted_initial, popped_route, without_top}
@@ -170,26 +171,7 @@ module _ {S : Type 0} (form : Form S) (app : AppId) (request_of : S → Request)
   unfolding initial_arrives
   initial_arrives-goes known from request net some kept =
       if-on known _ net _ (stays known net kept)
-      (if-on known _ _ _ (edge_answer-goes known setup.config from 481 _ request net kept)
-      (begins_by-goes known from (unrouted_initial setup.config request) (popped_route setup.config request) _ net (initial-vias setup.config request some) kept))
-
-  later_at-goes : (known : Option Request) (from : Place) (request : Request) (number : Option ℕ) (net : Net S) → 1 ≤ length request.head.via → Kept known net
-      → Goes-on known (later_at form setup from request number net)
-  unfolding later_at
-  later_at-goes known from request None net some kept = edge_answer-goes known setup.config from 481 _ request net kept
-  later_at-goes known from request (Some number) net some kept = taken_at-goes known from None _ number net (request-come request some) kept
-
-  unclaimed-goes : (known : Option Request) (from : Place) (request : Request) (net : Net S) → 1 ≤ length request.head.via → Kept known net → Goes-on known (unclaimed form setup from request net)
-  unfolding unclaimed later_arrives
-  unclaimed-goes known from request net some kept =
-      if-on known _ _ _ (edge_answer-goes known setup.config from 481 _ request net kept)
-      (if-on known _ _ _ (later_at-goes known from request _ net some kept) (initial_arrives-goes known from request net some kept))
-
-  request_by-goes : (known : Option Request) (from : Place) (request : Request) (number : Option ℕ) (net : Net S) → 1 ≤ length request.head.via → Kept known net
-      → Goes-on known (request_by form setup from request number net)
-  unfolding request_by
-  request_by-goes known from request None net some kept = unclaimed-goes known from request net some kept
-  request_by-goes known from request (Some number) net some kept = taken_at-goes known from None _ number net (request-come request some) kept
+      (begins_by-goes known from (unrouted_initial setup.config request) (popped_route setup.config request) _ net (initial-vias setup.config request some) kept)
 
   response-come : (response : Response) → IsCome (messages.Response response)
   unfolding IsCome
@@ -203,7 +185,10 @@ module _ {S : Type 0} (form : Form S) (app : AppId) (request_of : S → Request)
 
   arrived-goes : (known : Option Request) (from : Place) (message : Message) (net : Net S) → HasVia message → Kept known net → Goes-on known (arrived form setup from message net)
   unfolding arrived HasVia
-  arrived-goes known from (messages.Request request) net some kept = request_by-goes known from request _ net (some-via request.head.via some) kept
+  arrived-goes known from (messages.Request request) net some kept =
+      let vias : 1 ≤ length request.head.via = some-via request.head.via some in
+      arrives-each (Goes-on known) form setup from request net (λ number. taken_at-goes known from None _ number net (request-come request vias) kept)
+      (λ untagged. initial_arrives-goes known from request net vias kept) (edge_answer-goes known setup.config from 481 _ request net kept)
   arrived-goes known from (messages.Response response) net some kept = response_by-goes known from response _ net kept
 
   bad_by-kept : (known : Option Request) (config : Config) (from : Place) (heads : Option Answerable) (net : Net S) → Kept known net → Kept known (bad_by config from heads net)

@@ -33,10 +33,11 @@ use Rattle.sc_grammar.specs.Written.{Bytes}
 use Rattle.sc_model.specs.Dialogs.{tag_of}
 use Rattle.sc_model.specs.OwnHosts.{is_own}
 use Rattle.sc_model.specs.SessionStates.{ack, invite}
+use Rattle.sc_hosts.proofs.EachSort.{takes-by}
 use Rattle.sc_hosts.specs.Inboxes.{is_live, live_in, queue, quiet, replying, with_event}
 use Rattle.sc_hosts.specs.Messages.{trying_response}
 use Rattle.sc_hosts.specs.Sessions.{Form, Turn}
-use Rattle.sc_hosts.specs.Taking.{cancelled, last_again, again_if, repeated, Claim, Cancels, Acks, Repeats, Unclaimed, begun_live, is_named_live, named_live, own_uri, refuse, tried, unrouted, with_server, with_trying, queue_later, later_by, take_later, begun, take_initial, take_begun, take_new, take_unclaimed, take_claimed, take_request, takes}
+use Rattle.sc_hosts.specs.Taking.{cancelled, last_again, again_if, repeated, begun_live, is_named_live, named_live, own_uri, refuse, tried, unrouted, with_server, with_trying, queue_later, begun, take_initial, takes}
 use Rattle.sc_hosts.specs.TakingResponses.{told, told_by, with_reply, response_for, response_to, take_response}
 use Rattle.sc_hosts.specs.Transacting.{client_for, client_passed, has_final, is_server, method_of, pass_client, pass_server, server_passed, tidied}
 use Rattle.sc_hosts.specs.Words.{trying}
@@ -373,8 +374,8 @@ module _ {S : Type 0} (form : Form S) (Lives : List Arrival → AppId → S → 
       unfolding queue quiet
       queued-up serial event h lives = rw lives (same-up (count + 1))
 
-      later-began : (live : Live S) → is_some (live_in live.serial host) ≡ true → Began arrivals number count (later_by config at_host request (Some live) host)
-      unfolding later_by queue_later Grows
+      later-began : (live : Live S) → is_some (live_in live.serial host) ≡ true → Began arrivals number count (queue_later config at_host request live host)
+      unfolding queue_later Grows
       later-began live lives =
           let of : AppId = record { host = number; serial = live.serial } in
           let new : Arrival = record { number = count + 1; app = of; came = as_came shown } in
@@ -396,19 +397,10 @@ module _ {S : Type 0} (form : Form S) (Lives : List Arrival → AppId → S → 
                 (with_server-good later of (count + 1) from _ shown host (in-last new arrivals) (more-host arrivals (new ∷ []) number host good));
           }))
 
-      by-began : (found : Option (Live S)) → ((live : Live S) → found ≡ Some live → is_some (live_in live.serial host) ≡ true) → Began arrivals number count (later_by config at_host request found host)
-      unfolding later_by
-      by-began None lives = began arrivals count _ (refuse-took arrivals config from 481 _ request count host good)
-      by-began (Some live) lives = later-began live (lives live refl)
-
       named-live : (uri : Option Uri) (live : Live S) → option_and_then (λ (u : Uri). named_live other number u host) uri ≡ Some live → is_some (live_in live.serial host) ≡ true
       unfolding named_live
       named-live None live is = cc
       named-live (Some uri) live is = found-live (is_named_live other number uri) host.sessions live is
-
-      take_later-began : Began arrivals number count (take_later config at_host request host)
-      unfolding take_later
-      take_later-began = by-began _ (named-live (own_uri config request))
 
     -- ## A session begins
 
@@ -443,31 +435,25 @@ module _ {S : Type 0} (form : Form S) (Lives : List Arrival → AppId → S → 
       abbrev coming : Coming
       coming = record { host = number; epoch = other; from = from; now = now; count = count }
 
-      take_begun-began : (found : Option Note) → is_some (tag_of request.head.to) ≡ false → Began arrivals number count (take_begun form config coming found request host)
-      unfolding take_begun take_initial
-      take_begun-began None untagged = began arrivals count _ (refuse-took arrivals config from 481 _ request count host good)
-      take_begun-began (Some note) untagged =
-          if-began arrivals count _ _ _ (began arrivals count _ (refuse-took arrivals config from 481 _ request count host good))
-          (if-began arrivals count _ _ _ (began arrivals count _ (refuse-took arrivals config from 503 _ request count host good)) (begun-began arrivals other now config from note request count host untagged good))
+      take_initial-began : (found : Option Note) → is_some (tag_of request.head.to) ≡ false → Began arrivals number count (take_initial form config coming found request host)
+      unfolding take_initial
+      take_initial-began None untagged = began arrivals count _ (refuse-took arrivals config from 481 _ request count host good)
+      take_initial-began (Some note) untagged =
+          if-began arrivals count _ _ _ (began arrivals count _ (refuse-took arrivals config from 503 _ request count host good)) (begun-began arrivals other now config from note request count host untagged good)
 
-      take_new-by : (b : Bool) → is_some (tag_of request.head.to) ≡ b → Began arrivals number count (cond b (take_later config coming request host) (take_begun form config coming noted request host))
-      take_new-by true is = take_later-began arrivals config other from now request count host is good
-      take_new-by false is = take_begun-began noted is
-
-      take_unclaimed-began : Began arrivals number count (take_unclaimed form config coming noted request host)
-      unfolding take_unclaimed take_new
-      take_unclaimed-began = if-began arrivals count _ _ _ (began arrivals count _ (refuse-took arrivals config from 481 _ request count host good)) (take_new-by _ refl)
-
-      take_claimed-began : (claim : Claim) → Began arrivals number count (take_claimed form config coming noted request claim host)
-      unfolding take_claimed
-      take_claimed-began (Cancels server) = began arrivals count _ (cancelled-took arrivals from now server request count host good)
-      take_claimed-began (Acks server) = began arrivals count _ (quiet-took arrivals count _ (pass_server-good arrivals server.event _ host good))
-      take_claimed-began (Repeats server) = began arrivals count _ (repeated-took arrivals server count host good)
-      take_claimed-began Unclaimed = take_unclaimed-began
+      request-began : Began arrivals number count (takes form config coming noted (messages.Request request) host)
+      request-began =
+          takes-by (Began arrivals number count) form config coming noted request host
+          (λ server found. began arrivals count _ (cancelled-took arrivals from now server request count host good))
+          (λ server found. began arrivals count _ (quiet-took arrivals count _ (pass_server-good arrivals server.event _ host good)))
+          (λ server found. began arrivals count _ (repeated-took arrivals server count host good))
+          (λ live no_cancel tagged is. later-began arrivals config other from now request count host tagged good live
+          (named-live arrivals config other from now request count host tagged good (own_uri config request) live is))
+          (take_initial-began noted) (began arrivals count _ (refuse-took arrivals config from 481 _ request count host good))
 
     -- all that a host takes
     pub takes-began : (arrivals : List Arrival) (config : Config) (other : ℕ) (from : Peer) (now : ℕ) (noted : Option Note) (message : Message) (count : ℕ) (host : Host S) → HostIn arrivals number host
         → Began arrivals number count (takes form config (record { host = number; epoch = other; from = from; now = now; count = count }) noted message host)
-    unfolding takes take_request
-    takes-began arrivals config other from now noted (messages.Request request) count host good = take_claimed-began arrivals config other from now noted request count host good _
+    unfolding takes
+    takes-began arrivals config other from now noted (messages.Request request) count host good = request-began arrivals config other from now noted request count host good
     takes-began arrivals config other from now noted (messages.Response response) count host good = began arrivals count _ (take_response-took arrivals config other from now response count host good)

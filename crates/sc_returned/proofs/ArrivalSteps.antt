@@ -36,7 +36,8 @@ use Rattle.sc_state.specs.declared.queue.Waiting.{Waiting}
 use Rattle.sc_state.specs.declared.session.Session.{Session}
 use Rattle.sc_grammar.specs.Written.{Bytes}
 use Rattle.sc_model.specs.Timers.{DueEntry}
-use Rattle.sc_hosts.specs.Arrivals.{host_takes, taken_at, edge_answer, begins_by, initial_arrives, later_at, later_arrives, unclaimed, request_by, response_by, arrived, bad_by}
+use Rattle.sc_hosts.proofs.EachSort.{arrives-each}
+use Rattle.sc_hosts.specs.Arrivals.{host_takes, taken_at, edge_answer, begins_by, initial_arrives, response_by, arrived, bad_by}
 use Rattle.sc_hosts.specs.Inboxes.{is_live, live_in}
 use Rattle.sc_hosts.specs.Nets.{change_host, host_at, put}
 use Rattle.sc_hosts.specs.Routes.{unrouted_initial, popped_route}
@@ -132,24 +133,7 @@ module _ {S : Type 0} (form : Form S) (Lives : List Arrival → AppId → S → 
   unfolding initial_arrives
   initial_arrives-goes arrivals from request net holds =
       if-on arrivals _ net _ (stays arrivals net holds)
-      (if-on arrivals _ _ _ (edge_answer-goes arrivals setup.config from 481 _ request net holds)
-      (begins_by-goes arrivals from (unrouted_initial setup.config request) (popped_route setup.config request) _ net holds))
-
-  later_at-goes : (arrivals : List Arrival) (from : Place) (request : Request) (number : Option ℕ) (net : Net S) → Keeps arrivals net → Goes-on arrivals (later_at form setup from request number net)
-  unfolding later_at
-  later_at-goes arrivals from request None net holds = edge_answer-goes arrivals setup.config from 481 _ request net holds
-  later_at-goes arrivals from request (Some number) net holds = taken_at-goes arrivals from None _ number net holds
-
-  unclaimed-goes : (arrivals : List Arrival) (from : Place) (request : Request) (net : Net S) → Keeps arrivals net → Goes-on arrivals (unclaimed form setup from request net)
-  unfolding unclaimed later_arrives
-  unclaimed-goes arrivals from request net holds =
-      if-on arrivals _ _ _ (edge_answer-goes arrivals setup.config from 481 _ request net holds)
-      (if-on arrivals _ _ _ (later_at-goes arrivals from request _ net holds) (initial_arrives-goes arrivals from request net holds))
-
-  request_by-goes : (arrivals : List Arrival) (from : Place) (request : Request) (number : Option ℕ) (net : Net S) → Keeps arrivals net → Goes-on arrivals (request_by form setup from request number net)
-  unfolding request_by
-  request_by-goes arrivals from request None net holds = unclaimed-goes arrivals from request net holds
-  request_by-goes arrivals from request (Some number) net holds = taken_at-goes arrivals from None _ number net holds
+      (begins_by-goes arrivals from (unrouted_initial setup.config request) (popped_route setup.config request) _ net holds)
 
   response_by-goes : (arrivals : List Arrival) (from : Place) (response : Response) (number : Option ℕ) (net : Net S) → Keeps arrivals net
       → Goes-on arrivals (response_by form setup from response number net)
@@ -159,7 +143,9 @@ module _ {S : Type 0} (form : Form S) (Lives : List Arrival → AppId → S → 
 
   arrived-goes : (arrivals : List Arrival) (from : Place) (message : Message) (net : Net S) → Keeps arrivals net → Goes-on arrivals (arrived form setup from message net)
   unfolding arrived
-  arrived-goes arrivals from (messages.Request request) net holds = request_by-goes arrivals from request _ net holds
+  arrived-goes arrivals from (messages.Request request) net holds =
+      arrives-each (Goes-on arrivals) form setup from request net (λ number. taken_at-goes arrivals from None _ number net holds)
+      (λ untagged. initial_arrives-goes arrivals from request net holds) (edge_answer-goes arrivals setup.config from 481 _ request net holds)
   arrived-goes arrivals from (messages.Response response) net holds = response_by-goes arrivals from response _ net holds
 
   bad_by-kept : (arrivals : List Arrival) (config : Config) (from : Place) (heads : Option Answerable) (net : Net S) → Keeps arrivals net → Keeps arrivals (bad_by config from heads net)

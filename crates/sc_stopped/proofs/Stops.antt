@@ -20,12 +20,14 @@ use Rattle.sc_state.specs.declared.net.Net.{Net}
 use Rattle.sc_grammar.specs.Written.{Bytes}
 use Rattle.sc_model.specs.Names.{IsOf64}
 use Rattle.sc_model.specs.SessionStates.{ack}
-use Rattle.sc_hosts.specs.Arrivals.{arrived, edge_answer, later_arrives, later_at, request_by, unclaimed}
+use Rattle.std.specs.Option.{option_map_or}
+use Rattle.sc_hosts.specs.declared.sorts.Sort.TheVariants.{Later, Nobodys}
+use Rattle.sc_hosts.specs.Arrivals.{arrived, edge_answer, sort_in, arrives_as}
 use Rattle.sc_hosts.specs.Inboxes.{is_full, is_live, quiet}
 use Rattle.sc_hosts.specs.Nets.{deliver_at, deliver_entry, deliver_first, has_named, host_at, named_from, named_host, placed, put, put_reply}
 use Rattle.sc_hosts.specs.Sessions.{Form}
 use Rattle.sc_hosts.specs.Steps.{live_at, stepped}
-use Rattle.sc_hosts.specs.Taking.{claim_of, later_by, named_live, names, own_uri, queue_later, refuse, take_claimed, take_later, take_new, take_request, take_unclaimed, takes}
+use Rattle.sc_hosts.specs.Taking.{named_live, names, own_uri, queue_later, refuse, takes, server_for, sort_of, sort_at, taken_as}
 use Rattle.sc_hosts.specs.Transacting.{method_of}
 use Rattle.sc_hosts.specs.Words.{does_not_exist, unavailable}
 use Rattle.sc_reached.specs.Reached.{AllSmall, AreSmall, IsLater}
@@ -101,7 +103,7 @@ module _ {S : Type 0} (form : Form S) (setup : Setup) (from : Place) (request : 
   -- where no host has a session that it names
   unnamed : (net : Net S) → IsLater from request net → option_and_then (λ uri. named_host uri net) (own_uri setup.config request) ≡ None
       → stepped form setup (steps.In from (messages.Request request)) net ≡ answered setup.config from 481 does_not_exist request net
-  unfolding stepped arrived request_by unclaimed later_arrives later_at
+  unfolding stepped arrived sort_in sort_of arrives_as
   unnamed net later none = rw (later.unclaimed, later.no_cancel, later.tagged, none) (edge-is net 481 does_not_exist _ refl)
 
   pub unled : (net : Net S) → IsLater from request net → own_uri setup.config request ≡ None
@@ -170,11 +172,13 @@ module _ {S : Type 0} (form : Form S) (setup : Setup) (entry : Entry) (request :
       let at : host_at entry.receiver net ≡ Some to.host = subst (λ (n : ℕ). host_at n net ≡ Some to.host) (sym to.receiver) to.there in
       rw (to.first, at) refl
 
-  taken-by : (net : Net S) (app : AppId) (to : IsFirstTo setup entry request net app)
+  -- as a later request of the session that its own URI names, or as nobody's
+  taken-by : (net : Net S) (app : AppId) (to : IsFirstTo setup entry request net app) (found : Option (Live S)) → named_live net.epoch entry.receiver to.uri to.host ≡ found
       → takes form setup.config (record { host = entry.receiver; epoch = net.epoch; from = peers.Inside entry.sender; now = net.moment; count = net.count }) entry.note entry.message to.host
-      ≡ later_by setup.config (record { host = entry.receiver; epoch = net.epoch; from = peers.Inside entry.sender; now = net.moment; count = net.count }) request (named_live net.epoch entry.receiver to.uri to.host) to.host
-  unfolding takes take_request take_claimed take_unclaimed take_new take_later
-  taken-by net app to = rw (to.message, not-claimed (claim_of (peers.Inside entry.sender) request to.host) to.unclaimed, to.no_cancel, to.tagged, to.by) refl
+      ≡ taken_as form setup.config (record { host = entry.receiver; epoch = net.epoch; from = peers.Inside entry.sender; now = net.moment; count = net.count }) entry.note request (option_map_or Later found Nobodys) to.host
+  unfolding takes sort_at sort_of
+  taken-by net app to found named =
+      rw (to.message, not-claimed (server_for (peers.Inside entry.sender) request to.host) to.unclaimed, to.no_cancel, to.tagged, to.by, named) refl
 
   found-at : (net : Net S) (app : AppId) (to : IsFirstTo setup entry request net app) → named_live net.epoch entry.receiver to.uri to.host ≡ find (is_live app.serial) to.host.sessions
   found-at net app to =
@@ -189,18 +193,16 @@ module _ {S : Type 0} (form : Form S) (setup : Setup) (entry : Entry) (request :
 
   by-found : (net : Net S) (app : AppId) (to : IsFirstTo setup entry request net app) (found : Option (Live S)) → live_at app net ≡ found
       → deliver_first form setup net
-      ≡ placed entry.receiver (later_by setup.config (record { host = entry.receiver; epoch = net.epoch; from = peers.Inside entry.sender; now = net.moment; count = net.count }) request found to.host) (record net { wire = drop 1 net.wire })
+      ≡ placed entry.receiver (taken_as form setup.config (record { host = entry.receiver; epoch = net.epoch; from = peers.Inside entry.sender; now = net.moment; count = net.count }) entry.note request (option_map_or Later found Nobodys) to.host) (record net { wire = drop 1 net.wire })
   by-found net app to found is =
       let named : named_live net.epoch entry.receiver to.uri to.host ≡ found = found-at net app to ∙ sym (live-is net app to) ∙ is in
-      taken-first net app to
-      ∙ ap (λ (taken : Taken S). placed entry.receiver taken (record net { wire = drop 1 net.wire }))
-      (taken-by net app to ∙ ap (λ (live : Option (Live S)). later_by setup.config (record { host = entry.receiver; epoch = net.epoch; from = peers.Inside entry.sender; now = net.moment; count = net.count }) request live to.host) named)
+      taken-first net app to ∙ ap (λ (taken : Taken S). placed entry.receiver taken (record net { wire = drop 1 net.wire })) (taken-by net app to found named)
 
   pub gone-back : (net : Net S) (app : AppId) → IsFirstTo setup entry request net app → live_at app net ≡ None → deliver_first form setup net ≡ returned setup.config entry 481 does_not_exist request net
-  unfolding later_by
+  unfolding taken_as
   gone-back net app to none = by-found net app to None none ∙ back-is net to.host 481 does_not_exist _ refl (at-receiver net app to)
 
   pub full-back : (net : Net S) (app : AppId) (live : Live S) → IsFirstTo setup entry request net app → live_at app net ≡ Some live → is_full live ≡ true
       → deliver_first form setup net ≡ returned setup.config entry 503 unavailable request net
-  unfolding later_by queue_later
+  unfolding taken_as queue_later
   full-back net app live to lives is-full = by-found net app to (Some live) lives ∙ rw is-full (back-is net to.host 503 unavailable _ refl (at-receiver net app to))

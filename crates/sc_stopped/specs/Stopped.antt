@@ -32,7 +32,7 @@ use Rattle.sc_hosts.specs.Legs.{is_low, leg_of, session_for}
 use Rattle.sc_hosts.specs.Looking.{session_in}
 use Rattle.sc_hosts.specs.Messages.{own_response}
 use Rattle.sc_hosts.specs.Nets.{host_at}
-use Rattle.sc_hosts.specs.Taking.{claim_of, is_claimed, names, own_uri}
+use Rattle.sc_hosts.specs.Taking.{names, own_uri, server_for}
 use Rattle.sc_hosts.specs.Transacting.{method_of}
 use Rattle.sc_hosts.specs.Preparing.{prepared}
 use Rattle.sc_hosts.specs.Words.{does_not_exist}
@@ -80,7 +80,7 @@ pub record IsFirstTo {S : Type 0} (setup : Setup) (entry : Entry) (request : Req
   pub tagged : is_some (tag_of request.head.to) ≡ true
   pub host : Host S
   pub there : host_at app.host net ≡ Some host
-  pub unclaimed : is_claimed (claim_of (peers.Inside entry.sender) request host) ≡ false
+  pub unclaimed : is_some (server_for (peers.Inside entry.sender) request host) ≡ false
   pub uri : Uri
   pub by : own_uri setup.config request ≡ Some uri
   pub named : names net.epoch app uri ≡ true

@@ -1,23 +1,17 @@
 //! Requests that begin a session.
 
 ghost use Rattle.std.specs.Prelude.{◌≡◌, ◌+◌, ◌∷◌, ◌++◌, [], IfOk, OnOk};
-ghost use Rattle.sc_tokens.specs.Names.{same_bytes};
 ghost use Rattle.sc_state.specs.declared.queue.Queued.{Queued};
-ghost use Rattle.sc_model.specs.Dialogs.{update};
 ghost use Rattle.sc_model.specs.Names.{tag_text};
 ghost use Rattle.sc_hosts.specs.Histories.{as_session};
-ghost use Rattle.sc_hosts.specs.Taking.{begun_live, begun, take_initial, is_never_initial, take_begun};
-ghost use Rattle.sc_hosts.specs.Transacting.{method_of};
-ghost use Rattle.sc_hosts.specs.Words.{prack};
+ghost use Rattle.sc_hosts.specs.Taking.{begun_live, begun, take_initial};
 ghost use Rattle.sc_inboxes.specs.TakenParts.{taken_by};
 
 use sc_inboxes::{Told, quiet, refuse_full, refuse_unknown, with_server, with_trying};
 use sc_legs::fresh;
-use sc_methods::is_bye;
 use sc_names::tag;
 use sc_state::{Coming, Host, Live, Note, Queued, Session, Waiting};
 use sc_terms::Config;
-use sc_transact::method_of;
 use sc_value::{AppId, CloneIn, List, NoMemory, Request, Shared, Text, sum};
 use std::alloc::Global;
 
@@ -153,51 +147,9 @@ fn begun(
     )
 }
 
+/// A request that may begin a session does so where it has its note, and fewer live than may.
 #[tactic(auto, unfolding(sc_hosts::specs::Taking::take_initial))]
-fn take_initial(
-    alloc: Global,
-    config: &Config,
-    coming: Coming,
-    noted: &Note,
-    request: &Shared<Request>,
-    host: &mut Host<Session>,
-) -> Result<Told, NoMemory>
-    ensures { IfOk result
-        (λ t.
-        take_initial as_session config.now coming noted.now request.now host.old
-        ≡ taken_by host.new t) }
-{
-    if 4096 <= host.live_count() {
-        return refuse_full(alloc, config, coming.from, request.get(), coming.count);
-    }
-    begun(alloc, config, coming, noted, request, host)
-}
-
-#[tactic(auto, unfolding(sc_hosts::specs::Words::prack))]
-fn is_prack(request: &Request) -> bool
-    ensures { result ≡ same_bytes (method_of request.now) prack }
-{
-    method_of(request) == b"PRACK".as_slice()
-}
-
-#[tactic(auto, unfolding(sc_model::specs::Dialogs::update))]
-fn is_update(request: &Request) -> bool
-    ensures { result ≡ same_bytes (method_of request.now) update }
-{
-    method_of(request) == b"UPDATE".as_slice()
-}
-
-/// Whether a request of this method begins nothing.
-#[tactic(auto, unfolding(sc_hosts::specs::Taking::is_never_initial))]
-pub fn is_never_initial(request: &Request) -> bool
-    ensures { result ≡ is_never_initial request.now }
-{
-    is_bye(method_of(request)) || is_prack(request) || is_update(request)
-}
-
-/// A request without To tag begins a session where it has its note.
-#[tactic(auto, unfolding(sc_hosts::specs::Taking::take_begun))]
-pub fn take_begun(
+pub fn take_initial(
     alloc: Global,
     config: &Config,
     coming: Coming,
@@ -207,15 +159,15 @@ pub fn take_begun(
 ) -> Result<Told, NoMemory>
     ensures { IfOk result
         (λ t.
-        take_begun as_session config.now coming noted.now request.now host.old
+        take_initial as_session config.now coming noted.now request.now host.old
         ≡ taken_by host.new t) }
 {
     let noted = match noted {
         Some(noted) => noted,
         None => return refuse_unknown(alloc, config, coming.from, request.get(), coming.count),
     };
-    if is_never_initial(request.get()) {
-        return refuse_unknown(alloc, config, coming.from, request.get(), coming.count);
+    if 4096 <= host.live_count() {
+        return refuse_full(alloc, config, coming.from, request.get(), coming.count);
     }
-    take_initial(alloc, config, coming, noted, request, host)
+    begun(alloc, config, coming, noted, request, host)
 }

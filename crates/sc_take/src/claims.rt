@@ -2,15 +2,15 @@
 //! 9.2 and 17.2.3).
 
 ghost use Rattle.std.specs.Prelude.{◌≡◌, if◌then◌else◌, IfOk};
-ghost use Rattle.std.specs.List.{find};
 ghost use Rattle.std.specs.Option.{option_copied};
+ghost use Rattle.sc_parts.specs.declared.transactions.ServerItem.{ServerItem};
 ghost use Rattle.sc_state.specs.declared.queue.Queued.{Queued};
 ghost use Rattle.sc_state.specs.Hosts.{Host};
 ghost use Rattle.sc_state.specs.declared.session.Session.{Session};
 ghost use Rattle.sc_hosts.specs.Messages.{own_response};
 ghost use Rattle.sc_hosts.specs.Inboxes.{quiet, queue};
-ghost use Rattle.sc_hosts.specs.Taking.{cancelled, again_if, repeated, claim_of, is_claimed};
-ghost use Rattle.sc_hosts.specs.Transacting.{has_final, is_cancelled_by, is_acked_by, is_repeated_by};
+ghost use Rattle.sc_hosts.specs.Taking.{cancelled, again_if, repeated, server_for};
+ghost use Rattle.sc_hosts.specs.Transacting.{has_final, pass_server};
 ghost use Rattle.sc_hosts.specs.Words.{ok};
 ghost use Rattle.sc_inboxes.specs.TakenParts.{taken_by};
 
@@ -107,72 +107,39 @@ pub fn repeated(
     last_again(alloc, server, again, count)
 }
 
-fn copy_of(
+/// An ACK passes its transaction.
+#[tactic(auto, unfolding(sc_hosts::specs::Inboxes::quiet))]
+pub fn acked(
     alloc: Global,
-    server: Option<&Shared<Server>>,
-) -> Result<Option<Shared<Server>>, NoMemory>
-    ensures { IfOk result (λ copy. copy ≡ option_copied server.entry) }
-{
-    match server {
-        Some(server) => Ok(Some(server.clone_in(alloc)?)),
-        None => Ok(None),
-    }
-}
-
-/// The INVITE that a CANCEL is for.
-pub fn cancelled_by(
-    alloc: Global,
-    from: Peer,
-    request: &Request,
-    host: &Host<Session>,
-) -> Result<Option<Shared<Server>>, NoMemory>
+    server: &Server,
+    count: u64,
+    host: &mut Host<Session>,
+) -> Result<Told, NoMemory>
     ensures { IfOk result
-        (λ server. server ≡ find (is_cancelled_by from request.now) host.now.servers) }
+        (λ t.
+        quiet (pass_server server.now.event ServerItem.AckCame host.old) count
+        ≡ taken_by host.new t) }
 {
-    copy_of(alloc, cancelled_server(alloc, from, request, host)?)
+    pass_server(alloc, server.event, ServerItem::AckCame, host)?;
+    Ok(quiet(count))
 }
 
-/// The INVITE that an ACK is for.
-pub fn acked_by(
+/// The server transaction that a request belongs to, None where it belongs to none.
+#[tactic(auto, unfolding(sc_hosts::specs::Taking::server_for))]
+pub fn server_for<'a>(
     alloc: Global,
     from: Peer,
     request: &Request,
-    host: &Host<Session>,
-) -> Result<Option<Shared<Server>>, NoMemory>
+    host: &'a Host<Session>,
+) -> Result<Option<&'a Shared<Server>>, NoMemory>
     ensures { IfOk result
-        (λ server. server ≡ find (is_acked_by from request.now) host.now.servers) }
-{
-    copy_of(alloc, acked_server(alloc, from, request, host)?)
-}
-
-/// The transaction of a request that came before.
-pub fn repeated_by(
-    alloc: Global,
-    from: Peer,
-    request: &Request,
-    host: &Host<Session>,
-) -> Result<Option<Shared<Server>>, NoMemory>
-    ensures { IfOk result
-        (λ server. server ≡ find (is_repeated_by from request.now) host.now.servers) }
-{
-    copy_of(alloc, repeated_server(alloc, from, request, host)?)
-}
-
-/// Whether a request belongs to a live transaction.
-#[tactic(auto, unfolding(sc_hosts::specs::Taking::claim_of, sc_hosts::specs::Taking::claim_by, sc_hosts::specs::Taking::is_claimed))]
-pub fn is_claimed(
-    alloc: Global,
-    from: Peer,
-    request: &Request,
-    host: &Host<Session>,
-) -> Result<bool, NoMemory>
-    ensures { IfOk result (λ claimed. claimed ≡ is_claimed (claim_of from request.now host.now)) }
+        (λ found. option_copied found ≡ server_for from request.now host.entry.now) }
 {
     if is_cancel(request) {
-        return Ok(cancelled_server(alloc, from, request, host)?.is_some());
+        return cancelled_server(alloc, from, request, host);
     }
     if is_ack(request) {
-        return Ok(acked_server(alloc, from, request, host)?.is_some());
+        return acked_server(alloc, from, request, host);
     }
-    Ok(repeated_server(alloc, from, request, host)?.is_some())
+    repeated_server(alloc, from, request, host)
 }

@@ -2,21 +2,21 @@
 
 ghost use Rattle.std.specs.Prelude.{◌≡◌, option_and_then, IfOk};
 ghost use Rattle.std.specs.Option.{option_copied};
-ghost use Rattle.sc_hosts.specs.Taking.{named_live, queue_later, later_by, take_later};
+ghost use Rattle.sc_hosts.specs.Taking.{named_live, own_uri, queue_later};
 ghost use Rattle.sc_inboxes.specs.TakenParts.{taken_by};
 
 use crate::beginning::own_tag;
 use sc_inboxes::{
-    Told, is_full, named_live, own_uri, queue, refuse_full, refuse_unknown, unrouted, with_server,
-    with_trying,
+    Told, is_full, named_live, own_uri, queue, refuse_full, unrouted, with_server, with_trying,
 };
 use sc_state::{Coming, Host, Live, Queued, Session};
 use sc_terms::Config;
 use sc_value::{AppId, CloneIn, NoMemory, Request, Shared, Uri, sum};
 use std::alloc::Global;
 
+/// A request with a To tag waits in the inbox of its session, where that isn't full.
 #[tactic(auto, unfolding(sc_hosts::specs::Taking::queue_later))]
-fn queue_later(
+pub fn queue_later(
     alloc: Global,
     config: &Config,
     coming: Coming,
@@ -49,24 +49,6 @@ fn queue_later(
     with_trying(alloc, coming.from, coming.now, request.get(), told, host)
 }
 
-#[tactic(auto, unfolding(sc_hosts::specs::Taking::later_by))]
-fn later_by(
-    alloc: Global,
-    config: &Config,
-    coming: Coming,
-    request: &Shared<Request>,
-    live: Option<Shared<Live<Session>>>,
-    host: &mut Host<Session>,
-) -> Result<Told, NoMemory>
-    ensures { IfOk result
-        (λ t. later_by config.now coming request.now live host.old ≡ taken_by host.new t) }
-{
-    match live {
-        Some(live) => queue_later(alloc, config, coming, request, live.get(), host),
-        None => refuse_unknown(alloc, config, coming.from, request.get(), coming.count),
-    }
-}
-
 fn named_by(
     alloc: Global,
     epoch: u32,
@@ -90,19 +72,20 @@ fn named_by(
     }
 }
 
-/// A request with a To tag goes to the session that its own URI names.
-#[tactic(auto, unfolding(sc_hosts::specs::Taking::take_later))]
-pub fn take_later(
+/// The live session of this host that a request's own URI names, None where it names none.
+pub fn own_live(
     alloc: Global,
     config: &Config,
     coming: Coming,
-    request: &Shared<Request>,
-    host: &mut Host<Session>,
-) -> Result<Told, NoMemory>
+    request: &Request,
+    host: &Host<Session>,
+) -> Result<Option<Shared<Live<Session>>>, NoMemory>
     ensures { IfOk result
-        (λ t. take_later config.now coming request.now host.old ≡ taken_by host.new t) }
+        (λ live.
+        live
+        ≡ option_and_then (λ uri. named_live coming.epoch coming.host uri host.now)
+        (own_uri config.now request.now)) }
 {
-    let uri = own_uri(alloc, config, request.get())?;
-    let live = named_by(alloc, coming.epoch, coming.host, uri, host)?;
-    later_by(alloc, config, coming, request, live, host)
+    let uri = own_uri(alloc, config, request)?;
+    named_by(alloc, coming.epoch, coming.host, uri, host)
 }

@@ -6,9 +6,10 @@ mod beginning;
 mod claims;
 mod later;
 mod responses;
+mod sorting;
 mod taking;
 
-pub use beginning::is_never_initial;
-pub use claims::is_claimed;
+pub use claims::server_for;
 pub use responses::cancelling;
+pub use sorting::sort_of;
 pub use taking::takes;

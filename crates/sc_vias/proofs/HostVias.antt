@@ -21,11 +21,12 @@ use Rattle.sc_state.specs.declared.host.Taken.{Taken}
 use Rattle.sc_state.specs.declared.net.Note.{Note}
 use Rattle.sc_state.specs.declared.queue.Queued.{Queued}
 use Rattle.sc_grammar.specs.Written.{Bytes}
+use Rattle.sc_hosts.proofs.EachSort.{takes-each}
 use Rattle.sc_hosts.specs.Inboxes.{is_live, queue, quiet, with_event}
 use Rattle.sc_hosts.specs.Messages.{cancel_of, kin}
 use Rattle.sc_hosts.specs.Nets.{with_routes}
 use Rattle.sc_hosts.specs.Sessions.{Form, Turn}
-use Rattle.sc_hosts.specs.Taking.{cancelled, last_again, again_if, repeated, Claim, Cancels, Acks, Repeats, Unclaimed, begun_live, refuse, with_server, with_trying, queue_later, later_by, take_later, begun, take_initial, take_begun, take_new, take_unclaimed, take_claimed, take_request, takes}
+use Rattle.sc_hosts.specs.Taking.{cancelled, last_again, again_if, repeated, begun_live, refuse, with_server, with_trying, queue_later, begun, take_initial, takes}
 use Rattle.sc_hosts.specs.TakingResponses.{cancelling, told, told_by, with_reply, response_for, response_to, take_response}
 use Rattle.sc_hosts.specs.Transacting.{client_for, client_passed, is_answered_by, tidied, pass_client, pass_server}
 use Rattle.sc_lasting.specs.Lasting.{All}
@@ -147,18 +148,12 @@ module _ {S : Type 0} (form : Form S) (epoch : ℕ) (Named : AppId → S → Typ
   unfolding with_trying
   with_trying-good from now request taken took = if-took _ _ taken took took
 
-  later_by-good : (config : Config) (other : ℕ) (from : Peer) (now : ℕ) (request : Request) (count : ℕ) (found : Option (Live S)) (host : Host S) → Good host
-      → Took (later_by config (record { host = number; epoch = other; from = from; now = now; count = count }) request found host)
-  unfolding later_by queue_later
-  later_by-good config other from now request count None host good = refuse-good config from 481 _ request count host good
-  later_by-good config other from now request count (Some live) host good =
+  queue_later-good : (config : Config) (other : ℕ) (from : Peer) (now : ℕ) (request : Request) (count : ℕ) (live : Live S) (host : Host S) → Good host
+      → Took (queue_later config (record { host = number; epoch = other; from = from; now = now; count = count }) request live host)
+  unfolding queue_later
+  queue_later-good config other from now request count live host good =
       if-took _ _ _ (refuse-good config from 503 _ request count host good)
       (with_trying-good from now request _ (queue-good live.serial now _ count _ (with_server-good _ _ from _ _ host good)))
-
-  take_later-good : (config : Config) (other : ℕ) (from : Peer) (now : ℕ) (request : Request) (count : ℕ) (host : Host S) → Good host
-      → Took (take_later config (record { host = number; epoch = other; from = from; now = now; count = count }) request host)
-  unfolding take_later
-  take_later-good config other from now request count host good = later_by-good config other from now request count _ host good
 
   begun-good : (config : Config) (from : Peer) (now : ℕ) (noted : Note) (request : Request) (count : ℕ) (host : Host S) → Good host
       → Took (begun form config (record { host = number; epoch = epoch; from = from; now = now; count = count }) noted request host)
@@ -167,32 +162,19 @@ module _ {S : Type 0} (form : Form S) (epoch : ℕ) (Named : AppId → S → Typ
       with_trying-good from now request _
       (with_server-good _ _ from _ request _ (all-append IsNamed host.sessions _ good.0 (kinds.begins config (record { host = number; serial = host.last + 1 }) now noted request), good.1))
 
-  take_begun-good : (config : Config) (from : Peer) (now : ℕ) (noted : Option Note) (request : Request) (count : ℕ) (host : Host S) → Good host
-      → Took (take_begun form config (record { host = number; epoch = epoch; from = from; now = now; count = count }) noted request host)
-  unfolding take_begun take_initial
-  take_begun-good config from now None request count host good = refuse-good config from 481 _ request count host good
-  take_begun-good config from now (Some noted) request count host good =
-      if-took _ _ _ (refuse-good config from 481 _ request count host good)
-      (if-took _ _ _ (refuse-good config from 503 _ request count host good) (begun-good config from now noted request count host good))
-
-  take_unclaimed-good : (config : Config) (from : Peer) (now : ℕ) (noted : Option Note) (request : Request) (count : ℕ) (host : Host S) → Good host
-      → Took (take_unclaimed form config (record { host = number; epoch = epoch; from = from; now = now; count = count }) noted request host)
-  unfolding take_unclaimed take_new
-  take_unclaimed-good config from now noted request count host good =
-      if-took _ _ _ (refuse-good config from 481 _ request count host good)
-      (if-took _ _ _ (take_later-good config epoch from now request count host good) (take_begun-good config from now noted request count host good))
-
-  take_claimed-good : (config : Config) (from : Peer) (now : ℕ) (noted : Option Note) (request : Request) (claim : Claim) (count : ℕ) (host : Host S) → Good host
-      → Took (take_claimed form config (record { host = number; epoch = epoch; from = from; now = now; count = count }) noted request claim host)
-  unfolding take_claimed quiet
-  take_claimed-good config from now noted request (Cancels server) count host good = cancelled-good from now server request count host good
-  take_claimed-good config from now noted request (Acks server) count host good = pass_server-good server.event _ host good
-  take_claimed-good config from now noted request (Repeats server) count host good = repeated-good server count host good
-  take_claimed-good config from now noted request Unclaimed count host good = take_unclaimed-good config from now noted request count host good
+  take_initial-good : (config : Config) (from : Peer) (now : ℕ) (noted : Option Note) (request : Request) (count : ℕ) (host : Host S) → Good host
+      → Took (take_initial form config (record { host = number; epoch = epoch; from = from; now = now; count = count }) noted request host)
+  unfolding take_initial
+  take_initial-good config from now None request count host good = refuse-good config from 481 _ request count host good
+  take_initial-good config from now (Some noted) request count host good =
+      if-took _ _ _ (refuse-good config from 503 _ request count host good) (begun-good config from now noted request count host good)
 
   -- all that a host takes
   pub takes-good : (config : Config) (from : Peer) (now : ℕ) (noted : Option Note) (message : Message) (count : ℕ) (host : Host S) → Good host
       → Took (takes form config (record { host = number; epoch = epoch; from = from; now = now; count = count }) noted message host)
-  unfolding takes take_request
-  takes-good config from now noted (messages.Request request) count host good = take_claimed-good config from now noted request _ count host good
+  unfolding takes quiet
+  takes-good config from now noted (messages.Request request) count host good =
+      takes-each Took form config (record { host = number; epoch = epoch; from = from; now = now; count = count }) noted request host (λ server. cancelled-good from now server request count host good)
+      (λ server. pass_server-good server.event _ host good) (λ server. repeated-good server count host good) (λ live. queue_later-good config epoch from now request count live host good)
+      (take_initial-good config from now noted request count host good) (refuse-good config from 481 _ request count host good)
   takes-good config from now noted (messages.Response response) count host good = take_response-good config epoch from now response count host good

@@ -37,7 +37,8 @@ use Rattle.sc_state.specs.declared.queue.Waiting.{Waiting}
 use Rattle.sc_state.specs.declared.session.Session.{Session}
 use Rattle.sc_grammar.specs.Written.{Bytes}
 use Rattle.sc_model.specs.Timers.{DueEntry}
-use Rattle.sc_hosts.specs.Arrivals.{host_takes, taken_at, edge_answer, begins_by, initial_arrives, later_at, later_arrives, unclaimed, request_by, response_by, arrived, bad_by}
+use Rattle.sc_hosts.proofs.EachSort.{arrives-each}
+use Rattle.sc_hosts.specs.Arrivals.{host_takes, taken_at, edge_answer, begins_by, initial_arrives, response_by, arrived, bad_by}
 use Rattle.sc_hosts.specs.Inboxes.{is_live}
 use Rattle.sc_hosts.specs.Nets.{change_host, host_at}
 use Rattle.sc_hosts.specs.Routes.{unrouted_initial, popped_route}
@@ -123,24 +124,7 @@ module _ {S : Type 0} (form : Form S) (epoch : ℕ) (Named : AppId → S → Typ
   unfolding initial_arrives
   initial_arrives-kept from request net kept =
       if-kept _ net _ kept
-      (if-kept _ _ _ (edge_answer-kept setup.config from 481 _ request net kept)
-      (begins_by-kept from (unrouted_initial setup.config request) (popped_route setup.config request) _ net kept))
-
-  later_at-kept : (from : Place) (request : Request) (number : Option ℕ) (net : Net S) → Kept net → Kept (later_at form setup from request number net)
-  unfolding later_at
-  later_at-kept from request None net kept = edge_answer-kept setup.config from 481 _ request net kept
-  later_at-kept from request (Some number) net kept = taken_at-kept from None _ number net kept
-
-  unclaimed-kept : (from : Place) (request : Request) (net : Net S) → Kept net → Kept (unclaimed form setup from request net)
-  unfolding unclaimed later_arrives
-  unclaimed-kept from request net kept =
-      if-kept _ _ _ (edge_answer-kept setup.config from 481 _ request net kept)
-      (if-kept _ _ _ (later_at-kept from request _ net kept) (initial_arrives-kept from request net kept))
-
-  request_by-kept : (from : Place) (request : Request) (number : Option ℕ) (net : Net S) → Kept net → Kept (request_by form setup from request number net)
-  unfolding request_by
-  request_by-kept from request None net kept = unclaimed-kept from request net kept
-  request_by-kept from request (Some number) net kept = taken_at-kept from None _ number net kept
+      (begins_by-kept from (unrouted_initial setup.config request) (popped_route setup.config request) _ net kept)
 
   response_by-kept : (from : Place) (response : Response) (number : Option ℕ) (net : Net S) → Kept net
       → Kept (response_by form setup from response number net)
@@ -150,7 +134,9 @@ module _ {S : Type 0} (form : Form S) (epoch : ℕ) (Named : AppId → S → Typ
 
   arrived-kept : (from : Place) (message : Message) (net : Net S) → Kept net → Kept (arrived form setup from message net)
   unfolding arrived
-  arrived-kept from (messages.Request request) net kept = request_by-kept from request _ net kept
+  arrived-kept from (messages.Request request) net kept =
+      arrives-each Kept form setup from request net (λ number. taken_at-kept from None _ number net kept)
+      (λ untagged. initial_arrives-kept from request net kept) (edge_answer-kept setup.config from 481 _ request net kept)
   arrived-kept from (messages.Response response) net kept = response_by-kept from response _ net kept
 
   bad_by-kept : (config : Config) (from : Place) (heads : Option Answerable) (net : Net S) → Kept net → Kept (bad_by config from heads net)

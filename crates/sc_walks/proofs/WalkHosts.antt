@@ -18,9 +18,10 @@ use Rattle.sc_state.specs.declared.host.Server.{Server}
 use Rattle.sc_state.specs.declared.host.Taken.{Taken}
 use Rattle.sc_state.specs.declared.net.Note.{Note}
 use Rattle.sc_grammar.specs.Written.{Bytes}
+use Rattle.sc_hosts.proofs.EachSort.{takes-each}
 use Rattle.sc_hosts.specs.Inboxes.{quiet}
 use Rattle.sc_hosts.specs.Sessions.{Form}
-use Rattle.sc_hosts.specs.Taking.{cancelled, last_again, again_if, repeated, Claim, Cancels, Acks, Repeats, Unclaimed, refuse, with_server, with_trying, queue_later, later_by, take_later, begun, take_initial, take_begun, take_new, take_unclaimed, take_claimed, take_request, takes}
+use Rattle.sc_hosts.specs.Taking.{cancelled, last_again, again_if, repeated, refuse, with_server, with_trying, queue_later, begun, take_initial, takes}
 use Rattle.sc_hosts.specs.TakingResponses.{told, told_by, with_reply, response_for, response_to, take_response}
 use Rattle.sc_hosts.specs.Transacting.{tidied, pass_client, pass_server}
 use Rattle.sc_walks.specs.Walks.{HostLaws, IsLate}
@@ -102,16 +103,11 @@ module _ {S : Type 0} {Begins : Form S → Type 0} (number now : ℕ) (H : ℕ �
   with_trying-walks from request count host taken took =
       if-took _ count host _ taken (law.after _ _ _ _ _ _ took (law.passes taken.count taken.host taken.host.clients _)) took
 
-  later_by-walks : (config : Config) (epoch : ℕ) (from : Peer) (request : Request) (count : ℕ) (live : Option (Live S)) (host : Host S) → Took count host (later_by config (record { host = number; epoch = epoch; from = from; now = now; count = count }) request live host)
-  unfolding later_by queue_later IsLate
-  later_by-walks config epoch from request count None host = refuse-walks config from 481 _ request count host
-  later_by-walks config epoch from request count (Some live) host =
+  pub queue_later-walks : (config : Config) (epoch : ℕ) (from : Peer) (request : Request) (count : ℕ) (live : Live S) (host : Host S) → Took count host (queue_later config (record { host = number; epoch = epoch; from = from; now = now; count = count }) request live host)
+  unfolding queue_later IsLate
+  queue_later-walks config epoch from request count live host =
       if-took _ count host _ _ (refuse-walks config from 503 _ request count host)
       (with_trying-walks from request count host _ (law.after _ _ _ _ _ _ (with_server-walks _ _ from _ _ count host) (law.queues live.serial _ tt count _)))
-
-  pub take_later-walks : (config : Config) (epoch : ℕ) (from : Peer) (request : Request) (count : ℕ) (host : Host S) → Took count host (take_later config (record { host = number; epoch = epoch; from = from; now = now; count = count }) request host)
-  unfolding take_later
-  take_later-walks config epoch from request count host = later_by-walks config epoch from request count _ host
 
   -- ## Requests that begin a session
 
@@ -121,40 +117,20 @@ module _ {S : Type 0} {Begins : Form S → Type 0} (number now : ℕ) (H : ℕ �
   begun-walks form good config epoch from noted request count host =
       with_trying-walks from request count host _ (law.after _ _ _ _ _ _ (law.begins form good config epoch noted request count host) (with_server-walks _ _ from _ request (count + 1) _))
 
-  take_initial-walks : (form : Form S) (good : Begins form) (config : Config) (epoch : ℕ) (from : Peer) (noted : Note) (request : Request) (count : ℕ) (host : Host S)
+  take_initial-walks : (form : Form S) (good : Begins form) (config : Config) (epoch : ℕ) (from : Peer) (noted : Option Note) (request : Request) (count : ℕ) (host : Host S)
       → Took count host (take_initial form config (record { host = number; epoch = epoch; from = from; now = now; count = count }) noted request host)
   unfolding take_initial
-  take_initial-walks form good config epoch from noted request count host =
+  take_initial-walks form good config epoch from None request count host = refuse-walks config from 481 _ request count host
+  take_initial-walks form good config epoch from (Some noted) request count host =
       if-took _ count host _ _ (refuse-walks config from 503 _ request count host) (begun-walks form good config epoch from noted request count host)
-
-  take_begun-walks : (form : Form S) (good : Begins form) (config : Config) (epoch : ℕ) (from : Peer) (noted : Option Note) (request : Request) (count : ℕ) (host : Host S)
-      → Took count host (take_begun form config (record { host = number; epoch = epoch; from = from; now = now; count = count }) noted request host)
-  unfolding take_begun
-  take_begun-walks form good config epoch from None request count host = refuse-walks config from 481 _ request count host
-  take_begun-walks form good config epoch from (Some noted) request count host =
-      if-took _ count host _ _ (refuse-walks config from 481 _ request count host) (take_initial-walks form good config epoch from noted request count host)
-
-  -- ## Every request
-
-  take_unclaimed-walks : (form : Form S) (good : Begins form) (config : Config) (epoch : ℕ) (from : Peer) (noted : Option Note) (request : Request) (count : ℕ) (host : Host S)
-      → Took count host (take_unclaimed form config (record { host = number; epoch = epoch; from = from; now = now; count = count }) noted request host)
-  unfolding take_unclaimed take_new
-  take_unclaimed-walks form good config epoch from noted request count host =
-      if-took _ count host _ _ (refuse-walks config from 481 _ request count host)
-      (if-took _ count host _ _ (take_later-walks config epoch from request count host) (take_begun-walks form good config epoch from noted request count host))
-
-  take_claimed-walks : (form : Form S) (good : Begins form) (config : Config) (epoch : ℕ) (from : Peer) (noted : Option Note) (request : Request) (claim : Claim) (count : ℕ) (host : Host S)
-      → Took count host (take_claimed form config (record { host = number; epoch = epoch; from = from; now = now; count = count }) noted request claim host)
-  unfolding take_claimed quiet
-  take_claimed-walks form good config epoch from noted request (Cancels server) count host = cancelled-walks from server request count host
-  take_claimed-walks form good config epoch from noted request (Acks server) count host = pass_server-walks server.event _ count host
-  take_claimed-walks form good config epoch from noted request (Repeats server) count host = repeated-walks server count host
-  take_claimed-walks form good config epoch from noted request Unclaimed count host = take_unclaimed-walks form good config epoch from noted request count host
 
   -- ## All that a host takes
 
   pub takes-walks : (form : Form S) (good : Begins form) (config : Config) (epoch : ℕ) (from : Peer) (noted : Option Note) (message : Message) (count : ℕ) (host : Host S)
       → Took count host (takes form config (record { host = number; epoch = epoch; from = from; now = now; count = count }) noted message host)
-  unfolding takes take_request take_response
-  takes-walks form good config epoch from noted (messages.Request request) count host = take_claimed-walks form good config epoch from noted request _ count host
+  unfolding takes take_response quiet
+  takes-walks form good config epoch from noted (messages.Request request) count host =
+      takes-each (Took count host) form config (record { host = number; epoch = epoch; from = from; now = now; count = count }) noted request host (λ server. cancelled-walks from server request count host)
+      (λ server. pass_server-walks server.event _ count host) (λ server. repeated-walks server count host) (λ live. queue_later-walks config epoch from request count live host)
+      (take_initial-walks form good config epoch from noted request count host) (refuse-walks config from 481 _ request count host)
   takes-walks form good config epoch from noted (messages.Response response) count host = response_to-walks _ response count host

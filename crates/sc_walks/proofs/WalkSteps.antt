@@ -25,7 +25,8 @@ use Rattle.sc_state.specs.declared.orders.Outcome.{Outcome}
 use Rattle.sc_state.specs.declared.queue.Queued.TheVariants as queued
 use Rattle.sc_grammar.specs.Written.{Bytes}
 use Rattle.sc_model.specs.Timers.{DueEntry}
-use Rattle.sc_hosts.specs.Arrivals.{host_takes, taken_at, edge_answer, begins_by, initial_arrives, later_at, later_arrives, unclaimed, request_by, response_by, arrived, bad_by}
+use Rattle.sc_hosts.proofs.EachSort.{arrives-each}
+use Rattle.sc_hosts.specs.Arrivals.{host_takes, taken_at, edge_answer, begins_by, initial_arrives, response_by, arrived, bad_by}
 use Rattle.sc_hosts.specs.Nets.{host_at}
 use Rattle.sc_hosts.specs.Routes.{unrouted_initial, popped_route}
 use Rattle.sc_hosts.specs.Sessions.{Form}
@@ -67,24 +68,7 @@ module _ {S : Type 0} {Begins : Form S → Type 0} (H : ℕ → ℕ → ℕ → 
   unfolding initial_arrives
   initial_arrives-walks form good setup from request net =
       if-walks H P hosts law _ net net _ (law.same net)
-      (if-walks H P hosts law _ net _ _ (edge_answer-walks setup.config from 481 _ request net)
-      (begins_by-walks form good setup from (unrouted_initial setup.config request) (popped_route setup.config request) _ net))
-
-  later_at-walks : (form : Form S) (good : Begins form) (setup : Setup) (from : Place) (request : Request) (number : Option ℕ) (net : Net S) → P net (later_at form setup from request number net)
-  unfolding later_at
-  later_at-walks form good setup from request None net = edge_answer-walks setup.config from 481 _ request net
-  later_at-walks form good setup from request (Some number) net = taken_at-walks form good setup from None _ number net
-
-  unclaimed-walks : (form : Form S) (good : Begins form) (setup : Setup) (from : Place) (request : Request) (net : Net S) → P net (unclaimed form setup from request net)
-  unfolding unclaimed later_arrives
-  unclaimed-walks form good setup from request net =
-      if-walks H P hosts law _ net _ _ (edge_answer-walks setup.config from 481 _ request net)
-      (if-walks H P hosts law _ net _ _ (later_at-walks form good setup from request _ net) (initial_arrives-walks form good setup from request net))
-
-  request_by-walks : (form : Form S) (good : Begins form) (setup : Setup) (from : Place) (request : Request) (number : Option ℕ) (net : Net S) → P net (request_by form setup from request number net)
-  unfolding request_by
-  request_by-walks form good setup from request None net = unclaimed-walks form good setup from request net
-  request_by-walks form good setup from request (Some number) net = taken_at-walks form good setup from None _ number net
+      (begins_by-walks form good setup from (unrouted_initial setup.config request) (popped_route setup.config request) _ net)
 
   response_by-walks : (form : Form S) (good : Begins form) (setup : Setup) (from : Place) (response : Response) (number : Option ℕ) (net : Net S) → P net (response_by form setup from response number net)
   unfolding response_by
@@ -93,7 +77,9 @@ module _ {S : Type 0} {Begins : Form S → Type 0} (H : ℕ → ℕ → ℕ → 
 
   pub arrived-walks : (form : Form S) (good : Begins form) (setup : Setup) (from : Place) (message : Message) (net : Net S) → P net (arrived form setup from message net)
   unfolding arrived
-  arrived-walks form good setup from (messages.Request request) net = request_by-walks form good setup from request _ net
+  arrived-walks form good setup from (messages.Request request) net =
+      arrives-each (P net) form setup from request net (λ number. taken_at-walks form good setup from None _ number net)
+      (λ untagged. initial_arrives-walks form good setup from request net) (edge_answer-walks setup.config from 481 _ request net)
   arrived-walks form good setup from (messages.Response response) net = response_by-walks form good setup from response _ net
 
   pub bad_by-walks : (config : Config) (from : Place) (heads : Option Answerable) (net : Net S) → P net (bad_by config from heads net)

@@ -1,6 +1,6 @@
 -- A later request comes from outside: the one event that it may bring.
 use Rattle.std.proofs.Common.{◌≡◌, ◌<◌, ℕ, ◌+◌, ◌^◌, Bool, true, false, Option, None, Some, List, [], ◌∷◌, refl, sym, ap, subst, ◌∙◌, arith}
-use Rattle.std.specs.Prelude.{◌==◌, ◌||◌, cond, is_some, option_and_then, option_map, slice_get}
+use Rattle.std.specs.Prelude.{◌==◌, ◌||◌, cond, is_some, option_map, slice_get}
 use Rattle.std.specs.List.{find, list_any}
 use Rattle.std.proofs.lemmas.Bool.Decides.{nat_tests}
 use Rattle.sc_value.specs.Lists.{change_nth}
@@ -21,6 +21,7 @@ use Rattle.sc_state.specs.declared.host.Live.{Live}
 use Rattle.sc_state.specs.declared.host.Peer.{Peer}
 use Rattle.sc_state.specs.declared.host.Peer.TheVariants as peers
 use Rattle.sc_state.specs.declared.host.Reply.{Reply}
+use Rattle.sc_state.specs.declared.host.Server.{Server}
 use Rattle.sc_state.specs.declared.host.Taken.{Taken}
 use Rattle.sc_state.specs.declared.net.Net.{Net}
 use Rattle.sc_state.specs.declared.queue.Queued.{Queued}
@@ -31,14 +32,15 @@ use Rattle.sc_model.specs.DialogRequests.{cancel}
 use Rattle.sc_model.specs.Dialogs.{tag_of}
 use Rattle.sc_model.specs.SessionStates.{ack, invite}
 use Rattle.sc_hosts.proofs.Deliveries.{none-delivered}
-use Rattle.sc_hosts.specs.Arrivals.{arrived, edge_answer, first_host, host_takes, later_arrives, later_at, request_by, taken_at, unclaimed}
+use Rattle.sc_hosts.proofs.EachSort.{takes-by, arrives-each}
+use Rattle.sc_hosts.specs.Arrivals.{arrived, edge_answer, first_host, host_takes, taken_at}
 use Rattle.sc_hosts.specs.EventLists.{waiting_in}
 use Rattle.sc_hosts.specs.Histories.{as_session}
 use Rattle.sc_hosts.specs.Inboxes.{is_full, queue, quiet}
-use Rattle.sc_hosts.specs.Nets.{host_at, is_busy, named_host, placed, put, put_reply}
+use Rattle.sc_hosts.specs.Nets.{host_at, is_busy, placed, put, put_reply}
 use Rattle.sc_hosts.specs.Runs.{after_step}
 use Rattle.sc_hosts.specs.Steps.{stepped}
-use Rattle.sc_hosts.specs.Taking.{Unclaimed, claim_of, is_claimed, is_named_live, named_live, names, own_tag, own_uri, queue_later, later_by, refuse, take_claimed, take_later, take_new, take_request, take_unclaimed, takes, unrouted, with_server, with_trying}
+use Rattle.sc_hosts.specs.Taking.{is_named_live, named_live, names, own_tag, own_uri, queue_later, refuse, takes, unrouted, with_server, with_trying, server_for}
 use Rattle.sc_hosts.specs.Transacting.{method_of}
 use Rattle.sc_lasting.proofs.Began.{test-found}
 use Rattle.sc_lives.specs.Numbers.{AreNumbered}
@@ -49,7 +51,7 @@ use Rattle.sc_reached.proofs.Reaching.{queue-reply}
 use Rattle.sc_hops.specs.Hops.{AreFit, IsAny, IsBrought, IsFit}
 use Rattle.sc_hops.proofs.Carried.{FitsIn, plain-fit}
 use Rattle.sc_hops.proofs.OneTurn.{any-clients, nothing-above}
-use Rattle.sc_hops.proofs.Taken.{take_later-ok}
+use Rattle.sc_hops.proofs.Taken.{take_request-ok}
 use Rattle.sc_paths.specs.LaterRequests.{has_vias}
 use Rattle.sc_paths.specs.Moments.{Got, Moment, got_in}
 use Rattle.sc_ways.proofs.Got.{queued-got}
@@ -97,19 +99,27 @@ module _ (setup : Setup) (place : Place) (request : Request) where
   unfolding with_trying Outward
   trying-outward now taken out = if-outward (same_bytes (method_of request) invite) _ taken (place, refl) out
 
-  later_by-outward : (config : Config) (epoch number now count : ℕ) (found : Option (Live Session)) (host : Host Session)
-      → Outward (later_by config (record { host = number; epoch = epoch; from = peers.Outside place; now = now; count = count }) request found host).reply
-  unfolding later_by queue_later
-  later_by-outward config epoch number now count None host = refuse-outward config 481 _ count host
-  later_by-outward config epoch number now count (Some live) host =
+  queue_later-outward : (config : Config) (epoch number now count : ℕ) (live : Live Session) (host : Host Session)
+      → Outward (queue_later config (record { host = number; epoch = epoch; from = peers.Outside place; now = now; count = count }) request live host).reply
+  unfolding queue_later
+  queue_later-outward config epoch number now count live host =
       let app : AppId = record { host = number; serial = live.serial } in
       let served : Host Session = with_server app (count + 1) (peers.Outside place) (own_tag config epoch app) (unrouted config request) host in
       if-outward (is_full live) (refuse config (peers.Outside place) 503 _ request count host) _ (refuse-outward config 503 _ count host)
       (trying-outward now (queue live.serial now (queued.Request (unrouted config request)) count served) (none-outward _ (queue-reply live.serial now (queued.Request (unrouted config request)) count served)))
 
-  take_later-outward : (config : Config) (epoch number now count : ℕ) (host : Host Session) → Outward (take_later config (record { host = number; epoch = epoch; from = peers.Outside place; now = now; count = count }) request host).reply
-  unfolding take_later
-  take_later-outward config epoch number now count host = later_by-outward config epoch number now count _ host
+  unserved : {A : Type 0} (found : Option Server) (server : Server) → found ≡ None → found ≡ Some server → A
+  unserved found server none is = cc
+
+  has-tag : {A : Type 0} (b : Bool) → b ≡ true → b ≡ false → A
+  has-tag b tagged untagged = cc
+
+  takes-outward : (config : Config) (epoch number now count : ℕ) (host : Host Session) → server_for (peers.Outside place) request host ≡ None → is_some (tag_of request.head.to) ≡ true
+      → Outward (takes as_session config (record { host = number; epoch = epoch; from = peers.Outside place; now = now; count = count }) None (messages.Request request) host).reply
+  takes-outward config epoch number now count host fresh tagged =
+      takes-by (λ taken. Outward taken.reply) as_session config (record { host = number; epoch = epoch; from = peers.Outside place; now = now; count = count }) None request host
+      (λ server found. unserved _ server fresh found) (λ server found. unserved _ server fresh found) (λ server found. unserved _ server fresh found)
+      (λ live no_cancel tagged is. queue_later-outward config epoch number now count live host) (λ untagged. has-tag _ tagged untagged) (refuse-outward config 481 _ count host)
 
   -- ## What a net becomes
 
@@ -182,44 +192,32 @@ module _ (setup : Setup) (place : Place) (request : Request) where
   right epoch number host no_cancel tagged uri by live is =
       λ told. record { sent = request; is = refl; popped = refl; uri = uri; by = by; named = named-by epoch number uri host live is; tagged = tagged; no_cancel = no_cancel }
 
-  takes-later : (net : Net Session) (number : ℕ) (host : Host Session) → same_bytes (method_of request) cancel ≡ false → is_some (tag_of request.head.to) ≡ true
-      → claim_of (peers.Outside place) request host ≡ Unclaimed
-      → takes as_session setup.config (record { host = number; epoch = net.epoch; from = peers.Outside place; now = net.moment; count = net.count }) None (messages.Request request) host
-      ≡ take_later setup.config (record { host = number; epoch = net.epoch; from = peers.Outside place; now = net.moment; count = net.count }) request host
-  unfolding takes take_request take_claimed take_unclaimed take_new
-  takes-later net number host no_cancel tagged fresh = rw (fresh, no_cancel, tagged) refl
-
-  host-arrives : (net : Net Session) (number : ℕ) (found : Option (Host Session)) → host_at number net ≡ found → same_bytes (method_of request) cancel ≡ false
-      → is_some (tag_of request.head.to) ≡ true → ((host : Host Session) → host_at number net ≡ Some host → claim_of (peers.Outside place) request host ≡ Unclaimed)
+  host-arrives : (net : Net Session) (number : ℕ) (found : Option (Host Session)) → host_at number net ≡ found → is_some (tag_of request.head.to) ≡ true
+      → ((host : Host Session) → host_at number net ≡ Some host → server_for (peers.Outside place) request host ≡ None)
       → HasArrived net.epoch net.count net → HasArrived net.epoch net.count (host_takes as_session setup place None (messages.Request request) number found net)
   unfolding host_takes
-  host-arrives net number None at no_cancel tagged fresh arrives = arrives
-  host-arrives net number (Some host) at no_cancel tagged fresh arrives =
-      let ok = take_later-ok {S = Session} IsAny IsAny (Fits net.epoch) (plain-fit IsAny (Is request) setup.config net.epoch) net.count number net.moment setup.config net.epoch (peers.Outside place) request net.count host tagged
-      (λ tagged uri by live is. right net.epoch number host no_cancel tagged uri by live is) (arrives.hosts number host at, any-clients host.clients) in
-      rw (takes-later net number host no_cancel tagged (fresh host at)) (placed-arrives net.epoch net.count number _ net ok.good.0 (take_later-outward setup.config net.epoch number net.moment net.count host) arrives)
+  host-arrives net number None at tagged fresh arrives = arrives
+  host-arrives net number (Some host) at tagged fresh arrives =
+      let ok = take_request-ok {S = Session} IsAny IsAny (Fits net.epoch) (plain-fit IsAny (Is request) setup.config net.epoch) net.count number net.moment as_session setup.config net.epoch (peers.Outside place) None request net.count host
+      (λ no_cancel tagged uri by live is. right net.epoch number host no_cancel tagged uri by live is) (arrives.hosts number host at, any-clients host.clients) in
+      placed-arrives net.epoch net.count number _ net ok.good.0 (takes-outward setup.config net.epoch number net.moment net.count host (fresh host at) tagged) arrives
 
-  at-arrives : (net : Net Session) (found : Option ℕ) → same_bytes (method_of request) cancel ≡ false → is_some (tag_of request.head.to) ≡ true
-      → ((number : ℕ) (host : Host Session) → host_at number net ≡ Some host → claim_of (peers.Outside place) request host ≡ Unclaimed)
-      → HasArrived net.epoch net.count net → HasArrived net.epoch net.count (later_at as_session setup place request found net)
-  unfolding later_at taken_at
-  at-arrives net None no_cancel tagged fresh arrives = edge-arrives net.epoch net.count setup.config 481 _ net arrives
-  at-arrives net (Some number) no_cancel tagged fresh arrives = host-arrives net number _ refl no_cancel tagged (fresh number) arrives
-
-  arrived-is : (net : Net Session) → same_bytes (method_of request) cancel ≡ false → is_some (tag_of request.head.to) ≡ true
-      → first_host (λ host. is_claimed (claim_of (peers.Outside place) request host)) 0 net.hosts ≡ None
-      → arrived as_session setup place (messages.Request request) net ≡ later_at as_session setup place request (option_and_then (λ uri. named_host uri net) (own_uri setup.config request)) net
-  unfolding arrived request_by unclaimed later_arrives
-  arrived-is net no_cancel tagged none = rw (none, no_cancel, tagged) refl
+  at-arrives : (net : Net Session) → is_some (tag_of request.head.to) ≡ true
+      → ((number : ℕ) (host : Host Session) → host_at number net ≡ Some host → server_for (peers.Outside place) request host ≡ None)
+      → HasArrived net.epoch net.count net → HasArrived net.epoch net.count (arrived as_session setup place (messages.Request request) net)
+  unfolding taken_at
+  at-arrives net tagged fresh arrives =
+      arrives-each (HasArrived net.epoch net.count) as_session setup place request net (λ number. host-arrives net number _ refl tagged (fresh number) arrives)
+      (λ untagged. has-tag _ tagged untagged) (edge-arrives net.epoch net.count setup.config 481 _ net arrives)
 
   -- ## No host claims it
 
-  pub none-claims : (hosts : List (Host Session)) (number : ℕ) → list_any (λ host. is_claimed (claim_of (peers.Outside place) request host)) hosts ≡ false
-      → first_host (λ host. is_claimed (claim_of (peers.Outside place) request host)) number hosts ≡ None
+  pub none-claims : (hosts : List (Host Session)) (number : ℕ) → list_any (λ host. is_some (server_for (peers.Outside place) request host)) hosts ≡ false
+      → first_host (λ host. is_some (server_for (peers.Outside place) request host)) number hosts ≡ None
   unfolding first_host
   none-claims [] number none = refl
   none-claims (host ∷ hosts) number none =
-      let both = neither (is_claimed (claim_of (peers.Outside place) request host)) (list_any (λ host. is_claimed (claim_of (peers.Outside place) request host)) hosts) none in
+      let both = neither (is_some (server_for (peers.Outside place) request host)) (list_any (λ host. is_some (server_for (peers.Outside place) request host)) hosts) none in
       rw (both.0) (none-claims hosts (number + 1) both.1)
 
   idle : (net : Net Session) → net.wire ≡ [] → is_busy net ≡ false
@@ -230,16 +228,16 @@ module _ (setup : Setup) (place : Place) (request : Request) where
 
   pub outside-after : (net : Net Session) → AreNumbered net → ((app : AppId) → IsBetween (waiting_in app net) 0 net.count) → net.wire ≡ []
       → same_bytes (method_of request) cancel ≡ false → is_some (tag_of request.head.to) ≡ true
-      → list_any (λ host. is_claimed (claim_of (peers.Outside place) request host)) net.hosts ≡ false
+      → list_any (λ host. is_some (server_for (peers.Outside place) request host)) net.hosts ≡ false
       → HasArrived net.epoch net.count (after_step as_session setup net (steps.In place (messages.Request request)))
   unfolding after_step stepped
   outside-after net numbered within quiet no_cancel tagged unclaimed =
       let start : Net Session = record net { sent = [] } in
       let none = none-claims net.hosts 0 unclaimed in
       let arrives : HasArrived net.epoch net.count start = record { wire = quiet; hosts = nothing-above IsAny (Is request) setup net.epoch net numbered within } in
-      let after = at-arrives start (option_and_then (λ uri. named_host uri start) (own_uri setup.config request)) no_cancel tagged (λ number host at. host-unclaimed start (peers.Outside place) request number host none at) arrives in
-      let came : Net Session = later_at as_session setup place request (option_and_then (λ uri. named_host uri start) (own_uri setup.config request)) start in
-      rw (arrived-is start no_cancel tagged none, none-delivered as_session setup came (idle came after.wire)) after
+      let after = at-arrives start tagged (λ number host at. host-unclaimed start (peers.Outside place) request number host none at) arrives in
+      let came : Net Session = arrived as_session setup place (messages.Request request) start in
+      rw (none-delivered as_session setup came (idle came after.wire)) after
 
   -- ## The event that it brings
 
@@ -251,7 +249,7 @@ module _ (setup : Setup) (place : Place) (request : Request) where
   at net = record { before = net; step = steps.In place (messages.Request request); after = after_step as_session setup net (steps.In place (messages.Request request)) }
 
   first-by : (net : Net Session) (vias : List Via) (got : Got) → net.epoch < 2 ^ 64 → IsFine setup net.epoch (at net) → same_bytes (method_of request) cancel ≡ false
-      → is_some (tag_of request.head.to) ≡ true → list_any (λ host. is_claimed (claim_of (peers.Outside place) request host)) net.hosts ≡ false
+      → is_some (tag_of request.head.to) ≡ true → list_any (λ host. is_some (server_for (peers.Outside place) request host)) net.hosts ≡ false
       → find (has_vias 0 vias) (got_in (at net)) ≡ Some got → IsFirst setup request net.epoch (at net).after got
   first-by net vias got small fine no_cancel tagged unclaimed found =
       let arrives = outside-after net fine.numbered fine.within fine.quiet no_cancel tagged unclaimed in
@@ -270,7 +268,7 @@ module _ (setup : Setup) (place : Place) (request : Request) where
       }
 
   pub first-of : (epoch : ℕ) (net : Net Session) (vias : List Via) (got : Got) → epoch < 2 ^ 64 → IsFine setup epoch (at net) → same_bytes (method_of request) cancel ≡ false
-      → is_some (tag_of request.head.to) ≡ true → list_any (λ host. is_claimed (claim_of (peers.Outside place) request host)) net.hosts ≡ false
+      → is_some (tag_of request.head.to) ≡ true → list_any (λ host. is_some (server_for (peers.Outside place) request host)) net.hosts ≡ false
       → find (has_vias 0 vias) (got_in (at net)) ≡ Some got → IsFirst setup request epoch (at net).after got
   first-of epoch net vias got small fine no_cancel tagged unclaimed found =
       subst (λ (e : ℕ). IsFirst setup request e (at net).after got) fine.at

@@ -25,7 +25,7 @@ use Rattle.sc_model.specs.Dialogs.{tag_of}
 use Rattle.sc_model.specs.Names.{IsOf64}
 use Rattle.sc_hosts.specs.Histories.{as_session}
 use Rattle.sc_hosts.specs.Runs.{HasVia, IsAllowed, after_step}
-use Rattle.sc_hosts.specs.Taking.{claim_of, is_claimed, names, own_uri, unrouted}
+use Rattle.sc_hosts.specs.Taking.{names, own_uri, unrouted, server_for}
 use Rattle.sc_hosts.specs.Transacting.{method_of}
 use Rattle.sc_lasting.specs.Lasting.{All}
 use Rattle.sc_paths.specs.LaterRequests.{Occurrence, SetOut, carries, carries_by, has_tags, has_vias, is_between, later_in, is_new, leads, set_out, set_out_by, visits, visits_from}
@@ -86,7 +86,7 @@ outside-by setup moment (steps.Withdraw app) out is = cc
 
 pub record IsCarried (config : Config) (run : List Moment) (dialog : Dialog) (direction : Direction) (piece : Piece) (out : SetOut) : Type 0 where
   pub no_cancel : same_bytes (method_of out.request) cancel ≡ false
-  pub unclaimed : list_any (λ host. is_claimed (claim_of out.sender out.request host)) out.moment.before.hosts ≡ false
+  pub unclaimed : list_any (λ host. is_some (server_for out.sender out.request host)) out.moment.before.hosts ≡ false
   pub call : same_bytes out.request.head.call_id dialog.call_id ≡ true
   pub tagged : is_some (tag_of out.request.head.to) ≡ true
   pub leading : leads config out.moment.before.epoch (along direction (recorders run piece)) (end_of direction piece) out.request ≡ true
@@ -102,7 +102,7 @@ has-tag dialog From_caller request is = tagged-between dialog.caller dialog.call
 has-tag dialog From_callee request is = tagged-between dialog.callee dialog.caller request is
 
 new-parts : (out : SetOut) → is_new out ≡ true
-    → (same_bytes (method_of out.request) cancel ≡ false) × (list_any (λ host. is_claimed (claim_of out.sender out.request host)) out.moment.before.hosts ≡ false)
+    → (same_bytes (method_of out.request) cancel ≡ false) × (list_any (λ host. is_some (server_for out.sender out.request host)) out.moment.before.hosts ≡ false)
 unfolding is_new
 new-parts out is = (not-true _ (and-first _ _ is), not-true _ (and-second _ _ is))
 
