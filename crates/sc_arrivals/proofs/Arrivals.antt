@@ -1,5 +1,5 @@
 -- What comes from outside, by what is found of it.
-use Rattle.std.proofs.Common.{◌≡◌, ℕ, false, None, Some, refl}
+use Rattle.std.proofs.Common.{◌≡◌, ℕ, false, Option, None, Some, refl}
 use Rattle.std.specs.Prelude.{is_some, option_and_then}
 use Rattle.sc_value.specs.declared.ids.Place.{Place}
 use Rattle.sc_value.specs.declared.message.Message.TheVariants as messages
@@ -28,10 +28,11 @@ pub sorted_untagged : (config : Config) (from : Place) (request : Request) (net 
 unfolding sort_in sort_of claims
 sorted_untagged config from request net e untagged = rw (e, untagged) refl
 
-pub sorted_named : (config : Config) (from : Place) (request : Request) (net : Net Session) → first_host (claims from request) 0 net.hosts ≡ None
-    → sort_of request None (option_and_then (λ uri. named_host uri net) (own_uri config request)) ≡ sort_in config from request net
+pub sorted_named : (config : Config) (from : Place) (request : Request) (net : Net Session) (named : Option ℕ) → first_host (claims from request) 0 net.hosts ≡ None
+    → named ≡ option_and_then (λ uri. named_host uri net) (own_uri config request)
+    → sort_of request None named ≡ sort_in config from request net
 unfolding sort_in claims
-sorted_named config from request net e = rw e refl
+sorted_named config from request net named e is = rw (is, e) refl
 
 -- ## What becomes of the net
 
