@@ -72,7 +72,7 @@ fn inside_of(alloc: Global, request: &Request) -> Result<Inside, NoMemory>
 {
     Ok(Inside {
         method: request.method.as_text().clone_in(alloc)?,
-        fields: request.head.others.as_list().clone_in(alloc)?,
+        fields: request.head.others.to_list()?,
         body: request.head.body.clone_in(alloc)?,
     })
 }

@@ -28,7 +28,7 @@ fn same_answer(alloc: Global, response: &Response) -> Result<Answer, NoMemory>
     Ok(Answer {
         code: response.code,
         reason: response.reason.as_text().clone_in(alloc)?,
-        fields: response.head.others.as_list().clone_in(alloc)?,
+        fields: response.head.others.to_list()?,
         contact: List::new(alloc),
         body: response.head.body.clone_in(alloc)?,
     })

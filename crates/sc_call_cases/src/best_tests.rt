@@ -4,7 +4,7 @@ use sc_best::{best, forwarded, gather};
 use sc_head_text::{read_address, read_cseq};
 use sc_value::{
     Address, CSeq, Field, Head, HeaderValue, List, NoMemory, Others, Reason, Response, Shared,
-    Text, is_other,
+    SharedList, Text, is_other,
 };
 use std::alloc::Global;
 use std::test::Fail;
@@ -37,19 +37,19 @@ fn cseq(alloc: Global) -> Result<CSeq, NoMemory> {
 
 #[tactic(auto, unfolding(sc_tokens::specs::Tokens::is_value, sc_tokens::specs::Tokens::is_one_line, sc_tokens::specs::Tokens::begins_blank, sc_tokens::specs::Tokens::ends_blank))]
 fn head(alloc: Global, others: Others) -> Result<Head, NoMemory> {
-    let from = address(alloc)?;
-    let to = address(alloc)?;
+    let from = Shared::new(alloc, address(alloc)?)?;
+    let to = Shared::new(alloc, address(alloc)?)?;
     let call_id = HeaderValue::from_slice(alloc, b"")?;
     let cseq = cseq(alloc)?;
     Ok(Head {
         via: List::new(alloc),
         route: List::new(alloc),
-        record_route: List::new(alloc),
+        record_route: SharedList::new(alloc),
         from,
         to,
         call_id,
         cseq,
-        contact: List::new(alloc),
+        contact: SharedList::new(alloc),
         others,
         body: Text::new(alloc),
     })

@@ -6,7 +6,7 @@ use sc_head_text::read_address;
 use sc_message_text::{text_of, uri_text};
 use sc_value::{
     Address, CSeq, Contact, Discard, Head, HeaderValue, List, Message, NoMemory, Others, Reason,
-    Request, Response, Shared, Text, Token, Uri, is_one_line,
+    Request, Response, Shared, SharedList, Text, Token, Uri, is_one_line,
 };
 use std::alloc::Global;
 
@@ -141,10 +141,11 @@ fn head(
     recorded: bool,
     contact: &[u8],
 ) -> Result<Head, NoMemory> {
-    let contact = contacts(alloc, contact)?;
-    let record_route = routes(alloc, recorded)?;
+    let contact = SharedList::from_list(alloc, contacts(alloc, contact)?)?;
+    let record_route = SharedList::from_list(alloc, routes(alloc, recorded)?)?;
     let from = person(alloc, b"Alice", b"sip:alice@atlanta.com", b"1928301774")?;
     let to = person(alloc, b"Bob", b"sip:bob@biloxi.com", tag)?;
+    let (from, to) = (Shared::new(alloc, from)?, Shared::new(alloc, to)?);
     let call_id = call_id(alloc)?;
     let cseq = cseq(alloc, number)?;
     Ok(Head {

@@ -31,8 +31,8 @@ pub struct Dialog {
 #[derive(Drop)]
 struct Lasting {
     call_id: HeaderValue,
-    local: Address,
-    remote: Address,
+    local: Shared<Address>,
+    remote: Shared<Address>,
     route_set: List<Address>,
     begun_by: Option<CSeq>,
 }
@@ -80,7 +80,7 @@ impl Dialog {
         ensures { IfOk result (λ d. d ≡ dialog_of (Beginning.Called tag.now request.now) []) }
     {
         let call_id = request.head.call_id.clone_in(alloc)?;
-        let route_set = request.head.record_route.clone_in(alloc)?;
+        let route_set = request.head.record_route.to_list()?;
         let sides = called_sides(alloc, &request.head, tag.as_bytes())?;
         let target = uas_target(alloc, request)?;
         let lasting = Lasting {
@@ -105,7 +105,7 @@ impl Dialog {
     {
         let call_id = request.head.call_id.clone_in(alloc)?;
         let begun_by = begun_by(alloc, &request.head.cseq)?;
-        let route_set = reversed(alloc, &response.head.record_route)?;
+        let route_set = reversed(&response.head.record_route)?;
         let sides = calling_sides(alloc, &request.head, &response.head)?;
         let target = uac_target(alloc, &begun_by, request, response)?;
         let lasting = Lasting {
@@ -126,14 +126,14 @@ impl Dialog {
     }
 
     /// The own side, as its requests write it in From: the URI and the tag alone.
-    pub fn local(&self) -> &Address
+    pub fn local(&self) -> &Shared<Address>
         ensures { result.now ≡ self.now.local }
     {
         &self.lasting.get().local
     }
 
     /// The peer's side, as requests to it write it in To: the URI and the tag alone.
-    pub fn remote(&self) -> &Address
+    pub fn remote(&self) -> &Shared<Address>
         ensures { result.now ≡ self.now.remote }
     {
         &self.lasting.get().remote

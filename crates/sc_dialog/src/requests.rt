@@ -9,7 +9,7 @@ use crate::Dialog;
 use sc_terms::Inside;
 use sc_value::{
     Address, CSeq, CloneIn, Discard, Field, Head, HeaderValue, List, NoMemory, Others, Request,
-    Text, Token, is_other, is_system_name, is_token, is_value, long_name,
+    Shared, SharedList, Text, Token, is_other, is_system_name, is_token, is_value, long_name,
 };
 use std::alloc::Global;
 
@@ -114,8 +114,8 @@ fn later_request(
 /// What names the dialog in a request of it.
 #[derive(Drop)]
 struct Names {
-    from: Address,
-    to: Address,
+    from: Shared<Address>,
+    to: Shared<Address>,
     call_id: HeaderValue,
 }
 
@@ -180,12 +180,12 @@ fn head_of(
     Head {
         via: List::new(alloc),
         route,
-        record_route: List::new(alloc),
+        record_route: SharedList::new(alloc),
         from: names.from,
         to: names.to,
         call_id: names.call_id,
         cseq,
-        contact: List::new(alloc),
+        contact: SharedList::new(alloc),
         others,
         body,
     }

@@ -2,14 +2,13 @@
 
 ghost use Rattle.std.specs.Prelude.{◌≡◌, IfOk, reverse};
 
-use sc_value::{Address, CloneIn, List, NoMemory};
-use std::alloc::Global;
+use sc_value::{Address, List, NoMemory, SharedList};
 
 /// A copy of the list in reverse order.
-pub fn reversed(alloc: Global, routes: &List<Address>) -> Result<List<Address>, NoMemory>
+pub fn reversed(routes: &SharedList<Address>) -> Result<List<Address>, NoMemory>
     ensures { IfOk result (λ l. l ≡ reverse routes.now) }
 {
-    let mut copy = routes.clone_in(alloc)?;
+    let mut copy = routes.to_list()?;
     copy.items.reverse();
     Ok(copy)
 }

@@ -7,14 +7,14 @@ ghost use Rattle.sc_value.specs.ParamRules.{AreHeaderParams};
 ghost use Rattle.sc_model.specs.Dialogs.{bare, tag_of};
 ghost use Rattle.sc_model.specs.Responses.{tag_param};
 
-use sc_value::{Address, CloneIn, Head, List, NoMemory, Param, Text, Uri, is_token, tag};
+use sc_value::{Address, CloneIn, Head, List, NoMemory, Param, Shared, Text, Uri, is_token, tag};
 use std::alloc::Global;
 
 /// Both sides of a dialog.
 #[derive(Drop)]
 pub struct Sides {
-    pub local: Address,
-    pub remote: Address,
+    pub local: Shared<Address>,
+    pub remote: Shared<Address>,
 }
 
 /// The sides of a dialog that a request of the peer with this head begins, on which the own side
@@ -33,8 +33,8 @@ pub fn called_sides(alloc: Global, head: &Head, tag: &[u8]) -> Result<Sides, NoM
     if !is_token(tag) {
         return Err(NoMemory);
     }
-    let local = tagged_side(alloc, &head.to.uri, tag)?;
-    let remote = side_of(alloc, &head.from.uri, &head.from)?;
+    let local = Shared::new(alloc, tagged_side(alloc, &head.to.uri, tag)?)?;
+    let remote = Shared::new(alloc, side_of(alloc, &head.from.uri, &head.from)?)?;
     Ok(Sides { local, remote })
 }
 
@@ -48,8 +48,8 @@ pub fn calling_sides(alloc: Global, own: &Head, peer: &Head) -> Result<Sides, No
           remote = bare own.now.to.uri (tag_of peer.now.to);
         }) }
 {
-    let local = side_of(alloc, &own.from.uri, &own.from)?;
-    let remote = side_of(alloc, &own.to.uri, &peer.to)?;
+    let local = Shared::new(alloc, side_of(alloc, &own.from.uri, &own.from)?)?;
+    let remote = Shared::new(alloc, side_of(alloc, &own.to.uri, &peer.to)?)?;
     Ok(Sides { local, remote })
 }
 

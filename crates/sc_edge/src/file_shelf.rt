@@ -3,7 +3,7 @@ ghost use Rattle.sc_edge.specs.Shelving.{Gives};
 
 use crate::plan::counted;
 use crate::{Shelf, Shelved};
-use sc_value::Text;
+use sc_value::{NoMemory, Text};
 use std::alloc::Global;
 use std::io::{ErrorKind, Read};
 use std::marker::Model;
@@ -82,9 +82,11 @@ fn front_of<R: Files>(rt: &R, alloc: Global, name: &[u8], most: usize) -> io::Re
 fn whole(alloc: Global, front: Vec<u8>, max: usize) -> Shelved
     ensures { Gives result (Some front.items) max ⊥ }
 {
-    if front.len() <= max {
-        Shelved::Got(Text::from_vec(alloc, front))
-    } else {
-        Shelved::Long
+    if front.len() > max {
+        return Shelved::Long;
+    }
+    match Text::from_vec(alloc, front) {
+        Ok(text) => Shelved::Got(text),
+        Err(NoMemory) => Shelved::NoMemory,
     }
 }

@@ -11,7 +11,8 @@ ghost use Rattle.sc_value.specs.Params.{tag_name, branch_name};
 
 use crate::names::{answer_tag, branch_of, call_of, session_uri, user_uri, valued};
 use sc_value::{
-    Address, CSeq, Contact, Head, List, NoMemory, Others, Param, Request, Text, Token, Uri, Via,
+    Address, CSeq, Contact, Head, List, NoMemory, Others, Param, Request, Shared, SharedList, Text,
+    Token, Uri, Via,
 };
 use std::alloc::Global;
 
@@ -101,13 +102,15 @@ fn head_of(
     ensures { IfOk result (λ h. h ≡ head_of i letter.now method.now number to route contact) }
 {
     let via = vias(alloc, i, letter)?;
-    let from = from_side(alloc)?;
+    let from = Shared::new(alloc, from_side(alloc)?)?;
+    let to = Shared::new(alloc, to)?;
+    let contact = SharedList::from_list(alloc, contact)?;
     let call_id = call_of(alloc, i)?;
     let method = Token::from_slice(alloc, method)?;
     Ok(Head {
         via,
         route,
-        record_route: List::new(alloc),
+        record_route: SharedList::new(alloc),
         from,
         to,
         call_id,

@@ -6,12 +6,13 @@ ghost use Rattle.sc_syntax.specs.Messages.{finished, finished_with, fits, head_o
 
 use sc_syntax::{HeadParts, Left, Lists, Singles, Start};
 use sc_value::{
-    Address, CSeq, Head, HeaderValue, Message, NoMemory, Request, Response, Shared, Text,
+    Address, CSeq, Head, HeaderValue, Message, NoMemory, Request, Response, Shared, SharedList,
+    Text,
 };
 use std::alloc::Global;
 
 // From and To, Call-ID and CSeq.
-type Peers = ((Address, Address), (HeaderValue, CSeq));
+type Peers = ((Shared<Address>, Shared<Address>), (HeaderValue, CSeq));
 
 /// The kind of the fault that a head has whatever its body is: 7, where From, To, Call-ID, CSeq or
 /// Via is missing, or 10, where CSeq has another method than the request (RFC 3261 section 8.1.1).
@@ -116,7 +117,10 @@ fn finish_with(
             drop(start);
             Ok(Err(kind))
         }
-        None => made(alloc, start, hops, head_of(lists, peers, body)),
+        None => {
+            let head = head_of(alloc, lists, peers, body)?;
+            made(alloc, start, hops, head)
+        }
     }
 }
 
@@ -158,22 +162,24 @@ fn end_fault(start: &Start, cseq: &CSeq, length: Option<u64>, body: &[u8]) -> Op
 }
 
 #[tactic(auto, unfolding(sc_syntax::specs::Messages::head_of))]
-fn head_of(lists: Lists, peers: Peers, body: Text) -> Head
-    ensures { result ≡ head_of lists peers body }
+fn head_of(alloc: Global, lists: Lists, peers: Peers, body: Text) -> Result<Head, NoMemory>
+    ensures { IfOk result (λ head. head ≡ head_of lists peers body) }
 {
     let ((from, to), (call_id, cseq)) = peers;
-    Head {
+    let record_route = SharedList::from_list(alloc, lists.record_route)?;
+    let contact = SharedList::from_list(alloc, lists.contact)?;
+    Ok(Head {
         via: lists.via,
         route: lists.route,
-        record_route: lists.record_route,
+        record_route,
         from,
         to,
         call_id,
         cseq,
-        contact: lists.contact,
+        contact,
         others: lists.others,
         body,
-    }
+    })
 }
 
 #[tactic(auto, unfolding(sc_syntax::specs::Messages::message_with))]

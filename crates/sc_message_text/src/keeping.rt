@@ -8,7 +8,10 @@ ghost use Rattle.sc_message_text.specs.Answers.{Takes};
 
 use crate::refused::LineRefused;
 use sc_syntax::Left;
-use sc_value::{Address, CSeq, Contact, Field, HeaderValue, List, NoMemory, Others, Via, branch};
+use sc_value::{
+    Address, CSeq, Contact, Field, HeaderValue, List, NoMemory, Others, Shared, Via, branch,
+};
+use std::alloc::Global;
 
 // So many values more, where there is room for them.
 #[tactic(auto, unfolding(sc_syntax::specs::Judging::counted))]
@@ -104,18 +107,18 @@ pub fn keep_contacts(left: &mut Left, items: List<Contact>) -> Result<(), LineRe
 }
 
 #[tactic(auto, unfolding(sc_syntax::specs::Judging::with_from))]
-pub fn keep_from(left: &mut Left, address: Address) -> Result<(), LineRefused>
+pub fn keep_from(left: &mut Left, alloc: Global, address: Address) -> Result<(), LineRefused>
     ensures { Takes result left.new (with_from left.old address) }
 {
-    left.singles.from = Some(address);
+    left.singles.from = Some(Shared::new(alloc, address)?);
     count(left, 1)
 }
 
 #[tactic(auto, unfolding(sc_syntax::specs::Judging::with_to))]
-pub fn keep_to(left: &mut Left, address: Address) -> Result<(), LineRefused>
+pub fn keep_to(left: &mut Left, alloc: Global, address: Address) -> Result<(), LineRefused>
     ensures { Takes result left.new (with_to left.old address) }
 {
-    left.singles.to = Some(address);
+    left.singles.to = Some(Shared::new(alloc, address)?);
     count(left, 1)
 }
 

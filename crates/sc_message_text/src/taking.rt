@@ -175,7 +175,7 @@ fn take_from(left: &mut Left, alloc: Global, value: &[u8]) -> Result<(), LineRef
         return Err(LineRefused::Fault(9));
     }
     match read_address(alloc, value) {
-        Ok(address) => keeping::keep_from(left, address),
+        Ok(address) => keeping::keep_from(left, alloc, address),
         Err(unread) => Err(LineRefused::from(unread)),
     }
 }
@@ -193,7 +193,7 @@ fn take_to(left: &mut Left, alloc: Global, value: &[u8]) -> Result<(), LineRefus
         return Err(LineRefused::Fault(9));
     }
     match read_address(alloc, value) {
-        Ok(address) => keeping::keep_to(left, address),
+        Ok(address) => keeping::keep_to(left, alloc, address),
         Err(unread) => Err(LineRefused::from(unread)),
     }
 }

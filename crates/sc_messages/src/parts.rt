@@ -4,15 +4,15 @@ ghost use Rattle.std.specs.Prelude.{◌≡◌, ◌<◌, ◌^◌, [], IfOk};
 
 use sc_value::{
     Address, CSeq, CloneIn, Contact, Head, HeaderValue, List, NoMemory, Others, Request, Response,
-    Text, Token, Uri, Via,
+    Shared, SharedList, Text, Token, Uri, Via,
 };
 use std::alloc::Global;
 
 /// What names the transaction and the dialog of a message.
 #[derive(Drop)]
 pub struct Names {
-    pub from: Address,
-    pub to: Address,
+    pub from: Shared<Address>,
+    pub to: Shared<Address>,
     pub call_id: HeaderValue,
     pub cseq: CSeq,
 }
@@ -20,7 +20,7 @@ pub struct Names {
 /// What a message says.
 #[derive(Drop)]
 pub struct Content {
-    pub contact: List<Contact>,
+    pub contact: SharedList<Contact>,
     pub others: Others,
     pub body: Text,
 }
@@ -50,7 +50,7 @@ pub fn head_of(
     Head {
         via,
         route,
-        record_route: List::new(alloc),
+        record_route: SharedList::new(alloc),
         from: names.from,
         to: names.to,
         call_id: names.call_id,
@@ -79,7 +79,7 @@ pub fn set_via(request: &mut Request, via: List<Via>)
 }
 
 /// Puts this Contact in place of a request's own.
-pub fn set_contact(request: &mut Request, contact: List<Contact>)
+pub fn set_contact(request: &mut Request, contact: SharedList<Contact>)
     ensures { request.new
         ≡ record request.old { head = record request.old.head { contact = contact } } }
 {
@@ -87,7 +87,7 @@ pub fn set_contact(request: &mut Request, contact: List<Contact>)
 }
 
 /// Puts these Record-Routes in place of a request's own.
-pub fn set_record_route(request: &mut Request, routes: List<Address>)
+pub fn set_record_route(request: &mut Request, routes: SharedList<Address>)
     ensures { request.new
         ≡ record request.old { head = record request.old.head { record_route = routes } } }
 {
@@ -103,7 +103,7 @@ pub fn set_uri(request: &mut Request, uri: Uri, hops: u8)
 }
 
 /// Puts this Contact in place of a response's own.
-pub fn set_response_contact(response: &mut Response, contact: List<Contact>)
+pub fn set_response_contact(response: &mut Response, contact: SharedList<Contact>)
     ensures { response.new
         ≡ record response.old { head = record response.old.head { contact = contact } } }
 {
@@ -111,7 +111,7 @@ pub fn set_response_contact(response: &mut Response, contact: List<Contact>)
 }
 
 /// Puts these Record-Routes in place of a response's own.
-pub fn set_response_routes(response: &mut Response, routes: List<Address>)
+pub fn set_response_routes(response: &mut Response, routes: SharedList<Address>)
     ensures { response.new
         ≡ record response.old { head = record response.old.head { record_route = routes } } }
 {
@@ -119,7 +119,7 @@ pub fn set_response_routes(response: &mut Response, routes: List<Address>)
 }
 
 /// Puts this To in place of a response's own.
-pub fn set_response_to(response: &mut Response, to: Address)
+pub fn set_response_to(response: &mut Response, to: Shared<Address>)
     ensures { response.new ≡ record response.old { head = record response.old.head { to = to } } }
 {
     response.head.to = to;

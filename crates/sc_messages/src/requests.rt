@@ -15,7 +15,7 @@ use sc_dialog::{asked_method, kept_fields};
 use sc_terms::{Ask, Config, View};
 use sc_value::{
     Address, AppId, CloneIn, Contact, Head, HeaderValue, List, NoMemory, Others, Request, Response,
-    Text, Token, Uri, Via,
+    Shared, SharedList, Text, Token, Uri, Via,
 };
 use std::alloc::Global;
 
@@ -72,13 +72,13 @@ pub fn own_contact(
     config: &Config,
     epoch: u32,
     app: AppId,
-) -> Result<List<Contact>, NoMemory>
+) -> Result<SharedList<Contact>, NoMemory>
     ensures { IfOk result (λ l. l ≡ Contact.At (own_address config.now epoch app) ∷ []) }
 {
     let address = own_address(alloc, config, epoch, app)?;
     let mut contact = List::new(alloc);
     contact.push(Contact::At(address))?;
-    Ok(contact)
+    SharedList::from_list(alloc, contact)
 }
 
 /// Whether a request of this method sets the target of a dialog.
@@ -135,7 +135,7 @@ fn asked_content(alloc: Global, ask: &Ask) -> Result<Content, NoMemory>
         }) }
 {
     let body = ask.body.clone_in(alloc)?;
-    let contact = ask.contact.clone_in(alloc)?;
+    let contact = SharedList::from_list(alloc, ask.contact.clone_in(alloc)?)?;
     let others = kept_fields(alloc, ask.fields.as_slice())?;
     Ok(Content {
         contact,
@@ -165,8 +165,8 @@ fn begun_names(
 {
     let call_id = call_id.clone_in(alloc)?;
     let cseq = cseq(alloc, 1, method)?;
-    let from = tagged(alloc, tag.as_bytes(), from)?;
-    let to = untagged(alloc, to)?;
+    let from = Shared::new(alloc, tagged(alloc, tag.as_bytes(), from)?)?;
+    let to = Shared::new(alloc, untagged(alloc, to)?)?;
     Ok(Names {
         from,
         to,
@@ -236,7 +236,7 @@ fn leg_content(alloc: Global, head: &Head) -> Result<Content, NoMemory>
     let body = head.body.clone_in(alloc)?;
     let others = head.others.clone_in(alloc)?;
     Ok(Content {
-        contact: List::new(alloc),
+        contact: SharedList::new(alloc),
         others,
         body,
     })
@@ -275,8 +275,8 @@ fn proxied_routes(
     config: &Config,
     view: &View,
     record_route: bool,
-    routes: &List<Address>,
-) -> Result<List<Address>, NoMemory>
+    routes: &SharedList<Address>,
+) -> Result<SharedList<Address>, NoMemory>
     ensures { IfOk result
         (λ l.
         l
@@ -288,10 +288,10 @@ fn proxied_routes(
         return routes.clone_in(alloc);
     }
     let own = own_address(alloc, config, view.epoch, view.app)?;
-    let mut copy = routes.clone_in(alloc)?;
+    let mut copy = routes.to_list()?;
     copy.items.reserve_exact(1)?;
     copy.items.insert(0, own)?;
-    Ok(copy)
+    SharedList::from_list(alloc, copy)
 }
 
 /// A later request on a proxied dialog: one hop less.
@@ -326,7 +326,12 @@ pub fn ack_of(alloc: Global, request: &Request, response: &Response) -> Result<R
 // A request of this method with the top Via, Request-URI, Route, From, Call-ID and CSeq number of
 // another, and with this To.
 #[tactic(auto, unfolding(sc_hosts::specs::Messages::kin))]
-fn kin(alloc: Global, method: Token, to: &Address, request: &Request) -> Result<Request, NoMemory>
+fn kin(
+    alloc: Global,
+    method: Token,
+    to: &Shared<Address>,
+    request: &Request,
+) -> Result<Request, NoMemory>
     ensures { IfOk result (λ r. r ≡ kin method to.now request.now) }
 {
     let uri = request.uri.clone_in(alloc)?;
@@ -342,7 +347,12 @@ fn kin(alloc: Global, method: Token, to: &Address, request: &Request) -> Result<
     })
 }
 
-fn kin_names(alloc: Global, method: &Token, to: &Address, head: &Head) -> Result<Names, NoMemory>
+fn kin_names(
+    alloc: Global,
+    method: &Token,
+    to: &Shared<Address>,
+    head: &Head,
+) -> Result<Names, NoMemory>
     ensures { IfOk result
         (λ n.
         n
@@ -371,7 +381,7 @@ fn no_content(alloc: Global) -> Content
     ensures { result ≡ record { contact = []; others = []; body = [] } }
 {
     Content {
-        contact: List::new(alloc),
+        contact: SharedList::new(alloc),
         others: Others::new(alloc),
         body: Text::new(alloc),
     }

@@ -13,8 +13,8 @@ use crate::sides::with_tag;
 use sc_dialog::kept_fields;
 use sc_terms::{Answer, Config, View};
 use sc_value::{
-    Answerable, CloneIn, Discard, Head, List, NoMemory, Others, Reason, Request, Response, Text,
-    Via, is_one_line,
+    Answerable, CloneIn, Discard, Head, List, NoMemory, Others, Reason, Request, Response, Shared,
+    SharedList, Text, Via, is_one_line,
 };
 use std::alloc::Global;
 
@@ -84,7 +84,7 @@ fn answer_names(alloc: Global, tag: &[u8], head: &Head) -> Result<Names, NoMemor
     let call_id = head.call_id.clone_in(alloc)?;
     let cseq = head.cseq.clone_in(alloc)?;
     let from = head.from.clone_in(alloc)?;
-    let to = with_tag(alloc, tag, &head.to)?;
+    let to = Shared::new(alloc, with_tag(alloc, tag, &head.to)?)?;
     Ok(Names {
         from,
         to,
@@ -104,7 +104,7 @@ fn answer_content(alloc: Global, answer: &Answer) -> Result<Content, NoMemory>
         }) }
 {
     let body = answer.body.clone_in(alloc)?;
-    let contact = answer.contact.clone_in(alloc)?;
+    let contact = SharedList::from_list(alloc, answer.contact.clone_in(alloc)?)?;
     let others = kept_fields(alloc, answer.fields.as_slice())?;
     Ok(Content {
         contact,
@@ -243,7 +243,7 @@ pub fn bad_response(alloc: Global, salt: &Text, heads: &Answerable) -> Result<Re
     let via = heads.via.clone_in(alloc)?;
     let names = bad_names(alloc, salt, heads)?;
     let content = Content {
-        contact: List::new(alloc),
+        contact: SharedList::new(alloc),
         others: Others::new(alloc),
         body: Text::new(alloc),
     };
@@ -269,8 +269,8 @@ fn bad_names(alloc: Global, salt: &Text, heads: &Answerable) -> Result<Names, No
     sc_names::edge_tag(alloc, salt, &mut tag)?;
     let call_id = heads.call_id.clone_in(alloc)?;
     let cseq = heads.cseq.clone_in(alloc)?;
-    let from = heads.from.clone_in(alloc)?;
-    let to = with_tag(alloc, tag.as_bytes(), &heads.to)?;
+    let from = Shared::new(alloc, heads.from.clone_in(alloc)?)?;
+    let to = Shared::new(alloc, with_tag(alloc, tag.as_bytes(), &heads.to)?)?;
     Ok(Names {
         from,
         to,

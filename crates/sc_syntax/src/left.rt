@@ -1,4 +1,6 @@
-use sc_value::{Address, CSeq, Contact, HeaderValue, List, Others, Reason, Token, Uri, Via};
+use sc_value::{
+    Address, CSeq, Contact, HeaderValue, List, Others, Reason, Shared, Token, Uri, Via,
+};
 
 /// The start line of a message (RFC 3261 sections 7.1 and 7.2).
 #[derive(Drop)]
@@ -22,8 +24,8 @@ pub struct Lists {
 /// The headers that stand once at most: what has come of them (RFC 3261 section 20).
 #[derive(Drop)]
 pub struct Singles {
-    pub from: Option<Address>,
-    pub to: Option<Address>,
+    pub from: Option<Shared<Address>>,
+    pub to: Option<Shared<Address>>,
     pub call_id: Option<HeaderValue>,
     pub cseq: Option<CSeq>,
     /// Max-Forwards.

@@ -2,6 +2,7 @@ pub mod Lists
 pub mod Params
 pub mod ParamRules
 pub mod SequenceValues
+pub mod SharedItems
 pub mod TextBytes
 pub mod UriValues
 pub mod ViaValues

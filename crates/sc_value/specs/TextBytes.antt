@@ -6,4 +6,4 @@ use Rattle.sc_value.specs.declared.text.Bytes.TheVariants.{Short, Long}
 -- they are the same either way
 abbrev pub bytes_of : Bytes → List ℕ
 bytes_of (Short text) = text
-bytes_of (Long bytes) = bytes.items
+bytes_of (Long text) = text

@@ -80,7 +80,7 @@ impl<T: Same> Same for List<T> {
     }
 }
 
-fn same_items<T: Same>(a: &[T], b: &[T]) -> bool
+pub fn same_items<T: Same>(a: &[T], b: &[T]) -> bool
     ensures { IsTrue result ↔ (a.now ≡ b.now) }
 {
     if a.len() != b.len() {

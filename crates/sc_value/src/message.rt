@@ -1,21 +1,22 @@
 //! Messages (RFC 3261 section 7).
 
 use crate::{
-    Address, CSeq, Contact, HeaderValue, List, Others, Place, Reason, Shared, Text, Token, Uri, Via,
+    Address, CSeq, Contact, HeaderValue, List, Others, Place, Reason, Shared, SharedList, Text,
+    Token, Uri, Via,
 };
 
 /// The headers and the body of a message. Max-Forwards stands in the request, and Content-Length
-/// is the length of the body.
+/// is the length of the body. What most copies keep may have several owners.
 #[derive(Drop)]
 pub struct Head {
     pub via: List<Via>,
     pub route: List<Address>,
-    pub record_route: List<Address>,
-    pub from: Address,
-    pub to: Address,
+    pub record_route: SharedList<Address>,
+    pub from: Shared<Address>,
+    pub to: Shared<Address>,
     pub call_id: HeaderValue,
     pub cseq: CSeq,
-    pub contact: List<Contact>,
+    pub contact: SharedList<Contact>,
     /// The headers without structure, in order.
     pub others: Others,
     pub body: Text,

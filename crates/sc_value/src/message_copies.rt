@@ -4,7 +4,7 @@ ghost use Rattle.std.specs.Prelude.{◌≡◌, IfOk};
 
 use crate::{
     Address, CSeq, CloneIn, Contact, Head, HeaderValue, List, Message, NoMemory, Others, Request,
-    Response, Same, Text, Via,
+    Response, Same, Shared, SharedList, Text, Via,
 };
 use std::alloc::Global;
 
@@ -13,14 +13,14 @@ use std::alloc::Global;
 struct Routing {
     via: List<Via>,
     route: List<Address>,
-    record_route: List<Address>,
+    record_route: SharedList<Address>,
 }
 
 /// What names its transaction and its dialog.
 #[derive(Drop)]
 struct Names {
-    from: Address,
-    to: Address,
+    from: Shared<Address>,
+    to: Shared<Address>,
     call_id: HeaderValue,
     cseq: CSeq,
 }
@@ -28,7 +28,7 @@ struct Names {
 /// What else it has.
 #[derive(Drop)]
 struct Content {
-    contact: List<Contact>,
+    contact: SharedList<Contact>,
     others: Others,
     body: Text,
 }

@@ -1,18 +1,21 @@
 //! The headers of a message that have no structure here.
 
-ghost use Rattle.std.specs.Prelude.{◌≡◌, ◌==◌, ◌<◌, ◌∷◌, [], ◌++◌, Some, length, slice_get, OnOk, OnErr, IsTrue, ◌↔◌};
+ghost use Rattle.std.specs.Prelude.{◌≡◌, ◌==◌, ◌<◌, ◌∷◌, [], ◌++◌, Some, length, slice_get, IfOk, OnOk, OnErr, IsTrue, ◌↔◌};
 ghost use Rattle.sc_value.specs.OtherFields.{IsOther, AreOthers};
 
-use crate::{CloneIn, Field, List, NoMemory, Same, is_system_name, is_token, is_value, long_name};
+use crate::{
+    CloneIn, Field, List, NoMemory, Same, SharedList, is_system_name, is_token, is_value, long_name,
+};
 use std::alloc::Global;
 use std::marker::Model;
 
 /// The headers without structure, in order. Each name is a token, never in compact form, and none
 /// that the container reads or sets itself; each value is one line without a blank at an end (RFC
-/// 3261 sections 7.3.1, 7.3.3 and 20). A contract sees them as a list of fields.
+/// 3261 sections 7.3.1, 7.3.3 and 20). A copy takes no memory. A contract sees them as a list of
+/// fields.
 #[derive(Drop)]
 pub struct Others {
-    list: List<Field>,
+    list: SharedList<Field>,
 }
 
 impl Model for Others {
@@ -34,7 +37,7 @@ impl Others {
         ensures { result ≡ [] }
     {
         Others {
-            list: List::new(alloc),
+            list: SharedList::new(alloc),
         }
     }
 
@@ -45,11 +48,11 @@ impl Others {
         self.list.as_slice()
     }
 
-    /// The headers as a list of fields.
-    pub fn as_list(&self) -> &List<Field>
-        ensures { result.now ≡ self.now }
+    /// A list of its own with the same headers.
+    pub fn to_list(&self) -> Result<List<Field>, NoMemory>
+        ensures { IfOk result (λ l. l ≡ self.now) }
     {
-        &self.list
+        self.list.to_list()
     }
 
     /// How many headers there are.

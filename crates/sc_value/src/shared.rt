@@ -3,6 +3,7 @@ ghost use Rattle.std.specs.Prelude.{◌≡◌, IfOk};
 use crate::{CloneIn, NoMemory, Same};
 use std::alloc::Global;
 use std::marker::Model;
+use std::ops::Deref;
 use std::sync::Arc;
 
 /// A value with several owners, none of which changes it: a copy is one owner more, and costs no
@@ -36,6 +37,16 @@ impl<T> Shared<T> {
         ensures { result.now ≡ self.now }
     {
         &self.item
+    }
+}
+
+impl<T> Deref for Shared<T> {
+    type Target = T;
+
+    ghost deref_gives = { λ s x. x ≡ s };
+
+    fn deref(&self) -> &T {
+        self.get()
     }
 }
 

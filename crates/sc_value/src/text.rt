@@ -1,12 +1,14 @@
 ghost use Rattle.std.specs.Prelude.{◌≡◌, ◌==◌, ◌≤◌, ◌++◌, [], length, IfOk, OnOk, OnErr};
 
+use crate::long_text::LongText;
 use crate::short_text::{MOST_SHORT, ShortText};
 use crate::{CloneIn, NoMemory, Same};
 use std::alloc::Global;
 use std::marker::Model;
 
 /// A text of bytes, which need not be UTF-8. A contract sees its bytes. At most 22 bytes stand in
-/// the value itself, so that such a text and its copies take no memory.
+/// the value itself, so that such a text takes no memory; a longer one has memory that it shares
+/// with its copies.
 #[derive(Drop)]
 pub struct Text {
     bytes: Bytes,
@@ -18,8 +20,8 @@ pub struct Text {
 enum Bytes {
     /// In the value itself.
     Short(ShortText),
-    /// In memory of their own.
-    Long(Vec<u8>),
+    /// In memory, with one owner or more.
+    Long(LongText),
 }
 
 impl Model for Text {
@@ -45,7 +47,7 @@ impl Text {
         ensures { IfOk result (λ t. t ≡ []) }
     {
         let long = Vec::with_capacity(alloc, room)?;
-        Ok(Text::long(alloc, long))
+        Text::long(alloc, long)
     }
 
     // The text of at most 22 bytes.
@@ -60,21 +62,19 @@ impl Text {
     }
 
     // The text of bytes that have memory.
-    fn long(alloc: Global, bytes: Vec<u8>) -> Text
-        ensures { result ≡ bytes.items }
+    fn long(alloc: Global, bytes: Vec<u8>) -> Result<Text, NoMemory>
+        ensures { IfOk result (λ t. t ≡ bytes.items) }
     {
-        Text {
-            bytes: Bytes::Long(bytes),
-            alloc,
-        }
+        let bytes = Bytes::Long(LongText::new(alloc, bytes)?);
+        Ok(Text { bytes, alloc })
     }
 
     /// The text of these bytes, moved and not copied where they are many.
-    pub fn from_vec(alloc: Global, bytes: Vec<u8>) -> Text
-        ensures { result ≡ bytes.items }
+    pub fn from_vec(alloc: Global, bytes: Vec<u8>) -> Result<Text, NoMemory>
+        ensures { IfOk result (λ t. t ≡ bytes.items) }
     {
         if bytes.len() <= MOST_SHORT {
-            return Text::short(alloc, bytes.as_slice());
+            return Ok(Text::short(alloc, bytes.as_slice()));
         }
         Text::long(alloc, bytes)
     }
@@ -87,17 +87,17 @@ impl Text {
             return Ok(Text::short(alloc, bytes));
         }
         let own = Vec::from_slice(alloc, bytes)?;
-        Ok(Text::long(alloc, own))
+        Text::long(alloc, own)
     }
 
-    /// The bytes, moved and not copied where they are many.
+    /// The bytes, moved where they are many and nobody else has them, else copied.
     pub fn into_vec(self) -> Result<Vec<u8>, NoMemory>
         ensures { IfOk result (λ bytes. bytes.items ≡ self) }
     {
         let Text { bytes, alloc } = self;
         match bytes {
             Bytes::Short(short) => Ok(Vec::from_slice(alloc, short.as_bytes())?),
-            Bytes::Long(long) => Ok(long),
+            Bytes::Long(long) => long.into_vec(alloc),
         }
     }
 
@@ -107,7 +107,7 @@ impl Text {
     {
         match &self.bytes {
             Bytes::Short(short) => short.as_bytes(),
-            Bytes::Long(long) => long.as_slice(),
+            Bytes::Long(long) => long.as_bytes(),
         }
     }
 
@@ -131,31 +131,18 @@ impl Text {
         ensures err { OnErr result (self.new ≡ self.old) }
     {
         let long = match &mut self.bytes {
-            Bytes::Long(long) => {
-                long.extend_from_slice(bytes)?;
-                return Ok(());
-            }
+            Bytes::Long(long) => return long.extend(self.alloc, bytes),
             Bytes::Short(short) => {
                 if bytes.len() <= MOST_SHORT - short.len() {
                     short.extend(bytes);
                     return Ok(());
                 }
-                joined(self.alloc, short.as_bytes(), bytes)?
+                LongText::joined(self.alloc, short.as_bytes(), bytes)?
             }
         };
         self.bytes = Bytes::Long(long);
         Ok(())
     }
-}
-
-// These bytes, and those behind them.
-fn joined(alloc: Global, bytes: &[u8], more: &[u8]) -> Result<Vec<u8>, NoMemory>
-    ensures { IfOk result (λ all. all.items ≡ bytes.now ++ more.now) }
-{
-    let mut all = Vec::new(alloc);
-    all.extend_from_slice(bytes)?;
-    all.extend_from_slice(more)?;
-    Ok(all)
 }
 
 impl CloneIn for Text {
@@ -165,7 +152,10 @@ impl CloneIn for Text {
                 bytes: Bytes::Short(short.copied()),
                 alloc,
             }),
-            Bytes::Long(long) => Text::from_slice(alloc, long.as_slice()),
+            Bytes::Long(long) => Ok(Text {
+                bytes: Bytes::Long(long.copied()?),
+                alloc,
+            }),
         }
     }
 }
