@@ -25,10 +25,15 @@ fn count(left: &mut Left, n: usize) -> Result<(), LineRefused>
     Ok(())
 }
 
-// All items of the second list, behind those of the first.
+// All items of the second list, behind those of the first. Where there are none yet, they keep their
+// room, as most headers stand once.
 fn append<T: Drop>(items: &mut List<T>, more: List<T>) -> Result<(), NoMemory>
     ensures { OnOk result (items.new ≡ items.old ++ more) }
 {
+    if items.is_empty() {
+        *items = more;
+        return Ok(());
+    }
     let mut more = more.items;
     items.items.append(&mut more)?;
     Ok(())
