@@ -3,7 +3,6 @@ use Rattle.std.proofs.Common.{◌≡◌, ℕ, Bool, true, false, cond, not, ◌=
 use Rattle.std.specs.Prelude.{is_some, IfOk}
 use Rattle.std.specs.Option.{option_map_or}
 use Rattle.std.proofs.lemmas.Bool.{false≢true}
-use Rattle.sc_value.specs.declared.message.Head.{Head}
 use Rattle.sc_value.specs.declared.message.Message.{Message}
 use Rattle.sc_syntax.specs.declared.left.Left.{Left}
 use Rattle.sc_syntax.specs.declared.left.Lists.{Lists}
@@ -36,10 +35,10 @@ pub finished_read : {E : Type 0} (result : Result (Result Message ℕ) E) (start
 finished_read (Ok read) start left body peers some is h = h ∙ sym (complete start left body peers some (sym is))
 finished_read (Err cause) start left body peers some is h = h
 
-pub finished_made : {E : Type 0} (result : Result (Result Message ℕ) E) (start : Start) (lists : Lists) (hops len : Option ℕ) (bytes body : Bytes) (peers : Peers) (head : Head) → bytes ≡ body
+pub finished_made : {E : Type 0} (result : Result (Result Message ℕ) E) (start : Start) (lists : Lists) (hops len : Option ℕ) (bytes body : Bytes) (peers : Peers) → bytes ≡ body
     → ◌≡◌ {A = Option ℕ} None (cond (not (is_method_of start peers.1.1.method)) (Some 10) (cond (not (fits len bytes)) (Some 12) None))
-    → head ≡ head_of lists peers body → IfOk result (λ read. read ≡ Ok (message_with start hops head)) → IfOk result (λ read. read ≡ finished_with start lists hops len body peers)
-finished_made (Ok read) start lists hops len bytes body peers head same none is made =
-    made ∙ ap (λ h. Ok (message_with start hops h)) is
+    → IfOk result (λ read. read ≡ Ok (message_with start hops (head_of lists peers body))) → IfOk result (λ read. read ≡ finished_with start lists hops len body peers)
+finished_made (Ok read) start lists hops len bytes body peers same none made =
+    made
     ∙ sym (finished_well start lists hops len body peers (none ∙ ap (λ b. cond (not (is_method_of start peers.1.1.method)) (Some 10) (cond (not (fits len b)) (Some 12) None)) same))
-finished_made (Err cause) start lists hops len bytes body peers head same none is made = made
+finished_made (Err cause) start lists hops len bytes body peers same none made = made

@@ -117,10 +117,7 @@ fn finish_with(
             drop(start);
             Ok(Err(kind))
         }
-        None => {
-            let head = head_of(alloc, lists, peers, body)?;
-            made(alloc, start, hops, head)
-        }
+        None => made(alloc, start, hops, lists, peers, body),
     }
 }
 
@@ -208,14 +205,19 @@ fn message_with(
     }
 }
 
+// The message of what the head's lines and the body have left.
 fn made(
     alloc: Global,
     start: Start,
     hops: Option<u8>,
-    head: Head,
+    lists: Lists,
+    peers: Peers,
+    body: Text,
 ) -> Result<Result<Message, u8>, NoMemory>
-    ensures { IfOk result (λ read. read ≡ Ok (message_with start hops head)) }
+    ensures { IfOk result
+        (λ read. read ≡ Ok (message_with start hops (head_of lists peers body))) }
 {
+    let head = head_of(alloc, lists, peers, body)?;
     let message = message_with(alloc, start, hops, head)?;
     Ok(Ok(message))
 }
