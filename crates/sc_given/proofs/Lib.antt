@@ -1,0 +1,4 @@
+pub mod GivenCalls
+pub mod GivenShown
+pub mod GivenEnds
+pub mod GivenPassing
