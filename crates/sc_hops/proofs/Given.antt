@@ -1,6 +1,6 @@
 -- Of the later requests that a turn gives to send none has other Vias than the own one, but that which came to it as it is
 -- passed on.
-use Rattle.std.proofs.Common.{◌≡◌, ◌≤◌, ◌⊎◌, inl, inr, ℕ, ◌+◌, ◌++◌, Bool, true, false, Option, None, Some, List, [], ◌∷◌, refl, sym, subst, ◌∙◌, arith}
+use Rattle.std.proofs.Common.{◌≡◌, ◌≤◌, ◌⊎◌, inl, inr, ℕ, ◌++◌, Bool, true, false, Option, None, Some, List, [], ◌∷◌, refl, sym, subst, ◌∙◌, arith}
 use Rattle.std.specs.Prelude.{◌==◌, cond, is_some, length, option_and_then}
 use Rattle.std.proofs.lemmas.Bool.Decides.{nat_tests}
 use Rattle.sc_value.specs.declared.ids.ReqId.{ReqId}
@@ -39,10 +39,11 @@ use Rattle.sc_walked.proofs.WalkEnds.{all_act-goes, done-any, drafts_ended-goes,
 use Rattle.sc_lasting.specs.Lasting.{All, Numbered}
 use Rattle.sc_lasting.proofs.Began.{test-found}
 use Rattle.sc_lasting.proofs.Parts.{all-append, all-found}
+use Rattle.sc_given.specs.Givings.{Ends, Given_end, IsPassed, Passed_end}
+use Rattle.sc_given.proofs.GivenPassing.{passes_later-ends}
 use Rattle.sc_hops.specs.Hops.{AreShort, IsAny, IsOrdered, IsPassedBy, IsPassedWay, IsShort, IsUntagged}
 use Rattle.sc_hops.proofs.InTurn.{HasCome, KeepsAs, ShowsAs, come-law, received-come}
-use Rattle.sc_hops.proofs.ShortCalls.{Brief, short-none, worked_all-short}
-use Rattle.sc_hops.proofs.ShortEnds.{Brief_end, Ends, IsPassed, Passed_end, before-short, passes_later-ends}
+use Rattle.sc_hops.proofs.ShortTurns.{Brief, before-short, short-giving, short-none, worked_all-short}
 
 equal : (a b : ℕ) → (a == b) ≡ true → a ≡ b
 equal a b is = grind (arith, nat_tests, is)
@@ -171,14 +172,14 @@ module _ (config : Config) (session : Session) (request : Request) where
   -- what it gives in all
   ends-ordered : (event : Queued) (shown : Prepared) (working after : Working) → Shown session request shown → Brief working
       → ((passed : Bool) → HasCome session.view.next_request request passed (record { view = shown.view; known = shown.known }) → HasCome session.view.next_request request passed (session_at working))
-      → Ends config event shown.req working after → All IsUntagged after.orders → All (IsOrdered config Way IsAny) after.orders
-  ends-ordered event shown working after shows brief comes (Brief_end short) first = shorts-ordered after.orders short first
-  ends-ordered event shown working after (Nothing_shown none short) brief comes (Passed_end r kept order found has proxied is given) first = absurd (nothing shown.req none found)
+      → Ends AreShort config event shown.req working after → All IsUntagged after.orders → All (IsOrdered config Way IsAny) after.orders
+  ends-ordered event shown working after shows brief comes (Given_end short) first = shorts-ordered after.orders short first
+  ends-ordered event shown working after (Nothing_shown none short) brief comes (Passed_end r kept order later found has proxied is given) first = absurd (nothing shown.req none found)
     where
       nothing : (req : Option ReqId) → req ≡ None → option_and_then (request_in working.play.view) req ≡ Some r → ⊥
       nothing None none is = cc
       nothing (Some req) none is = cc
-  ends-ordered event shown working after (Request_shown sess seen for there req short came) brief comes (Passed_end r kept order found has proxied is given) first =
+  ends-ordered event shown working after (Request_shown sess seen for there req short came) brief comes (Passed_end r kept order later found has proxied is given) first =
       let stays = comes (is_proxy seen.role) came in
       let at : request_in working.play.view (next_id session) ≡ Some r = subst (λ (req : Option ReqId). option_and_then (request_in working.play.view) req ≡ Some r) req found in
       let number : r.id.0 ≡ session.view.next_request = equal r.id.0 session.view.next_request (test-found (is_request (next_id session)) working.play.view.requests r at) in
@@ -218,4 +219,4 @@ turn-ordered config ringing session number request now made end ok first =
     let short : Brief ready = before-short config shown.req end working brief in
     ends-ordered config at request (queued.Request request) shown ready (passes_later config (queued.Request request) shown.req ready) shows short
     (λ passed came. come-before config at.view.next_request request passed shown shown.req made end came)
-    (passes_later-ends config (queued.Request request) shown.req ready short) first
+    (passes_later-ends IsShort AreShort short-giving config (queued.Request request) shown.req ready short) first

@@ -1,8 +1,7 @@
 pub mod Taken
 pub mod Carried
 pub mod Turned
-pub mod ShortCalls
-pub mod ShortEnds
+pub mod ShortTurns
 pub mod InTurn
 pub mod Given
 pub mod OneTurn

@@ -32,7 +32,6 @@ use Rattle.sc_hosts.specs.Inboxes.{is_live}
 use Rattle.sc_hosts.specs.Messages.{kin}
 use Rattle.sc_hosts.specs.Nets.{host_at}
 use Rattle.sc_hosts.specs.Runs.{after_step}
-use Rattle.sc_hosts.specs.Sessions.{Turn}
 use Rattle.sc_hosts.specs.Steps.{live_at, outcome_by, ringing_at, turn_of}
 use Rattle.sc_hosts.specs.Taking.{unrouted}
 use Rattle.sc_lives.specs.Numbers.{AreNumbered, IsNumbered, IsNumberedAt}
