@@ -1,25 +1,17 @@
 -- A turn whose event is a later request that no SipSession takes, or whose number is too low: nobody is called, it is answered, and it isn't
 -- passed on.
-use Rattle.std.proofs.Common.{◌≡◌, inl, inr, ℕ, Bool, true, false, Option, None, Some, List, [], ◌∷◌, ◌++◌, ◌∙◌, refl, sym, subst, ap, append_assoc, append-nil}
-use Rattle.std.specs.List.{fold}
-use Rattle.std.specs.Prelude.{cond, map}
-use Rattle.sc_value.specs.declared.ids.Directive.{Directive}
-use Rattle.sc_value.specs.declared.ids.Region.{Region}
+use Rattle.std.proofs.Common.{◌≡◌, inl, inr, ℕ, Bool, true, false, Option, None, Some, List, [], ◌++◌, ◌∙◌, refl, sym, subst, ap, append_assoc, append-nil}
+use Rattle.std.specs.Prelude.{cond}
 use Rattle.sc_value.specs.declared.ids.ReqId.{ReqId}
 use Rattle.sc_value.specs.declared.ids.SessId.{SessId}
 use Rattle.sc_value.specs.declared.message.Request.{Request}
-use Rattle.sc_value.specs.declared.message.Response.{Response}
-use Rattle.sc_value.specs.declared.parts.Uri.{Uri}
 use Rattle.sc_terms.specs.declared.calls.CallRecord.{CallRecord}
 use Rattle.sc_terms.specs.declared.calls.End.TheVariants as ends
 use Rattle.sc_terms.specs.declared.calls.End.{End}
 use Rattle.sc_terms.specs.declared.events.Event.{Event}
 use Rattle.sc_terms.specs.declared.settings.Config.{Config}
 use Rattle.sc_terms.specs.declared.views.SessionView.{SessionView}
-use Rattle.sc_state.specs.declared.orders.Order.TheVariants as orders
 use Rattle.sc_state.specs.declared.orders.Order.{Order}
-use Rattle.sc_state.specs.declared.proxy.Passing.{Passing}
-use Rattle.sc_state.specs.declared.proxy.Proxy.{Proxy}
 use Rattle.sc_state.specs.declared.queue.Queued.TheVariants as queued
 use Rattle.sc_state.specs.declared.queue.Queued.{Queued}
 use Rattle.sc_state.specs.declared.queue.Waiting.{Waiting}
@@ -29,8 +21,7 @@ use Rattle.sc_state.specs.declared.working.Working.{Working}
 use Rattle.sc_grammar.specs.Written.{Bytes}
 use Rattle.sc_model.specs.BestResponses.{server_error}
 use Rattle.sc_model.specs.Settings.{Charters}
-use Rattle.sc_hosts.specs.Acting.{drafts_ended, faulted, started, forwards, passes, forwards_best, chooses, closes, proxy_now, sends_cancels, acted, acts, all_act, passed_request_of, is_request_event, passes_later}
-use Rattle.sc_hosts.specs.Branches.{starting}
+use Rattle.sc_hosts.specs.Acting.{all_act, drafts_ended, faulted, passed_request_of, is_request_event, passes_later}
 use Rattle.sc_hosts.specs.Bringing.{Allowed, IsSilent}
 use Rattle.sc_hosts.specs.Finishing.{finished, outcome, outcome_of}
 use Rattle.sc_hosts.specs.Legs.{is_low, leg_of, session_for}
@@ -41,6 +32,9 @@ use Rattle.sc_hosts.specs.Runs.{AllowedBy}
 use Rattle.sc_hosts.specs.Words.{does_not_exist}
 use Rattle.sc_hosts.specs.Working.{starts, worked_all}
 use Rattle.sc_lasting.specs.Lasting.{All}
+use Rattle.sc_given.specs.Givings.{GivingLaws}
+use Rattle.sc_given.proofs.GivenCalls.{all-both}
+use Rattle.sc_given.proofs.GivenEnds.{all_act-any}
 use Rattle.sc_stopped.specs.Stopped.{IsNoLater, IsRefusedThere, RefusesFirst}
 
 -- what was given goes on with orders of which none sends a request in a dialog
@@ -48,28 +42,6 @@ record GrowsBy (base given : List Order) : Type 0 where
   more : List Order
   is : given ≡ base ++ more
   none : All IsNoLater more
-
-all-both : {A : Type 0} (P : A → Type 0) (xs ys : List A) → All P xs → All P ys → All P (xs ++ ys)
-unfolding All
-all-both P [] ys p q = q
-all-both P (x ∷ xs) ys p q = (p.0, all-both P xs ys p.1 q)
-
-some-cancels : (branches : List ℕ) → All IsNoLater (map (λ branch. orders.Cancel branch) branches)
-unfolding All IsNoLater
-some-cancels [] = tt
-some-cancels (b ∷ bs) = (tt, some-cancels bs)
-
-one-order : (order : Order) → IsNoLater order → All IsNoLater (order ∷ [])
-unfolding All
-one-order order p = (p, tt)
-
-respond-none : (event : ℕ) (response : Response) → IsNoLater (orders.Respond event response)
-unfolding IsNoLater
-respond-none event response = tt
-
-begin-none : (branch : ℕ) (directive : Directive) (region : Region) (state : Option ℕ) (request : Request) → IsNoLater (orders.Begin branch directive region state request)
-unfolding IsNoLater
-begin-none branch directive region state request = tt
 
 module _ (base : List Order) where
   grown-more : (given new : List Order) → All IsNoLater new → GrowsBy base given → GrowsBy base (given ++ new)
@@ -79,65 +51,13 @@ module _ (base : List Order) where
     none = all-both IsNoLater grows.more new grows.none none;
   }
 
-  abbrev Grows : Working → Type 0
-  Grows working = GrowsBy base working.orders
+  growing : GivingLaws IsNoLater (GrowsBy base)
+  unfolding IsNoLater
+  growing = record { more = grown-more; responds = λ event response. tt; cancels = λ branch. tt; cancels_now = λ branch. tt }
 
-  if-grows : (b : Bool) (x y : Working) → Grows x → Grows y → Grows (cond b x y)
-  if-grows true x y p q = p
-  if-grows false x y p q = q
-
-  started-grows : (config : Config) (proxy : Proxy) (working : Working) (uri : Uri) → Grows working → Grows (started config proxy working uri)
-  unfolding started
-  started-grows config proxy working uri grows = grown-more working.orders _ (one-order _ (begin-none _ _ _ _ _)) grows
-
-  fold-grows : {A : Type 0} (items : List A) (act : Working → A → Working) → ((working : Working) (a : A) → Grows working → Grows (act working a)) → (working : Working) → Grows working
-      → Grows (fold act working items)
-  fold-grows [] act each working grows = grows
-  fold-grows (a ∷ items) act each working grows = fold-grows items act each (act working a) (each working a grows)
-
-  forwards-grows : (proxy : Proxy) (sess : SessId) (response : Response) (working : Working) → Grows working → Grows (forwards proxy sess response working)
-  unfolding forwards
-  forwards-grows proxy sess response working grows = grown-more working.orders _ (one-order _ (respond-none _ response)) grows
-
-  passes-grow : (proxy : Proxy) (passing : Option Passing) (working : Working) → Grows working → Grows (passes proxy passing working)
-  unfolding passes
-  passes-grow proxy None working grows = grows
-  passes-grow proxy (Some passing) working grows = if-grows _ _ working (forwards-grows proxy passing.sess passing.response working grows) grows
-
-  forwards_best-grows : (proxy : Proxy) (response : Option Response) (working : Working) → Grows working → Grows (forwards_best proxy response working)
-  unfolding forwards_best
-  forwards_best-grows proxy None working grows = grows
-  forwards_best-grows proxy (Some response) working grows = forwards-grows proxy proxy.sess response working grows
-
-  chooses-grow : (proxy : Proxy) (working : Working) → Grows working → Grows (chooses proxy working)
-  unfolding chooses
-  chooses-grow proxy working grows = if-grows _ _ working (forwards_best-grows proxy _ working grows) grows
-
-  closes-grow : (proxy : Proxy) (working : Working) → Grows working → Grows (closes proxy working)
-  unfolding closes
-  closes-grow proxy working grows = if-grows _ _ working grows grows
-
-  sends_cancels-grow : (proxy : Proxy) (working : Working) → Grows working → Grows (sends_cancels proxy working)
-  unfolding sends_cancels
-  sends_cancels-grow proxy working grows = grown-more working.orders _ (some-cancels _) grows
-
-  acted-grows : (config : Config) (proxy : Proxy) (working : Working) → Grows working → Grows (acted config proxy working)
-  unfolding acted
-  acted-grows config proxy working grows =
-      let begun = fold (started config proxy) working (starting proxy) in
-      let one = fold-grows (starting proxy) (started config proxy) (started-grows config proxy) working grows in
-      let passed = passes (proxy_now proxy begun) proxy.passing begun in
-      let two = passes-grow (proxy_now proxy begun) proxy.passing begun one in
-      let chosen = chooses (proxy_now proxy passed) passed in
-      closes-grow (proxy_now proxy chosen) _ (sends_cancels-grow proxy chosen (chooses-grow (proxy_now proxy passed) passed two))
-
-  acts-grow : (config : Config) (working : Working) (proxy : Proxy) → Grows working → Grows (acts config working proxy)
-  unfolding acts
-  acts-grow config working proxy grows = if-grows _ working _ grows (acted-grows config proxy working grows)
-
-  all_act-grows : (config : Config) (working : Working) → Grows working → Grows (all_act config working)
-  unfolding all_act
-  all_act-grows config working grows = fold-grows working.known.proxies (acts config) (acts-grow config) working grows
+  all_act-grows : (config : Config) (working : Working) → GrowsBy base working.orders → GrowsBy base (all_act config working).orders
+  unfolding IsNoLater
+  all_act-grows config working grows = all_act-any config IsNoLater (GrowsBy base) growing (λ branch directive region state request. tt) working grows
 
 -- where it is about no request nothing is passed on
 passed-none : (config : Config) (event : Queued) (working : Working) → passes_later config event None working ≡ working
