@@ -10,7 +10,6 @@ use Rattle.sc_terms.specs.declared.steps.Step.{Step}
 use Rattle.sc_parts.specs.declared.setup.Setup.{Setup}
 use Rattle.sc_state.specs.declared.host.Live.{Live}
 use Rattle.sc_state.specs.declared.net.Note.{Note}
-use Rattle.sc_state.specs.declared.orders.Order.{Order}
 use Rattle.sc_state.specs.declared.queue.Queued.{Queued}
 use Rattle.sc_state.specs.declared.queue.Queued.TheVariants as queued
 use Rattle.sc_state.specs.declared.queue.Waiting.{Waiting}
@@ -37,16 +36,14 @@ use Rattle.sc_lived.proofs.Accepted.{one-life}
 use Rattle.sc_lived.proofs.Sayings.{has-lived, read-at}
 use Rattle.sc_hops.specs.Hops.{IsUntagged}
 use Rattle.sc_begun.specs.Begun.{IsFirst}
-use Rattle.sc_begun.proofs.FirstCalls.{AreFirst, worked_all-first}
-use Rattle.sc_begun.proofs.FirstEnds.{all_act-first, before-first, passes_later-first}
+use Rattle.sc_begun.proofs.FirstGiven.{all_act-first, before-first, passes_later-first, prepared-first, worked_all-first}
 use Rattle.sc_begun.proofs.FirstProxies.{AreProper, lives-proper, proper-law}
 use Rattle.sc_begun.proofs.FirstSessions.{live-good}
-use Rattle.sc_begun.proofs.FirstShown.{prepared-first}
 
 -- ## One turn
 
 turn-first : (config : Config) (ringing : List ℕ) (session : Session) (waiting : Waiting) (now : ℕ) (made : List CallRecord) (end : End) (began : Request) → IsFirst began → IsOf began waiting.event → AreProper began session
-    → AreFirst (outcome config ringing session waiting now made end).orders
+    → All IsUntagged (outcome config ringing session waiting now made end).orders
 unfolding outcome outcome_of finished prepared
 turn-first config ringing session waiting now made end began first of ok =
     let shown : Prepared = prepared config ringing session waiting now in
@@ -59,12 +56,7 @@ turn-first config ringing session waiting now made end began first of ok =
     let three : AreProper began (session_at (drafts_ended working)) → AreProper began (session_at ready) = faulted-goes waiting.event (λ call. Unit {0}) (λ x y. AreProper began x → AreProper began y) law config shown.req end (drafts_ended working) in
     let firsts = worked_all-first config shown made (prepared-first config ringing (record session { view = record session.view { now = now } }) waiting.number waiting.event) in
     passes_later-first config waiting.event shown.req _
-    (all_act-first config began ready first (three (two (one ok))).proper.1 (before-first config shown.req end working firsts.0))
-
-all-untagged : (given : List Order) → AreFirst given → All IsUntagged given
-unfolding AreFirst All
-all-untagged [] firsts = tt
-all-untagged (order ∷ given) firsts = (firsts.0, all-untagged given firsts.1)
+    (all_act-first config began ready first (three (two (one ok))).proper.1 (before-first config shown.req end working firsts))
 
 -- ## The event of a turn
 
@@ -132,7 +124,7 @@ history-first setup epoch began journal app live waiting ringing now made end la
     let lived : IsLived setup app (told app journal) history live.inbox = has-lived setup epoch began journal app live lawful is in
     let proper : AreProper history.request (session_of setup.config history) = lives-proper setup.config history history.turns (one-life setup.config history live.inbox lived.events_are) in
     let of : IsOf history.request waiting.event = first-there history.request (turned_events history.turns) live.inbox waiting at lived.events_are in
-    all-untagged _ (turn-first setup.config ringing (session_of setup.config history) waiting now made end history.request (began-first setup epoch began journal app live is) of proper)
+    turn-first setup.config ringing (session_of setup.config history) waiting now made end history.request (began-first setup epoch began journal app live is) of proper
 
 pub given-first : (setup : Setup) (epoch began : ℕ) (journal : List Step) (app : AppId) (live : Live Session) (waiting : Waiting) (ringing : List ℕ) (now : ℕ) (made : List CallRecord) (end : End)
     → IsLawful as_session setup epoch began journal → live_at app (chained as_session setup epoch began journal) ≡ Some live → slice_get live.inbox 0 ≡ Some waiting
