@@ -27,6 +27,7 @@ use Rattle.sc_hosts.specs.Working.{worked_all}
 use Rattle.sc_walked.specs.SessionWalks.{Each}
 use Rattle.sc_lasting.specs.Lasting.{All}
 use Rattle.sc_lasting.proofs.Parts.{all-each, each-weaker}
+use Rattle.sc_given.specs.Givings.{MayStart}
 use Rattle.sc_proxied.specs.ProxyLists.{ProxyEvent, proxy_after}
 use Rattle.sc_proxied.proofs.Lists.{NumbersApart}
 use Rattle.sc_proxying.specs.Proxying.{BeginsBy, BeginsIn, IsBegun, IsPassed, as_begun}
@@ -40,7 +41,7 @@ use Rattle.sc_proxying.proofs.Turns.{NewTurn, OldTurn, turn-tells}
 use Rattle.sc_begun.specs.Begun.{IsFirst}
 use Rattle.sc_begun.proofs.FirstProxies.{IsProper}
 use Rattle.sc_recorded.specs.Recorded.{IsTaggedEvent}
-use Rattle.sc_recorded.proofs.MadeEnds.{IsFaithful}
+use Rattle.sc_recorded.proofs.MadeGiven.{ProxiesAs}
 use Rattle.sc_recorded.proofs.Settled.{SaysSo}
 
 -- each turn took no later request without To tag
@@ -185,14 +186,14 @@ module _ (config : Config) (turn : Turn) (x : Session) where
 
 -- ## What goes to targets
 
-faithful : (stays : Bool) (began : Request) (p : Proxy) → IsFirst began → IsRight p → SaysSo stays p → IsProper began p → IsFaithful stays began p
-unfolding IsRight SaysSo IsProper IsFaithful records_route
+faithful : (stays : Bool) (began : Request) (p : Proxy) → IsFirst began → IsRight p → SaysSo stays p → IsProper began p → MayStart (ProxiesAs stays began) p
+unfolding IsRight SaysSo IsProper MayStart records_route
 faithful stays began p first (inl how) says (inl is) = inl (is, ap (λ (o : Option ProxyOptions). option_map_or (λ (h : ProxyOptions). h.record_route) o true) how.1 ∙ says how.0 how.1)
 faithful stays began p first (inl how) says (inr bare) = inr bare.1
 faithful stays began p first (inr later) says (inl is) = absurd (clash _ later.1 (subst (λ (r : Request). is_some (tag_of r.head.to) ≡ false) (sym is) first))
 faithful stays began p first (inr later) says (inr bare) = inr bare.1
 
-pub all-faithful : (stays : Bool) (began : Request) (all : List Proxy) → IsFirst began → All IsRight all → All (SaysSo stays) all → All (IsProper began) all → All (IsFaithful stays began) all
+pub all-faithful : (stays : Bool) (began : Request) (all : List Proxy) → IsFirst began → All IsRight all → All (SaysSo stays) all → All (IsProper began) all → All (MayStart (ProxiesAs stays began)) all
 unfolding All
 all-faithful stays began [] first right says proper = tt
 all-faithful stays began (p ∷ all) first right says proper = (faithful stays began p first right.0 says.0 proper.0, all-faithful stays began all first right.1 says.1 proper.1)

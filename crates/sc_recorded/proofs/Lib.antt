@@ -1,9 +1,7 @@
 pub mod Hosts
 pub mod Nets
 pub mod Steps
-pub mod MadeCalls
-pub mod MadeShown
-pub mod MadeEnds
+pub mod MadeGiven
 pub mod Settled
 pub mod Asking
 pub mod Settling

@@ -34,6 +34,7 @@ use Rattle.sc_walked.proofs.WalkShown.{prepared-walks}
 use Rattle.sc_lasting.specs.Lasting.{All, IsOf}
 use Rattle.sc_lasting.proofs.Began.{test-found}
 use Rattle.sc_lasting.proofs.Parts.{all-found, removed-only, unlinked-only}
+use Rattle.sc_given.specs.Givings.{IsNamed}
 use Rattle.sc_proxying.proofs.Passed.{shown-next}
 use Rattle.sc_proxying.proofs.Requests.{GoesOnKeeping, IsKeptAs, Keeps, keeping-law, shown-keeps-it}
 use Rattle.sc_proxying.proofs.Rising.{IsNumbered}
@@ -41,9 +42,7 @@ use Rattle.sc_begun.specs.Begun.{IsFirst}
 use Rattle.sc_begun.proofs.FirstProxies.{AreProper, proper-law}
 use Rattle.sc_recorded.specs.Recorded.{IsTaggedEvent, routed}
 use Rattle.sc_recorded.proofs.Faithful.{AreRight, acting-right, all-faithful}
-use Rattle.sc_recorded.proofs.MadeCalls.{AreMade, worked_all-made}
-use Rattle.sc_recorded.proofs.MadeEnds.{IsNamed, all_act-made, before-made, passes_later-made}
-use Rattle.sc_recorded.proofs.MadeShown.{prepared-made}
+use Rattle.sc_recorded.proofs.MadeGiven.{AreMade, all_act-made, before-made, passes_later-made, prepared-made, worked_all-made}
 use Rattle.sc_recorded.proofs.Settled.{SaysSo}
 
 -- ## A session keeps its names
@@ -190,8 +189,8 @@ module _ (config : Config) (turn : Turn) (x : Session) where
         let names : SameNames x.view acting.play.view = acting-walks turn.waiting.event (λ y z. SameNames y.view z.view) (names-law turn.waiting.event) refl in
         let still : AreProper began (session_at acting) = acting-walks turn.waiting.event (λ y z. AreProper began y → AreProper began z) (proper-law began turn.waiting.event of) refl proper in
         let calls = worked_all-made routes config shown turn.calls (prepared-made routes config turn.ringing (record x { view = record x.view { now = turn.now } }) turn.waiting.number turn.waiting.event) in
-        let before = before-made config epoch app stays began some shown.req turn.end played calls.0 in
+        let before = before-made routes config shown.req turn.end played calls in
         let acts = all_act-made config epoch app stays began some acting
         (all-faithful stays began acting.known.proxies first (acting-right config turn x right) says still.proper.1)
-        (before, (names.0 ∙ named.0, names.1 ∙ named.1)) in
-        passes_later-made config epoch app stays began some turn.waiting.event shown.req acted (λ later r kept found has. tagged-by turn.waiting.event refl tagged numbered later r kept found has) acts.0
+        (names.0 ∙ named.0, names.1 ∙ named.1) before in
+        passes_later-made routes config turn.waiting.event shown.req acted (λ later r kept found has. tagged-by turn.waiting.event refl tagged numbered later r kept found has) acts

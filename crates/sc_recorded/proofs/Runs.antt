@@ -51,7 +51,7 @@ use Rattle.sc_recorded.proofs.Faithful.{lives-right}
 use Rattle.sc_recorded.proofs.Asking.{FirstSays, asked_in}
 use Rattle.sc_recorded.proofs.Hosts.{other-name, Good, IsLiveAs, IsReached, IsSent, IsServed}
 use Rattle.sc_recorded.proofs.SoundKinds.{Fit, IsSound, TakesTagged, beginning, other-fit, own-fit, sound-kinds}
-use Rattle.sc_recorded.proofs.MadeCalls.{AreMade}
+use Rattle.sc_recorded.proofs.MadeGiven.{AreMade}
 use Rattle.sc_recorded.proofs.MadeTurns.{turn-made}
 use Rattle.sc_recorded.proofs.Nets.{Goes, Holds, first-of}
 use Rattle.sc_recorded.proofs.Spans.{asked_of, life-says, says-front}

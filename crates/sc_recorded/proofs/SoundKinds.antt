@@ -23,7 +23,7 @@ use Rattle.sc_paths.specs.Pieces.{is_branch_of}
 use Rattle.sc_recorded.specs.Recorded.{routed}
 use Rattle.sc_recorded.proofs.Faithful.{AreTagged}
 use Rattle.sc_recorded.proofs.Hosts.{AreKinds}
-use Rattle.sc_recorded.proofs.MadeCalls.{AreMade, IsMadeOf, IsMadeOrder}
+use Rattle.sc_recorded.proofs.MadeGiven.{AreMade, IsMadeOf, IsMadeOrder}
 use Rattle.sc_recorded.proofs.Nets.{OrderFits}
 use Rattle.sc_recorded.proofs.Texts.{branch-own}
 
@@ -154,7 +154,7 @@ module _ (config : Config) (epoch : ℕ) (app : AppId) (stays : Bool) where
 
   pub own-fit : (known : Option Request) (began : Request) (given : List Order) (low high : ℕ) → known ≡ Some began → AreOn config epoch app low given high
       → AreMade (routed config epoch app stays began.head.record_route) given → All (Fit known) given
-  unfolding AreOn AreMade IsMadeOrder OrderFits All
+  unfolding AreOn IsMadeOrder OrderFits All
   own-fit known began [] low high is on made = tt
   own-fit known began (orders.Respond event response ∷ given) low high is on made = (tt, own-fit known began given low high is on made.1)
   own-fit known began (orders.Begin branch directive region state request ∷ given) low high is on made = (own-sound known began branch request is on.1 made.0, own-fit known began given branch high is on.2 made.1)
