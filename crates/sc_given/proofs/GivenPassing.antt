@@ -2,7 +2,6 @@
 use Rattle.std.proofs.Common.{◌≡◌, inl, inr, ◌++◌, Bool, true, false, Option, None, Some, List, [], ◌∷◌, refl, ap, subst, sym}
 use Rattle.std.specs.Prelude.{◌==◌, ◌||◌, not, cond, option_and_then}
 use Rattle.sc_value.specs.declared.ids.ReqId.{ReqId}
-use Rattle.sc_value.specs.declared.message.Request.{Request}
 use Rattle.sc_terms.specs.declared.settings.Config.{Config}
 use Rattle.sc_terms.specs.declared.views.RequestView.{RequestView}
 use Rattle.sc_terms.specs.declared.views.View.{View}
@@ -14,17 +13,13 @@ use Rattle.sc_state.specs.declared.working.Working.{Working}
 use Rattle.sc_hosts.specs.Acting.{in_view, hops_spent, passed_on, passed_later, passed_request_of, is_request_event, passes_later}
 use Rattle.sc_hosts.specs.Giving.{giving}
 use Rattle.sc_hosts.specs.Looking.{request_in}
-use Rattle.sc_hosts.specs.Messages.{on_branch, passed_request}
 use Rattle.sc_hosts.specs.Preparing.{kept_of}
 use Rattle.sc_hosts.specs.PreparingResponses.{is_invalid}
 use Rattle.sc_hosts.specs.Working.{next_branch}
-use Rattle.sc_given.specs.Givings.{Ends, Given_end, GivingLaws, IsPassed, MayPass, Passed_end, Passes}
+use Rattle.sc_given.specs.Givings.{Ends, Given_end, GivingLaws, IsPassed, MayPass, Passed_end, Passes, passed_now}
 use Rattle.sc_given.proofs.GivenCalls.{answering-gives, gives-one}
 
 module _ (Kind : Order → Type 0) (Given : List Order → Type 0) (law : GivingLaws Kind Given) (config : Config) (event : Queued) (req : Option ReqId) where
-  abbrev Sent : Kept → Working → Request
-  Sent kept working = on_branch config working.play.view (next_branch working) (passed_request kept.request)
-
   abbrev Ending : Working → Working → Type 0
   Ending working after = Ends Given config event req working after
 
@@ -44,13 +39,13 @@ module _ (Kind : Order → Type 0) (Given : List Order → Type 0) (law : Giving
     passed_on-by : (request : RequestView) (kept : Kept) (working known : Working) (view : View) (b : Bool)
         → option_and_then (request_in working.play.view) req ≡ Some request → kept_of working.known request.id ≡ Some kept → request.proxied ≡ true
         → known.orders ≡ working.orders
-        → Ending working (in_view view (cond b (giving (orders.Acknowledge (Sent kept working) ∷ []) working) (giving (orders.Send (next_branch working) (Sent kept working) ∷ []) known)))
+        → Ending working (in_view view (cond b (giving (orders.Acknowledge (passed_now config kept working) ∷ []) working) (giving (orders.Send (next_branch working) (passed_now config kept working) ∷ []) known)))
     unfolding IsPassed
     passed_on-by request kept working known view true found has proxied same =
-        Passed_end request kept (orders.Acknowledge (Sent kept working)) later found has proxied (inr refl) refl
+        Passed_end request kept (orders.Acknowledge (passed_now config kept working)) later found has proxied (inr refl) refl
     passed_on-by request kept working known view false found has proxied same =
-        Passed_end request kept (orders.Send (next_branch working) (Sent kept working)) later found has proxied (inl refl)
-        (ap (λ given. given ++ orders.Send (next_branch working) (Sent kept working) ∷ []) same)
+        Passed_end request kept (orders.Send (next_branch working) (passed_now config kept working)) later found has proxied (inl refl)
+        (ap (λ given. given ++ orders.Send (next_branch working) (passed_now config kept working) ∷ []) same)
 
     passed_on-ends : (request : RequestView) (kept : Kept) (working : Working)
         → option_and_then (request_in working.play.view) req ≡ Some request → kept_of working.known request.id ≡ Some kept → request.proxied ≡ true

@@ -100,11 +100,16 @@ Passes config Kind request =
     → Kind (orders.Send branch (on_branch config view branch (passed_request request)))
     × Kind (orders.Acknowledge (on_branch config view branch (passed_request request)))
 
--- the order passes on this request on the next branch
+-- the request that was kept as it is passed on, on the next branch
+abbrev pub passed_now : Config → Kept → Working → Request
+passed_now config kept working =
+    on_branch config working.play.view (next_branch working) (passed_request kept.request)
+
+-- the order passes it on; an ACK goes without a transaction
 unfoldable pub IsPassed : Config → Kept → Working → Order → Type 0
 IsPassed config kept working order =
-    (◌≡◌ {A = Order} order (orders.Send (next_branch working) (on_branch config working.play.view (next_branch working) (passed_request kept.request))))
-    ⊎ (◌≡◌ {A = Order} order (orders.Acknowledge (on_branch config working.play.view (next_branch working) (passed_request kept.request))))
+    (◌≡◌ {A = Order} order (orders.Send (next_branch working) (passed_now config kept working)))
+    ⊎ (◌≡◌ {A = Order} order (orders.Acknowledge (passed_now config kept working)))
 
 -- as the turn ends what was given is what it is said to be, or behind that stands the event's later
 -- request as it is passed on: it is shown as proxied
