@@ -35,7 +35,6 @@ use Rattle.sc_state.specs.declared.queue.Queued.TheVariants as queued
 use Rattle.sc_state.specs.declared.queue.Waiting.{Waiting}
 use Rattle.sc_state.specs.declared.session.Session.{Session}
 use Rattle.sc_grammar.specs.Written.{Bytes}
-use Rattle.sc_model.specs.DialogRequests.{cancel}
 use Rattle.sc_hosts.proofs.EachSort.{takes-each}
 use Rattle.sc_hosts.specs.Inboxes.{MOST_LIVE, queue, quiet}
 use Rattle.sc_hosts.specs.Messages.{ack_of, cancel_of}
