@@ -50,14 +50,14 @@ impl<T> List<T> {
         self.items.is_empty()
     }
 
-    /// Puts an item at the end, or hands it back for want of memory. The first one takes room for
-    /// itself alone, as most lists of a message have one item.
+    /// Puts an item at the end, or hands it back for want of memory. Each of the first two takes
+    /// room for itself alone, as most lists of a message have one item or two.
     pub fn push(&mut self, item: T) -> Result<(), AllocFailed<T>>
         ensures ok { OnOk result (self.new ≡ self.old ++ item ∷ []) }
         ensures err { OnErr result (self.new ≡ self.old) }
         ensures back { IfErr result (λ e. e.value ≡ item) }
     {
-        if self.items.is_empty() && self.items.reserve_exact(1).is_err() {
+        if self.items.len() < 2 && self.items.reserve_exact(1).is_err() {
             return Err(AllocFailed { value: item });
         }
         self.items.push(item)

@@ -25,17 +25,10 @@ fn has_token_bytes(text: &[u8]) -> bool
 fn is_token_byte(b: u8) -> bool
     ensures { result ≡ is_token_byte b }
 {
-    b.is_ascii_alphanumeric()
-        || b == b'-'
-        || b == b'.'
-        || b == b'!'
-        || b == b'%'
-        || b == b'*'
-        || b == b'_'
-        || b == b'+'
-        || b == b'`'
-        || b == b'\''
-        || b == b'~'
+    match b {
+        b'-' | b'.' | b'!' | b'%' | b'*' | b'_' | b'+' | b'`' | b'\'' | b'~' => true,
+        _ => b.is_ascii_alphanumeric(),
+    }
 }
 
 /// Whether the text has neither CR, LF nor NUL.
