@@ -7,6 +7,7 @@ use Rattle.sc_value.specs.declared.ids.Directive.{Directive}
 use Rattle.sc_value.specs.declared.ids.ReqId.{ReqId}
 use Rattle.sc_value.specs.declared.ids.SessId.{SessId}
 use Rattle.sc_value.specs.declared.message.Request.{Request}
+use Rattle.sc_value.specs.declared.message.Response.{Response}
 use Rattle.sc_value.specs.declared.parts.Contact.{Contact}
 use Rattle.sc_value.specs.declared.parts.Uri.{Uri}
 use Rattle.sc_terms.specs.declared.calls.Answer.{Answer}
@@ -76,8 +77,15 @@ here-keeps : (Such : Request → Type 0) → ((contacts : List Contact) (request
 unfolding from_here
 here-keeps Such keeps config view request such = if-contact Such keeps _ _ request such
 
+-- ## All orders are of the kind
+
+-- where answers and CANCELs are of it
+pub all-given : (Kind : Order → Type 0) → ((event : ℕ) (response : Response) → Kind (orders.Respond event response)) → ((branch : ℕ) → Kind (orders.Cancel branch)) → ((branch : ℕ) → Kind (orders.CancelNow branch))
+    → GivingLaws Kind (All Kind)
+all-given Kind responds cancels cancels_now = record { more = λ given new kind had. all-both Kind given new had kind; responds = responds; cancels = cancels; cancels_now = cancels_now }
+
 module _ (Kind : Order → Type 0) (Given : List Order → Type 0) (law : GivingLaws Kind Given) where
-  one-kind : (order : Order) → Kind order → All Kind (order ∷ [])
+  pub one-kind : (order : Order) → Kind order → All Kind (order ∷ [])
   unfolding All
   one-kind order kind = (kind, tt)
 
@@ -101,7 +109,7 @@ module _ (Kind : Order → Type 0) (Given : List Order → Type 0) (law : Giving
   answer_order-kind config view initial answer kept (Received event) = (law.responds event _, tt)
   answer_order-kind config view initial answer kept (Sent branch) = tt
 
-  answers-kind : (config : Config) (answer : Answer) (view : View) (kept : Option Kept) (initial : Bool) → All Kind (answers config answer view kept initial)
+  pub answers-kind : (config : Config) (answer : Answer) (view : View) (kept : Option Kept) (initial : Bool) → All Kind (answers config answer view kept initial)
   unfolding answers All
   answers-kind config answer view None initial = tt
   answers-kind config answer view (Some kept) initial = answer_order-kind config view initial answer kept kept.way
@@ -113,12 +121,12 @@ module _ (Kind : Order → Type 0) (Given : List Order → Type 0) (law : Giving
 
   -- ## Invalidation
 
-  flat-kind : {A : Type 0} (items : List A) (give : A → List Order) → ((a : A) → All Kind (give a)) → All Kind (flat_map give items)
+  pub flat-kind : {A : Type 0} (items : List A) (give : A → List Order) → ((a : A) → All Kind (give a)) → All Kind (flat_map give items)
   unfolding All
   flat-kind [] give each = tt
   flat-kind (a ∷ items) give each = all-both Kind (give a) (flat_map give items) (each a) (flat-kind items give each)
 
-  goodbyes-kind : (config : Config) (view : View) (known : Known) (test : SessId → Bool) → All Kind (goodbyes config view known test)
+  pub goodbyes-kind : (config : Config) (view : View) (known : Known) (test : SessId → Bool) → All Kind (goodbyes config view known test)
   unfolding goodbyes owed_answer
   goodbyes-kind config view known test =
       all-both Kind _ _ (flat-kind (filter (λ request. test request.sess && is_owed request) view.requests) _ (λ request. answers-kind config _ view _ request.initial)) (now-kind _)

@@ -1,4 +1,5 @@
 pub mod GivenCalls
+pub mod GivenGoodbyes
 pub mod GivenShown
 pub mod GivenEnds
 pub mod GivenPassing

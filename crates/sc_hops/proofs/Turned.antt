@@ -1,122 +1,35 @@
 -- A turn queues no later requests of a kind but those that it gives to send.
-use Rattle.std.proofs.Common.{◌≡◌, ◌<◌, ℕ, Bool, true, false, Option, None, Some, List, [], ◌∷◌, ◌++◌}
-use Rattle.std.specs.Prelude.{◌&&◌, cond, drop, filter, map, slice_get}
-use Rattle.std.specs.List.{flat_map}
+use Rattle.std.proofs.Common.{◌≡◌, ◌<◌, ℕ, Bool, true, false, Option, None, Some, List, [], ◌∷◌}
+use Rattle.std.specs.Prelude.{cond, drop, slice_get}
 use Rattle.sc_value.specs.Lists.{remove_first}
 use Rattle.sc_value.specs.declared.ids.AppId.{AppId}
-use Rattle.sc_value.specs.declared.ids.SessId.{SessId}
 use Rattle.sc_value.specs.declared.message.Request.{Request}
-use Rattle.sc_terms.specs.declared.calls.Answer.{Answer}
 use Rattle.sc_terms.specs.declared.calls.CallRecord.{CallRecord}
 use Rattle.sc_terms.specs.declared.calls.End.{End}
-use Rattle.sc_terms.specs.declared.settings.Config.{Config}
 use Rattle.sc_terms.specs.declared.steps.Step.TheVariants as steps
-use Rattle.sc_terms.specs.declared.views.View.{View}
 use Rattle.sc_parts.specs.declared.setup.Setup.{Setup}
 use Rattle.sc_state.specs.declared.host.Client.{Client}
 use Rattle.sc_state.specs.Hosts.{Host}
 use Rattle.sc_state.specs.declared.host.Live.{Live}
 use Rattle.sc_state.specs.declared.net.Net.{Net}
 use Rattle.sc_state.specs.declared.orders.Order.{Order}
-use Rattle.sc_state.specs.declared.orders.Order.TheVariants as orders
 use Rattle.sc_state.specs.declared.orders.Outcome.{Outcome}
-use Rattle.sc_state.specs.declared.queue.Queued.{Queued}
 use Rattle.sc_state.specs.declared.queue.Queued.TheVariants as queued
 use Rattle.sc_state.specs.declared.queue.Waiting.{Waiting}
-use Rattle.sc_state.specs.declared.session.Kept.{Kept}
-use Rattle.sc_state.specs.declared.session.Known.{Known}
 use Rattle.sc_state.specs.declared.session.Session.{Session}
 use Rattle.sc_state.specs.declared.session.Way.{Way}
-use Rattle.sc_state.specs.declared.session.Way.TheVariants as ways
-use Rattle.sc_tokens.specs.Names.{same_bytes}
-use Rattle.sc_grammar.specs.Written.{Bytes}
-use Rattle.sc_model.specs.SessionStates.{ack}
-use Rattle.sc_hosts.specs.Finishing.{goodbye, waiting_answer}
-use Rattle.sc_hosts.specs.Giving.{answer_order, answers}
 use Rattle.sc_hosts.specs.Inboxes.{is_live}
 use Rattle.sc_hosts.specs.Nets.{change_host, obeyed}
 use Rattle.sc_hosts.specs.Runs.{after_step}
 use Rattle.sc_hosts.specs.Sessions.{Form, Turn}
 use Rattle.sc_hosts.specs.Steps.{closed_turn, invalidated, live_at, outcome_by, stepped, turn_of, turned, turned_live, turns, turns_first, with_ready, without_live}
 use Rattle.sc_hosts.specs.Transacting.{tidied}
-use Rattle.sc_hosts.specs.ViewChanges.{is_owed}
-use Rattle.sc_hosts.specs.Working.{goodbyes, owed_answer}
 use Rattle.sc_lasting.specs.Lasting.{All}
 use Rattle.sc_lasting.proofs.Parts.{all-filter, all-first}
+use Rattle.sc_given.proofs.GivenCalls.{all-given}
+use Rattle.sc_given.proofs.GivenGoodbyes.{goodbye-kind}
 use Rattle.sc_hops.specs.Hops.{AreFit, AreKinds, IsOrdered, IsPlain}
 use Rattle.sc_hops.proofs.Carried.{FitsIn, Holds, changes, delivered-holds, obeyed-holds, queue_for-holds}
-
--- ## Goodbye
-
-all-both : {A : Type 0} (P : A → Type 0) (xs ys : List A) → All P xs → All P ys → All P (xs ++ ys)
-unfolding All
-all-both P [] ys p q = q
-all-both P (x ∷ xs) ys p q = (p.0, all-both P xs ys p.1 q)
-
-all-flat : {A B : Type 0} (P : B → Type 0) (items : List A) (give : A → List B) → ((a : A) → All P (give a)) → All P (flat_map give items)
-unfolding All
-all-flat P [] give each = tt
-all-flat P (a ∷ items) give each = all-both P (give a) (flat_map give items) (each a) (all-flat P items give each)
-
--- no request
-unfoldable IsAnswer : Order → Type 0
-IsAnswer (orders.Begin branch directive region state request) = ⊥
-IsAnswer (orders.Send branch request) = ⊥
-IsAnswer (orders.Acknowledge request) = ⊥
-IsAnswer order = Unit {0}
-
-answer-ordered : (config : Config) (Way Sound : Request → Type 0) (given : List Order) → All IsAnswer given → All (IsOrdered config Way Sound) given
-unfolding All IsAnswer IsOrdered
-answer-ordered config Way Sound [] all = tt
-answer-ordered config Way Sound (orders.Respond event response ∷ given) all = (tt, answer-ordered config Way Sound given all.1)
-answer-ordered config Way Sound (orders.Begin branch directive region state request ∷ given) all = absurd all.0
-answer-ordered config Way Sound (orders.Send branch request ∷ given) all = absurd all.0
-answer-ordered config Way Sound (orders.Acknowledge request ∷ given) all = absurd all.0
-answer-ordered config Way Sound (orders.Cancel branch ∷ given) all = (tt, answer-ordered config Way Sound given all.1)
-answer-ordered config Way Sound (orders.CancelNow branch ∷ given) all = (tt, answer-ordered config Way Sound given all.1)
-
-answer_order-answers : (config : Config) (view : View) (initial : Bool) (answer : Answer) (kept : Kept) (way : Way) → All IsAnswer (answer_order config view initial answer kept way)
-unfolding answer_order All IsAnswer
-answer_order-answers config view initial answer kept (ways.Received event) = (tt, tt)
-answer_order-answers config view initial answer kept (ways.Sent branch) = tt
-
-answers-answer : (config : Config) (answer : Answer) (view : View) (kept : Option Kept) (initial : Bool) → All IsAnswer (answers config answer view kept initial)
-unfolding answers All
-answers-answer config answer view None initial = tt
-answers-answer config answer view (Some kept) initial = answer_order-answers config view initial answer kept kept.way
-
-now-answer : (branches : List ℕ) → All IsAnswer (map (λ branch. orders.CancelNow branch) branches)
-unfolding All IsAnswer
-now-answer [] = tt
-now-answer (b ∷ bs) = (tt, now-answer bs)
-
-goodbyes-answer : (config : Config) (view : View) (known : Known) (test : SessId → Bool) → All IsAnswer (goodbyes config view known test)
-unfolding goodbyes owed_answer
-goodbyes-answer config view known test =
-    all-both IsAnswer _ _ (all-flat IsAnswer (filter (λ request. test request.sess && is_owed request) view.requests) _ (λ request. answers-answer config _ view _ request.initial)) (now-answer _)
-
-if-none : (b : Bool) (given : List Order) → All IsAnswer given → All IsAnswer (cond b [] given)
-unfolding All
-if-none true given all = tt
-if-none false given all = all
-
-waiting-answers : (tag : Bytes) (number : ℕ) (event : Queued) → All IsAnswer (waiting_answer tag (record { number = number; event = event }))
-unfolding waiting_answer All IsAnswer
-waiting-answers tag number (queued.Initial region subscriber popped request) = (tt, tt)
-waiting-answers tag number (queued.Request request) = if-none (same_bytes request.method ack) _ (tt, tt)
-waiting-answers tag number (queued.Response branch response) = tt
-waiting-answers tag number (queued.Cancelled event) = tt
-waiting-answers tag number (queued.Timer id) = tt
-waiting-answers tag number (queued.BranchTimer branch due) = tt
-waiting-answers tag number queued.Expired = tt
-waiting-answers tag number queued.Ready = tt
-
-goodbye-answers : (config : Config) (session : Session) (inbox : List Waiting) → All IsAnswer (goodbye config session inbox)
-unfolding goodbye
-goodbye-answers config session inbox =
-    all-both IsAnswer _ _
-    (all-both IsAnswer _ _ (all-filter IsAnswer _ _ (goodbyes-answer config session.view session.known (λ sess. true))) (all-flat IsAnswer inbox (waiting_answer _) (λ waiting. waiting-answers _ waiting.number waiting.event)))
-    (all-filter IsAnswer _ _ (goodbyes-answer config session.view session.known (λ sess. true)))
 
 -- ## Lists of events
 
@@ -164,9 +77,10 @@ module _ {S : Type 0} (Way Sound Told Sent : Request → Type 0) (setup : Setup)
 
   invalidated-holds : (app : AppId) (session : Session) (inbox : List Waiting) (net : Net S) → Holding net
       → Holding (invalidated setup app session inbox net)
-  unfolding invalidated
+  unfolding invalidated IsOrdered
   invalidated-holds app session inbox net holds =
-      without_live-holds app _ (obeys app _ net (answer-ordered setup.config Way Sound _ (goodbye-answers setup.config session inbox)) holds)
+      let law = all-given (IsOrdered setup.config Way Sound) (λ event response. tt) (λ branch. tt) (λ branch. tt) in
+      without_live-holds app _ (obeys app _ net (goodbye-kind (IsOrdered setup.config Way Sound) law setup.config session inbox) holds)
 
   if-holds : (b : Bool) (x y : Net S) → Holding x → Holding y → Holding (cond b x y)
   if-holds true x y p q = p

@@ -55,8 +55,11 @@ use Rattle.sc_once.specs.Growing.{IsBetween}
 use Rattle.sc_once.proofs.Bounds.{from-lower}
 use Rattle.sc_walked.specs.SessionWalks.{SessionLaws}
 use Rattle.sc_walked.proofs.WalkShown.{prepared-walks}
+use Rattle.sc_lasting.specs.Lasting.{All}
+use Rattle.sc_given.proofs.GivenCalls.{answers-kind, cancels-kind, goodbyes-kind, one-kind}
+use Rattle.sc_given.proofs.GivenShown.{prepared-kind}
 use Rattle.sc_keyed.specs.Keyed.{AreOn, IsOn, new_branch, new_branches}
-use Rattle.sc_keyed.proofs.OldOrders.{IsOld, old-answer, old-cancels, answers-old, goodbyes-old, prepared-old}
+use Rattle.sc_keyed.proofs.OldOrders.{IsOld, old-law}
 
 -- ## What changes of a view
 
@@ -232,15 +235,15 @@ module _ (config : Config) (epoch : ℕ) (app : AppId) where
   on-higher low (orders.Cancel branch ∷ xs) mid high up p = on-higher low xs mid high up p
   on-higher low (orders.CancelNow branch ∷ xs) mid high up p = on-higher low xs mid high up p
 
-  old-on : (n : ℕ) (given : List Order) → IsOld given → On n given n
-  unfolding AreOn IsOld
+  old-on : (n : ℕ) (given : List Order) → All IsOld given → On n given n
+  unfolding AreOn All IsOld
   old-on n [] old = same-number n
-  old-on n (orders.Respond event response ∷ given) old = old-on n given old
-  old-on n (orders.Begin branch directive region state request ∷ given) old = absurd old
-  old-on n (orders.Send branch request ∷ given) old = absurd old
-  old-on n (orders.Acknowledge request ∷ given) old = absurd old
-  old-on n (orders.Cancel branch ∷ given) old = old-on n given old
-  old-on n (orders.CancelNow branch ∷ given) old = old-on n given old
+  old-on n (orders.Respond event response ∷ given) old = old-on n given old.1
+  old-on n (orders.Begin branch directive region state request ∷ given) old = absurd old.0
+  old-on n (orders.Send branch request ∷ given) old = absurd old.0
+  old-on n (orders.Acknowledge request ∷ given) old = absurd old.0
+  old-on n (orders.Cancel branch ∷ given) old = old-on n given old.1
+  old-on n (orders.CancelNow branch ∷ given) old = old-on n given old.1
 
   -- the branches of the requests that get a transaction rise too
   pub on-between : (low : ℕ) (given : List Order) (high : ℕ) → On low given high → IsBetween (new_branches given) low high
@@ -263,7 +266,7 @@ module _ (config : Config) (epoch : ℕ) (app : AppId) where
   gives-none low given view after follow drawn =
       record { on = on-higher low given view.counter after.counter follow.up drawn.on; epoch_is = follow.epoch_is ∙ drawn.epoch_is; app_is = follow.app_is ∙ drawn.app_is }
 
-  gives-old : (low : ℕ) (given more : List Order) (view : View) → IsOld more → Drawn low given view → Drawn low (given ++ more) view
+  gives-old : (low : ℕ) (given more : List Order) (view : View) → All IsOld more → Drawn low given view → Drawn low (given ++ more) view
   gives-old low given more view old drawn =
       record { on = on-append low given more view.counter view.counter drawn.on (old-on view.counter more old); epoch_is = drawn.epoch_is; app_is = drawn.app_is }
 
@@ -300,7 +303,7 @@ module _ (config : Config) (epoch : ℕ) (app : AppId) where
   unfolding answering
   answering-drawn low view None answer working drawn = drawn
   answering-drawn low view (Some request) answer working drawn =
-      gives-old low working.orders _ view (answers-old config answer working.play.view _ request.initial) drawn
+      gives-old low working.orders _ view (answers-kind IsOld (All IsOld) old-law config answer working.play.view _ request.initial) drawn
 
   -- ## Sending
 
@@ -376,7 +379,7 @@ module _ (config : Config) (epoch : ℕ) (app : AppId) where
   accepted-drawn low working (calls.Discard draft) drawn = gives-none low working.orders working.play.view _ (discarded-follows draft _ working.play) drawn
   accepted-drawn low working (calls.Ack sess body) drawn =
       acknowledges-drawn low sess body _ working _ (record { up = same-number (working.play.view.counter + 1); epoch_is = refl; app_is = refl }) drawn
-  accepted-drawn low working (calls.Cancel req) drawn = gives-old low working.orders _ working.play.view (old-cancels _) drawn
+  accepted-drawn low working (calls.Cancel req) drawn = gives-old low working.orders _ working.play.view (cancels-kind IsOld (All IsOld) old-law _) drawn
   accepted-drawn low working (calls.ProxyTo req uris how) drawn = gives-none low working.orders working.play.view _ (proxied-follows _ _ working.play.view) drawn
   accepted-drawn low working (calls.ProxyCancel req) drawn = drawn
   accepted-drawn low working (calls.B2bRespond sess answer) drawn =
@@ -391,7 +394,7 @@ module _ (config : Config) (epoch : ℕ) (app : AppId) where
   accepted-drawn low working (calls.SetReadyFlag target flag) drawn = gives-none low working.orders working.play.view _ (flagged-follows target flag working.play.view) drawn
   accepted-drawn low working (calls.InvalidateSession sess) drawn =
       gives-none low _ working.play.view _ (ended-follows sess working.play.view)
-      (gives-old low working.orders _ working.play.view (goodbyes-old config working.play.view working.known _) drawn)
+      (gives-old low working.orders _ working.play.view (goodbyes-kind IsOld (All IsOld) old-law config working.play.view working.known _) drawn)
   accepted-drawn low working calls.InvalidateApplication drawn = record { on = drawn.on; epoch_is = drawn.epoch_is; app_is = drawn.app_is }
 
   call-drawn : (low : ℕ) (working : Working) (call : Call) (found : Option Refusal) → Given low working
@@ -455,7 +458,7 @@ module _ (config : Config) (epoch : ℕ) (app : AppId) where
   forwards-drawn low proxy sess response working drawn =
       gives-none low _ working.play.view _
       (then-follows working.play.view (with_subscribed proxy sess response working.play.view) _ (subscribed-follows proxy sess response working.play.view) (forwarded-follows proxy sess _ response _))
-      (gives-old low working.orders _ working.play.view (old-answer proxy.event response) drawn)
+      (gives-old low working.orders _ working.play.view (one-kind IsOld (All IsOld) old-law _ (old-law.responds proxy.event response)) drawn)
 
   passes-drawn : (low : ℕ) (proxy : Proxy) (passing : Option Passing) (working : Working) → Given low working → Given low (passes proxy passing working)
   unfolding passes
@@ -478,7 +481,7 @@ module _ (config : Config) (epoch : ℕ) (app : AppId) where
 
   cancels-drawn : (low : ℕ) (proxy : Proxy) (working : Working) → Given low working → Given low (sends_cancels proxy working)
   unfolding sends_cancels
-  cancels-drawn low proxy working drawn = gives-old low working.orders _ working.play.view (old-cancels _) drawn
+  cancels-drawn low proxy working drawn = gives-old low working.orders _ working.play.view (cancels-kind IsOld (All IsOld) old-law _) drawn
 
   acted-drawn : (low : ℕ) (proxy : Proxy) (working : Working) → Given low working → Given low (acted config proxy working)
   unfolding acted
@@ -570,7 +573,7 @@ shown-drawn config heard x waiting now =
     let shown : Prepared = prepared config heard x waiting now in
     let follow : Follows x.view shown.view = prepared-walks waiting.event (λ call. Unit {0}) (λ x y. Follows x.view y.view) (names-stay waiting.event) config heard x waiting now refl in
     gives-none config x.view.epoch x.view.app x.view.counter shown.orders x.view shown.view follow
-    (record { on = old-on config x.view.epoch x.view.app x.view.counter shown.orders (prepared-old config heard (record x { view = record x.view { now = now } }) waiting.number waiting.event); epoch_is = refl; app_is = refl })
+    (record { on = old-on config x.view.epoch x.view.app x.view.counter shown.orders (prepared-kind IsOld old-law.responds config heard (record x { view = record x.view { now = now } }) waiting.number waiting.event); epoch_is = refl; app_is = refl })
 
 turn-drawn : (config : Config) (heard : List ℕ) (x : Session) (waiting : Waiting) (now : ℕ) (made : List CallRecord) (end : End)
     → Drawn config x.view.epoch x.view.app x.view.counter (outcome config heard x waiting now made end).orders (outcome config heard x waiting now made end).session.view

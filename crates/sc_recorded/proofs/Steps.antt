@@ -31,7 +31,6 @@ use Rattle.sc_state.specs.declared.host.Peer.TheVariants as peers
 use Rattle.sc_state.specs.declared.net.Net.{Net}
 use Rattle.sc_state.specs.declared.net.Note.{Note}
 use Rattle.sc_state.specs.declared.orders.Order.{Order}
-use Rattle.sc_state.specs.declared.orders.Order.TheVariants as orders
 use Rattle.sc_state.specs.declared.orders.Outcome.{Outcome}
 use Rattle.sc_state.specs.declared.queue.Queued.TheVariants as queued
 use Rattle.sc_state.specs.declared.queue.Waiting.{Waiting}
@@ -51,7 +50,8 @@ use Rattle.sc_hosts.specs.Transacting.{tidied}
 use Rattle.sc_hosts.specs.Words.{unavailable}
 use Rattle.sc_lasting.specs.Lasting.{All}
 use Rattle.sc_lasting.proofs.Parts.{all-filter, all-first, all-found}
-use Rattle.sc_keyed.proofs.OldOrders.{IsOld, goodbye-sends}
+use Rattle.sc_given.proofs.GivenCalls.{all-given}
+use Rattle.sc_given.proofs.GivenGoodbyes.{goodbye-kind}
 use Rattle.sc_walks.proofs.DueEvents.{AreGood, IsGoodItem, due-good}
 use Rattle.sc_recorded.specs.Recorded.{IsInner, IsTaggedEvent}
 use Rattle.sc_recorded.proofs.Hosts.{AreKinds, Good, IsLiveAs, IsSent, IsServed, MessageComes, pass_server-good, takes-began}
@@ -249,16 +249,6 @@ module _ {S : Type 0} (form : Form S) (app : AppId) (request_of : S → Request)
 
   -- ## Turns
 
-  old-ordered : (known : Option Request) (given : List Order) → IsOld given → All (Ordered known) given
-  unfolding IsOld All OrderFits
-  old-ordered known [] old = tt
-  old-ordered known (orders.Respond event response ∷ given) old = (tt, old-ordered known given old)
-  old-ordered known (orders.Begin branch directive region state request ∷ given) old = absurd old
-  old-ordered known (orders.Send branch request ∷ given) old = absurd old
-  old-ordered known (orders.Acknowledge request ∷ given) old = absurd old
-  old-ordered known (orders.Cancel branch ∷ given) old = (tt, old-ordered known given old)
-  old-ordered known (orders.CancelNow branch ∷ given) old = (tt, old-ordered known given old)
-
   without_live-kept : (known : Option Request) (of : AppId) (net : Net S) → Kept known net → Kept known (without_live of net)
   unfolding without_live tidied
   without_live-kept known of net kept =
@@ -271,9 +261,10 @@ module _ {S : Type 0} (form : Form S) (app : AppId) (request_of : S → Request)
       }) kept
 
   invalidated-kept : (known : Option Request) (of : AppId) (session : Session) (inbox : List Waiting) (net : Net S) → Kept known net → Kept known (invalidated setup of session inbox net)
-  unfolding invalidated
+  unfolding invalidated OrderFits
   invalidated-kept known of session inbox net kept =
-      without_live-kept known of _ (obeyed-holds form app request_of Lives Sound kinds _ known setup of net (old-ordered known _ (goodbye-sends setup.config session inbox)) kept)
+      let law = all-given (Ordered known) (λ event response. tt) (λ branch. tt) (λ branch. tt) in
+      without_live-kept known of _ (obeyed-holds form app request_of Lives Sound kinds _ known setup of net (goodbye-kind (Ordered known) law setup.config session inbox) kept)
 
   with_ready-kept : (known : Option Request) (of : AppId) (done : Outcome) (live : Option (Live S)) (net : Net S) → Kept known net → Kept known (with_ready of done live net)
   unfolding with_ready IsTaggedEvent

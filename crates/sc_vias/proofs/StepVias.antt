@@ -30,7 +30,6 @@ use Rattle.sc_state.specs.declared.host.Peer.TheVariants as peers
 use Rattle.sc_state.specs.declared.net.Net.{Net}
 use Rattle.sc_state.specs.declared.net.Note.{Note}
 use Rattle.sc_state.specs.declared.orders.Order.{Order}
-use Rattle.sc_state.specs.declared.orders.Order.TheVariants as orders
 use Rattle.sc_state.specs.declared.orders.Outcome.{Outcome}
 use Rattle.sc_state.specs.declared.queue.Queued.TheVariants as queued
 use Rattle.sc_state.specs.declared.queue.Waiting.{Waiting}
@@ -51,7 +50,8 @@ use Rattle.sc_hosts.specs.Transacting.{tidied}
 use Rattle.sc_hosts.specs.Words.{unavailable}
 use Rattle.sc_lasting.specs.Lasting.{All}
 use Rattle.sc_lasting.proofs.Parts.{all-filter, all-first}
-use Rattle.sc_keyed.proofs.OldOrders.{IsOld, goodbye-sends}
+use Rattle.sc_given.proofs.GivenCalls.{all-given}
+use Rattle.sc_given.proofs.GivenGoodbyes.{goodbye-kind}
 use Rattle.sc_vias.proofs.HostVias.{AreKinds, Good, IsNamed, pass_server-good, takes-good}
 use Rattle.sc_vias.proofs.NetVias.{Holds, OrderFits, changes, delivered-holds, if-holds, obeyed-holds, passed-holds, placed-holds, put-holds, queue_for-holds}
 
@@ -180,16 +180,6 @@ module _ {S : Type 0} (form : Form S) (epoch : ℕ) (Named : AppId → S → Typ
 
   -- ## Turns
 
-  old-ordered : (app : AppId) (given : List Order) → IsOld given → All (Ordered app) given
-  unfolding IsOld All OrderFits
-  old-ordered app [] old = tt
-  old-ordered app (orders.Respond event response ∷ given) old = (tt, old-ordered app given old)
-  old-ordered app (orders.Begin branch directive region state request ∷ given) old = absurd old
-  old-ordered app (orders.Send branch request ∷ given) old = absurd old
-  old-ordered app (orders.Acknowledge request ∷ given) old = absurd old
-  old-ordered app (orders.Cancel branch ∷ given) old = (tt, old-ordered app given old)
-  old-ordered app (orders.CancelNow branch ∷ given) old = (tt, old-ordered app given old)
-
   without_live-kept : (app : AppId) (net : Net S) → Kept net → Kept (without_live app net)
   unfolding without_live tidied
   without_live-kept app net kept =
@@ -197,9 +187,10 @@ module _ {S : Type 0} (form : Form S) (epoch : ℕ) (Named : AppId → S → Typ
       (λ host good. (all-removed (IsNamed form epoch Named Fits kinds app.host) (is_live app.serial) host.sessions good.0, all-filter (λ (client : Client). Fits client.app client.branch client.request) _ host.clients good.1)) kept
 
   invalidated-kept : (app : AppId) (session : Session) (inbox : List Waiting) (net : Net S) → Kept net → Kept (invalidated setup app session inbox net)
-  unfolding invalidated
+  unfolding invalidated OrderFits
   invalidated-kept app session inbox net kept =
-      without_live-kept app _ (obeyed-holds form epoch Named Fits kinds _ setup app net (old-ordered app _ (goodbye-sends setup.config session inbox)) kept)
+      let law = all-given (Ordered app) (λ event response. tt) (λ branch. tt) (λ branch. tt) in
+      without_live-kept app _ (obeyed-holds form epoch Named Fits kinds _ setup app net (goodbye-kind (Ordered app) law setup.config session inbox) kept)
 
   with_ready-kept : (app : AppId) (done : Outcome) (live : Option (Live S)) (net : Net S) → Kept net → Kept (with_ready app done live net)
   unfolding with_ready
