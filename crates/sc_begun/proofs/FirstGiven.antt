@@ -23,9 +23,9 @@ use Rattle.sc_hosts.specs.Messages.{asked_request, leg_request, on_branch, proxi
 use Rattle.sc_hosts.specs.Preparing.{prepared_for}
 use Rattle.sc_hosts.specs.Working.{worked_all}
 use Rattle.sc_lasting.specs.Lasting.{All}
-use Rattle.sc_lasting.proofs.Parts.{all-map}
+use Rattle.sc_lasting.proofs.Parts.{all-both, all-map}
 use Rattle.sc_given.specs.Givings.{DraftLaws, GivingLaws, MayPass, MayStart, Starts}
-use Rattle.sc_given.proofs.GivenCalls.{all-both, worked_all-gives}
+use Rattle.sc_given.proofs.GivenCalls.{worked_all-gives}
 use Rattle.sc_given.proofs.GivenEnds.{all_act-gives, before-gives}
 use Rattle.sc_given.proofs.GivenPassing.{passes_later-gives}
 use Rattle.sc_given.proofs.GivenShown.{prepared-kind}

@@ -30,7 +30,7 @@ use Rattle.sc_hosts.specs.Sessions.{Form, Turn}
 use Rattle.sc_hosts.specs.Steps.{closed_turn, invalidated, live_at, stepped, turned, turned_live, turns, turns_first, withdrawn, without_live}
 use Rattle.sc_hosts.specs.Transacting.{tidied}
 use Rattle.sc_lasting.specs.Lasting.{All}
-use Rattle.sc_lasting.proofs.Parts.{all-append, all-first, all-found}
+use Rattle.sc_lasting.proofs.Parts.{all-append, all-first, all-found, all-removed}
 use Rattle.sc_walks.specs.Walks.{HostLaws, NetLaws}
 use Rattle.sc_walks.proofs.WalkNets.{obeyed-walks}
 use Rattle.sc_walks.proofs.WalkSteps.{bad_by-walks, lost-walks, ticked-walks, with_ready-walks}
@@ -44,16 +44,6 @@ unfolding All change_nth
 all-nth P place change [] each all = tt
 all-nth P zero change (x ∷ xs) each all = (each x refl all.0, all.1)
 all-nth P (suc place) change (x ∷ xs) each all = (all.0, all-nth P place change xs each all.1)
-
-all-if : {A : Type 0} (P : A → Type 0) (b : Bool) (x : A) (xs ys : List A) → P x → All P xs → All P ys → All P (cond b xs (x ∷ ys))
-unfolding All
-all-if P true x xs ys one p q = p
-all-if P false x xs ys one p q = (one, q)
-
-all-removed : {A : Type 0} (P : A → Type 0) (test : A → Bool) (xs : List A) → All P xs → All P (remove_first test xs)
-unfolding All remove_first
-all-removed P test [] all = tt
-all-removed P test (x ∷ xs) all = all-if P (test x) x xs (remove_first test xs) all.0 all.1 (all-removed P test xs all.1)
 
 all-at : {A : Type 0} (P : A → Type 0) (xs : List A) (place : ℕ) (x : A) → slice_get xs place ≡ Some x → All P xs → P x
 unfolding All

@@ -1,8 +1,7 @@
 -- What the calls of a turn give is of the kind of which it was.
 use Rattle.std.proofs.Common.{◌≡◌, ℕ, Bool, true, false, Option, None, Some, List, [], ◌∷◌, ◌++◌, refl}
 use Rattle.std.specs.Prelude.{cond, map, filter, ◌&&◌}
-use Rattle.std.specs.List.{find, fold, flat_map}
-use Rattle.sc_value.specs.Lists.{remove_first}
+use Rattle.std.specs.List.{find, fold}
 use Rattle.sc_value.specs.declared.ids.Directive.{Directive}
 use Rattle.sc_value.specs.declared.ids.ReqId.{ReqId}
 use Rattle.sc_value.specs.declared.ids.SessId.{SessId}
@@ -40,24 +39,10 @@ use Rattle.sc_hosts.specs.ViewChanges.{is_owed, new_call_id, new_tag}
 use Rattle.sc_hosts.specs.Working.{starts, keeps_sent, sends_initial, sends_later, sends_in, sends_written, sends, ack_with, acknowledges, cancels, owed_answer, goodbyes, invalidates, does, does_by, worked, worked_all, next_branch}
 use Rattle.sc_hosts.specs.Refusals.{refusal}
 use Rattle.sc_lasting.specs.Lasting.{All}
-use Rattle.sc_lasting.proofs.Parts.{all-append, all-first, all-found}
+use Rattle.sc_lasting.proofs.Parts.{all-append, all-both, all-first, all-flat, all-found, all-removed}
 use Rattle.sc_given.specs.Givings.{DraftLaws, GivingLaws, IsDrafted}
 
 -- ## Lists
-
-pub all-both : {A : Type 0} (P : A → Type 0) (xs ys : List A) → All P xs → All P ys → All P (xs ++ ys)
-unfolding All
-all-both P [] ys p q = q
-all-both P (x ∷ xs) ys p q = (p.0, all-both P xs ys p.1 q)
-
-pub all-removed : {A : Type 0} (P : A → Type 0) (test : A → Bool) (xs : List A) → All P xs → All P (remove_first test xs)
-unfolding All remove_first
-all-removed P test [] all = tt
-all-removed P test (x ∷ xs) all = all-if P (test x) x xs (remove_first test xs) all.0 all.1 (all-removed P test xs all.1)
-  where
-    all-if : {A : Type 0} (P : A → Type 0) (b : Bool) (x : A) (xs ys : List A) → P x → All P xs → All P ys → All P (cond b xs (x ∷ ys))
-    all-if P true x xs ys one p q = p
-    all-if P false x xs ys one p q = (one, q)
 
 -- what each item keeps, all of them keep
 pub fold-keeps : {A : Type 0} (Holds : Working → Type 0) (items : List A) (act : Working → A → Working) → ((working : Working) (a : A) → Holds working → Holds (act working a)) → (working : Working) → Holds working
@@ -121,15 +106,10 @@ module _ (Kind : Order → Type 0) (Given : List Order → Type 0) (law : Giving
 
   -- ## Invalidation
 
-  pub flat-kind : {A : Type 0} (items : List A) (give : A → List Order) → ((a : A) → All Kind (give a)) → All Kind (flat_map give items)
-  unfolding All
-  flat-kind [] give each = tt
-  flat-kind (a ∷ items) give each = all-both Kind (give a) (flat_map give items) (each a) (flat-kind items give each)
-
   pub goodbyes-kind : (config : Config) (view : View) (known : Known) (test : SessId → Bool) → All Kind (goodbyes config view known test)
   unfolding goodbyes owed_answer
   goodbyes-kind config view known test =
-      all-both Kind _ _ (flat-kind (filter (λ request. test request.sess && is_owed request) view.requests) _ (λ request. answers-kind config _ view _ request.initial)) (now-kind _)
+      all-both Kind _ _ (all-flat Kind (filter (λ request. test request.sess && is_owed request) view.requests) _ (λ request. answers-kind config _ view _ request.initial)) (now-kind _)
 
   module _ (First Later : Request → Type 0) (drafts : DraftLaws Kind First Later) where
     -- so is all that was given so far in a turn, and what is drafted has its property

@@ -12,9 +12,9 @@ use Rattle.sc_state.specs.declared.session.Session.{Session}
 use Rattle.sc_grammar.specs.Written.{Bytes}
 use Rattle.sc_hosts.specs.Finishing.{goodbye, waiting_answer}
 use Rattle.sc_lasting.specs.Lasting.{All}
-use Rattle.sc_lasting.proofs.Parts.{all-filter}
+use Rattle.sc_lasting.proofs.Parts.{all-both, all-filter, all-flat}
 use Rattle.sc_given.specs.Givings.{GivingLaws}
-use Rattle.sc_given.proofs.GivenCalls.{all-both, flat-kind, goodbyes-kind}
+use Rattle.sc_given.proofs.GivenCalls.{goodbyes-kind}
 
 module _ (Kind : Order → Type 0) (law : GivingLaws Kind (All Kind)) where
   if-orders : (b : Bool) (xs ys : List Order) → All Kind xs → All Kind ys → All Kind (cond b xs ys)
@@ -45,4 +45,4 @@ module _ (Kind : Order → Type 0) (law : GivingLaws Kind (All Kind)) where
   unfolding goodbye
   goodbye-kind config session inbox =
       let said = goodbyes-kind Kind (All Kind) law config session.view session.known (λ sess. true) in
-      all-both Kind _ _ (all-both Kind _ _ (all-filter Kind _ _ said) (flat-kind Kind (All Kind) law inbox (waiting_answer _) (λ waiting. waiting_answer-kind _ waiting.number waiting.event))) (all-filter Kind _ _ said)
+      all-both Kind _ _ (all-both Kind _ _ (all-filter Kind _ _ said) (all-flat Kind inbox (waiting_answer _) (λ waiting. waiting_answer-kind _ waiting.number waiting.event))) (all-filter Kind _ _ said)

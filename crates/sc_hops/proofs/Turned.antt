@@ -1,7 +1,6 @@
 -- A turn queues no later requests of a kind but those that it gives to send.
 use Rattle.std.proofs.Common.{◌≡◌, ◌<◌, ℕ, Bool, true, false, Option, None, Some, List, [], ◌∷◌}
 use Rattle.std.specs.Prelude.{cond, drop, slice_get}
-use Rattle.sc_value.specs.Lists.{remove_first}
 use Rattle.sc_value.specs.declared.ids.AppId.{AppId}
 use Rattle.sc_value.specs.declared.message.Request.{Request}
 use Rattle.sc_terms.specs.declared.calls.CallRecord.{CallRecord}
@@ -25,7 +24,7 @@ use Rattle.sc_hosts.specs.Sessions.{Form, Turn}
 use Rattle.sc_hosts.specs.Steps.{closed_turn, invalidated, live_at, outcome_by, stepped, turn_of, turned, turned_live, turns, turns_first, with_ready, without_live}
 use Rattle.sc_hosts.specs.Transacting.{tidied}
 use Rattle.sc_lasting.specs.Lasting.{All}
-use Rattle.sc_lasting.proofs.Parts.{all-filter, all-first}
+use Rattle.sc_lasting.proofs.Parts.{all-filter, all-first, all-removed}
 use Rattle.sc_given.proofs.GivenCalls.{all-given}
 use Rattle.sc_given.proofs.GivenGoodbyes.{goodbye-kind}
 use Rattle.sc_hops.specs.Hops.{AreFit, AreKinds, IsOrdered, IsPlain}
@@ -37,16 +36,6 @@ fewer : {A : Type 0} (P : A → Type 0) (xs : List A) → All P xs → All P (dr
 unfolding All
 fewer P [] all = tt
 fewer P (x ∷ xs) all = all.1
-
-if-without : {A : Type 0} (P : A → Type 0) (b : Bool) (x : A) (xs ys : List A) → P x → All P xs → All P ys → All P (cond b xs (x ∷ ys))
-unfolding All
-if-without P true x xs ys one p q = p
-if-without P false x xs ys one p q = (one, q)
-
-all-without : {A : Type 0} (P : A → Type 0) (test : A → Bool) (xs : List A) → All P xs → All P (remove_first test xs)
-unfolding All remove_first
-all-without P test [] all = tt
-all-without P test (x ∷ xs) all = if-without P (test x) x xs (remove_first test xs) all.0 all.1 (all-without P test xs all.1)
 
 module _ {S : Type 0} (Way Sound Told Sent : Request → Type 0) (setup : Setup) (epoch base : ℕ) (kinds : AreKinds Way Sound Told Sent) where
   abbrev Holding : Net S → Type 0
@@ -70,7 +59,7 @@ module _ {S : Type 0} (Way Sound Told Sent : Request → Type 0) (setup : Setup)
 
   without_live-holds : (app : AppId) (net : Net S) → Holding net → Holding (without_live app net)
   unfolding without_live tidied
-  without_live-holds app net holds = changed-holds app.host _ net (λ host good. (all-without (Right app.host) (is_live app.serial) host.sessions good.0, all-filter (λ (client : Client). Sound client.request) _ host.clients good.1)) holds
+  without_live-holds app net holds = changed-holds app.host _ net (λ host good. (all-removed (Right app.host) (is_live app.serial) host.sessions good.0, all-filter (λ (client : Client). Sound client.request) _ host.clients good.1)) holds
 
   obeys : (app : AppId) (given : List Order) (net : Net S) → All (IsOrdered setup.config Way Sound) given → Holding net → Holding (obeyed setup app given net)
   obeys app given net ok holds = obeyed-holds {S = S} Way Sound Told Sent setup epoch base kinds given app net ok holds

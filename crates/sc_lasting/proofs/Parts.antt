@@ -1,11 +1,11 @@
 -- All items of a list; SipSessions that go, or their links; a request that comes.
 use Rattle.std.proofs.Common.{◌≡◌, ℕ, ◌++◌, Bool, true, false, Option, None, Some, List, [], ◌∷◌, refl, ap, subst}
 use Rattle.std.specs.Prelude.{cond, filter, nat_lt}
-use Rattle.std.specs.List.{find}
+use Rattle.std.specs.List.{find, flat_map}
 use Rattle.sc_tokens.specs.Names.{same_bytes}
 use Rattle.sc_value.specs.declared.ids.SessId.{SessId}
 use Rattle.sc_value.specs.declared.message.Request.{Request}
-use Rattle.sc_value.specs.Lists.{change_first}
+use Rattle.sc_value.specs.Lists.{change_first, remove_first}
 use Rattle.sc_terms.specs.declared.views.RequestView.{RequestView}
 use Rattle.sc_terms.specs.declared.views.SessionView.{SessionView}
 use Rattle.sc_terms.specs.declared.views.View.{View}
@@ -42,6 +42,28 @@ pub all-map : {A : Type 0} (P R : A → Type 0) (xs : List A) → ((x : A) → P
 unfolding All
 all-map P R [] each all = tt
 all-map P R (x ∷ xs) each all = (each x all.0, all-map P R xs each all.1)
+
+-- two lists behind each other
+pub all-both : {A : Type 0} (P : A → Type 0) (xs ys : List A) → All P xs → All P ys → All P (xs ++ ys)
+unfolding All
+all-both P [] ys p q = q
+all-both P (x ∷ xs) ys p q = (p.0, all-both P xs ys p.1 q)
+
+-- what each item gives
+pub all-flat : {A B : Type 0} (P : B → Type 0) (items : List A) (give : A → List B) → ((a : A) → All P (give a)) → All P (flat_map give items)
+unfolding All
+all-flat P [] give each = tt
+all-flat P (a ∷ items) give each = all-both P (give a) (flat_map give items) (each a) (all-flat P items give each)
+
+-- the first that passes a test is left out
+pub all-removed : {A : Type 0} (P : A → Type 0) (test : A → Bool) (xs : List A) → All P xs → All P (remove_first test xs)
+unfolding All remove_first
+all-removed P test [] all = tt
+all-removed P test (x ∷ xs) all = by (test x) (all-removed P test xs all.1)
+  where
+    by : (b : Bool) → All P (remove_first test xs) → All P (cond b xs (x ∷ remove_first test xs))
+    by true later = all.1
+    by false later = (all.0, later)
 
 -- what passes from item to item
 pub all-each : {A : Type 0} (P : A → Type 0) (Same : A → A → Type 0) (xs ys : List A)

@@ -30,8 +30,9 @@ use Rattle.sc_hosts.specs.Messages.{asked_request, leg_request, on_branch, own_v
 use Rattle.sc_hosts.specs.Preparing.{kept_of, prepared_for}
 use Rattle.sc_hosts.specs.Working.{worked_all}
 use Rattle.sc_lasting.specs.Lasting.{All}
+use Rattle.sc_lasting.proofs.Parts.{all-both}
 use Rattle.sc_given.specs.Givings.{DraftLaws, GivingLaws, IsNamed, MayStart, Passes, Starts}
-use Rattle.sc_given.proofs.GivenCalls.{all-both, worked_all-gives}
+use Rattle.sc_given.proofs.GivenCalls.{worked_all-gives}
 use Rattle.sc_given.proofs.GivenEnds.{all_act-gives, before-gives}
 use Rattle.sc_given.proofs.GivenPassing.{passes_later-gives}
 use Rattle.sc_given.proofs.GivenShown.{prepared-kind}

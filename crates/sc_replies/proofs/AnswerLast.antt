@@ -19,12 +19,12 @@ use Rattle.sc_hosts.specs.Preparing.{own_tag_of}
 use Rattle.sc_hosts.specs.Words.{does_not_exist}
 use Rattle.sc_hosts.specs.Working.{goodbyes}
 use Rattle.sc_lasting.specs.Lasting.{All}
-use Rattle.sc_lasting.proofs.Parts.{all-filter, all-map}
+use Rattle.sc_lasting.proofs.Parts.{all-both, all-filter, all-map}
 use Rattle.sc_lived.specs.Lived.{turned_events}
 use Rattle.sc_replies.specs.Fields.{AnswersAlone, Incoming, WasBrought, incoming}
 use Rattle.sc_replies.proofs.AnswerEvents.{AreOf, more-of}
 use Rattle.sc_replies.proofs.AnswerFields.{own-answers}
-use Rattle.sc_replies.proofs.AnswerOrders.{Gives, all-more, goodbyes-give}
+use Rattle.sc_replies.proofs.AnswerOrders.{Gives, goodbyes-give}
 use Rattle.sc_replies.proofs.AnswerTurns.{lives-of}
 
 -- nothing is forwarded
@@ -66,13 +66,13 @@ module _ (By : ℕ → Incoming → Type 0) where
   unfolding All
   inbox-gives tag [] by = tt
   inbox-gives tag (waiting ∷ inbox) by =
-      all-more Gives-own (waiting_answer tag waiting) (flat_map (waiting_answer tag) inbox) (waiting-gives tag waiting.number waiting.event by.0) (inbox-gives tag inbox by.1)
+      all-both Gives-own (waiting_answer tag waiting) (flat_map (waiting_answer tag) inbox) (waiting-gives tag waiting.number waiting.event by.0) (inbox-gives tag inbox by.1)
 
   goodbye-gives : (config : Config) (session : Session) (inbox : List Waiting) → AreOf By session.view session.known → All IsBy inbox → AllOwn (goodbye config session inbox)
   unfolding goodbye
   goodbye-gives config session inbox ok by =
       let all : AllOwn (goodbyes config session.view session.known (λ sess. true)) = goodbyes-give By NoneGoes config session.view session.known (λ sess. true) ok.3 in
-      all-more Gives-own _ _ (all-more Gives-own _ _ (all-filter Gives-own _ (goodbyes config session.view session.known (λ sess. true)) all) (inbox-gives (own_tag_of session.view FIRST_SESSION) inbox by))
+      all-both Gives-own _ _ (all-both Gives-own _ _ (all-filter Gives-own _ (goodbyes config session.view session.known (λ sess. true)) all) (inbox-gives (own_tag_of session.view FIRST_SESSION) inbox by))
       (all-filter Gives-own _ (goodbyes config session.view session.known (λ sess. true)) all)
 
 -- ## A life

@@ -53,7 +53,7 @@ use Rattle.sc_hosts.specs.Words.{too_many_hops}
 use Rattle.sc_hosts.specs.Working.{ack_with, acknowledges, cancels, dialog_in, does, does_by, goodbyes, in_order, invalidates, invite_branches, keeps_sent, owed_answer, sends, sends_in, sends_initial, sends_later, sends_written, sent_branch, worked}
 use Rattle.sc_lasting.specs.Lasting.{All}
 use Rattle.sc_lasting.proofs.Began.{same-number, test-found}
-use Rattle.sc_lasting.proofs.Parts.{all-first, all-found}
+use Rattle.sc_lasting.proofs.Parts.{all-both, all-first, all-found}
 use Rattle.sc_replies.specs.Fields.{Incoming, IsAnswerTo}
 use Rattle.sc_replies.proofs.AnswerEvents.{AllShown, AreOf, ShownOf}
 use Rattle.sc_replies.proofs.AnswerFields.{given-answers}
@@ -63,11 +63,6 @@ use Rattle.sc_replies.proofs.SentCalls.{b2b-passed, respond-owed, respond-passed
 unfoldable pub Gives : (ℕ → Incoming → Type 0) → (ℕ → Type 0) → Order → Type 0
 Gives By Passed (orders.Respond number response) = ((came : Incoming) × By number came × IsAnswerTo came response) ⊎ Passed number
 Gives By Passed order = Unit {0}
-
-pub all-more : {A : Type 0} (P : A → Type 0) (xs ys : List A) → All P xs → All P ys → All P (xs ++ ys)
-unfolding All
-all-more P [] ys all more = more
-all-more P (x ∷ xs) ys all more = (all.0, all-more P xs ys all.1 more)
 
 left-true : (a b : Bool) → (a && b) ≡ true → a ≡ true
 left-true true b is = refl
@@ -115,7 +110,7 @@ module _ (By : ℕ → Incoming → Type 0) (Passed : ℕ → Type 0) where
       → AllGive (answering config (Some request) answer working).orders
   unfolding answering
   answering-gives config request answer working received of all =
-      all-more (Gives By Passed) working.orders _ all (kept-gives config answer working.play.view working.known request received of)
+      all-both (Gives By Passed) working.orders _ all (kept-gives config answer working.play.view working.known request received of)
 
   -- what is shown goes by its event
   shown-of : (test : RequestView → Bool) (working : Working) (request : RequestView) → find test working.play.view.requests ≡ Some request → OfIn working → All (ShownOf By request) working.known.kept
@@ -136,7 +131,7 @@ module _ (By : ℕ → Incoming → Type 0) (Passed : ℕ → Type 0) where
   begun-gives config answer sess working accepted ok all = respond-gives config answer _ working _ refl accepted ok all
 
   if-owed : (b : Bool) (act : RequestView → List Order) (r : RequestView) (rs : List RequestView) → (b ≡ true → AllGive (act r)) → AllGive (flat_map act rs) → AllGive (flat_map act (cond b (r ∷ rs) rs))
-  if-owed true act r rs one all = all-more (Gives By Passed) (act r) (flat_map act rs) (one refl) all
+  if-owed true act r rs one all = all-both (Gives By Passed) (act r) (flat_map act rs) (one refl) all
   if-owed false act r rs one all = all
 
   owed-give : (config : Config) (view : View) (known : Known) (test : RequestView → Bool) (rs : List RequestView) → ((r : RequestView) → test r ≡ true → r.received ≡ true) → All (AllShown By known.kept) rs
@@ -154,7 +149,7 @@ module _ (By : ℕ → Incoming → Type 0) (Passed : ℕ → Type 0) where
   pub goodbyes-give : (config : Config) (view : View) (known : Known) (test : SessId → Bool) → All (AllShown By known.kept) view.requests → AllGive (goodbyes config view known test)
   unfolding goodbyes
   goodbyes-give config view known test of =
-      all-more (Gives By Passed) (flat_map (owed_answer config view known) (filter (λ (r : RequestView). test r.sess && is_owed r) view.requests)) _
+      all-both (Gives By Passed) (flat_map (owed_answer config view known) (filter (λ (r : RequestView). test r.sess && is_owed r) view.requests)) _
       (owed-give config view known (λ (r : RequestView). test r.sess && is_owed r) view.requests (λ r is. owed-received r (right-true (test r.sess) (is_owed r) is)) of)
       (ended-give (in_order (invite_branches test known)))
 
@@ -167,7 +162,7 @@ module _ (By : ℕ → Incoming → Type 0) (Passed : ℕ → Type 0) where
 
   one-more : (given : List Order) (order : Order) → AllGive given → Gives By Passed order → AllGive (given ++ order ∷ [])
   unfolding All
-  one-more given order all one = all-more (Gives By Passed) given (order ∷ []) all (one, tt)
+  one-more given order all one = all-both (Gives By Passed) given (order ∷ []) all (one, tt)
 
   in-gives : (config : Config) (sess : SessId) (ask : Inside) (dialog : Option DialogState) (working : Working) → AllGive working.orders → AllGive (sends_in config sess ask dialog working).orders
   unfolding sends_in sends_later keeps_sent Gives
@@ -215,7 +210,7 @@ module _ (By : ℕ → Incoming → Type 0) (Passed : ℕ → Type 0) where
   call-gives config working (calls.Discard draft) is ok all = all
   call-gives config working (calls.Ack sess body) is ok all = acks-give config sess body (find (awaits_ack sess) working.play.view.requests) working all
   call-gives config working (calls.Cancel req) is ok all =
-      all-more (Gives By Passed) working.orders (map (λ branch. orders.Cancel branch) (sent_branch (kept_of working.known req))) all (cancels-give (sent_branch (kept_of working.known req)))
+      all-both (Gives By Passed) working.orders (map (λ branch. orders.Cancel branch) (sent_branch (kept_of working.known req))) all (cancels-give (sent_branch (kept_of working.known req)))
   call-gives config working (calls.ProxyTo req uris how) is ok all = all
   call-gives config working (calls.ProxyCancel req) is ok all = all
   call-gives config working (calls.B2bRespond sess answer) is ok all = begun-gives config answer sess working (b2b-passed working.play sess answer is) ok all
@@ -228,7 +223,7 @@ module _ (By : ℕ → Incoming → Type 0) (Passed : ℕ → Type 0) where
   call-gives config working (calls.SetExpires minutes) is ok all = all
   call-gives config working (calls.SetReadyFlag target flag) is ok all = all
   call-gives config working (calls.InvalidateSession sess) is ok all =
-      all-more (Gives By Passed) working.orders (goodbyes config working.play.view working.known _) all (goodbyes-give config working.play.view working.known _ ok.3)
+      all-both (Gives By Passed) working.orders (goodbyes config working.play.view working.known _) all (goodbyes-give config working.play.view working.known _ ok.3)
   call-gives config working calls.InvalidateApplication is ok all = all
 
   by-gives : (config : Config) (working : Working) (call : Call) (found : Option Refusal) → refusal working.play call ≡ found → OfIn working → AllGive working.orders
@@ -340,7 +335,7 @@ module _ (By : ℕ → Incoming → Type 0) (Passed : ℕ → Type 0) where
   cancels-so : (proxy : Proxy) (working : Working) → ActsSo working → ActsSo (sends_cancels proxy working)
   unfolding sends_cancels
   cancels-so proxy working so =
-      (all-more (Gives By Passed) working.orders (map (λ branch. orders.Cancel branch) (cancelled_now (proxy_now proxy working))) so.0 (cancels-give (cancelled_now (proxy_now proxy working))), so.1)
+      (all-both (Gives By Passed) working.orders (map (λ branch. orders.Cancel branch) (cancelled_now (proxy_now proxy working))) so.0 (cancels-give (cancelled_now (proxy_now proxy working))), so.1)
 
   close-so : (proxy : Proxy) (working : Working) → ActsSo working → ActsSo (closes proxy working)
   unfolding closes

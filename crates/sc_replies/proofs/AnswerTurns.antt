@@ -51,14 +51,14 @@ use Rattle.sc_walked.proofs.WalkEnds.{all_act-goes, done-any, drafts_ended-goes,
 use Rattle.sc_walked.proofs.WalkParts.{answered-walks, each-first, tidy-walks}
 use Rattle.sc_lasting.specs.Lasting.{All}
 use Rattle.sc_lasting.proofs.Began.{same-number, test-found}
-use Rattle.sc_lasting.proofs.Parts.{all-found, all-map, each-weaker, removed-only}
+use Rattle.sc_lasting.proofs.Parts.{all-both, all-found, all-map, each-weaker, removed-only}
 use Rattle.sc_lived.specs.Lived.{told, turned_events}
 use Rattle.sc_lived.proofs.Sayings.{session-lived}
 use Rattle.sc_replies.specs.Fields.{Answers, AnswersAll, HasAnsweredAll, Incoming, IsProxied, WasBrought, incoming}
 use Rattle.sc_replies.specs.Came.{Came, brought, came_of}
 use Rattle.sc_replies.specs.Replies.{orders_of}
 use Rattle.sc_replies.proofs.AnswerEvents.{AreOf, GoesOn, dropped, events-law, forgotten, more-of, shown-on}
-use Rattle.sc_replies.proofs.AnswerOrders.{AllGive, Gives, IsPassed, all-more, calls-give, finished-gives}
+use Rattle.sc_replies.proofs.AnswerOrders.{AllGive, Gives, IsPassed, calls-give, finished-gives}
 use Rattle.sc_replies.proofs.AnswerShown.{first-gives, shown-of}
 use Rattle.sc_replies.proofs.Brought.{ProxyBy, ProxyFits}
 use Rattle.sc_replies.proofs.CameProxies.{ProxyCame}
@@ -417,7 +417,7 @@ unfolding came_of All
 all-came [] config history = tt
 all-came (turn ∷ earlier) config history =
     let x : Session = session_after config history earlier in
-    all-more (CameBy (turn ∷ earlier)) (came_of config history earlier) (brought x turn.waiting.number turn.waiting.event)
+    all-both (CameBy (turn ∷ earlier)) (came_of config history earlier) (brought x turn.waiting.number turn.waiting.event)
     (all-map (CameBy earlier) (CameBy (turn ∷ earlier)) (came_of config history earlier) (old-came turn earlier) (all-came earlier config history)) (new-came turn earlier x turn.waiting.event refl)
 
 abbrev ProxiedBy : List Turn → Proxy → Type 0

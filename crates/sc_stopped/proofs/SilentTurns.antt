@@ -32,8 +32,8 @@ use Rattle.sc_hosts.specs.Runs.{AllowedBy}
 use Rattle.sc_hosts.specs.Words.{does_not_exist}
 use Rattle.sc_hosts.specs.Working.{starts, worked_all}
 use Rattle.sc_lasting.specs.Lasting.{All}
+use Rattle.sc_lasting.proofs.Parts.{all-both}
 use Rattle.sc_given.specs.Givings.{GivingLaws}
-use Rattle.sc_given.proofs.GivenCalls.{all-both}
 use Rattle.sc_given.proofs.GivenEnds.{all_act-any}
 use Rattle.sc_stopped.specs.Stopped.{IsNoLater, IsRefusedThere, RefusesFirst}
 

@@ -2,7 +2,7 @@
 use Rattle.std.proofs.Common.{◌≡◌, ℕ, Bool, true, false, Option, None, Some, List, [], ◌∷◌, ◌++◌, refl}
 use Rattle.std.specs.Prelude.{cond, slice_get}
 use Rattle.std.specs.List.{fold}
-use Rattle.sc_value.specs.Lists.{change_first, remove_first}
+use Rattle.sc_value.specs.Lists.{change_first}
 use Rattle.sc_value.specs.declared.answerable.Answerable.{Answerable}
 use Rattle.sc_value.specs.declared.ids.AppId.{AppId}
 use Rattle.sc_value.specs.declared.ids.Place.{Place}
@@ -49,21 +49,11 @@ use Rattle.sc_hosts.specs.Ticks.{told_at, passes, clients_to, lost, Dated, DueIt
 use Rattle.sc_hosts.specs.Transacting.{tidied}
 use Rattle.sc_hosts.specs.Words.{unavailable}
 use Rattle.sc_lasting.specs.Lasting.{All}
-use Rattle.sc_lasting.proofs.Parts.{all-filter, all-first}
+use Rattle.sc_lasting.proofs.Parts.{all-filter, all-first, all-removed}
 use Rattle.sc_given.proofs.GivenCalls.{all-given}
 use Rattle.sc_given.proofs.GivenGoodbyes.{goodbye-kind}
 use Rattle.sc_vias.proofs.HostVias.{AreKinds, Good, IsNamed, pass_server-good, takes-good}
 use Rattle.sc_vias.proofs.NetVias.{Holds, OrderFits, changes, delivered-holds, if-holds, obeyed-holds, passed-holds, placed-holds, put-holds, queue_for-holds}
-
-all-if : {A : Type 0} (P : A → Type 0) (b : Bool) (x : A) (xs ys : List A) → P x → All P xs → All P ys → All P (cond b xs (x ∷ ys))
-unfolding All
-all-if P true x xs ys one p q = p
-all-if P false x xs ys one p q = (one, q)
-
-all-removed : {A : Type 0} (P : A → Type 0) (test : A → Bool) (xs : List A) → All P xs → All P (remove_first test xs)
-unfolding All remove_first
-all-removed P test [] all = tt
-all-removed P test (x ∷ xs) all = all-if P (test x) x xs (remove_first test xs) all.0 all.1 (all-removed P test xs all.1)
 
 module _ {S : Type 0} (form : Form S) (epoch : ℕ) (Named : AppId → S → Type 0) (Fits : AppId → ℕ → Request → Type 0) (kinds : AreKinds form epoch Named Fits) (setup : Setup) where
   -- the net is so

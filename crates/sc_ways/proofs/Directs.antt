@@ -25,7 +25,7 @@ use Rattle.sc_hosts.specs.Runs.{after_step}
 use Rattle.sc_hosts.specs.Steps.{live_at}
 use Rattle.sc_hosts.specs.Transacting.{is_same_app}
 use Rattle.sc_lasting.specs.Lasting.{All, AreDirect, Directly, IsDirect}
-use Rattle.sc_lasting.proofs.Parts.{all-found}
+use Rattle.sc_lasting.proofs.Parts.{all-both, all-found}
 use Rattle.sc_lived.specs.Lived.{AreAccepted, Told, is_refused, told, told_by}
 use Rattle.sc_paths.specs.Moments.{Moment, moments_from, options_in, options_of, proxied_with}
 use Rattle.sc_ways.specs.Ways.{TakesNoProxy}
@@ -101,11 +101,6 @@ step-direct app (steps.Withdraw other) none = tt
 both-none : (xs ys : List ProxyOptions) → xs ++ ys ≡ [] → (xs ≡ []) × (ys ≡ [])
 both-none [] ys is = (refl, is)
 both-none (x ∷ xs) ys is = cc
-
-all-both : {A : Type 0} (P : A → Type 0) (xs ys : List A) → All P xs → All P ys → All P (xs ++ ys)
-unfolding All
-all-both P [] ys p q = q
-all-both P (x ∷ xs) ys p q = (p.0, all-both P xs ys p.1 q)
 
 front : {A : Type 0} (P : A → Type 0) (xs ys : List A) → All P (xs ++ ys) → All P xs
 unfolding All

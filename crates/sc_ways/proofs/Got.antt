@@ -16,7 +16,7 @@ use Rattle.sc_hosts.specs.Inboxes.{is_live}
 use Rattle.sc_hosts.specs.Nets.{host_at}
 use Rattle.sc_hosts.specs.Steps.{inbox_of, live_at, live_of}
 use Rattle.sc_lasting.specs.Lasting.{All}
-use Rattle.sc_lasting.proofs.Parts.{all-found}
+use Rattle.sc_lasting.proofs.Parts.{all-flat, all-found}
 use Rattle.sc_reached.specs.Reached.{AllSmall, AreSmall}
 use Rattle.sc_reached.proofs.Reaching.{serial-is}
 use Rattle.sc_paths.specs.Moments.{Got, Moment, got_in, waiting_at}
@@ -25,16 +25,6 @@ use Rattle.sc_hops.specs.Hops.{AreFit}
 
 lower : (a b : ℕ) → nat_lt a b ≡ true → a < b
 lower a b is = grind (arith, nat_tests, is)
-
-all-both : {A : Type 0} (P : A → Type 0) (xs ys : List A) → All P xs → All P ys → All P (xs ++ ys)
-unfolding All
-all-both P [] ys p q = q
-all-both P (x ∷ xs) ys p q = (p.0, all-both P xs ys p.1 q)
-
-all-flat : {A B : Type 0} (P : B → Type 0) (items : List A) (give : A → List B) → ((a : A) → All P (give a)) → All P (flat_map give items)
-unfolding All
-all-flat P [] give each = tt
-all-flat P (a ∷ items) give each = all-both P (give a) (flat_map give items) (each a) (all-flat P items give each)
 
 mapped : {A B : Type 0} (P : B → Type 0) (f : A → B) (xs : List A) → All (λ (x : A). P (f x)) xs → All P (map f xs)
 unfolding All
