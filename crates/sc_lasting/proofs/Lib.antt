@@ -11,3 +11,4 @@ pub mod LinkChanges
 pub mod LinksMade
 pub mod Onward
 pub mod Proxied
+pub mod ShownProxies

@@ -12,7 +12,6 @@ use Rattle.sc_terms.specs.declared.events.Event.TheVariants as events
 use Rattle.sc_terms.specs.declared.settings.Config.{Config}
 use Rattle.sc_terms.specs.declared.views.RequestView.{RequestView}
 use Rattle.sc_terms.specs.declared.views.SessionView.{SessionView}
-use Rattle.sc_terms.specs.declared.views.TimerView.{TimerView}
 use Rattle.sc_state.specs.declared.proxy.Branch.{Branch}
 use Rattle.sc_state.specs.declared.proxy.Proxy.{Proxy}
 use Rattle.sc_state.specs.declared.queue.Queued.{Queued}
@@ -24,22 +23,21 @@ use Rattle.sc_state.specs.declared.session.Session.{Session}
 use Rattle.sc_state.specs.declared.working.Prepared.{Prepared}
 use Rattle.sc_model.specs.Names.{edge_tag}
 use Rattle.sc_model.specs.Responses.{response_to}
-use Rattle.sc_model.specs.Transactions.{is_failure}
 use Rattle.sc_hosts.specs.Branches.{branch_in, ended_by, has_branch, heard, is_invite, is_open, is_supervised, is_timed_out, stopped, to_cancel}
-use Rattle.sc_hosts.specs.DerivedSessions.{Derives, Handling, In, Takes, handled_in, handling, overtaken, without_derived}
-use Rattle.sc_hosts.specs.Legs.{change_leg, is_low, leg_of, with_answer}
-use Rattle.sc_hosts.specs.Looking.{is_gone_in, session_in}
+use Rattle.sc_hosts.specs.DerivedSessions.{Derives, Handling, In, Takes, handled_in, handling}
+use Rattle.sc_hosts.specs.Legs.{change_leg, with_answer}
+use Rattle.sc_hosts.specs.Looking.{session_in}
 use Rattle.sc_hosts.specs.Messages.{bare_answer, own_response}
-use Rattle.sc_hosts.specs.Preparing.{cancelled_proxy, cancelled_request, has_expired, is_invited, kept_of, prepared_branch_timer, prepared_cancel, prepared_expiry, prepared_for, prepared_timer, proxy_of, terminated, timed_out}
-use Rattle.sc_hosts.specs.PreparingRequests.{prepared_request, received, showing, showing_in, silent, taken, taken_in, too_low}
-use Rattle.sc_hosts.specs.PreparingResponses.{accepts_invite, branch_placed, change_proxy, heard_in, is_first_success, is_invalid, is_watched, noted_final, placed, prepared_branch, prepared_own, prepared_response, responded, responded_again, responded_in, settled_legs, shown_again, told, with_branches, with_request_again}
+use Rattle.sc_hosts.specs.Preparing.{cancelled_proxy, cancelled_request, is_invited, kept_of, prepared_branch_timer, prepared_cancel, prepared_for, proxy_of, terminated, timed_out}
+use Rattle.sc_hosts.specs.PreparingRequests.{showing, showing_in, silent}
+use Rattle.sc_hosts.specs.PreparingResponses.{branch_placed, change_proxy, heard_in, is_invalid, is_watched, prepared_branch, prepared_response, told, with_branches}
 use Rattle.sc_hosts.specs.Words.{request_timeout}
 use Rattle.sc_proxied.specs.ProxyLists.{Expired, Heard, ProxyEvent, Stopped, TimedOut, happens, is_open_in, proxy_after}
 use Rattle.sc_proxied.proofs.Lists.{equal, number-itself}
 use Rattle.sc_walked.specs.SessionWalks.{Each}
 use Rattle.sc_walked.proofs.WalkParts.{each-same}
 use Rattle.sc_lasting.proofs.Began.{test-found}
-use Rattle.sc_lasting.proofs.Parts.{received-holds}
+use Rattle.sc_lasting.proofs.ShownProxies.{branch-same, expiry-same, if-same, known-of, own-same, received-same, request-same, terminated-same, timer-same}
 use Rattle.sc_proxying.specs.Proxying.{IsOfEvent, IsTimeUp, is_cancel_of}
 use Rattle.sc_proxying.proofs.Runs.{IsRun, IsStep, up-same}
 use Rattle.sc_proxying.proofs.Places.{AreSingle, each-found, found-same, is_at, same-found}
@@ -75,47 +73,7 @@ comes-none x event p = record { came = []; is = refl; run = λ n. up-same n; of 
 all-none : (x : Session) (event : Queued) (after : List Proxy) → after ≡ x.known.proxies → Each (Comes x event) x.known.proxies after
 all-none x event after same = subst (λ (ps : List Proxy). Each (Comes x event) x.known.proxies ps) (sym same) (each-same (Comes x event) x.known.proxies (comes-none x event))
 
--- ## What leaves them all
-
-if-same : {A : Type 0} {B : Type 0} (part : A → B) (b : Bool) (x y : A) (z : B) → part x ≡ z → part y ≡ z → part (cond b x y) ≡ z
-if-same part true x y z p q = p
-if-same part false x y z p q = q
-
-abbrev known-of : Prepared → List Proxy
-known-of shown = shown.known.proxies
-
-abbrev placed-of : SessId × Session → List Proxy
-placed-of at = at.1.known.proxies
-
-received-same : (x : Session) (number : ℕ) (sess : SessId) (initial passed : Bool) (request : Request)
-    → (received x number sess initial passed request).known.proxies ≡ x.known.proxies
-received-same x number sess initial passed request = received-holds (λ v k. k.proxies ≡ x.known.proxies) x number sess initial passed request (λ invited. refl)
-
-too_low-same : (x : Session) (number : ℕ) (sess : SessId) (request : Request) → (too_low x number sess request).known.proxies ≡ x.known.proxies
-unfolding too_low silent
-too_low-same x number sess request = received-same x number sess false false request
-
-taken-same : (x : Session) (number : ℕ) (found : SessionView) (request : Request) → (taken x number found request).known.proxies ≡ x.known.proxies
-unfolding taken showing change_leg
-taken-same x number found request = received-same x number found.id false _ request
-
-taken_in-same : (x : Session) (number : ℕ) (sess : SessId) (found : Option SessionView) (request : Request) → (taken_in x number sess found request).known.proxies ≡ x.known.proxies
-unfolding taken_in silent
-taken_in-same x number sess None request = refl
-taken_in-same x number sess (Some found) request =
-    if-same known-of (is_low (leg_of x.known sess) request) (too_low x number sess request) (taken x number found request) x.known.proxies (too_low-same x number sess request) (taken-same x number found request)
-
-request-same : (x : Session) (number : ℕ) (request : Request) (sess : Option SessId) → (prepared_request x number request sess).known.proxies ≡ x.known.proxies
-unfolding prepared_request silent
-request-same x number request None = refl
-request-same x number request (Some sess) = taken_in-same x number sess _ request
-
-handled-same : (x : Session) (req : ReqId) (original : SessionView) (came : Option Request) (how : Handling)
-    → (handled_in x req original came how).1.known.proxies ≡ x.known.proxies
-unfolding handled_in
-handled-same x req original came (In at) = refl
-handled-same x req original came (Takes tag) = refl
-handled-same x req original came (Derives tag) = refl
+-- ## A response on a branch
 
 handled-now : (x : Session) (req : ReqId) (original : SessionView) (came : Option Request) (how : Handling)
     → (handled_in x req original came how).1.view.now ≡ x.view.now
@@ -123,50 +81,6 @@ unfolding handled_in
 handled-now x req original came (In at) = refl
 handled-now x req original came (Takes tag) = refl
 handled-now x req original came (Derives tag) = refl
-
-placed-same : (x : Session) (kept : Kept) (request : RequestView) (response : Response) (original : Option SessionView)
-    → (placed x kept request response original).1.known.proxies ≡ x.known.proxies
-unfolding placed
-placed-same x kept request response None = refl
-placed-same x kept request response (Some original) =
-    if-same placed-of request.initial (handled_in x request.id original None (handling x request.id original kept.request response)) (request.sess, x) x.known.proxies
-    (handled-same x request.id original None (handling x request.id original kept.request response)) refl
-
-legs-same : (request : RequestView) (sess : SessId) (response : Response) (x : Session) → (settled_legs request sess response x).known.proxies ≡ x.known.proxies
-unfolding settled_legs overtaken without_derived
-legs-same request sess response x =
-    if-same (λ (s : Session). s.known.proxies) (is_first_success request response) (overtaken request.id sess x) (cond (request.initial && is_failure response.code) (without_derived request.id request.sess x) x) x.known.proxies refl
-    (if-same (λ (s : Session). s.known.proxies) (request.initial && is_failure response.code) (without_derived request.id request.sess x) x x.known.proxies refl refl)
-
-responded-same : (kept : Kept) (request : RequestView) (response : Response) (sess : SessId) (x : Session) → (responded kept request response sess x).known.proxies ≡ x.known.proxies
-unfolding responded change_leg
-responded-same kept request response sess x = legs-same request sess response x
-
-responded_in-same : (x : Session) (kept : Kept) (request : RequestView) (response : Response) (at : SessId × Session) → at.1.known.proxies ≡ x.known.proxies
-    → (responded_in kept request response at).known.proxies ≡ x.known.proxies
-unfolding responded_in silent showing noted_final
-responded_in-same x kept request response (sess, y) same =
-    if-same known-of (is_gone_in y.view sess) (silent (noted_final kept.id response.code y) []) (showing (responded kept request response sess y) (events.Response kept.id sess response) None []) x.known.proxies same
-    (responded-same kept request response sess y ∙ same)
-
-responded_again-same : (x : Session) (kept : Kept) (request : RequestView) (response : Response) (at : SessId × Session) → at.1.known.proxies ≡ x.known.proxies
-    → (responded_again kept request response at).known.proxies ≡ x.known.proxies
-unfolding responded_again silent showing
-responded_again-same x kept request response (sess, y) same =
-    if-same known-of (is_gone_in y.view sess) (silent y []) (showing (responded kept request response sess (with_request_again request y)) (events.Response kept.id sess response) None []) x.known.proxies same
-    (responded-same kept request response sess (with_request_again request y) ∙ same)
-
-own-same : (x : Session) (kept : Kept) (response : Response) (found : Option RequestView) → (prepared_own x kept response found).known.proxies ≡ x.known.proxies
-unfolding prepared_own silent
-own-same x kept response None =
-    let request : RequestView = shown_again x.known kept response.code in
-    let at : SessId × Session = placed x kept request response (session_in x.view kept.sess) in
-    if-same known-of (accepts_invite kept response) (responded_again kept request response at) (silent x []) x.known.proxies
-    (responded_again-same x kept request response at (placed-same x kept request response (session_in x.view kept.sess))) refl
-own-same x kept response (Some request) =
-    responded_in-same x kept request response (placed x kept request response (session_in x.view request.sess)) (placed-same x kept request response (session_in x.view request.sess))
-
--- ## A response on a branch
 
 heard-one : (x : Session) (branch : ℕ) (response : Response) (sess : SessId) (now : ℕ) (p : Proxy) → has_branch branch p ≡ true → now ≡ x.view.now
     → Comes x (queued.Response branch response) p (heard branch sess response now p)
@@ -203,13 +117,6 @@ heard-comes x proxy branch response (sess, y) single found same now =
     subst (λ (ps : List Proxy). Each (Comes x (queued.Response branch response)) x.known.proxies ps)
     (sym (heard_in-same proxy branch response sess y ∙ ap (change_first (is_at proxy.req) (heard branch sess response y.view.now)) same))
     (heard-all x branch response sess y.view.now proxy single found now)
-
-branch-same : (x : Session) (proxy : Proxy) (response : Response) (original : Option SessionView) → (branch_placed x proxy response original).1.known.proxies ≡ x.known.proxies
-unfolding branch_placed
-branch-same x proxy response None = refl
-branch-same x proxy response (Some original) =
-    if-same placed-of (is_some proxy.options) (handled_in x proxy.req original (Some proxy.request) (handling x proxy.req original proxy.request response)) (proxy.sess, x) x.known.proxies
-    (handled-same x proxy.req original (Some proxy.request) (handling x proxy.req original proxy.request response)) refl
 
 branch-now : (x : Session) (proxy : Proxy) (response : Response) (original : Option SessionView) → (branch_placed x proxy response original).1.view.now ≡ x.view.now
 unfolding branch_placed
@@ -268,11 +175,6 @@ cancelled_proxy-comes x event invited (Some proxy) came found =
     if-each (Comes x (queued.Cancelled event)) x.known.proxies (is_supervised proxy) (showing_in after invited.sess (events.Cancelled invited.req invited.sess) (Some invited.req) []) (silent after [])
     (stopped-all x event invited proxy came found) (stopped-all x event invited proxy came found)
 
-terminated-same : (x : Session) (invited : Invited) (request : RequestView) (kept : Option Kept) → (terminated x invited request kept).known.proxies ≡ x.known.proxies
-unfolding terminated showing_in
-terminated-same x invited request None = refl
-terminated-same x invited request (Some kept) = refl
-
 cancelled_request-comes : (x : Session) (event : ℕ) (invited : Invited) (request : Option RequestView) → find (is_invited event) x.known.invited ≡ Some invited
     → Each (Comes x (queued.Cancelled event)) x.known.proxies (cancelled_request x invited request).known.proxies
 unfolding cancelled_request showing_in
@@ -292,15 +194,6 @@ cancel-comes x event None came = all-none x (queued.Cancelled event) x.known.pro
 cancel-comes x event (Some invited) came = cancelled_request-comes x event invited _ came
 
 -- ## Timers
-
-timer-same : (x : Session) (timer : Option TimerView) → (prepared_timer x timer).known.proxies ≡ x.known.proxies
-unfolding prepared_timer showing silent
-timer-same x None = refl
-timer-same x (Some timer) = refl
-
-expiry-same : (x : Session) → (prepared_expiry x).known.proxies ≡ x.known.proxies
-unfolding prepared_expiry showing silent
-expiry-same x = if-same known-of (has_expired x.view) (showing x events.Expired None []) (silent x []) x.known.proxies refl refl
 
 and-first : (a b : Bool) → (a && b) ≡ true → a ≡ true
 and-first true b is = refl

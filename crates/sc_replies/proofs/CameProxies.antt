@@ -5,7 +5,6 @@ use Rattle.std.specs.List.{find, fold, list_any}
 use Rattle.sc_tokens.specs.Names.{same_bytes}
 use Rattle.sc_value.specs.declared.ids.ReqId.{ReqId}
 use Rattle.sc_value.specs.declared.ids.SessId.{SessId}
-use Rattle.sc_value.specs.declared.message.Request.{Request}
 use Rattle.sc_value.specs.declared.message.Response.{Response}
 use Rattle.sc_value.specs.declared.parts.Uri.{Uri}
 use Rattle.sc_value.specs.Lists.{change_first}
@@ -20,8 +19,6 @@ use Rattle.sc_terms.specs.declared.calls.Refusal.{Refusal}
 use Rattle.sc_terms.specs.declared.inside.Inside.{Inside}
 use Rattle.sc_terms.specs.declared.settings.Config.{Config}
 use Rattle.sc_terms.specs.declared.views.RequestView.{RequestView}
-use Rattle.sc_terms.specs.declared.views.SessionView.{SessionView}
-use Rattle.sc_terms.specs.declared.views.TimerView.{TimerView}
 use Rattle.sc_state.specs.declared.proxy.Proxy.{Proxy}
 use Rattle.sc_state.specs.declared.queue.Queued.{Queued}
 use Rattle.sc_state.specs.declared.queue.Queued.TheVariants as queued
@@ -40,25 +37,25 @@ use Rattle.sc_state.specs.declared.working.Written.{Written}
 use Rattle.sc_grammar.specs.Written.{Bytes}
 use Rattle.sc_model.specs.Dialogs.{DialogState}
 use Rattle.sc_model.specs.SessionStates.{ack, is_final}
-use Rattle.sc_model.specs.Transactions.{is_failure, is_success}
+use Rattle.sc_model.specs.Transactions.{is_success}
 use Rattle.sc_hosts.specs.Acting.{faulted, fault_at, hops_spent, is_request_event, passed_later, passed_on, passed_request_of, passes_later, sent_proxy}
 use Rattle.sc_hosts.specs.Branches.{added_targets, after_end, ended_branch, ended_by, heard, is_invite, is_supervised, new_proxy, passing_on, rung, stopped, to_cancel, with_candidate, with_targets}
-use Rattle.sc_hosts.specs.DerivedSessions.{Derives, Handling, In, Takes, handled_in, handling, overtaken, without_derived}
 use Rattle.sc_hosts.specs.Finishing.{is_ended, lightened, outcome_of, session_in_play, swept}
 use Rattle.sc_hosts.specs.Giving.{answering, directs, drafts_later, drafts_leg, drafts_own, forgets, is_written, writes}
-use Rattle.sc_hosts.specs.Legs.{FIRST_SESSION, change_leg, is_low, leg_of, session_for}
-use Rattle.sc_hosts.specs.Looking.{is_proxy, is_request, request_in, same_request, session_in, timer_in}
-use Rattle.sc_hosts.specs.Preparing.{cancelled_proxy, cancelled_request, has_expired, is_invited, kept_of, prepared, prepared_branch_timer, prepared_cancel, prepared_expiry, prepared_for, prepared_timer, proxy_of, terminated, timed_out}
-use Rattle.sc_hosts.specs.PreparingRequests.{prepared_request, received, showing, showing_in, silent, taken, taken_in, too_low}
-use Rattle.sc_hosts.specs.PreparingResponses.{accepts_invite, branch_placed, change_proxy, heard_in, is_first_success, noted_final, placed, prepared_branch, prepared_own, prepared_response, responded, responded_again, responded_in, settled_legs, shown_again}
+use Rattle.sc_hosts.specs.Legs.{FIRST_SESSION, change_leg, session_for}
+use Rattle.sc_hosts.specs.Looking.{is_request, request_in, same_request, session_in, timer_in}
+use Rattle.sc_hosts.specs.Preparing.{cancelled_proxy, cancelled_request, is_invited, kept_of, prepared, prepared_branch_timer, prepared_cancel, prepared_for, proxy_of, terminated, timed_out}
+use Rattle.sc_hosts.specs.PreparingRequests.{showing, showing_in, silent}
+use Rattle.sc_hosts.specs.PreparingResponses.{branch_placed, change_proxy, heard_in, prepared_branch, prepared_response}
 use Rattle.sc_hosts.specs.RefusalParts.{draft_in}
 use Rattle.sc_hosts.specs.Refusals.{awaits_ack, begun_by, refusal}
 use Rattle.sc_hosts.specs.ViewChanges.{is_owed}
 use Rattle.sc_hosts.specs.Working.{ack_with, acknowledges, cancels, dialog_in, does, does_by, event_of, invalidates, keeps_sent, proxies, proxies_first, sends, sends_in, sends_initial, sends_later, sends_written, worked}
 use Rattle.sc_walked.proofs.WalkCalls.{answering-known}
 use Rattle.sc_lasting.specs.Lasting.{All}
+use Rattle.sc_lasting.proofs.ShownProxies.{branch-same, expiry-same, own-same, received-same, request-same, terminated-same, timer-same}
 use Rattle.sc_lasting.proofs.Began.{none-proxied, proxied-first, proxied-is, same-number, test-found}
-use Rattle.sc_lasting.proofs.Parts.{all-append, all-first, all-found, received-holds}
+use Rattle.sc_lasting.proofs.Parts.{all-append, all-first, all-found}
 use Rattle.sc_replies.specs.Came.{Came}
 use Rattle.sc_replies.proofs.ShownCame.{AllCame, HasCome, IsCome}
 
@@ -113,104 +110,6 @@ unfolding heard
 heard-req branch sess response now p =
     if-req _ (after_end sess response p) _ p.req (after-req sess response p)
     (if-req (is_final response.code) (ended_by branch sess response p) (passing_on sess response (rung branch now p)) p.req (ended-req branch sess response p) (passing-req sess response (rung branch now p) ∙ rung-req branch now p))
-
--- ## What leaves all that is proxied
-
-if-same : {A : Type 0} {B : Type 0} (part : A → B) (b : Bool) (x y : A) (z : B) → part x ≡ z → part y ≡ z → part (cond b x y) ≡ z
-if-same part true x y z p q = p
-if-same part false x y z p q = q
-
-abbrev known-of : Prepared → List Proxy
-known-of shown = shown.known.proxies
-
-abbrev placed-of : SessId × Session → List Proxy
-placed-of at = at.1.known.proxies
-
-received-same : (x : Session) (number : ℕ) (sess : SessId) (initial passed : Bool) (request : Request) → (received x number sess initial passed request).known.proxies ≡ x.known.proxies
-received-same x number sess initial passed request = received-holds (λ v k. k.proxies ≡ x.known.proxies) x number sess initial passed request (λ invited. refl)
-
-too_low-same : (x : Session) (number : ℕ) (sess : SessId) (request : Request) → (too_low x number sess request).known.proxies ≡ x.known.proxies
-unfolding too_low silent
-too_low-same x number sess request = received-same x number sess false false request
-
-taken-same : (x : Session) (number : ℕ) (found : SessionView) (request : Request) → (taken x number found request).known.proxies ≡ x.known.proxies
-unfolding taken showing change_leg
-taken-same x number found request = received-same x number found.id false (is_proxy found.role) request
-
-taken_in-same : (x : Session) (number : ℕ) (sess : SessId) (found : Option SessionView) (request : Request) → (taken_in x number sess found request).known.proxies ≡ x.known.proxies
-unfolding taken_in silent
-taken_in-same x number sess None request = refl
-taken_in-same x number sess (Some found) request =
-    if-same known-of (is_low (leg_of x.known sess) request) (too_low x number sess request) (taken x number found request) x.known.proxies (too_low-same x number sess request) (taken-same x number found request)
-
-request-same : (x : Session) (number : ℕ) (request : Request) (sess : Option SessId) → (prepared_request x number request sess).known.proxies ≡ x.known.proxies
-unfolding prepared_request silent
-request-same x number request None = refl
-request-same x number request (Some sess) = taken_in-same x number sess (session_in x.view sess) request
-
-handled-same : (x : Session) (req : ReqId) (original : SessionView) (came : Option Request) (how : Handling) → (handled_in x req original came how).1.known.proxies ≡ x.known.proxies
-unfolding handled_in
-handled-same x req original came (In at) = refl
-handled-same x req original came (Takes tag) = refl
-handled-same x req original came (Derives tag) = refl
-
-placed-same : (x : Session) (kept : Kept) (request : RequestView) (response : Response) (original : Option SessionView) → (placed x kept request response original).1.known.proxies ≡ x.known.proxies
-unfolding placed
-placed-same x kept request response None = refl
-placed-same x kept request response (Some original) =
-    if-same placed-of request.initial (handled_in x request.id original None (handling x request.id original kept.request response)) (request.sess, x) x.known.proxies
-    (handled-same x request.id original None (handling x request.id original kept.request response)) refl
-
-legs-same : (request : RequestView) (sess : SessId) (response : Response) (x : Session) → (settled_legs request sess response x).known.proxies ≡ x.known.proxies
-unfolding settled_legs overtaken without_derived
-legs-same request sess response x =
-    if-same (λ (s : Session). s.known.proxies) (is_first_success request response) (overtaken request.id sess x) (cond (request.initial && is_failure response.code) (without_derived request.id request.sess x) x) x.known.proxies refl
-    (if-same (λ (s : Session). s.known.proxies) (request.initial && is_failure response.code) (without_derived request.id request.sess x) x x.known.proxies refl refl)
-
-responded-same : (kept : Kept) (request : RequestView) (response : Response) (sess : SessId) (x : Session) → (responded kept request response sess x).known.proxies ≡ x.known.proxies
-unfolding responded change_leg
-responded-same kept request response sess x = legs-same request sess response x
-
-responded_in-same : (x : Session) (kept : Kept) (request : RequestView) (response : Response) (at : SessId × Session) → at.1.known.proxies ≡ x.known.proxies
-    → (responded_in kept request response at).known.proxies ≡ x.known.proxies
-unfolding responded_in silent showing noted_final
-responded_in-same x kept request response (sess, y) same = if-same known-of _ _ _ x.known.proxies same (responded-same kept request response sess y ∙ same)
-
-responded_again-same : (x : Session) (kept : Kept) (request : RequestView) (response : Response) (at : SessId × Session) → at.1.known.proxies ≡ x.known.proxies
-    → (responded_again kept request response at).known.proxies ≡ x.known.proxies
-unfolding responded_again silent showing
-responded_again-same x kept request response (sess, y) same = if-same known-of _ _ _ x.known.proxies same (responded-same kept request response sess _ ∙ same)
-
-own-same : (x : Session) (kept : Kept) (response : Response) (found : Option RequestView) → (prepared_own x kept response found).known.proxies ≡ x.known.proxies
-unfolding prepared_own silent
-own-same x kept response None =
-    let request : RequestView = shown_again x.known kept response.code in
-    let at : SessId × Session = placed x kept request response (session_in x.view kept.sess) in
-    if-same known-of (accepts_invite kept response) (responded_again kept request response at) (silent x []) x.known.proxies
-    (responded_again-same x kept request response at (placed-same x kept request response (session_in x.view kept.sess))) refl
-own-same x kept response (Some request) =
-    responded_in-same x kept request response (placed x kept request response (session_in x.view request.sess)) (placed-same x kept request response (session_in x.view request.sess))
-
-branch-same : (x : Session) (proxy : Proxy) (response : Response) (original : Option SessionView) → (branch_placed x proxy response original).1.known.proxies ≡ x.known.proxies
-unfolding branch_placed
-branch-same x proxy response None = refl
-branch-same x proxy response (Some original) =
-    if-same placed-of (is_some proxy.options) (handled_in x proxy.req original (Some proxy.request) (handling x proxy.req original proxy.request response)) (proxy.sess, x) x.known.proxies
-    (handled-same x proxy.req original (Some proxy.request) (handling x proxy.req original proxy.request response)) refl
-
-terminated-same : (x : Session) (invited : Invited) (request : RequestView) (kept : Option Kept) → (terminated x invited request kept).known.proxies ≡ x.known.proxies
-unfolding terminated showing_in
-terminated-same x invited request None = refl
-terminated-same x invited request (Some kept) = refl
-
-timer-same : (x : Session) (timer : Option TimerView) → (prepared_timer x timer).known.proxies ≡ x.known.proxies
-unfolding prepared_timer showing silent
-timer-same x None = refl
-timer-same x (Some timer) = refl
-
-expiry-same : (x : Session) → (prepared_expiry x).known.proxies ≡ x.known.proxies
-unfolding prepared_expiry showing silent
-expiry-same x = if-same known-of (has_expired x.view) _ (silent x []) x.known.proxies refl refl
 
 -- ## All of them came
 
