@@ -48,14 +48,9 @@ use Rattle.sc_hosts.specs.TakingResponses.{cancelling}
 use Rattle.sc_hosts.specs.Transacting.{client_passed, is_client, is_invite_client, is_invite_server, is_over, is_proceeding, is_server, out_of_client, pass_client, state_of_client, tidied, with_client}
 use Rattle.sc_once.proofs.ChangedHosts.{changed_hosts}
 use Rattle.sc_lasting.specs.Lasting.{All}
-use Rattle.sc_lasting.proofs.Parts.{all-append, all-filter, all-first, all-found, all-map}
+use Rattle.sc_lasting.proofs.Parts.{all-append, all-both, all-filter, all-first, all-found, all-map}
 use Rattle.sc_keyed.specs.Keyed.{IsIn}
 use Rattle.sc_halted.proofs.Apart.{B, Free, FreeLast, FreeReply, IsFree, LastFree, Other, Right, Took, Well, kin-free, queue-took, takes-took}
-
-pub all-both : {A : Type 0} (P : A → Type 0) (xs ys : List A) → All P xs → All P ys → All P (xs ++ ys)
-unfolding All
-all-both P [] ys p q = q
-all-both P (x ∷ xs) ys p q = (p.0, all-both P xs ys p.1 q)
 
 one-of : {A : Type 0} (P : A → Type 0) (x : A) → P x → All P (x ∷ [])
 unfolding All

@@ -30,6 +30,7 @@ use Rattle.sc_once.specs.Growing.{HostGrows as CountGrows, NetGrows as NetCounts
 use Rattle.sc_once.proofs.GrowingHosts.{grow-hosts as count-hosts}
 use Rattle.sc_once.proofs.GrowingNets.{grow-nets as count-nets}
 use Rattle.sc_lasting.specs.Lasting.{All}
+use Rattle.sc_lasting.proofs.Parts.{all-both}
 use Rattle.sc_waits.specs.Growing.{events_in}
 use Rattle.sc_reached.specs.Reached.{AllSmall, answered_at_once}
 use Rattle.sc_reached.proofs.Delivering.{delivers}
@@ -43,7 +44,7 @@ use Rattle.sc_ways.proofs.Got.{small-sessions}
 use Rattle.sc_onward.proofs.Clean.{IsApartFrom, first-goes}
 use Rattle.sc_onward.proofs.Delivered.{Arrives, Stands, busy-is, delivered-events, first-hosts, first-walks, grown-list, grows, next-more, rises, stands-next, unclaimed-is}
 use Rattle.sc_halted.specs.Halted.{IsAnsweredBack, IsFoundFull, after_deliveries, entry_of}
-use Rattle.sc_halted.proofs.ApartNets.{FreeEntry, all-both, first-moves}
+use Rattle.sc_halted.proofs.ApartNets.{FreeEntry, first-moves}
 use Rattle.sc_halted.proofs.Back.{C, It-back, Standing, Told, back-told, fresh, told-lower}
 use Rattle.sc_halted.proofs.Living.{HostLives, NetLives, live-hosts, live-nets}
 

@@ -1,6 +1,6 @@
 -- The Record-Route goes along the way: each session got the INVITE with that of the one before, which that one may have put its own URI in
 -- front of.
-use Rattle.std.proofs.Common.{◌≡◌, ◌≤◌, ◌⊎◌, inl, inr, ℕ, suc, ◌++◌, Bool, true, false, Option, None, Some, List, [], ◌∷◌, refl, sym, ap, subst, ◌∙◌, arith}
+use Rattle.std.proofs.Common.{◌≡◌, ◌≤◌, ◌⊎◌, inl, inr, ℕ, suc, Bool, true, false, Option, None, Some, List, [], ◌∷◌, refl, sym, ap, subst, ◌∙◌, arith}
 use Rattle.std.specs.Prelude.{◌&&◌, cond, drop, filter, is_none, is_some, length, option_and_then, slice_get}
 use Rattle.std.specs.List.{cons_option, filter_map, find, flat_map}
 use Rattle.std.specs.Option.{option_map_or}
@@ -26,7 +26,7 @@ use Rattle.sc_hosts.specs.Nets.{client_at, host_at}
 use Rattle.sc_hosts.specs.Transacting.{is_client, is_same_app, takes_from, top_via}
 use Rattle.sc_lasting.specs.Lasting.{All}
 use Rattle.sc_lasting.proofs.Began.{test-found}
-use Rattle.sc_lasting.proofs.Parts.{all-found, all-map}
+use Rattle.sc_lasting.proofs.Parts.{all-both, all-found, all-map}
 use Rattle.sc_keyed.specs.Keyed.{IsOn}
 use Rattle.sc_keyed.proofs.ClientKeys.{app-is}
 use Rattle.sc_paths.specs.Moments.{Got, Moment, began_with, first_server, got_in, is_first_of, same_vias}
@@ -239,11 +239,6 @@ module _ (setup : Setup) (epoch : ℕ) (run : List Moment) (piece : Piece) where
     unfolding All
     all-mapped P give [] each = tt
     all-mapped P give (x ∷ xs) each = mapped-by P (give x) (filter_map give xs) (each x) (all-mapped P give xs each)
-
-    all-both : {A : Type 0} (P : A → Type 0) (xs ys : List A) → All P xs → All P ys → All P (xs ++ ys)
-    unfolding All
-    all-both P [] ys p q = q
-    all-both P (x ∷ xs) ys p q = (p.0, all-both P xs ys p.1 q)
 
     left-all : (dialog : Dialog) (moments : List Moment) → All (IsAt app of.final) moments
         → All Leaves (flat_map (λ moment. filter_map (λ (got : Got). left_by dialog app moment.after got.waiting.event) (filter (λ got. is_same_app got.app app) (got_in moment))) moments)

@@ -1,5 +1,5 @@
 -- The answers to an INVITE at the end of its way return its Record-Route.
-use Rattle.std.proofs.Common.{◌≡◌, inl, inr, ℕ, ◌++◌, Bool, true, false, Option, None, Some, List, [], ◌∷◌, refl, sym, ap, subst, ◌∙◌, arith}
+use Rattle.std.proofs.Common.{◌≡◌, inl, inr, ℕ, Bool, true, false, Option, None, Some, List, [], ◌∷◌, refl, sym, ap, subst, ◌∙◌, arith}
 use Rattle.std.specs.Prelude.{◌==◌, ◌&&◌, ◌||◌, cond, is_none, is_some, option_and_then, slice_get}
 use Rattle.std.specs.List.{cons_option, filter_map, find, flat_map}
 use Rattle.std.specs.Option.{option_map_or}
@@ -30,7 +30,7 @@ use Rattle.sc_hosts.specs.Runs.{IsLawful, chained, start}
 use Rattle.sc_hosts.specs.Transacting.{is_same_app}
 use Rattle.sc_lasting.specs.Lasting.{All}
 use Rattle.sc_lasting.proofs.Began.{same-number, test-found}
-use Rattle.sc_lasting.proofs.Parts.{all-found, all-map}
+use Rattle.sc_lasting.proofs.Parts.{all-both, all-found, all-map}
 use Rattle.sc_keyed.specs.Keyed.{IsIn}
 use Rattle.sc_keyed.proofs.ClientKeys.{app-is}
 use Rattle.sc_paths.specs.Moments.{Moment, began_with, first_server, given_in, is_first_of, moments, moments_from, proxied_with}
@@ -72,11 +72,6 @@ unfolding All
 first-in P app [] server all is = cc
 first-in P app (moment ∷ run) server all is =
     first-by (first_server app moment.after) (filter_map (λ (moment : Moment). first_server app moment.after) run) server is (P server) (λ found. all.0 server found) (λ later. first-in P app run server all.1 later)
-
-all-lists : {A : Type 0} (P : A → Type 0) (xs ys : List A) → All P xs → All P ys → All P (xs ++ ys)
-unfolding All
-all-lists P [] ys p q = q
-all-lists P (x ∷ xs) ys p q = (p.0, all-lists P xs ys p.1 q)
 
 -- ## One answer
 
@@ -157,7 +152,7 @@ module _ (setup : Setup) (app : AppId) (final : List Arrival) (single : AreSingl
       → All (Returns server) (flat_map (λ (moment : Moment). filter_map (answer_by dialog server) (given_in setup moment)) run)
   unfolding All
   run-returns [] responds = tt
-  run-returns (moment ∷ run) responds = all-lists (Returns server) (filter_map (answer_by dialog server) (given_in setup moment)) _ (orders-return (given_in setup moment) responds.0) (run-returns run responds.1)
+  run-returns (moment ∷ run) responds = all-both (Returns server) (filter_map (answer_by dialog server) (given_in setup moment)) _ (orders-return (given_in setup moment) responds.0) (run-returns run responds.1)
 
 -- ## The law
 

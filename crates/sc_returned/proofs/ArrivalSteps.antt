@@ -2,7 +2,7 @@
 use Rattle.std.proofs.Common.{◌≡◌, ℕ, ◌++◌, Bool, true, false, Option, None, Some, List, [], ◌∷◌, refl, sym, subst}
 use Rattle.std.specs.Prelude.{cond, drop, option_and_then, slice_get}
 use Rattle.std.specs.List.{fold}
-use Rattle.sc_value.specs.Lists.{change_first, remove_first}
+use Rattle.sc_value.specs.Lists.{change_first}
 use Rattle.sc_value.specs.declared.answerable.Answerable.{Answerable}
 use Rattle.sc_value.specs.declared.ids.AppId.{AppId}
 use Rattle.sc_value.specs.declared.ids.Place.{Place}
@@ -49,21 +49,11 @@ use Rattle.sc_hosts.specs.Transacting.{tidied}
 use Rattle.sc_hosts.specs.Words.{unavailable}
 use Rattle.sc_lasting.specs.Lasting.{All}
 use Rattle.sc_lasting.proofs.Began.{same-number, test-found}
-use Rattle.sc_lasting.proofs.Parts.{all-filter, all-first, all-found}
+use Rattle.sc_lasting.proofs.Parts.{all-filter, all-first, all-found, all-removed}
 use Rattle.sc_walks.proofs.DueEvents.{AreGood, IsGoodItem, due-good}
 use Rattle.sc_replies.specs.Fields.{incoming}
 use Rattle.sc_returned.proofs.ArrivalHosts.{AreKept, Arrival, HostIn, LiveIn, Noted, ServerIn, pass_server-good, takes-began}
 use Rattle.sc_returned.proofs.ArrivalNets.{Goes, Holds, changes, delivered-goes, first-at, goes, goes-then, if-goes, if-holds, obeyed-holds, passed-holds, placed-goes, put-holds, queue_for-holds}
-
-all-if : {A : Type 0} (P : A → Type 0) (b : Bool) (x : A) (xs ys : List A) → P x → All P xs → All P ys → All P (cond b xs (x ∷ ys))
-unfolding All
-all-if P true x xs ys one p q = p
-all-if P false x xs ys one p q = (one, q)
-
-all-removed : {A : Type 0} (P : A → Type 0) (test : A → Bool) (xs : List A) → All P xs → All P (remove_first test xs)
-unfolding All remove_first
-all-removed P test [] all = tt
-all-removed P test (x ∷ xs) all = all-if P (test x) x xs (remove_first test xs) all.0 all.1 (all-removed P test xs all.1)
 
 rest-of : {A : Type 0} (P : A → Type 0) (xs : List A) → All P xs → All P (drop 1 xs)
 unfolding All

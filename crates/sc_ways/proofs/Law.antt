@@ -17,7 +17,7 @@ use Rattle.sc_hosts.specs.Histories.{as_session}
 use Rattle.sc_hosts.specs.Runs.{IsLawful, chained, start}
 use Rattle.sc_lasting.specs.Lasting.{All, AreDirect, Directly}
 use Rattle.sc_lasting.proofs.Direct.{nothing-proxied}
-use Rattle.sc_lasting.proofs.Parts.{all-append}
+use Rattle.sc_lasting.proofs.Parts.{all-append, all-both}
 use Rattle.sc_lived.proofs.Since.{session-holds}
 use Rattle.sc_paths.specs.LaterRequests.{Occurrence, carries, visits}
 use Rattle.sc_paths.specs.Moments.{Moment, given_in, moments, moments_from, proxied_with}
@@ -36,11 +36,6 @@ use Rattle.sc_ways.proofs.Recorders.{recorders-small}
 use Rattle.sc_ways.proofs.Runs.{run-each, run-fine, run-next}
 
 -- ## Names of those ahead
-
-pub all-both : {A : Type 0} (P : A → Type 0) (xs ys : List A) → All P xs → All P ys → All P (xs ++ ys)
-unfolding All
-all-both P [] ys p q = q
-all-both P (x ∷ xs) ys p q = (p.0, all-both P xs ys p.1 q)
 
 front : {A : Type 0} (P : A → Type 0) (xs ys : List A) → All P (xs ++ ys) → All P xs
 unfolding All
