@@ -50,7 +50,7 @@ called-answered charter listener view event false made end is = is.0
 called-answered charter None view event true made end is = none-answered view made is.0
 called-answered charter (Some listener) view event true made end is = is.0
 
-allowed-answered : (charters : Option Charters) (shown : Prepared) (event : Option Event) (made : List CallRecord) (end : End)
+pub allowed-answered : (charters : Option Charters) (shown : Prepared) (event : Option Event) (made : List CallRecord) (end : End)
     → shown.event ≡ event → AllowedBy charters shown made end → IsAnswered shown.view made
 unfolding AllowedBy Allowed IsSilent
 allowed-answered None shown event made end is allowed = absurd allowed
@@ -66,7 +66,7 @@ unfolding answer_by
 by-none play call None is = refl
 by-none play call (Some refused) is = cc
 
-accepted-stands : (play : Play) (call : Call) → is_refused (accepted play call) ≡ false
+pub accepted-stands : (play : Play) (call : Call) → is_refused (accepted play call) ≡ false
 unfolding accepted is_refused
 accepted-stands play (calls.ProxyTo req uris how) = refl
 accepted-stands play (calls.Respond req answer) = refl

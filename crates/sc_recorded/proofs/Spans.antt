@@ -8,18 +8,12 @@ use Rattle.sc_value.specs.declared.ids.AppId.{AppId}
 use Rattle.sc_value.specs.declared.ids.ReqId.{ReqId}
 use Rattle.sc_value.specs.declared.message.Request.{Request}
 use Rattle.sc_terms.specs.declared.calls.Call.{Call}
-use Rattle.sc_terms.specs.declared.calls.Call.TheVariants as calls
 use Rattle.sc_terms.specs.declared.calls.CallAnswer.{CallAnswer}
 use Rattle.sc_terms.specs.declared.calls.CallRecord.{CallRecord}
-use Rattle.sc_terms.specs.declared.calls.End.{End}
 use Rattle.sc_terms.specs.declared.calls.ProxyOptions.{ProxyOptions}
 use Rattle.sc_terms.specs.declared.calls.Refusal.{Refusal}
-use Rattle.sc_terms.specs.declared.charters.Charter.{Charter}
-use Rattle.sc_terms.specs.declared.charters.ListenerCharter.{ListenerCharter}
-use Rattle.sc_terms.specs.declared.events.Event.{Event}
 use Rattle.sc_terms.specs.declared.settings.Config.{Config}
 use Rattle.sc_terms.specs.declared.views.SessionView.{SessionView}
-use Rattle.sc_terms.specs.declared.views.View.{View}
 use Rattle.sc_parts.specs.declared.setup.Setup.{Setup}
 use Rattle.sc_state.specs.declared.queue.Queued.{Queued}
 use Rattle.sc_state.specs.declared.queue.Queued.TheVariants as queued
@@ -28,10 +22,9 @@ use Rattle.sc_state.specs.declared.session.Session.{Session}
 use Rattle.sc_state.specs.declared.working.Play.{Play}
 use Rattle.sc_state.specs.declared.working.Prepared.{Prepared}
 use Rattle.sc_state.specs.declared.working.Working.{Working}
-use Rattle.sc_model.specs.Settings.{Charters, charters_of}
+use Rattle.sc_model.specs.Settings.{charters_of}
 use Rattle.sc_hosts.specs.Acting.{all_act, drafts_ended, faulted, is_request_event, passes_later}
-use Rattle.sc_hosts.specs.Bringing.{Allowed, Called, IsSilent, is_listened}
-use Rattle.sc_hosts.specs.Effects.{accepted, after_listed, answer_by, answer_of, begun}
+use Rattle.sc_hosts.specs.Effects.{after_listed, answer_by, answer_of, begun}
 use Rattle.sc_hosts.specs.Finishing.{finished, is_ended, is_session_ready, lightened, outcome, outcome_of, session_in_play, swept, swept_one, without_acks}
 use Rattle.sc_hosts.specs.Histories.{History, after_turn, session_after, session_of}
 use Rattle.sc_hosts.specs.Legs.{FIRST_SESSION, first_known, first_view, fresh}
@@ -39,8 +32,7 @@ use Rattle.sc_hosts.specs.Looking.{removed}
 use Rattle.sc_hosts.specs.Preparing.{prepared, prepared_for}
 use Rattle.sc_hosts.specs.PreparingRequests.{request_view, showing}
 use Rattle.sc_hosts.specs.Refusals.{refusal}
-use Rattle.sc_hosts.specs.Runs.{AllowedBy}
-use Rattle.sc_hosts.specs.Scripting.{IsAnswered, IsAnsweredFrom}
+use Rattle.sc_hosts.specs.Scripting.{IsAnsweredFrom}
 use Rattle.sc_hosts.specs.Sessions.{Turn}
 use Rattle.sc_hosts.specs.Working.{worked_all}
 use Rattle.sc_walked.specs.SessionWalks.{SessionLaws}
@@ -51,57 +43,12 @@ use Rattle.sc_walks.specs.Walks.{IsLate}
 use Rattle.sc_lasting.specs.Lasting.{All}
 use Rattle.sc_lasting.proofs.Parts.{all-append, all-filter, received-holds}
 use Rattle.sc_lived.specs.Lived.{AreLate, AreOfOne, AreTaken, Begins, MayTake, Told, is_refused, told_of, told_turns, turned_events}
-use Rattle.sc_lived.proofs.Accepted.{read-after}
+use Rattle.sc_lived.proofs.Accepted.{accepted-stands, allowed-answered, read-after}
 use Rattle.sc_recorded.proofs.Asking.{AreListed, FirstSays, Stands, asked_in}
 use Rattle.sc_recorded.proofs.Settled.{Held, IsBased, IsOne, Open, SaysSo, any-firm, held-law, ready-late}
 use Rattle.sc_recorded.proofs.Settling.{acting-says, based-played, calls-stand, later-based, shown-stands, turn-stands}
 
 -- ## What a turn may bring is listed as it was answered
-
-none-answered : (view : View) (made : List CallRecord) → made ≡ [] → IsAnswered view made
-unfolding IsAnsweredFrom
-none-answered view made is = rw is tt
-
-called-answered : (charter : Charter) (listener : Option ListenerCharter) (view : View) (event : Event) (listened : Bool) (made : List CallRecord) (end : End)
-    → Called charter listener view event listened made end → IsAnswered view made
-unfolding Called IsSilent
-called-answered charter listener view event false made end is = is.0
-called-answered charter None view event true made end is = none-answered view made is.0
-called-answered charter (Some listener) view event true made end is = is.0
-
-allowed-answered : (charters : Option Charters) (shown : Prepared) (event : Option Event) (made : List CallRecord) (end : End)
-    → shown.event ≡ event → AllowedBy charters shown made end → IsAnswered shown.view made
-unfolding AllowedBy Allowed IsSilent
-allowed-answered None shown event made end is allowed = absurd allowed
-allowed-answered (Some charters) shown None made end is allowed =
-    none-answered shown.view made (subst (λ (e : Option Event). Allowed charters.0 charters.1 shown.view e made end) is allowed).0
-allowed-answered (Some charters) shown (Some event) made end is allowed =
-    called-answered charters.0 charters.1 shown.view event (is_listened event) made end (subst (λ (e : Option Event). Allowed charters.0 charters.1 shown.view e made end) is allowed).1
-
-accepted-stands : (play : Play) (call : Call) → is_refused (accepted play call) ≡ false
-unfolding accepted is_refused
-accepted-stands play (calls.ProxyTo req uris how) = refl
-accepted-stands play (calls.Respond req answer) = refl
-accepted-stands play (calls.CreateRequest ask) = refl
-accepted-stands play (calls.CreateInDialog sess ask) = refl
-accepted-stands play (calls.B2bCreate req uri) = refl
-accepted-stands play (calls.SetDirective draft directive origin) = refl
-accepted-stands play (calls.Send draft) = refl
-accepted-stands play (calls.Discard draft) = refl
-accepted-stands play (calls.Ack sess body) = refl
-accepted-stands play (calls.Cancel req) = refl
-accepted-stands play (calls.ProxyCancel req) = refl
-accepted-stands play (calls.B2bRespond sess answer) = refl
-accepted-stands play (calls.Link a b) = refl
-accepted-stands play (calls.Unlink a) = refl
-accepted-stands play (calls.StartTimer delay period info) = refl
-accepted-stands play (calls.CancelTimer id) = refl
-accepted-stands play (calls.SetAttribute name value) = refl
-accepted-stands play (calls.RemoveAttribute name) = refl
-accepted-stands play (calls.SetExpires minutes) = refl
-accepted-stands play (calls.SetReadyFlag target flag) = refl
-accepted-stands play (calls.InvalidateSession sess) = refl
-accepted-stands play calls.InvalidateApplication = refl
 
 by-found : (play : Play) (call : Call) (found : Option Refusal) → is_refused (answer_by play call found) ≡ is_some found
 unfolding answer_by is_refused
