@@ -1,5 +1,5 @@
 -- What comes of another SipSession has its cause in the list.
-use Rattle.std.proofs.Common.{◌≡◌, ℕ, ◌++◌, Bool, true, false, Option, None, Some, List, [], ◌∷◌, refl, subst, ◌∙◌, arith}
+use Rattle.std.proofs.Common.{◌≡◌, ℕ, ◌++◌, Bool, true, false, Option, None, Some, List, [], ◌∷◌, refl, ◌∙◌, arith}
 use Rattle.std.proofs.lemmas.Bool.Decides.{nat_tests}
 use Rattle.std.proofs.lemmas.List.Folds.{list_any-append}
 use Rattle.std.specs.Prelude.{◌==◌, ◌&&◌, ◌||◌, cond, filter, is_none, is_some, map, not, option_and_then}
@@ -50,6 +50,7 @@ use Rattle.sc_hosts.specs.Sessions.{Turn}
 use Rattle.sc_hosts.specs.ViewChanges.{is_owed}
 use Rattle.sc_hosts.specs.Working.{worked_all}
 use Rattle.sc_lasting.specs.Lasting.{All}
+use Rattle.sc_answered.proofs.Standing.{found-passes}
 use Rattle.sc_answered.specs.StateOf.{Asked, Exhausted, Happening, Overtaken, Response as Responded, Undone}
 use Rattle.sc_answered.specs.Happened.{Happened, acted, acted_by, acted_from, acted_last, acted_next, all_acted, called_by, ended_by, shown_by, answer_to, asked_of, at_moment, best_passed, came_in, cancelled, cancelled_in, chosen, exhausted, exhausted_by, failed, failed_at, forwarded, forwarded_to, given, given_by, given_if, got, got_in, got_own, happened_after, happened_by, happened_of, heard, in_each, initial_of, overtaken_by, passed, response_in, settled_by, stopped, stopped_at, stopped_of, too_low, too_low_in, undone_by}
 use Rattle.sc_answered.specs.Needed.{takes_call}
@@ -159,18 +160,6 @@ is-not false is = refl
 
 apart : (a b c : ℕ) → (a == b) ≡ true → (c == b) ≡ false → (a == c) ≡ false
 apart a b c is not = grind (arith, nat_tests, is, not)
-
-some-is : (s t : SessionView) → Some s ≡ Some t → s ≡ t
-some-is s t is = cc
-
-found-passes : (xs : List SessionView) (sess : SessId) (t : SessionView) → find (is_session sess) xs ≡ Some t → (t.id.0 == sess.0) ≡ true
-found-passes [] sess t is = cc
-found-passes (s ∷ xs) sess t is = by-test (s.id.0 == sess.0) refl is (found-passes xs sess t)
-  where
-    by-test : (b : Bool) → (s.id.0 == sess.0) ≡ b → cond b (Some s) (find (is_session sess) xs) ≡ Some t
-        → (find (is_session sess) xs ≡ Some t → (t.id.0 == sess.0) ≡ true) → (t.id.0 == sess.0) ≡ true
-    by-test true at found later = subst (λ (u : SessionView). (u.id.0 == sess.0) ≡ true) (some-is s t found) at
-    by-test false at found later = later found
 
 -- where each SipSession that passes has its cause
 each-caused : (test : SessionView → Bool) (what : Happening) (sessions : List SessionView) (all : List Happened)

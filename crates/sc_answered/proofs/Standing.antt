@@ -176,7 +176,7 @@ response-found asked tagged code (Some session) = refl
 some-is : (s t : SessionView) → Some s ≡ Some t → s ≡ t
 some-is s t is = cc
 
-found-passes : (xs : List SessionView) (sess : SessId) (t : SessionView) → find (is_session sess) xs ≡ Some t → (t.id.0 == sess.0) ≡ true
+pub found-passes : (xs : List SessionView) (sess : SessId) (t : SessionView) → find (is_session sess) xs ≡ Some t → (t.id.0 == sess.0) ≡ true
 found-passes [] sess t is = cc
 found-passes (s ∷ xs) sess t is = by-test (s.id.0 == sess.0) refl is (found-passes xs sess t)
   where

@@ -1,14 +1,11 @@
 -- The branch of each request that a turn sends is new to the server transactions over inner hops of all hosts: no other session
 -- draws it, and this one drew lower ones before.
-use Rattle.std.proofs.Common.{◌≡◌, ◌≤◌, ◌<◌, ◌^◌, ◌⊎◌, inl, inr, ℕ, zero, suc, ◌++◌, Bool, true, false, Option, None, Some, List, [], ◌∷◌, refl, sym, ap, subst, ◌∙◌, arith, append_assoc, append-nil}
-use Rattle.std.specs.Prelude.{◌&&◌, length, map, option_map, slice_get, unwrap_or}
-use Rattle.std.specs.Option.{option_map_or}
-use Rattle.sc_value.specs.Params.{branch_name, param_value}
+use Rattle.std.proofs.Common.{◌≡◌, ◌≤◌, ◌<◌, ◌^◌, ◌⊎◌, inl, inr, ℕ, zero, suc, ◌++◌, true, Option, None, Some, List, [], ◌∷◌, refl, sym, ap, subst, ◌∙◌, arith, append_assoc, append-nil}
+use Rattle.std.specs.Prelude.{length, map, option_map, slice_get, unwrap_or}
 use Rattle.sc_value.specs.declared.ids.AppId.{AppId}
 use Rattle.sc_value.specs.declared.message.Request.{Request}
 use Rattle.sc_value.specs.declared.parts.Address.{Address}
 use Rattle.sc_value.specs.declared.parts.Via.{Via}
-use Rattle.sc_tokens.specs.Names.{same_name}
 use Rattle.sc_terms.specs.declared.calls.CallRecord.{CallRecord}
 use Rattle.sc_terms.specs.declared.calls.End.{End}
 use Rattle.sc_terms.specs.declared.settings.AppEntry.{AppEntry}
@@ -25,17 +22,15 @@ use Rattle.sc_state.specs.declared.orders.Order.TheVariants as orders
 use Rattle.sc_state.specs.declared.queue.Waiting.{Waiting}
 use Rattle.sc_state.specs.declared.session.Session.{Session}
 use Rattle.sc_grammar.specs.Written.{Bytes}
-use Rattle.sc_model.specs.Names.{IsOf64, branch_text}
-use Rattle.sc_model.proofs.Names.{branch_same}
+use Rattle.sc_model.specs.Names.{IsOf64}
 use Rattle.sc_hosts.specs.Histories.{History, as_history, as_session, begun_history, session_of, turned_history}
-use Rattle.sc_hosts.specs.Messages.{kin, own_via}
+use Rattle.sc_hosts.specs.Messages.{kin}
 use Rattle.sc_hosts.specs.Nets.{host_at}
 use Rattle.sc_hosts.specs.Runs.{IsLawful, IsLawfulFrom, MayTurn, after_step, chained, chained_from, quiet_host, start}
 use Rattle.sc_hosts.specs.Sessions.{Turn}
 use Rattle.sc_hosts.specs.Steps.{live_at, outcome_by, turn_of}
 use Rattle.sc_hosts.specs.Taking.{unrouted}
-use Rattle.sc_hosts.specs.Transacting.{branch_of, same_top, same_via, top_via}
-use Rattle.sc_hosts.proofs.Deliveries.{same_bytes-equal}
+use Rattle.sc_hosts.specs.Transacting.{same_top, top_via}
 use Rattle.sc_forms.specs.Simulations.{map_host, map_live}
 use Rattle.sc_forms.proofs.HistoryLaws.{chained-histories, lawful_back-histories, live_at-histories}
 use Rattle.sc_forms.proofs.NetMaps.{host_at-maps}
@@ -50,7 +45,7 @@ use Rattle.sc_hops.specs.Hops.{HasBranchOf}
 use Rattle.sc_hops.proofs.OneTurn.{unrouted-vias}
 use Rattle.sc_vias.proofs.RunVias.{drawn-is, live-named, on-rises, turn-on}
 use Rattle.sc_ways.proofs.OneHop.{allowed-turn, orders-are}
-use Rattle.sc_ways.proofs.OwnBranches.{Is64, IsReadyAt}
+use Rattle.sc_ways.proofs.OwnBranches.{Is64, IsReadyAt, on-one, with-branch}
 use Rattle.sc_ways.proofs.Recorders.{found-small}
 use Rattle.sc_ways.proofs.Runs.{run-each}
 use Rattle.sc_recorded.specs.Recorded.{IsInner}
@@ -59,38 +54,6 @@ use Rattle.sc_recorded.proofs.Nets.{Goes, Holds, OrderFits}
 use Rattle.sc_recorded.proofs.Steps.{StepFits, step-goes}
 use Rattle.sc_onward.specs.Onward.{HasNewBranches, HasNoServer, sent_in}
 use Rattle.sc_onward.proofs.Counters.{draws-stay, drawn_of, next-is}
-
--- ## Two own Vias
-
-with-branch : (epoch : ℕ) (app : AppId) (n : ℕ) → IsOf64 epoch app 0 → Is64 n → IsOf64 epoch app n
-with-branch epoch app n small less = (small.0, small.1, small.2, less)
-
-branch-is : (config : Config) (epoch : ℕ) (app : AppId) (branch : ℕ) → branch_of (own_via config epoch app branch) ≡ branch_text config.salt epoch app branch
-unfolding own_via param_value branch_name same_name
-branch-is config epoch app branch = refl
-
-first-three : (a b c : Bool) → (a && b && c) ≡ true → a ≡ true
-first-three true b c is = refl
-first-three false b c is = cc
-
-via-branch : (x y : Via) → same_via x y ≡ true → branch_of x ≡ branch_of y
-unfolding same_via
-via-branch x y is = same_bytes-equal (branch_of x) (branch_of y) (first-three _ _ _ is)
-
-tops-same : (a b : List Via) (x y : Via) → top_via a ≡ Some x → top_via b ≡ Some y → same_top a b ≡ true → same_via x y ≡ true
-unfolding same_top
-tops-same a b x y p q is =
-    subst (λ (top : Option Via). option_map_or (same_via x) top false ≡ true) q
-    (subst (λ (top : Option Via). option_map_or (λ v. option_map_or (same_via v) (top_via b) false) top false ≡ true) p is)
-
--- two requests on own Vias that are the same are of one session and branch
-on-one : (config : Config) (epoch : ℕ) (a b : AppId) (k m : ℕ) (request other : Request) → IsOf64 epoch a k → IsOf64 epoch b m → IsOn config epoch a k request → IsOn config epoch b m other
-    → HasBranchOf request other → (a ≡ b) × (k ≡ m)
-unfolding IsOn
-on-one config epoch a b k m request other small also on too is =
-    let same = via-branch (own_via config epoch a k) (own_via config epoch b m) (tops-same request.head.via other.head.via _ _ on too is) in
-    let one = branch_same config.salt epoch epoch a b k m small also (sym (branch-is config epoch a k) ∙ same ∙ branch-is config epoch b m) in
-    (one.1, one.2)
 
 below : (a b : ℕ) → a ≤ b → Is64 b → Is64 a
 below a b p q = omega (arith, p, q)

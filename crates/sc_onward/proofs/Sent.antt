@@ -17,7 +17,6 @@ use Rattle.sc_state.specs.declared.host.Peer.{Peer}
 use Rattle.sc_state.specs.declared.host.Peer.TheVariants as peers
 use Rattle.sc_state.specs.declared.net.Net.{Net}
 use Rattle.sc_state.specs.declared.orders.Order.{Order}
-use Rattle.sc_state.specs.declared.orders.Order.TheVariants as orders
 use Rattle.sc_state.specs.declared.queue.Queued.TheVariants as queued
 use Rattle.sc_state.specs.declared.session.Session.{Session}
 use Rattle.sc_model.specs.OwnHosts.{is_own}
@@ -32,7 +31,7 @@ use Rattle.sc_lasting.specs.Lasting.{All}
 use Rattle.sc_paths.specs.LaterRequests.{Occurrence, SetOut, carries, carries_by, has_vias, later_in, later_vias, leads, leads_to, set_out, set_out_by, visits, visits_from}
 use Rattle.sc_paths.specs.Moments.{Got, Moment, given_in, got_in, moments, orders_by}
 use Rattle.sc_paths.specs.Pieces.{Dialog, Direction, IsPiece, Piece, ahead, along, end_of, listed, recorders}
-use Rattle.sc_hops.specs.Hops.{AreOtherBranches, HasNoClient, IsOtherBranch, Is_ack, Is_send, Sends}
+use Rattle.sc_hops.specs.Hops.{AreOtherBranches, HasNoClient, IsOtherBranch, Sends}
 use Rattle.sc_hops.proofs.OneTurn.{unrouted-vias}
 use Rattle.sc_ways.specs.Ways.{AreSmallDraws, AreSmallNames, IsApart, IsPrefix, VisitsFirst}
 use Rattle.sc_ways.proofs.FirstHop.{first-visited, found-some, none-found, vias-self}
@@ -42,7 +41,7 @@ use Rattle.sc_ways.proofs.OwnBranches.{IsOnOwnBranch, out-own}
 use Rattle.sc_ways.proofs.Prefix.{IsCarried, carried, outside-by, through}
 use Rattle.sc_ways.proofs.Recorders.{found-small}
 use Rattle.sc_ways.proofs.Runs.{all-at}
-use Rattle.sc_ways.proofs.Sending.{session-by}
+use Rattle.sc_ways.proofs.Sending.{sends-by, session-by}
 use Rattle.sc_ways.proofs.Waits.{events-live}
 use Rattle.sc_onward.specs.Onward.{HasNewBranches, HasNoServer}
 use Rattle.sc_onward.proofs.Delivered.{Arrives}
@@ -73,21 +72,6 @@ others-before : (xs : List Order) (y : Order) (rest : List Order) (sent : Reques
 unfolding AreOtherBranches All
 others-before [] y rest sent others = tt
 others-before (x ∷ xs) y rest sent others = (others.0, others-before xs y rest sent others.1)
-
-sends-by : (order : Order) (request : Request) → later_in order ≡ Some request → Sends request order
-unfolding later_in
-sends-by (orders.Send branch sent) request is = Is_send branch (ap (λ (r : Request). orders.Send branch r) (some-is sent request is))
-  where
-    some-is : (x y : Request) → Some x ≡ Some y → x ≡ y
-    some-is x y is = cc
-sends-by (orders.Acknowledge sent) request is = Is_ack (ap (λ (r : Request). orders.Acknowledge r) (some-is sent request is))
-  where
-    some-is : (x y : Request) → Some x ≡ Some y → x ≡ y
-    some-is x y is = cc
-sends-by (orders.Respond event response) request is = cc
-sends-by (orders.Begin branch directive region state sent) request is = cc
-sends-by (orders.Cancel branch) request is = cc
-sends-by (orders.CancelNow branch) request is = cc
 
 -- ## The first of those ahead
 

@@ -1,17 +1,15 @@
 -- In a lawful run: where nothing stops a later request it goes from each session of its way to the next, and visits all that are ahead.
 use Rattle.std.proofs.Common.{◌≡◌, ◌≤◌, ◌<◌, ℕ, zero, suc, ◌+◌, ◌^◌, Bool, true, false, Option, Some, List, [], ◌∷◌, refl, sym, ap, subst, arith}
-use Rattle.std.specs.Prelude.{cond, drop, length, map, slice_get}
+use Rattle.std.specs.Prelude.{cond, drop, length, slice_get}
 use Rattle.std.specs.List.{find}
 use Rattle.sc_value.specs.declared.ids.AppId.{AppId}
-use Rattle.sc_terms.specs.declared.settings.AppEntry.{AppEntry}
 use Rattle.sc_terms.specs.declared.steps.Step.{Step}
 use Rattle.sc_parts.specs.declared.setup.Setup.{Setup}
-use Rattle.sc_state.specs.Hosts.{Host}
 use Rattle.sc_state.specs.declared.host.Live.{Live}
 use Rattle.sc_state.specs.declared.net.Net.{Net}
 use Rattle.sc_state.specs.declared.session.Session.{Session}
 use Rattle.sc_hosts.specs.Histories.{as_session, session_of}
-use Rattle.sc_hosts.specs.Runs.{IsLawful, after_step, chained, chained_from, quiet_host, start}
+use Rattle.sc_hosts.specs.Runs.{IsLawful, after_step, chained, chained_from, start}
 use Rattle.sc_hosts.specs.Steps.{live_at}
 use Rattle.sc_lasting.specs.Lasting.{All}
 use Rattle.sc_lasting.proofs.Lives.{live-is}
@@ -28,21 +26,12 @@ use Rattle.sc_ways.proofs.Counts.{AreWithin, run-rises, step-rises}
 use Rattle.sc_ways.proofs.Law.{prefix, ready-all}
 use Rattle.sc_ways.proofs.OneHop.{IsFine}
 use Rattle.sc_ways.proofs.OwnBranches.{Is64, IsReadyAt, moments-kept}
-use Rattle.sc_ways.proofs.Runs.{all-at, all-behind, run-each, run-fine}
+use Rattle.sc_ways.proofs.Runs.{all-at, all-behind, quiet-last, run-each, run-fine}
 use Rattle.sc_onward.specs.Onward.{AreCounted, AreSmallNumbers, ComesNext, GoesAllTheWay, HasNewBranches, IsCarriedOn, IsUnstopped}
 use Rattle.sc_onward.proofs.Fresh.{all-new}
 use Rattle.sc_onward.proofs.OneHop.{IsSound, Item, next-found, one-hop}
 
 -- ## What is known of each moment
-
-quiet-last : (apps : List AppEntry) (number : ℕ) (host : Host Session) → slice_get (map (λ app. quiet_host {S = Session}) apps) number ≡ Some host → host.last ≤ 0
-unfolding quiet_host
-quiet-last [] number host at = cc
-quiet-last (app ∷ apps) zero host at = subst (λ (h : Host Session). h.last ≤ 0) (some-is (quiet_host {S = Session}) host at) (omega arith)
-  where
-    some-is : (x y : Host Session) → Some x ≡ Some y → x ≡ y
-    some-is x y is = cc
-quiet-last (app ∷ apps) (suc number) host at = quiet-last apps number host at
 
 start-within : (setup : Setup) (epoch began : ℕ) → AreWithin (start {S = Session} setup epoch began)
 unfolding start

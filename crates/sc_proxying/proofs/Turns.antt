@@ -104,7 +104,7 @@ module _ (config : Config) (turn : Turn) (x : Session) where
   acting = faulted config shown.req turn.end (drafts_ended played)
 
   -- each relation that a turn keeps is kept until proxies act
-  acting-walks : (event : Queued) (Q : Session → Session → Type 0) → SessionLaws event (λ call. Unit {0}) Q → event ≡ turn.waiting.event → Q x (session_at acting)
+  pub acting-walks : (event : Queued) (Q : Session → Session → Type 0) → SessionLaws event (λ call. Unit {0}) Q → event ≡ turn.waiting.event → Q x (session_at acting)
   acting-walks event Q law is =
       law.after x (session_at played) (session_at acting)
       (worked_all-walks event (λ call. Unit {0}) Q law config x shown turn.calls (done-any turn.calls (λ call. Unit {0}) (λ call. tt) (begun shown.view))
@@ -212,7 +212,7 @@ module _ (config : Config) (turn : Turn) (x : Session) where
 
   -- ## A later request is passed on
 
-  shown-req : (request : Request) → turn.waiting.event ≡ queued.Request request → (r : ReqId) → shown.req ≡ Some r → r.0 ≡ x.view.next_request
+  pub shown-req : (request : Request) → turn.waiting.event ≡ queued.Request request → (r : ReqId) → shown.req ≡ Some r → r.0 ≡ x.view.next_request
   unfolding prepared
   shown-req request is r =
       subst (λ (event : Queued). (prepared_for config turn.ringing dated turn.waiting.number event).req ≡ Some r → r.0 ≡ x.view.next_request) (sym is)
@@ -229,7 +229,7 @@ module _ (config : Config) (turn : Turn) (x : Session) where
       (λ q new other. other new.options) (given single).grows numbered.proxied (subst (λ (ps : List Proxy). All (IsOther x.view.next_request) ps) same clear.1))
 
   -- what is kept under its number is that request
-  keeps-it : (request : Request) → turn.waiting.event ≡ queued.Request request → IsNumbered x → Keeps x.view.next_request request acted.play.view acted.known
+  pub keeps-it : (request : Request) → turn.waiting.event ≡ queued.Request request → IsNumbered x → Keeps x.view.next_request request acted.play.view acted.known
   unfolding prepared
   keeps-it request is numbered =
       let number : ℕ = x.view.next_request in

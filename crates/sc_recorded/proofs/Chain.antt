@@ -65,7 +65,7 @@ first-by None rest b is P one more = more is
 first-by (Some x) rest b is P one more = one is
 
 -- it was there in some moment
-first-in : (P : Server → Type 0) (app : AppId) (run : List Moment) (server : Server) → All (λ (moment : Moment). (s : Server) → first_server app moment.after ≡ Some s → P s) run
+pub first-in : (P : Server → Type 0) (app : AppId) (run : List Moment) (server : Server) → All (λ (moment : Moment). (s : Server) → first_server app moment.after ≡ Some s → P s) run
     → slice_get (filter_map (λ (moment : Moment). first_server app moment.after) run) 0 ≡ Some server → P server
 unfolding All
 first-in P app [] server all is = cc

@@ -19,25 +19,23 @@ use Rattle.sc_state.specs.declared.working.Prepared.{Prepared}
 use Rattle.sc_state.specs.declared.working.Working.{Working}
 use Rattle.sc_model.specs.Dialogs.{tag_of}
 use Rattle.sc_hosts.specs.Acting.{all_act, drafts_ended, faulted, is_request_event}
-use Rattle.sc_hosts.specs.Effects.{begun, created_leg, proxied, with_draft}
+use Rattle.sc_hosts.specs.Effects.{created_leg, proxied, with_draft}
 use Rattle.sc_hosts.specs.Finishing.{finished, outcome, outcome_of}
 use Rattle.sc_hosts.specs.Looking.{is_request, removed, request_in, same_request, unlinked}
-use Rattle.sc_hosts.specs.Preparing.{kept_of, prepared, prepared_for}
+use Rattle.sc_hosts.specs.Preparing.{kept_of, prepared}
 use Rattle.sc_hosts.specs.PreparingRequests.{received}
 use Rattle.sc_hosts.specs.Sessions.{Turn}
 use Rattle.sc_hosts.specs.ViewChanges.{linked, with_own_session}
 use Rattle.sc_hosts.specs.Working.{worked_all}
 use Rattle.sc_walked.specs.SessionWalks.{SessionLaws}
-use Rattle.sc_walked.proofs.WalkCalls.{session_at, worked_all-walks}
-use Rattle.sc_walked.proofs.WalkEnds.{all_act-goes, done-any, drafts_ended-goes, faulted-goes}
-use Rattle.sc_walked.proofs.WalkShown.{prepared-walks}
+use Rattle.sc_walked.proofs.WalkCalls.{session_at}
 use Rattle.sc_lasting.specs.Lasting.{All, IsOf}
 use Rattle.sc_lasting.proofs.Began.{test-found}
 use Rattle.sc_lasting.proofs.Parts.{all-found, removed-only, unlinked-only}
 use Rattle.sc_given.specs.Givings.{IsNamed}
-use Rattle.sc_proxying.proofs.Passed.{shown-next}
-use Rattle.sc_proxying.proofs.Requests.{GoesOnKeeping, IsKeptAs, Keeps, keeping-law, shown-keeps-it}
+use Rattle.sc_proxying.proofs.Requests.{IsKeptAs}
 use Rattle.sc_proxying.proofs.Rising.{IsNumbered}
+use Rattle.sc_proxying.proofs.Turns.{acting-walks, keeps-it, shown-req}
 use Rattle.sc_begun.specs.Begun.{IsFirst}
 use Rattle.sc_begun.proofs.FirstProxies.{AreProper, proper-law}
 use Rattle.sc_recorded.specs.Recorded.{IsTaggedEvent, routed}
@@ -114,41 +112,8 @@ module _ (config : Config) (turn : Turn) (x : Session) where
   abbrev acting : Working
   acting = faulted config shown.req turn.end (drafts_ended played)
 
-  -- each relation that a turn keeps is kept until proxies act
-  acting-walks : (event : Queued) (Q : Session → Session → Type 0) → SessionLaws event (λ call. Unit {0}) Q → event ≡ turn.waiting.event → Q x (session_at acting)
-  acting-walks event Q law is =
-      law.after x (session_at played) (session_at acting)
-      (worked_all-walks event (λ call. Unit {0}) Q law config x shown turn.calls (done-any turn.calls (λ call. Unit {0}) (λ call. tt) (begun shown.view))
-      (prepared-walks event (λ call. Unit {0}) Q law config turn.ringing x turn.waiting turn.now is))
-      (law.after (session_at played) (session_at (drafts_ended played)) (session_at acting) (drafts_ended-goes event (λ call. Unit {0}) Q law played)
-      (faulted-goes event (λ call. Unit {0}) Q law config shown.req turn.end (drafts_ended played)))
-
   abbrev acted : Working
   acted = all_act config acting
-
-  abbrev dated : Session
-  dated = record x { view = record x.view { now = turn.now } }
-
-  -- what is kept under the number of a later request is that request, until it is passed on
-  keeps-it : (request : Request) → turn.waiting.event ≡ queued.Request request → IsNumbered x → Keeps x.view.next_request request acted.play.view acted.known
-  unfolding prepared
-  keeps-it request is numbered =
-      let number : ℕ = x.view.next_request in
-      let event : Queued = queued.Request request in
-      let law = keeping-law number request event in
-      let first : Keeps number request shown.view shown.known = subst (λ (e : Queued). Keeps number request (prepared_for config turn.ringing dated turn.waiting.number e).view (prepared_for config turn.ringing dated turn.waiting.number e).known) (sym is)
-      (shown-keeps-it config turn.ringing dated turn.waiting.number request (record { requests = numbered.requests; proxied = numbered.proxied })) in
-      let begins : Session = record { view = shown.view; known = shown.known } in
-      all_act-goes event (λ call. Unit {0}) (GoesOnKeeping number request) law config acting
-      (faulted-goes event (λ call. Unit {0}) (GoesOnKeeping number request) law config shown.req turn.end (drafts_ended played)
-      (drafts_ended-goes event (λ call. Unit {0}) (GoesOnKeeping number request) law played
-      (worked_all-walks event (λ call. Unit {0}) (GoesOnKeeping number request) law config begins shown turn.calls (done-any turn.calls (λ call. Unit {0}) (λ call. tt) (begun shown.view)) (law.same begins) first)))
-
-  shown-req : (request : Request) → turn.waiting.event ≡ queued.Request request → (r : ReqId) → shown.req ≡ Some r → r.0 ≡ x.view.next_request
-  unfolding prepared
-  shown-req request is r =
-      subst (λ (event : Queued). (prepared_for config turn.ringing dated turn.waiting.number event).req ≡ Some r → r.0 ≡ x.view.next_request) (sym is)
-      (shown-next config turn.ringing dated turn.waiting.number request r)
 
   -- what is passed on has the To tag with which it came
   kept-tagged : (request : Request) (all : List Kept) (r : RequestView) (kept : Kept) → is_some (tag_of request.head.to) ≡ true → All (IsKeptAs x.view.next_request request) all
@@ -164,8 +129,8 @@ module _ (config : Config) (turn : Turn) (x : Session) where
       → is_some (tag_of kept.request.head.to) ≡ true
   passed-tagged request is tagged numbered None at r kept found has = cc
   passed-tagged request is tagged numbered (Some req) at r kept found has =
-      let number : r.id.0 ≡ x.view.next_request = equal r.id.0 req.0 (test-found (is_request req) acted.play.view.requests r found) ∙ shown-req request is req at in
-      kept-tagged request acted.known.kept r kept tagged (keeps-it request is numbered).1 number has
+      let number : r.id.0 ≡ x.view.next_request = equal r.id.0 req.0 (test-found (is_request req) acted.play.view.requests r found) ∙ shown-req config turn x request is req at in
+      kept-tagged request acted.known.kept r kept tagged (keeps-it config turn x request is numbered).1 number has
 
   tagged-by : (event : Queued) → turn.waiting.event ≡ event → IsTaggedEvent event → IsNumbered x → is_request_event event ≡ true → (r : RequestView) (kept : Kept)
       → option_and_then (request_in acted.play.view) shown.req ≡ Some r → kept_of acted.known r.id ≡ Some kept → is_some (tag_of kept.request.head.to) ≡ true
@@ -186,8 +151,8 @@ module _ (config : Config) (turn : Turn) (x : Session) where
     unfolding outcome outcome_of finished prepared
     turn-made tagged numbered of proper right says =
         let routes = routed config epoch app stays began.head.record_route in
-        let names : SameNames x.view acting.play.view = acting-walks turn.waiting.event (λ y z. SameNames y.view z.view) (names-law turn.waiting.event) refl in
-        let still : AreProper began (session_at acting) = acting-walks turn.waiting.event (λ y z. AreProper began y → AreProper began z) (proper-law began turn.waiting.event of) refl proper in
+        let names : SameNames x.view acting.play.view = acting-walks config turn x turn.waiting.event (λ y z. SameNames y.view z.view) (names-law turn.waiting.event) refl in
+        let still : AreProper began (session_at acting) = acting-walks config turn x turn.waiting.event (λ y z. AreProper began y → AreProper began z) (proper-law began turn.waiting.event of) refl proper in
         let calls = worked_all-made routes config shown turn.calls (prepared-made routes config turn.ringing (record x { view = record x.view { now = turn.now } }) turn.waiting.number turn.waiting.event) in
         let before = before-made routes config shown.req turn.end played calls in
         let acts = all_act-made config epoch app stays began some acting

@@ -32,6 +32,7 @@ use Rattle.sc_forms.specs.Simulations.{map_host, map_live}
 use Rattle.sc_forms.proofs.HistoryLaws.{chained-histories, live_at-histories}
 use Rattle.sc_forms.proofs.NetMaps.{host_at-maps}
 use Rattle.sc_lasting.specs.Lasting.{All, IsLife, IsOf}
+use Rattle.sc_ways.proofs.Directs.{told-append}
 use Rattle.sc_lived.specs.Lived.{AreOfOne, AreTaken, IsLived, MayTake, Told, told, told_by, told_of, told_turns, turned_events}
 use Rattle.sc_lived.proofs.Accepted.{one-life}
 use Rattle.sc_lived.proofs.Sayings.{has-lived}
@@ -59,21 +60,16 @@ use Rattle.sc_recorded.proofs.Steps.{StepFits, live-as, step-goes}
 
 -- ## Beginnings of a journal
 
-chained-next : {S : Type 0} (before : List Step) (form : Form S) (setup : Setup) (net : Net S) (step : Step)
+pub chained-next : {S : Type 0} (before : List Step) (form : Form S) (setup : Setup) (net : Net S) (step : Step)
     → chained_from form setup net (before ++ step ∷ []) ≡ after_step form setup (chained_from form setup net before) step
 unfolding chained_from
 chained-next [] form setup net step = refl
 chained-next (first ∷ before) form setup net step = chained-next before form setup (after_step form setup net first) step
 
-lawful-front : {S : Type 0} (before later : List Step) (form : Form S) (setup : Setup) (net : Net S) → IsLawfulFrom form setup net (before ++ later) → IsLawfulFrom form setup net before
+pub lawful-front : {S : Type 0} (before later : List Step) (form : Form S) (setup : Setup) (net : Net S) → IsLawfulFrom form setup net (before ++ later) → IsLawfulFrom form setup net before
 unfolding IsLawfulFrom
 lawful-front [] later form setup net lawful = tt
 lawful-front (step ∷ before) later form setup net lawful = (lawful.0, lawful-front before later form setup (after_step form setup net step) lawful.1)
-
-told-append : (before later : List Step) (app : AppId) → told app (before ++ later) ≡ told app before ++ told app later
-unfolding told
-told-append [] later app = refl
-told-append (step ∷ before) later app = ap (λ ts. told_by app step ++ ts) (told-append before later app) ∙ sym (append_assoc (told_by app step) (told app before) (told app later))
 
 pub asked-both : (xs ys : List Told) → asked_of (xs ++ ys) ≡ asked_of xs ++ asked_of ys
 asked-both [] ys = refl

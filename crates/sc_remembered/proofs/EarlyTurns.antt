@@ -42,18 +42,18 @@ played-is view script = played-play script (begun view)
 
 -- ## Scripts that leave the attributes
 
-abbrev Leaves : View → Script → Type 0
+abbrev pub Leaves : View → Script → Type 0
 Leaves view script = (play_after (begun view) script).view.attributes ≡ view.attributes
 
 begun-attributes : (view : View) → (begun view).view.attributes ≡ view.attributes
 unfolding begun
 begun-attributes view = refl
 
-done-leaves : (view : View) → Leaves view Done
+pub done-leaves : (view : View) → Leaves view Done
 unfolding play_after begun
 done-leaves view = refl
 
-replied-leaves : (view : View) (req : ReqId) (code : ℕ) (reason : Bytes) → Leaves view (only (reply req code reason))
+pub replied-leaves : (view : View) (req : ReqId) (code : ℕ) (reason : Bytes) → Leaves view (only (reply req code reason))
 unfolding play_after only reply
 replied-leaves view req code reason = responded-attributes (begun view) req _ ∙ begun-attributes view
 
@@ -79,7 +79,7 @@ if-leaves : (view : View) (b : Bool) (x y : Script) → Leaves view x → Leaves
 if-leaves view true x y p q = p
 if-leaves view false x y p q = q
 
-ok-leaves : (view : View) (req : ReqId) (request : Request) → Leaves view (reply_ok req request)
+pub ok-leaves : (view : View) (req : ReqId) (request : Request) → Leaves view (reply_ok req request)
 unfolding reply_ok
 ok-leaves view req request = if-leaves view (same_bytes request.method ack) Done (only (reply req 200 ok)) (done-leaves view) (replied-leaves view req 200 ok)
 

@@ -1,6 +1,6 @@
 -- The answers to an INVITE at the end of its way return its Record-Route.
 use Rattle.std.proofs.Common.{◌≡◌, inl, inr, ℕ, Bool, true, false, Option, None, Some, List, [], ◌∷◌, refl, sym, ap, subst, ◌∙◌, arith}
-use Rattle.std.specs.Prelude.{◌==◌, ◌&&◌, ◌||◌, cond, is_none, is_some, option_and_then, slice_get}
+use Rattle.std.specs.Prelude.{◌==◌, ◌&&◌, ◌||◌, cond, is_none, is_some, option_and_then}
 use Rattle.std.specs.List.{cons_option, filter_map, find, flat_map}
 use Rattle.std.specs.Option.{option_map_or}
 use Rattle.std.proofs.lemmas.Bool.Decides.{nat_tests}
@@ -29,6 +29,7 @@ use Rattle.sc_hosts.specs.Nets.{host_at}
 use Rattle.sc_hosts.specs.Runs.{IsLawful, chained, start}
 use Rattle.sc_hosts.specs.Transacting.{is_same_app}
 use Rattle.sc_lasting.specs.Lasting.{All}
+use Rattle.sc_recorded.proofs.Chain.{first-in}
 use Rattle.sc_lasting.proofs.Began.{same-number, test-found}
 use Rattle.sc_lasting.proofs.Parts.{all-both, all-found, all-map}
 use Rattle.sc_keyed.specs.Keyed.{IsIn}
@@ -60,18 +61,6 @@ clash b p q = cc
 no-tag : (tag : Option Bytes) → is_none tag ≡ true → is_some tag ≡ false
 no-tag None is = refl
 no-tag (Some tag) is = cc
-
-first-by : {B : Type 0} (found : Option B) (rest : List B) (b : B) → slice_get (cons_option found rest) 0 ≡ Some b → (P : Type 0) → (found ≡ Some b → P) → (slice_get rest 0 ≡ Some b → P) → P
-first-by None rest b is P one more = more is
-first-by (Some x) rest b is P one more = one is
-
--- it was there in some moment
-first-in : (P : Server → Type 0) (app : AppId) (run : List Moment) (server : Server) → All (λ (moment : Moment). (s : Server) → first_server app moment.after ≡ Some s → P s) run
-    → slice_get (filter_map (λ (moment : Moment). first_server app moment.after) run) 0 ≡ Some server → P server
-unfolding All
-first-in P app [] server all is = cc
-first-in P app (moment ∷ run) server all is =
-    first-by (first_server app moment.after) (filter_map (λ (moment : Moment). first_server app moment.after) run) server is (P server) (λ found. all.0 server found) (λ later. first-in P app run server all.1 later)
 
 -- ## One answer
 

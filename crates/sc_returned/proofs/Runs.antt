@@ -34,6 +34,7 @@ use Rattle.sc_forms.specs.Simulations.{map_host}
 use Rattle.sc_forms.proofs.HistoryLaws.{chained-histories, lawful_back-histories}
 use Rattle.sc_forms.proofs.NetMaps.{host_at-maps}
 use Rattle.sc_lasting.specs.Lasting.{All, Directly}
+use Rattle.sc_recorded.proofs.Runs.{chained-next, lawful-front}
 use Rattle.sc_lasting.proofs.Parts.{all-append, all-found, all-map}
 use Rattle.sc_lived.specs.Lived.{AreAccepted, AreTaken, IsLived, MayTake, Told, told, told_of, told_turns, turned_events}
 use Rattle.sc_lived.proofs.Accepted.{life-done, read-after}
@@ -69,18 +70,7 @@ kept-of config = record {
   more = λ arrivals new app history all. more-of arrivals new app (turned_events history.turns) all;
 }
 
--- ## Beginnings of a journal
-
-chained-next : {S : Type 0} (before : List Step) (form : Form S) (setup : Setup) (net : Net S) (step : Step)
-    → chained_from form setup net (before ++ step ∷ []) ≡ after_step form setup (chained_from form setup net before) step
-unfolding chained_from
-chained-next [] form setup net step = refl
-chained-next (first ∷ before) form setup net step = chained-next before form setup (after_step form setup net first) step
-
-lawful-front : {S : Type 0} (before later : List Step) (form : Form S) (setup : Setup) (net : Net S) → IsLawfulFrom form setup net (before ++ later) → IsLawfulFrom form setup net before
-unfolding IsLawfulFrom
-lawful-front [] later form setup net lawful = tt
-lawful-front (step ∷ before) later form setup net lawful = (lawful.0, lawful-front before later form setup (after_step form setup net step) lawful.1)
+-- ## Lists, and hosts at the beginning
 
 parts-of : {A : Type 0} (P : A → Type 0) (xs ys : List A) → All P (xs ++ ys) → All P xs × All P ys
 unfolding All

@@ -1,46 +1,19 @@
 -- Each turn of an application that keeps session timers plays one act, or leaves the attributes.
-use Rattle.std.proofs.Common.{◌≡◌, ◌⊎◌, inl, inr, ℕ, Bool, true, false, Option, None, Some, refl, ◌∙◌}
+use Rattle.std.proofs.Common.{◌≡◌, ◌⊎◌, inl, inr, Bool, true, false, Option, None, Some, refl}
 use Rattle.std.specs.Prelude.{cond}
 use Rattle.sc_tokens.specs.Names.{same_bytes}
-use Rattle.sc_value.specs.declared.ids.ReqId.{ReqId}
-use Rattle.sc_value.specs.declared.message.Request.{Request}
-use Rattle.sc_grammar.specs.Written.{Bytes}
 use Rattle.sc_terms.specs.declared.events.Event.{Event}
 use Rattle.sc_terms.specs.declared.events.Event.TheVariants as events
 use Rattle.sc_terms.specs.declared.views.View.{View}
 use Rattle.sc_model.specs.Dialogs.{update}
-use Rattle.sc_model.specs.SessionStates.{ack, bye, invite}
-use Rattle.sc_hosts.specs.Charters.{reply_ok}
+use Rattle.sc_model.specs.SessionStates.{bye, invite}
 use Rattle.sc_hosts.specs.Effects.{begun}
-use Rattle.sc_hosts.specs.Scripting.{Done, Script, only, reply}
+use Rattle.sc_hosts.specs.Scripting.{Script}
 use Rattle.sc_hosts.specs.SessionTimers.{is_granting, timed_script}
 use Rattle.sc_hosts.specs.Words.{ok}
 use Rattle.sc_promised.specs.Reliable.{play_after}
-use Rattle.sc_promised.proofs.Attributes.{responded-attributes}
+use Rattle.sc_remembered.proofs.EarlyTurns.{done-leaves, ok-leaves, replied-leaves}
 use Rattle.sc_timed.specs.TimedActs.{Comes, Grants, HangsUp, IsOneAct, Refreshes, TimedAct, act_of, calls_of, timer_of}
-
-abbrev Leaves : View → Script → Type 0
-Leaves view script = (play_after (begun view) script).view.attributes ≡ view.attributes
-
-begun-attributes : (view : View) → (begun view).view.attributes ≡ view.attributes
-unfolding begun
-begun-attributes view = refl
-
-done-leaves : (view : View) → Leaves view Done
-unfolding play_after begun
-done-leaves view = refl
-
-replied-leaves : (view : View) (req : ReqId) (code : ℕ) (reason : Bytes) → Leaves view (only (reply req code reason))
-unfolding play_after only reply
-replied-leaves view req code reason = responded-attributes (begun view) req _ ∙ begun-attributes view
-
-if-leaves : (view : View) (b : Bool) (x y : Script) → Leaves view x → Leaves view y → Leaves view (cond b x y)
-if-leaves view true x y p q = p
-if-leaves view false x y p q = q
-
-ok-leaves : (view : View) (req : ReqId) (request : Request) → Leaves view (reply_ok req request)
-unfolding reply_ok
-ok-leaves view req request = if-leaves view (same_bytes request.method ack) Done (only (reply req 200 ok)) (done-leaves view) (replied-leaves view req 200 ok)
 
 -- by a test: one act, or none
 abbrev Plays : View → Option TimedAct → Script → Type 0

@@ -115,7 +115,7 @@ run-direct (step ∷ later) setup net app none =
     let both = both-none (options_in app step) (flat_map (λ (moment : Moment). options_in app moment.step) (moments_from setup (after_step as_session setup net step) later)) none in
     all-both (λ (turn : Told). All IsDirectCall turn.calls) (told_by app step) (told app later) (step-direct app step both.0) (run-direct later setup (after_step as_session setup net step) app both.1)
 
-told-append : (before later : List Step) (app : AppId) → told app (before ++ later) ≡ told app before ++ told app later
+pub told-append : (before later : List Step) (app : AppId) → told app (before ++ later) ≡ told app before ++ told app later
 unfolding told
 told-append [] later app = refl
 told-append (step ∷ before) later app = ap (λ ts. told_by app step ++ ts) (told-append before later app) ∙ sym (append_assoc (told_by app step) (told app before) (told app later))

@@ -66,7 +66,7 @@ HasOwnBranch setup run occurrence =
 abbrev pub Is64 : ℕ → Type 0
 Is64 n = n < 2 ^ 64
 
-with-branch : (epoch : ℕ) (app : AppId) (n : ℕ) → IsOf64 epoch app 0 → Is64 n → IsOf64 epoch app n
+pub with-branch : (epoch : ℕ) (app : AppId) (n : ℕ) → IsOf64 epoch app 0 → Is64 n → IsOf64 epoch app n
 with-branch epoch app n small less = (small.0, small.1, small.2, less)
 
 branch-is : (config : Config) (epoch : ℕ) (app : AppId) (branch : ℕ) → branch_of (own_via config epoch app branch) ≡ branch_text config.salt epoch app branch
@@ -86,7 +86,7 @@ unfolding same_top
 tops-same a b x y p q is = subst (λ (top : Option Via). option_map_or (same_via x) top false ≡ true) q (subst (λ (top : Option Via). option_map_or (λ v. option_map_or (same_via v) (top_via b) false) top false ≡ true) p is)
 
 -- two requests on own Vias that are the same are of one session and branch
-on-one : (config : Config) (epoch : ℕ) (a b : AppId) (k m : ℕ) (request other : Request) → IsOf64 epoch a k → IsOf64 epoch b m → IsOn config epoch a k request → IsOn config epoch b m other
+pub on-one : (config : Config) (epoch : ℕ) (a b : AppId) (k m : ℕ) (request other : Request) → IsOf64 epoch a k → IsOf64 epoch b m → IsOn config epoch a k request → IsOn config epoch b m other
     → HasBranchOf request other → (a ≡ b) × (k ≡ m)
 unfolding IsOn
 on-one config epoch a b k m request other small also on too is =

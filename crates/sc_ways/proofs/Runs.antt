@@ -64,7 +64,7 @@ unfolding quiet_host IsRising
 quiet-numbered [] = All-nil IsNumbered
 quiet-numbered (app ∷ apps) = All-cons IsNumbered _ _ (omega arith) (quiet-numbered apps)
 
-quiet-last : (apps : List AppEntry) (number : ℕ) (host : Host Session) → slice_get (map (λ app. quiet_host {S = Session}) apps) number ≡ Some host → host.last ≤ 0
+pub quiet-last : (apps : List AppEntry) (number : ℕ) (host : Host Session) → slice_get (map (λ app. quiet_host {S = Session}) apps) number ≡ Some host → host.last ≤ 0
 unfolding quiet_host
 quiet-last [] number host at = cc
 quiet-last (app ∷ apps) zero host at = subst (λ (h : Host Session). h.last ≤ 0) (some-is (quiet_host {S = Session}) host at) (omega arith)

@@ -60,7 +60,7 @@ through : {A B : Type 0} (next : A → Option B) (found : Option A) (b : B) → 
 through next None b is = cc
 through next (Some a) b is = (a, refl, is)
 
-sends-by : (order : Order) (request : Request) → later_in order ≡ Some request → Sends request order
+pub sends-by : (order : Order) (request : Request) → later_in order ≡ Some request → Sends request order
 unfolding later_in
 sends-by (orders.Send branch sent) request is = Is_send branch (ap (λ (r : Request). orders.Send branch r) (some-is sent request is))
   where
