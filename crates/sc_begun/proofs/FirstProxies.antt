@@ -30,7 +30,7 @@ use Rattle.sc_hosts.specs.PreparingRequests.{received, request_view}
 use Rattle.sc_hosts.specs.PreparingResponses.{change_proxy}
 use Rattle.sc_hosts.specs.Refusals.{refusal}
 use Rattle.sc_hosts.specs.Sessions.{Turn}
-use Rattle.sc_hosts.specs.ViewChanges.{linked, with_own_session}
+use Rattle.sc_hosts.specs.ViewChanges.{linked, new_session, with_own_session}
 use Rattle.sc_hosts.specs.Working.{proxies, proxies_first, event_of}
 use Rattle.sc_walked.specs.SessionWalks.{Each, IsKeptProxy, IsSameRequest, SessionLaws, with_legs}
 use Rattle.sc_walked.proofs.WalkParts.{each-first}
@@ -272,14 +272,14 @@ shown-proper : (began : Request) (v w : View) (known : Known) → w ≡ record v
 shown-proper began v w known is ok = subst (λ (u : View). Proper began u known) (sym is) ok
 
 leg-proper : (began : Request) (play : Play) (known : Known) (request : Option RequestView) (kept : Option Kept) → Proper began play.view known
-    → Proper began (created_leg request play).view (with_legs kept known)
+    → Proper began (created_leg request play).view (with_legs play.view kept known)
 unfolding created_leg with_legs with_draft linked with_own_session
 leg-proper began play known None None ok = ok
 leg-proper began play known None (Some kept) ok = ok
 leg-proper began play known (Some request) None ok = ok
 leg-proper began play known (Some request) (Some kept) ok = ok
 
-begins-proper : (began : Request) (x : Session) → Proper began x.view x.known → Proper began (with_own_session x.view) (record x.known { legs = x.known.legs ++ new_leg None ∷ [] })
+begins-proper : (began : Request) (x : Session) → Proper began x.view x.known → Proper began (with_own_session x.view) (record x.known { legs = x.known.legs ++ new_leg (new_session x.view) None ∷ [] })
 unfolding with_own_session
 begins-proper began x ok = ok
 

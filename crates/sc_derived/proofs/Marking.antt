@@ -3,18 +3,16 @@ use Rattle.std.proofs.Common.{◌≡◌, ℕ, zero, suc, ◌+◌, ◌<◌, ◌�
 use Rattle.std.proofs.Math.ListN.{set}
 use Rattle.sc_value.specs.declared.ids.ReqId.{ReqId}
 use Rattle.sc_value.specs.declared.ids.SessId.{SessId}
-use Rattle.sc_terms.specs.declared.views.SessionView.{SessionView}
-use Rattle.sc_state.specs.declared.session.Known.{Known}
 use Rattle.sc_state.specs.declared.session.Leg.{Leg}
-use Rattle.sc_hosts.specs.DerivedSessions.{is_overtaken, overtaken_legs}
+use Rattle.sc_state.specs.declared.session.Session.{Session}
+use Rattle.sc_hosts.specs.DerivedSessions.{loses_tag, overtaken_leg}
 use Rattle.sc_derived.specs.Marks.{marked, marked_leg}
 
-pub marked_is : (known : Known) (req : ReqId) (sess : SessId) (sessions : List SessionView) (legs : List Leg)
-    → marked (map (is_overtaken known req sess) sessions) legs ≡ overtaken_legs known req sess sessions legs
-unfolding marked marked_leg overtaken_legs
-marked_is known req sess [] legs = refl
-marked_is known req sess (session ∷ sessions) [] = refl
-marked_is known req sess (session ∷ sessions) (leg ∷ legs) = ap (λ rest. marked_leg (is_overtaken known req sess session) leg ∷ rest) (marked_is known req sess sessions legs)
+pub marked_is : (session : Session) (req : ReqId) (sess : SessId) (legs : List Leg)
+    → marked (map (loses_tag session req sess) legs) legs ≡ map (overtaken_leg session req sess) legs
+unfolding marked marked_leg overtaken_leg
+marked_is session req sess [] = refl
+marked_is session req sess (leg ∷ legs) = ap (λ rest. marked_leg (loses_tag session req sess leg) leg ∷ rest) (marked_is session req sess legs)
 
 pub marked_length : (marks : List Bool) (legs : List Leg) → length (marked marks legs) ≡ length legs
 unfolding marked

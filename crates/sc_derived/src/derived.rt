@@ -11,16 +11,14 @@ ghost use Rattle.sc_hosts.specs.DerivedSessions.{Handling};
 ghost use Rattle.sc_hosts.specs.PreparingResponses.{is_invalid};
 ghost use Rattle.sc_derived.specs.Claims.{claims_of, with_peer_tag};
 
-use sc_effects::is_uac;
+use sc_effects::{is_uac, new_session};
 use sc_legs::{first_got, is_invalid, is_overtaken_leg, leg_of, same_tag};
 use sc_looking::session_place;
 use sc_messages::makes_dialog;
 use sc_methods::{is_invite, is_subscribe, is_success};
 use sc_state::{Got, Known, Leg, Session};
 use sc_terms::{SessionView, State, View};
-use sc_value::{
-    CloneIn, List, NoMemory, ReqId, Request, Response, SessId, Text, number_after, tag,
-};
+use sc_value::{CloneIn, List, NoMemory, ReqId, Request, Response, SessId, Text, tag};
 use std::alloc::Global;
 
 // How many SipSessions there are at most.
@@ -136,7 +134,7 @@ fn derived_session(
 ) -> Result<SessionView, NoMemory>
     ensures { IfOk result (λ s. s ≡ derived_session view.entry.now original.now tag.now) }
 {
-    let id = SessId(number_after(view.sessions.len())?);
+    let id = new_session(view)?;
     let peer_tag = tag.clone_in(alloc)?;
     let call_id = original.call_id.clone_in(alloc)?;
     let own_tag = original.own_tag.clone_in(alloc)?;
@@ -177,16 +175,18 @@ fn caller_of_leg(alloc: Global, leg: Option<&Leg>) -> Result<Option<Text>, NoMem
 #[tactic(auto, unfolding(sc_hosts::specs::DerivedSessions::derived_leg, sc_hosts::specs::Legs::new_leg), using(crate::proofs::Deriving::derived_from))]
 fn derived_leg(
     alloc: Global,
-    leg: Option<&Leg>,
+    sess: SessId,
+    original: Option<&Leg>,
     req: ReqId,
     came: Option<&Request>,
 ) -> Result<Leg, NoMemory>
     ensures { IfOk result
-        (λ l. l ≡ derived_leg (option_copied leg.entry) req (option_copied came.entry)) }
+        (λ l. l ≡ derived_leg sess (option_copied original.entry) req (option_copied came.entry)) }
 {
-    let caller = caller_of_leg(alloc, leg)?;
+    let caller = caller_of_leg(alloc, original)?;
     let got = derived_got(alloc, came)?;
     Ok(Leg {
+        id: sess,
         first: Some(req),
         caller,
         dialog: None,
@@ -211,9 +211,9 @@ fn derive(
         handled_in session.old req original.now (option_copied came.entry)
         (Handling.Derives tag.now) ≡ (sess, session.new)) }
 {
-    let id = SessId(number_after(session.view.sessions.len())?);
+    let id = new_session(&session.view)?;
     let derived = derived_session(alloc, &session.view, original, tag)?;
-    let leg = derived_leg(alloc, leg_of(&session.known, original.id), req, came)?;
+    let leg = derived_leg(alloc, id, leg_of(&session.known, original.id), req, came)?;
     session.view.sessions.push(derived)?;
     session.known.legs.push(leg)?;
     Ok(id)

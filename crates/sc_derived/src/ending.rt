@@ -2,11 +2,12 @@
 //! the other early ones is this project's profile.
 
 ghost use Rattle.std.specs.Prelude.{◌≡◌, map, IfOk, OnOk};
-ghost use Rattle.sc_hosts.specs.DerivedSessions.{failed_session, is_overtaken, overtaken, overtaken_session, without_derived};
+ghost use Rattle.sc_hosts.specs.DerivedSessions.{failed_session, is_overtaken, loses_tag, overtaken, overtaken_session, without_derived};
 ghost use Rattle.sc_derived.specs.Marks.{marked, marked_leg};
 
 use crate::derived::is_of;
 use sc_effects::{in_state, is_early};
+use sc_looking::session_in;
 use sc_state::{Known, Leg, Session};
 use sc_terms::{SessionView, State, View};
 use sc_value::{List, NoMemory, ReqId, SessId};
@@ -20,18 +21,29 @@ fn is_overtaken(known: &Known, req: ReqId, sess: SessId, session: &SessionView) 
     is_of(known, req, session) && is_early(session.state) && !session.gone && session.id.0 != sess.0
 }
 
+// Whether the SipSession of this leg is such a one.
+#[tactic(auto, unfolding(sc_hosts::specs::DerivedSessions::loses_tag))]
+fn loses_tag(session: &Session, req: ReqId, sess: SessId, leg: &Leg) -> bool
+    ensures { result ≡ loses_tag session.now req sess leg.now }
+{
+    match session_in(&session.view, leg.id) {
+        Some(other) => is_overtaken(&session.known, req, sess, other),
+        None => false,
+    }
+}
+
 fn overtaken_marks(
     alloc: Global,
-    known: &Known,
+    session: &Session,
     req: ReqId,
     sess: SessId,
-    sessions: &[SessionView],
+    legs: &[Leg],
 ) -> Result<List<bool>, NoMemory>
-    ensures { IfOk result (λ l. l ≡ map (is_overtaken known.now req sess) sessions.now) }
+    ensures { IfOk result (λ l. l ≡ map (loses_tag session.now req sess) legs.now) }
 {
     let mut marks = List::new(alloc);
-    for session in sessions {
-        marks.push(is_overtaken(known, req, sess, session))?;
+    for leg in legs {
+        marks.push(loses_tag(session, req, sess, leg))?;
     }
     Ok(marks)
 }
@@ -98,8 +110,8 @@ pub fn overtaken(
 ) -> Result<(), NoMemory>
     ensures { OnOk result (session.new ≡ overtaken req sess session.old) }
 {
-    let sessions = session.view.sessions.as_slice();
-    let marks = overtaken_marks(alloc, &session.known, req, sess, sessions)?;
+    let legs = session.known.legs.as_slice();
+    let marks = overtaken_marks(alloc, session, req, sess, legs)?;
     end_overtaken(&session.known, req, sess, &mut session.view);
     mark_known(&mut session.known, marks.as_slice());
     Ok(())

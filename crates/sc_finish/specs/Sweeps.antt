@@ -1,5 +1,6 @@
 -- What goes away at the end of a turn, one thing at a time (JSR 289 section 6.2.4).
-use Rattle.std.specs.Prelude.{◌-◌, List, Bool, not, ◌&&◌, slice_get}
+use Rattle.std.specs.Prelude.{List, Bool, not, ◌&&◌}
+use Rattle.std.specs.List.{find}
 use Rattle.sc_value.specs.declared.ids.SessId.{SessId}
 use Rattle.sc_tokens.specs.Names.{same_bytes}
 use Rattle.sc_terms.specs.declared.views.View.{View}
@@ -9,6 +10,7 @@ use Rattle.sc_state.specs.declared.session.Kept.{Kept}
 use Rattle.sc_state.specs.declared.session.Known.{Known}
 use Rattle.sc_state.specs.declared.session.Leg.{Leg}
 use Rattle.sc_hosts.specs.Finishing.{is_session_ready, is_needed}
+use Rattle.sc_hosts.specs.Legs.{is_leg_of}
 use Rattle.sc_hosts.specs.Looking.{removed}
 use Rattle.sc_model.specs.SessionStates.{ack}
 
@@ -31,4 +33,4 @@ stays request = not (request.received && same_bytes request.method ack)
 
 -- the request can still be needed
 unfoldable pub needed : View → List Leg → Kept → Bool
-needed view legs kept = is_needed view (slice_get legs (kept.sess.0 - 1)) kept kept.way
+needed view legs kept = is_needed view (find (is_leg_of kept.sess) legs) kept kept.way

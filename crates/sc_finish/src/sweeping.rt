@@ -9,7 +9,7 @@ ghost use Rattle.sc_finish.specs.Sweeps.{goes, id_of, without, stays, needed};
 
 use crate::readiness::{is_session_ready, lacks_final};
 use sc_effects::{removed, tidy};
-use sc_legs::leg_place;
+use sc_legs::leg_among;
 use sc_looking::{is_gone_in, request_in};
 use sc_methods::{is_ack, is_invite};
 use sc_state::{Kept, Known, Leg, Session, Way};
@@ -137,7 +137,7 @@ fn needed(view: &View, legs: &[Leg], kept: &Kept) -> bool
         Way::Received { .. } => lacks_final_of(view, kept.id),
         Way::Sent { .. } => {
             request_in(view, kept.id).is_some()
-                || can_succeed(view, legs.get(leg_place(kept.sess)), kept)
+                || can_succeed(view, leg_among(legs, kept.sess), kept)
         }
     }
 }

@@ -1,9 +1,11 @@
 -- A SipSession that a call has ended is gone, in the whole life of an application session.
-use Rattle.std.proofs.Common.{◌++◌, ◌+◌, ◌∙◌, ◌∷◌, ◌≡◌, ◌≤◌, Bool, List, None, Option, Some, [], ap, arith, cond, false, length, refl, subst, suc, sym, true, zero, ℕ}
+use Rattle.std.proofs.Common.{◌++◌, ◌+◌, ◌∙◌, ◌∷◌, ◌≡◌, Bool, List, None, Option, Some, [], ap, arith, cond, false, length, refl, subst, suc, sym, true, ℕ}
 use Rattle.std.proofs.lemmas.Bool.Decides.{nat_tests}
+use Rattle.std.proofs.lemmas.List.Folds.{find-append}
 use Rattle.std.specs.List.{find, list_any}
-use Rattle.std.specs.Prelude.{◌&&◌, ◌-◌, ◌==◌, is_none, is_some}
-use Rattle.sc_value.specs.Lists.{change_first, change_nth}
+use Rattle.std.specs.Option.{option_map, option_map_or, option_or}
+use Rattle.std.specs.Prelude.{◌&&◌, ◌==◌, is_none, is_some, map}
+use Rattle.sc_value.specs.Lists.{change_first}
 use Rattle.sc_value.specs.declared.ids.ReqId.{ReqId}
 use Rattle.sc_value.specs.declared.ids.SessId.{SessId}
 use Rattle.sc_value.specs.declared.message.Request.{Request}
@@ -30,15 +32,16 @@ use Rattle.sc_grammar.specs.Written.{Bytes}
 use Rattle.sc_model.specs.Dialogs.{tag_of}
 use Rattle.sc_model.specs.Transactions.{is_failure}
 use Rattle.sc_hosts.specs.Branches.{is_supervised}
-use Rattle.sc_hosts.specs.DerivedSessions.{Derives, Handling, In, Takes, derived_leg, derived_session, failed_session, handled_in, handling, is_overtaken, overtaken, overtaken_legs, overtaken_session, without_derived}
-use Rattle.sc_hosts.specs.Legs.{FIRST_SESSION, answered_leg, change_leg, in_dialog, is_low, leg_of, new_leg, session_for, with_answer, with_request}
+use Rattle.sc_hosts.specs.DerivedSessions.{Derives, Handling, In, Takes, derived_leg, derived_session, failed_session, handled_in, handling, is_overtaken, loses_tag, overtaken, overtaken_leg, overtaken_session, without_derived}
+use Rattle.sc_hosts.specs.Legs.{FIRST_SESSION, answered_leg, change_leg, in_dialog, is_leg_of, is_low, leg_of, new_leg, session_for, with_answer, with_request}
 use Rattle.sc_hosts.specs.Looking.{change_session, in_state, is_gone_in, is_proxy, is_session, linked_to, removed, request_in, session_in}
 use Rattle.sc_hosts.specs.Preparing.{cancelled_proxy, cancelled_request, fired, has_expired, kept_of, prepared, prepared_branch_timer, prepared_cancel, prepared_expiry, prepared_for, prepared_timer, proxy_of, renewed, showing_cancel, terminated, timed_out}
 use Rattle.sc_hosts.specs.PreparingRequests.{next_id, prepared_request, received, showing, showing_in, silent, taken, taken_in, too_low}
 use Rattle.sc_hosts.specs.PreparingResponses.{accepts_invite, branch_placed, heard_in, is_first_success, is_invalid, is_watched, noted_final, placed, prepared_branch, prepared_own, prepared_response, responded, responded_again, responded_in, settled_legs, shown_again, with_branches, with_request_again}
-use Rattle.sc_hosts.specs.ViewChanges.{answered, answered_in, tidy, with_response}
+use Rattle.sc_hosts.specs.ViewChanges.{answered, answered_in, new_session, tidy, with_response}
 use Rattle.sc_walked.specs.SessionWalks.{Each}
-use Rattle.sc_walked.proofs.WalkParts.{each-first, each-map, each-nth}
+use Rattle.sc_walked.proofs.WalkParts.{each-first, each-map}
+use Rattle.sc_once.proofs.Finding.{find-changed, find-other}
 use Rattle.sc_lasting.proofs.Parts.{received-holds, removed-each}
 
 pub clash : (b : Bool) → b ≡ true → b ≡ false → ⊥
@@ -48,9 +51,9 @@ clash b p q = cc
 abbrev pub Soft : SessionView → SessionView → Type 0
 Soft s t = ◌≡◌ {A = SessId} t.id s.id × (s.gone ≡ true → t.gone ≡ true)
 
--- what a leg keeps: whether a call ended its SipSession
+-- what a leg keeps: of which SipSession it is, and whether a call ended that
 abbrev pub Calm : Leg → Leg → Type 0
-Calm l m = ◌≡◌ {A = Bool} m.invalidated l.invalidated
+Calm l m = ◌≡◌ {A = SessId} m.id l.id × ◌≡◌ {A = Bool} m.invalidated l.invalidated
 
 pub keep-soft : (s : SessionView) → Soft s s
 keep-soft s = (refl, λ gone. gone)
@@ -73,30 +76,86 @@ pub state-soft : (state : State) (s : SessionView) → Soft s (in_state state s)
 unfolding in_state
 state-soft state s = (refl, λ gone. gone)
 
+pub keep-calm : (leg : Leg) → Calm leg leg
+keep-calm leg = (refl, refl)
+
+-- a call ended the SipSession of this leg
+abbrev pub is_ended : Option Leg → Bool
+is_ended found = option_map_or (λ (leg : Leg). leg.invalidated) found false
+
+-- a call ended the SipSession of this number
+abbrev pub is_ended_in : SessId → List Leg → Bool
+is_ended_in sess legs = is_ended (find (is_leg_of sess) legs)
+
+-- the SipSession of this number is gone
+abbrev pub GoneIn : SessId → List SessionView → Type 0
+GoneIn sess ss = (s : SessionView) × (find (is_session sess) ss ≡ Some s) × (s.gone ≡ true)
+
+-- they are numbered in order
+unfoldable pub Placed : ℕ → List SessionView → Type 0
+Placed n [] = Unit {0}
+Placed n (s ∷ ss) = ◌≡◌ {A = ℕ} s.id.0 n × Placed (n + 1) ss
+
 -- the SipSessions are numbered in order, and one that a call ended is gone
-unfoldable pub Tied : ℕ → List SessionView → List Leg → Type 0
-Tied n [] [] = Unit {0}
-Tied n [] (leg ∷ legs) = (leg.invalidated ≡ false) × Tied (n + 1) [] legs
-Tied n (s ∷ ss) [] = ◌≡◌ {A = ℕ} s.id.0 n × Tied (n + 1) ss []
-Tied n (s ∷ ss) (leg ∷ legs) = ◌≡◌ {A = ℕ} s.id.0 n × (leg.invalidated ≡ true → s.gone ≡ true) × Tied (n + 1) ss legs
+pub record Tied (ss : List SessionView) (legs : List Leg) : Type 0 where
+  pub placed : Placed 1 ss
+  pub gone : (sess : SessId) → is_ended_in sess legs ≡ true → GoneIn sess ss
 
 -- ## Lists
 
-pub tied-soft : (ss ts : List SessionView) (legs : List Leg) (n : ℕ) → Each Soft ss ts → Tied n ss legs → Tied n ts legs
-unfolding Each Tied
-tied-soft [] [] legs n each tied = tied
-tied-soft [] (t ∷ ts) legs n each tied = absurd each
-tied-soft (s ∷ ss) [] legs n each tied = absurd each
-tied-soft (s ∷ ss) (t ∷ ts) [] n each tied = (ap (λ (id : SessId). id.0) each.0.0 ∙ tied.0, tied-soft ss ts [] (n + 1) each.1 tied.1)
-tied-soft (s ∷ ss) (t ∷ ts) (leg ∷ legs) n each tied = (ap (λ (id : SessId). id.0) each.0.0 ∙ tied.0, λ ended. each.0.1 (tied.1 ended), tied-soft ss ts legs (n + 1) each.1 tied.2)
+one-is : (x s : SessionView) → Some x ≡ Some s → x ≡ s
+one-is x s is = cc
 
-pub tied-calm : (ss : List SessionView) (ls ms : List Leg) (n : ℕ) → Each Calm ls ms → Tied n ss ls → Tied n ss ms
-unfolding Each Tied
-tied-calm ss [] [] n each tied = tied
-tied-calm ss [] (m ∷ ms) n each tied = absurd each
-tied-calm ss (l ∷ ls) [] n each tied = absurd each
-tied-calm [] (l ∷ ls) (m ∷ ms) n each tied = (each.0 ∙ tied.0, tied-calm [] ls ms (n + 1) each.1 tied.1)
-tied-calm (s ∷ ss) (l ∷ ls) (m ∷ ms) n each tied = (tied.0, λ ended. tied.1 (sym each.0 ∙ ended), tied-calm ss ls ms (n + 1) each.1 tied.2)
+placed-soft : (ss ts : List SessionView) (n : ℕ) → Each Soft ss ts → Placed n ss → Placed n ts
+unfolding Each Placed
+placed-soft [] [] n each placed = placed
+placed-soft [] (t ∷ ts) n each placed = absurd each
+placed-soft (s ∷ ss) [] n each placed = absurd each
+placed-soft (s ∷ ss) (t ∷ ts) n each placed = (ap (λ (id : SessId). id.0) each.0.0 ∙ placed.0, placed-soft ss ts (n + 1) each.1 placed.1)
+
+-- a list of the same numbers finds as much, and it is gone where that was
+pub find-soft : (ss ts : List SessionView) (s : SessId) (found : SessionView) → Each Soft ss ts → find (is_session s) ss ≡ Some found
+    → (other : SessionView) × (find (is_session s) ts ≡ Some other) × (found.gone ≡ true → other.gone ≡ true)
+unfolding Each
+find-soft [] ts s found each is = cc
+find-soft (x ∷ ss) [] s found each is = absurd each
+find-soft (x ∷ ss) (y ∷ ts) s found each is =
+    by (y.id.0 == s.0) (subst (λ (id : SessId). cond (id.0 == s.0) (Some x) (find (is_session s) ss) ≡ Some found) (sym each.0.0) is) (λ p. find-soft ss ts s found each.1 p)
+  where
+    by : (b : Bool) → cond b (Some x) (find (is_session s) ss) ≡ Some found
+        → (find (is_session s) ss ≡ Some found → (other : SessionView) × (find (is_session s) ts ≡ Some other) × (found.gone ≡ true → other.gone ≡ true))
+        → (other : SessionView) × (cond b (Some y) (find (is_session s) ts) ≡ Some other) × (found.gone ≡ true → other.gone ≡ true)
+    by true p rest = (y, refl, λ gone. each.0.1 (ap (λ (t : SessionView). t.gone) (one-is x found p) ∙ gone))
+    by false p rest = rest p
+
+pub tied-soft : (ss ts : List SessionView) (legs : List Leg) → Each Soft ss ts → Tied ss legs → Tied ts legs
+tied-soft ss ts legs each tied = record {
+  placed = placed-soft ss ts 1 each tied.placed;
+  gone = λ sess ended. still sess (tied.gone sess ended);
+}
+  where
+    still : (sess : SessId) → GoneIn sess ss → GoneIn sess ts
+    still sess gone = let other = find-soft ss ts sess gone.0 each gone.1 in (other.0, other.1, other.2 gone.2)
+
+-- legs that are the same, but for what they know, are ended where they were
+pub calm-ended : (ls ms : List Leg) (sess : SessId) → Each Calm ls ms → is_ended_in sess ms ≡ true → is_ended_in sess ls ≡ true
+unfolding Each
+calm-ended [] [] sess each ended = ended
+calm-ended [] (m ∷ ms) sess each ended = absurd each
+calm-ended (l ∷ ls) [] sess each ended = absurd each
+calm-ended (l ∷ ls) (m ∷ ms) sess each ended =
+    by (l.id.0 == sess.0) (subst (λ (id : SessId). is_ended (cond (id.0 == sess.0) (Some m) (find (is_leg_of sess) ms)) ≡ true) each.0.0 ended) (λ p. calm-ended ls ms sess each.1 p)
+  where
+    by : (b : Bool) → is_ended (cond b (Some m) (find (is_leg_of sess) ms)) ≡ true → (is_ended_in sess ms ≡ true → is_ended_in sess ls ≡ true)
+        → is_ended (cond b (Some l) (find (is_leg_of sess) ls)) ≡ true
+    by true p rest = sym each.0.1 ∙ p
+    by false p rest = rest p
+
+pub tied-calm : (ss : List SessionView) (ls ms : List Leg) → Each Calm ls ms → Tied ss ls → Tied ss ms
+tied-calm ss ls ms each tied = record {
+  placed = tied.placed;
+  gone = λ sess ended. tied.gone sess (calm-ended ls ms sess each ended);
+}
 
 next-place : (n m : ℕ) → n + suc m ≡ (n + 1) + m
 next-place n m = omega arith
@@ -104,63 +163,60 @@ next-place n m = omega arith
 at-place : (n : ℕ) → n + 0 ≡ n
 at-place n = omega arith
 
-pub more-sessions : (ss : List SessionView) (legs : List Leg) (n : ℕ) (s : SessionView) → ◌≡◌ {A = ℕ} s.id.0 (n + length ss) → Tied n ss legs → Tied n (ss ++ s ∷ []) legs
-unfolding Tied
-more-sessions [] [] n s is tied = (is ∙ at-place n, tt)
-more-sessions [] (leg ∷ legs) n s is tied = (is ∙ at-place n, λ ended. absurd (clash leg.invalidated ended tied.0), tied.1)
-more-sessions (x ∷ ss) [] n s is tied = (tied.0, more-sessions ss [] (n + 1) s (is ∙ next-place n (length ss)) tied.1)
-more-sessions (x ∷ ss) (leg ∷ legs) n s is tied = (tied.0, tied.1, more-sessions ss legs (n + 1) s (is ∙ next-place n (length ss)) tied.2)
+placed-more : (ss : List SessionView) (n : ℕ) (s : SessionView) → ◌≡◌ {A = ℕ} s.id.0 (n + length ss) → Placed n ss → Placed n (ss ++ s ∷ [])
+unfolding Placed
+placed-more [] n s is placed = (is ∙ at-place n, tt)
+placed-more (x ∷ ss) n s is placed = (placed.0, placed-more ss (n + 1) s (is ∙ next-place n (length ss)) placed.1)
 
-pub more-legs : (ss : List SessionView) (legs : List Leg) (n : ℕ) (leg : Leg) → leg.invalidated ≡ false → Tied n ss legs → Tied n ss (legs ++ leg ∷ [])
-unfolding Tied
-more-legs [] [] n leg is tied = (is, tt)
-more-legs [] (l ∷ legs) n leg is tied = (tied.0, more-legs [] legs (n + 1) leg is tied.1)
-more-legs (s ∷ ss) [] n leg is tied = (tied.0, λ ended. absurd (clash leg.invalidated ended is), tied.1)
-more-legs (s ∷ ss) (l ∷ legs) n leg is tied = (tied.0, tied.1, more-legs ss legs (n + 1) leg is tied.2)
+found-more : (ss : List SessionView) (s found : SessionView) (sess : SessId) → find (is_session sess) ss ≡ Some found → find (is_session sess) (ss ++ s ∷ []) ≡ Some found
+found-more ss s found sess is = find-append (is_session sess) ss (s ∷ []) ∙ ap (λ (one : Option SessionView). option_or one (find (is_session sess) (s ∷ []))) is
+
+pub more-sessions : (ss : List SessionView) (legs : List Leg) (s : SessionView) → ◌≡◌ {A = ℕ} s.id.0 (1 + length ss) → Tied ss legs → Tied (ss ++ s ∷ []) legs
+more-sessions ss legs s is tied = record {
+  placed = placed-more ss 1 s is tied.placed;
+  gone = λ sess ended. still sess (tied.gone sess ended);
+}
+  where
+    still : (sess : SessId) → GoneIn sess ss → GoneIn sess (ss ++ s ∷ [])
+    still sess gone = (gone.0, found-more ss s gone.0 sess gone.1, gone.2)
+
+-- a leg more, of a SipSession that no call ended
+pub ended-more : (ls : List Leg) (leg : Leg) (sess : SessId) → leg.invalidated ≡ false → is_ended_in sess (ls ++ leg ∷ []) ≡ true → is_ended_in sess ls ≡ true
+ended-more ls leg sess is ended =
+    by (find (is_leg_of sess) ls) (leg.id.0 == sess.0) (ap (λ (found : Option Leg). is_ended found) (sym (find-append (is_leg_of sess) ls (leg ∷ []))) ∙ ended)
+  where
+    by : (found : Option Leg) (b : Bool) → is_ended (option_or found (cond b (Some leg) None)) ≡ true → is_ended found ≡ true
+    by (Some l) b p = p
+    by None true p = absurd (clash leg.invalidated p is)
+    by None false p = p
+
+pub more-legs : (ss : List SessionView) (legs : List Leg) (leg : Leg) → leg.invalidated ≡ false → Tied ss legs → Tied ss (legs ++ leg ∷ [])
+more-legs ss legs leg is tied = record {
+  placed = tied.placed;
+  gone = λ sess ended. tied.gone sess (ended-more legs leg sess is ended);
+}
+
+no-leg : (sess : SessId) → is_ended_in sess [] ≡ true → ⊥
+no-leg sess ended = cc
+
+-- the first SipSession
+pub first-tied : (s : SessionView) (leg : Leg) → ◌≡◌ {A = ℕ} s.id.0 1 → leg.invalidated ≡ false → Tied (s ∷ []) (leg ∷ [])
+unfolding Placed
+first-tied s leg is fine = record {
+  placed = (is, tt);
+  gone = λ sess ended. absurd (no-leg sess (ended-more [] leg sess fine ended));
+}
 
 pub last-number : (n : ℕ) → n + 1 ≡ 1 + n
 last-number n = omega arith
 
 -- ## A call ends a SipSession
 
-same-number : (a b : ℕ) → (a == b) ≡ true → a ≡ b
+pub same-number : (a b : ℕ) → (a == b) ≡ true → a ≡ b
 same-number a b is = grind (arith, nat_tests, is)
 
-differ : (a b : ℕ) → (a == b) ≡ false → a ≡ b → ⊥
-differ a b at same = grind (arith, nat_tests, at, same)
-
-lower : (n m : ℕ) → n + 1 ≤ m → n ≤ m
-lower n m p = omega (arith, p)
-
-least : (n m : ℕ) → n ≡ m → n ≤ m
-least n m p = omega (arith, p)
-
--- they are numbered in order
-unfoldable pub Placed : ℕ → List SessionView → Type 0
-Placed n [] = Unit {0}
-Placed n (s ∷ ss) = ◌≡◌ {A = ℕ} s.id.0 n × Placed (n + 1) ss
-
-pub placed-of : (ss : List SessionView) (legs : List Leg) (n : ℕ) → Tied n ss legs → Placed n ss
-unfolding Tied Placed
-placed-of [] legs n tied = tt
-placed-of (s ∷ ss) [] n tied = (tied.0, placed-of ss [] (n + 1) tied.1)
-placed-of (s ∷ ss) (leg ∷ legs) n tied = (tied.0, placed-of ss legs (n + 1) tied.2)
-
--- what is found by a number has it, and is no lower than the first
-pub above : (ss : List SessionView) (n : ℕ) (s : SessId) (found : SessionView) → Placed n ss → find (is_session s) ss ≡ Some found → n ≤ s.0
-unfolding Placed
-above [] n s found placed is = cc
-above (x ∷ ss) n s found placed is = by (x.id.0 == s.0) refl is (λ p. above ss (n + 1) s found placed.1 p)
-  where
-    by : (b : Bool) → (x.id.0 == s.0) ≡ b → cond b (Some x) (find (is_session s) ss) ≡ Some found → (find (is_session s) ss ≡ Some found → n + 1 ≤ s.0) → n ≤ s.0
-    by true at p rest = least n s.0 (sym placed.0 ∙ same-number x.id.0 s.0 at)
-    by false at p rest = lower n s.0 (rest p)
-
-not-first : (n m k : ℕ) → k ≡ n + suc m → (n == k) ≡ false
-not-first n m k is = grind (arith, nat_tests, is)
-
-is-first : (n k : ℕ) → k ≡ n + 0 → (n == k) ≡ true
-is-first n k is = grind (arith, nat_tests, is)
+not-both : (a b c : ℕ) → (a == b) ≡ true → (b == c) ≡ false → (a == c) ≡ false
+not-both a b c p q = grind (arith, nat_tests, p, q)
 
 abbrev pub ending : Leg → Leg
 ending leg = record leg { invalidated = true }
@@ -168,90 +224,65 @@ ending leg = record leg { invalidated = true }
 abbrev leaving : SessionView → SessionView
 leaving s = record s { gone = true }
 
-ends-first : (b : Bool) (x : SessionView) (ss : List SessionView) (more : List SessionView) (legs : List Leg) (n : ℕ) → b ≡ true → Tied n (x ∷ ss) legs → Tied n (cond b (leaving x ∷ ss) more) (change_nth zero ending legs)
-unfolding Tied change_nth
-ends-first true x ss more [] n is tied = tied
-ends-first true x ss more (leg ∷ legs) n is tied = (tied.0, λ ended. refl, tied.2)
-ends-first false x ss more legs n is tied = cc
+-- the leg of another SipSession stays as it is
+pub ended-other : (legs : List Leg) (sess other : SessId) → (sess.0 == other.0) ≡ false → find (is_leg_of other) (change_first (is_leg_of sess) ending legs) ≡ find (is_leg_of other) legs
+ended-other legs sess other at = find-other legs (is_leg_of sess) (is_leg_of other) ending (λ leg here. not-both leg.id.0 sess.0 other.0 here at) (λ leg. refl)
 
-ends-later : (b : Bool) (x y : SessionView) (ss more : List SessionView) (legs : List Leg) (n m : ℕ) → b ≡ false → Tied n (x ∷ ss) legs
-    → ((ls : List Leg) → Tied (n + 1) ss ls → Tied (n + 1) more (change_nth m ending ls)) → Tied n (cond b (y ∷ ss) (x ∷ more)) (change_nth (suc m) ending legs)
-unfolding Tied change_nth
-ends-later true x y ss more legs n m is tied rest = cc
-ends-later false x y ss more [] n m is tied rest = (tied.0, rest [] tied.1)
-ends-later false x y ss more (leg ∷ legs) n m is tied rest = (tied.0, tied.1, rest legs tied.2)
-
-head-is : (x : SessionView) (ss : List SessionView) (legs : List Leg) (n : ℕ) → Tied n (x ∷ ss) legs → x.id.0 ≡ n
-unfolding Tied
-head-is x ss [] n tied = tied.0
-head-is x ss (leg ∷ legs) n tied = tied.0
-
-later-found : (b : Bool) (x found : SessionView) (rest : Option SessionView) → b ≡ false → cond b (Some x) rest ≡ Some found → rest ≡ Some found
-later-found true x found rest is p = cc
-later-found false x found rest is p = p
-
-pub tied-ends : (ss : List SessionView) (legs : List Leg) (n m : ℕ) (s : SessId) → s.0 ≡ n + m → (found : SessionView) → find (is_session s) ss ≡ Some found → Tied n ss legs
-    → Tied n (change_first (is_session s) leaving ss) (change_nth m ending legs)
-unfolding change_first
-tied-ends [] legs n m s at found is tied = cc
-tied-ends (x ∷ ss) legs n zero s at found is tied =
-    ends-first (x.id.0 == s.0) x ss (x ∷ change_first (is_session s) leaving ss) legs n (subst (λ (k : ℕ). (k == s.0) ≡ true) (sym (head-is x ss legs n tied)) (is-first n s.0 at)) tied
-tied-ends (x ∷ ss) legs n (suc m) s at found is tied =
-    let other : (x.id.0 == s.0) ≡ false = subst (λ (k : ℕ). (k == s.0) ≡ false) (sym (head-is x ss legs n tied)) (not-first n m s.0 at) in
-    ends-later (x.id.0 == s.0) x (leaving x) ss (change_first (is_session s) leaving ss) legs n m other tied
-    (λ ls rest. tied-ends ss ls (n + 1) m s (at ∙ next-place n m) found (later-found (x.id.0 == s.0) x found (find (is_session s) ss) other is) rest)
-
--- a list of the same numbers finds as much
-pub find-soft : (ss ts : List SessionView) (s : SessId) (found : SessionView) → Each Soft ss ts → find (is_session s) ss ≡ Some found → (other : SessionView) × (find (is_session s) ts ≡ Some other)
-unfolding Each
-find-soft [] ts s found each is = cc
-find-soft (x ∷ ss) [] s found each is = absurd each
-find-soft (x ∷ ss) (y ∷ ts) s found each is =
-    by (y.id.0 == s.0) refl (subst (λ (id : SessId). cond (id.0 == s.0) (Some x) (find (is_session s) ss) ≡ Some found) (sym each.0.0) is) (λ p. find-soft ss ts s found each.1 p)
+pub tied-ends : (ss : List SessionView) (legs : List Leg) (sess : SessId) (found : SessionView) → find (is_session sess) ss ≡ Some found → Tied ss legs
+    → Tied (change_first (is_session sess) leaving ss) (change_first (is_leg_of sess) ending legs)
+tied-ends ss legs sess found is tied = record {
+  placed = placed-soft ss (change_first (is_session sess) leaving ss) 1 (each-first Soft ss (is_session sess) leaving keep-soft gone-soft) tied.placed;
+  gone = λ other ended. by other (sess.0 == other.0) refl ended;
+}
   where
-    by : (b : Bool) → (y.id.0 == s.0) ≡ b → cond b (Some x) (find (is_session s) ss) ≡ Some found → (find (is_session s) ss ≡ Some found → (other : SessionView) × (find (is_session s) ts ≡ Some other))
-        → (other : SessionView) × (cond b (Some y) (find (is_session s) ts) ≡ Some other)
-    by true at p rest = (y, refl)
-    by false at p rest = rest p
+    itself : GoneIn sess (change_first (is_session sess) leaving ss)
+    itself = (leaving found, find-changed ss (is_session sess) leaving (λ s. refl) ∙ ap (λ (one : Option SessionView). option_map leaving one) is, refl)
 
-pub sub-one : (n : ℕ) → 1 ≤ n → n ≡ 1 + (n - 1)
-sub-one n p = omega (arith, p)
+    another : (other : SessId) → (sess.0 == other.0) ≡ false → GoneIn other ss → GoneIn other (change_first (is_session sess) leaving ss)
+    another other at gone =
+        (gone.0, find-other ss (is_session sess) (is_session other) leaving (λ s here. not-both s.id.0 sess.0 other.0 here at) (λ s. refl) ∙ gone.1, gone.2)
+
+    by : (other : SessId) (b : Bool) → (sess.0 == other.0) ≡ b → is_ended_in other (change_first (is_leg_of sess) ending legs) ≡ true → GoneIn other (change_first (is_session sess) leaving ss)
+    by other true at ended =
+        let same : ◌≡◌ {A = SessId} sess other = ap (λ (n : ℕ). record { 0 = n }) (same-number sess.0 other.0 at) in
+        subst (λ (one : SessId). GoneIn one (change_first (is_session sess) leaving ss)) same itself
+    by other false at ended = another other at (tied.gone other (ap (λ (one : Option Leg). is_ended one) (sym (ended-other legs sess other at)) ∙ ended))
 
 -- ## Views
 
 abbrev pub TiedIn : View → Known → Type 0
-TiedIn view known = Tied 1 view.sessions known.legs
+TiedIn view known = Tied view.sessions known.legs
 
-pub if-tied : (b : Bool) (v w : View) (legs : List Leg) → Tied 1 v.sessions legs → Tied 1 w.sessions legs → Tied 1 (cond b v w).sessions legs
+pub if-tied : (b : Bool) (v w : View) (legs : List Leg) → Tied v.sessions legs → Tied w.sessions legs → Tied (cond b v w).sessions legs
 if-tied true v w legs p q = p
 if-tied false v w legs p q = q
 
-pub changed-tied : (sess : SessId) (change : SessionView → SessionView) (view : View) (legs : List Leg) → ((s : SessionView) → Soft s (change s)) → Tied 1 view.sessions legs → Tied 1 (change_session sess change view).sessions legs
-changed-tied sess change view legs each tied = tied-soft view.sessions _ legs 1 (each-first Soft view.sessions (is_session sess) change keep-soft each) tied
+pub changed-tied : (sess : SessId) (change : SessionView → SessionView) (view : View) (legs : List Leg) → ((s : SessionView) → Soft s (change s)) → Tied view.sessions legs → Tied (change_session sess change view).sessions legs
+changed-tied sess change view legs each tied = tied-soft view.sessions _ legs (each-first Soft view.sessions (is_session sess) change keep-soft each) tied
 
 response-soft : (request : RequestView) (tagged : Bool) (code : ℕ) (s : SessionView) → Soft s (with_response request tagged code s)
 unfolding with_response
 response-soft request tagged code s = (refl, λ gone. gone)
 
-pub answered-tied : (found : Option RequestView) (code : ℕ) (view : View) (legs : List Leg) → Tied 1 view.sessions legs → Tied 1 (answered found code view).sessions legs
+pub answered-tied : (found : Option RequestView) (code : ℕ) (view : View) (legs : List Leg) → Tied view.sessions legs → Tied (answered found code view).sessions legs
 unfolding answered answered_in tidy
 answered-tied None code view legs tied = tied
 answered-tied (Some r) code view legs tied = changed-tied r.sess (with_response r true code) view legs (response-soft r true code) tied
 
-pub answered_in-tied : (sess : SessId) (r : RequestView) (tagged : Bool) (code : ℕ) (view : View) (legs : List Leg) → Tied 1 view.sessions legs → Tied 1 (answered_in sess r tagged code view).sessions legs
+pub answered_in-tied : (sess : SessId) (r : RequestView) (tagged : Bool) (code : ℕ) (view : View) (legs : List Leg) → Tied view.sessions legs → Tied (answered_in sess r tagged code view).sessions legs
 unfolding answered_in
 answered_in-tied sess r tagged code view legs tied = changed-tied sess (with_response r tagged code) view legs (response-soft r tagged code) tied
 
-pub removed-tied : (sess : SessId) (view : View) (legs : List Leg) → Tied 1 view.sessions legs → Tied 1 (removed sess view).sessions legs
-removed-tied sess view legs tied = tied-soft view.sessions _ legs 1 (removed-each Soft keep-soft then-soft link-soft gone-soft sess view) tied
+pub removed-tied : (sess : SessId) (view : View) (legs : List Leg) → Tied view.sessions legs → Tied (removed sess view).sessions legs
+removed-tied sess view legs tied = tied-soft view.sessions _ legs (removed-each Soft keep-soft then-soft link-soft gone-soft sess view) tied
 
-pub leg-tied : (sess : SessId) (change : Leg → Leg) (ss : List SessionView) (known : Known) → ((leg : Leg) → Calm leg (change leg)) → Tied 1 ss known.legs → Tied 1 ss (change_leg sess change known).legs
+pub leg-tied : (sess : SessId) (change : Leg → Leg) (ss : List SessionView) (known : Known) → ((leg : Leg) → Calm leg (change leg)) → Tied ss known.legs → Tied ss (change_leg sess change known).legs
 unfolding change_leg
-leg-tied sess change ss known each tied = tied-calm ss known.legs _ 1 (each-nth Calm known.legs (sess.0 - 1) change (λ leg. refl) each) tied
+leg-tied sess change ss known each tied = tied-calm ss known.legs _ (each-first Calm known.legs (is_leg_of sess) change keep-calm each) tied
 
 pub request-calm : (request : Request) (leg : Leg) → Calm leg (with_request request leg)
 unfolding with_request in_dialog
-request-calm request leg = refl
+request-calm request leg = (refl, refl)
 
 if-calm : (b : Bool) (leg x y : Leg) → Calm leg x → Calm leg y → Calm leg (cond b x y)
 if-calm true leg x y p q = p
@@ -259,12 +290,12 @@ if-calm false leg x y p q = q
 
 answer-calm : (request : Request) (response : Response) (leg : Leg) → Calm leg (with_answer request response leg)
 unfolding with_answer answered_leg in_dialog
-answer-calm request response leg = if-calm (is_some leg.dialog) leg _ _ refl (if-calm _ leg _ leg refl refl)
+answer-calm request response leg = if-calm (is_some leg.dialog) leg _ _ (refl, refl) (if-calm _ leg _ leg (refl, refl) (keep-calm leg))
 
 -- ## What is shown
 
 received-tied : (x : Session) (number : ℕ) (sess : SessId) (initial passed : Bool) (request : Request) → TiedIn x.view x.known → TiedIn (received x number sess initial passed request).view (received x number sess initial passed request).known
-received-tied x number sess initial passed request tied = received-holds (λ v k. Tied 1 v.sessions k.legs) x number sess initial passed request (λ invited. tied)
+received-tied x number sess initial passed request tied = received-holds (λ v k. Tied v.sessions k.legs) x number sess initial passed request (λ invited. tied)
 
 abbrev pub TiedShown : Prepared → Type 0
 TiedShown shown = TiedIn shown.view shown.known
@@ -291,10 +322,10 @@ request-tied x number request (Some sess) tied = taken_in-tied x number sess (se
 abbrev TiedAt : SessId × Session → Type 0
 TiedAt pair = TiedIn pair.1.view pair.1.known
 
-derived-false : (leg : Option Leg) (req : ReqId) (came : Option Request) → (derived_leg leg req came).invalidated ≡ false
+derived-false : (sess : SessId) (original : Option Leg) (req : ReqId) (came : Option Request) → (derived_leg sess original req came).invalidated ≡ false
 unfolding derived_leg new_leg
-derived-false None req came = refl
-derived-false (Some leg) req came = refl
+derived-false sess None req came = refl
+derived-false sess (Some original) req came = refl
 
 tag-soft : (tag : Bytes) (s : SessionView) → Soft s (record s { peer_tag = Some tag })
 tag-soft tag s = (refl, λ gone. gone)
@@ -308,8 +339,9 @@ unfolding handled_in
 handled-tied x req original came (In sess) tied = tied
 handled-tied x req original came (Takes tag) tied = changed-tied original.id (λ s. record s { peer_tag = Some tag }) x.view x.known.legs (tag-soft tag) tied
 handled-tied x req original came (Derives tag) tied =
-    more-legs (x.view.sessions ++ derived_session x.view original tag ∷ []) x.known.legs 1 (derived_leg (leg_of x.known original.id) req came) (derived-false (leg_of x.known original.id) req came)
-    (more-sessions x.view.sessions x.known.legs 1 (derived_session x.view original tag) (derived-number x.view original tag) tied)
+    more-legs (x.view.sessions ++ derived_session x.view original tag ∷ []) x.known.legs (derived_leg (new_session x.view) (leg_of x.known original.id) req came)
+    (derived-false (new_session x.view) (leg_of x.known original.id) req came)
+    (more-sessions x.view.sessions x.known.legs (derived_session x.view original tag) (derived-number x.view original tag) tied)
 
 if-at : (b : Bool) (p q : SessId × Session) → TiedAt p → TiedAt q → TiedAt (cond b p q)
 if-at true p q a b = a
@@ -329,19 +361,9 @@ branch-placed-tied x proxy response (Some original) tied =
     if-at (is_some proxy.options) (handled_in x proxy.req original (Some proxy.request) (handling x proxy.req original proxy.request response)) (proxy.sess, x)
     (handled-tied x proxy.req original (Some proxy.request) (handling x proxy.req original proxy.request response) tied) tied
 
-overtaken-calm : (known : Known) (req : ReqId) (sess : SessId) (ss : List SessionView) (legs : List Leg) (n : ℕ) → Tied n ss legs → Tied n ss (overtaken_legs known req sess ss legs)
-unfolding Tied overtaken_legs
-overtaken-calm known req sess [] legs n tied = tied
-overtaken-calm known req sess (s ∷ ss) [] n tied = tied
-overtaken-calm known req sess (s ∷ ss) (leg ∷ legs) n tied = (
-  tied.0,
-  λ ended. tied.1 (marked (is_overtaken known req sess s) ended),
-  overtaken-calm known req sess ss legs (n + 1) tied.2,
-)
-  where
-    marked : (b : Bool) → (cond b (record leg { overtaken = true }) leg).invalidated ≡ true → leg.invalidated ≡ true
-    marked true p = p
-    marked false p = p
+overtaken-calm : (session : Session) (req : ReqId) (sess : SessId) (leg : Leg) → Calm leg (overtaken_leg session req sess leg)
+unfolding overtaken_leg
+overtaken-calm session req sess leg = if-calm (loses_tag session req sess leg) leg (record leg { overtaken = true }) leg (refl, refl) (keep-calm leg)
 
 overtaken-soft : (known : Known) (req : ReqId) (sess : SessId) (s : SessionView) → Soft s (overtaken_session known req sess s)
 unfolding overtaken_session
@@ -350,8 +372,8 @@ overtaken-soft known req sess s = if-soft (is_overtaken known req sess s) s (in_
 overtaken-tied : (req : ReqId) (sess : SessId) (x : Session) → TiedIn x.view x.known → TiedIn (overtaken req sess x).view (overtaken req sess x).known
 unfolding overtaken
 overtaken-tied req sess x tied =
-    tied-soft x.view.sessions _ (overtaken_legs x.known req sess x.view.sessions x.known.legs) 1 (each-map Soft x.view.sessions (overtaken_session x.known req sess) (overtaken-soft x.known req sess))
-    (overtaken-calm x.known req sess x.view.sessions x.known.legs 1 tied)
+    tied-soft x.view.sessions _ (map (overtaken_leg x req sess) x.known.legs) (each-map Soft x.view.sessions (overtaken_session x.known req sess) (overtaken-soft x.known req sess))
+    (tied-calm x.view.sessions x.known.legs _ (each-map Calm x.known.legs (overtaken_leg x req sess) (overtaken-calm x req sess)) tied)
 
 failed-soft : (known : Known) (req : ReqId) (original : SessId) (s : SessionView) → Soft s (failed_session known req original s)
 unfolding failed_session
@@ -360,7 +382,7 @@ failed-soft known req original s = if-soft _ s (in_state Terminated s) s (state-
 derived-tied : (req : ReqId) (original : SessId) (x : Session) → TiedIn x.view x.known → TiedIn (without_derived req original x).view (without_derived req original x).known
 unfolding without_derived
 derived-tied req original x tied =
-    tied-soft x.view.sessions _ x.known.legs 1 (each-map Soft x.view.sessions (failed_session x.known req original) (failed-soft x.known req original)) tied
+    tied-soft x.view.sessions _ x.known.legs (each-map Soft x.view.sessions (failed_session x.known req original) (failed-soft x.known req original)) tied
 
 if-session : (b : Bool) (x y : Session) → TiedIn x.view x.known → TiedIn y.view y.known → TiedIn (cond b x y).view (cond b x y).known
 if-session true x y p q = p
@@ -446,7 +468,7 @@ unfolding prepared_cancel silent
 cancel-tied x None tied = tied
 cancel-tied x (Some invited) tied = cancelled-tied x invited (request_in x.view invited.req) tied
 
-fired-tied : (view : View) (timer : TimerView) (due : Option ℕ) (legs : List Leg) → Tied 1 view.sessions legs → Tied 1 (fired view timer due).sessions legs
+fired-tied : (view : View) (timer : TimerView) (due : Option ℕ) (legs : List Leg) → Tied view.sessions legs → Tied (fired view timer due).sessions legs
 unfolding fired
 fired-tied view timer None legs tied = tied
 fired-tied view timer (Some due) legs tied = tied

@@ -1,7 +1,7 @@
 -- The same over the calls of a turn and what follows them, and over a whole life; and which calls end a SipSession.
 use Rattle.std.proofs.Common.{◌+◌, ◌∷◌, ◌≡◌, Bool, List, None, Option, Some, [], cond, false, length, refl, subst, sym, true, ℕ}
 use Rattle.std.specs.List.{find, fold}
-use Rattle.std.specs.Prelude.{◌&&◌, ◌-◌, ◌==◌, ◌||◌, is_none, is_some, map, not, option_and_then, option_map}
+use Rattle.std.specs.Prelude.{◌&&◌, ◌==◌, ◌||◌, is_none, is_some, map, not, option_and_then, option_map}
 use Rattle.sc_value.specs.declared.ids.ReqId.{ReqId}
 use Rattle.sc_value.specs.declared.ids.SessId.{SessId}
 use Rattle.sc_value.specs.declared.message.Response.{Response}
@@ -61,11 +61,11 @@ use Rattle.sc_hosts.specs.Working.{ack_with, acknowledges, cancels, dialog_in, d
 use Rattle.sc_walked.proofs.WalkParts.{each-map}
 use Rattle.sc_lasting.proofs.Began.{or-left, or-right}
 use Rattle.sc_lasting.proofs.Parts.{linked-each, unlinked-each}
-use Rattle.sc_halted.proofs.Tied.{Calm, Soft, Tied, TiedIn, TiedShown, above, answered-tied, answered_in-tied, changed-tied, ending, find-soft, gone-soft, if-soft, if-tied, keep-soft, last-number, leg-tied, link-soft, more-legs, more-sessions, placed-of, prepared-tied, removed-tied, state-soft, sub-one, then-soft, tied-ends, tied-soft}
+use Rattle.sc_halted.proofs.Tied.{Calm, Soft, Tied, TiedIn, TiedShown, answered-tied, answered_in-tied, changed-tied, ending, find-soft, first-tied, gone-soft, if-soft, if-tied, keep-soft, last-number, leg-tied, link-soft, more-legs, more-sessions, prepared-tied, removed-tied, state-soft, then-soft, tied-ends, tied-soft}
 
 -- what is known of a turn
 abbrev pub TiedOf : Working → Type 0
-TiedOf working = Tied 1 working.play.view.sessions working.known.legs
+TiedOf working = Tied working.play.view.sessions working.known.legs
 
 -- ## What the calls leave of the view
 
@@ -73,37 +73,37 @@ own-number : (view : View) → (own_session view).id.0 ≡ 1 + length view.sessi
 unfolding own_session
 own-number view = last-number (length view.sessions)
 
-own-tied : (view : View) (legs : List Leg) → Tied 1 view.sessions legs → Tied 1 (with_own_session view).sessions legs
+own-tied : (view : View) (legs : List Leg) → Tied view.sessions legs → Tied (with_own_session view).sessions legs
 unfolding with_own_session
-own-tied view legs tied = more-sessions view.sessions legs 1 (own_session view) (own-number view) tied
+own-tied view legs tied = more-sessions view.sessions legs (own_session view) (own-number view) tied
 
-linked-tied : (a b : SessId) (view : View) (legs : List Leg) → Tied 1 view.sessions legs → Tied 1 (linked a b view).sessions legs
-linked-tied a b view legs tied = tied-soft view.sessions _ legs 1 (linked-each Soft keep-soft then-soft link-soft gone-soft a b view) tied
+linked-tied : (a b : SessId) (view : View) (legs : List Leg) → Tied view.sessions legs → Tied (linked a b view).sessions legs
+linked-tied a b view legs tied = tied-soft view.sessions _ legs (linked-each Soft keep-soft then-soft link-soft gone-soft a b view) tied
 
-unlinked-tied : (a : SessId) (view : View) (legs : List Leg) → Tied 1 view.sessions legs → Tied 1 (unlinked a view).sessions legs
-unlinked-tied a view legs tied = tied-soft view.sessions _ legs 1 (unlinked-each Soft keep-soft then-soft link-soft gone-soft a view) tied
+unlinked-tied : (a : SessId) (view : View) (legs : List Leg) → Tied view.sessions legs → Tied (unlinked a view).sessions legs
+unlinked-tied a view legs tied = tied-soft view.sessions _ legs (unlinked-each Soft keep-soft then-soft link-soft gone-soft a view) tied
 
-leg-created : (found : Option RequestView) (play : Play) (legs : List Leg) → Tied 1 play.view.sessions legs → Tied 1 (created_leg found play).view.sessions legs
+leg-created : (found : Option RequestView) (play : Play) (legs : List Leg) → Tied play.view.sessions legs → Tied (created_leg found play).view.sessions legs
 unfolding created_leg with_draft
 leg-created None play legs tied = tied
 leg-created (Some request) play legs tied = linked-tied request.sess (new_session play.view) (with_own_session play.view) legs (own-tied play.view legs tied)
 
-sent-tied : (draft : ℕ) (found : Option Draft) (play : Play) (legs : List Leg) → Tied 1 play.view.sessions legs → Tied 1 (sent draft found play).view.sessions legs
+sent-tied : (draft : ℕ) (found : Option Draft) (play : Play) (legs : List Leg) → Tied play.view.sessions legs → Tied (sent draft found play).view.sessions legs
 unfolding sent
 sent-tied draft None play legs tied = tied
 sent-tied draft (Some one) play legs tied = tied
 
-if-play : (b : Bool) (x y : Play) (legs : List Leg) → Tied 1 x.view.sessions legs → Tied 1 y.view.sessions legs → Tied 1 (cond b x y).view.sessions legs
+if-play : (b : Bool) (x y : Play) (legs : List Leg) → Tied x.view.sessions legs → Tied y.view.sessions legs → Tied (cond b x y).view.sessions legs
 if-play true x y legs p q = p
 if-play false x y legs p q = q
 
-discarded-tied : (draft : ℕ) (found : Option Draft) (play : Play) (legs : List Leg) → Tied 1 play.view.sessions legs → Tied 1 (discarded draft found play).view.sessions legs
+discarded-tied : (draft : ℕ) (found : Option Draft) (play : Play) (legs : List Leg) → Tied play.view.sessions legs → Tied (discarded draft found play).view.sessions legs
 unfolding discarded tidy
 discarded-tied draft None play legs tied = tied
 discarded-tied draft (Some one) play legs tied =
     if-play one.initial (record play { view = tidy (removed one.sess play.view) }) play legs (removed-tied one.sess play.view legs tied) tied
 
-acked-tied : (sess : SessId) (view : View) (legs : List Leg) → Tied 1 view.sessions legs → Tied 1 (acked sess view).sessions legs
+acked-tied : (sess : SessId) (view : View) (legs : List Leg) → Tied view.sessions legs → Tied (acked sess view).sessions legs
 unfolding acked tidy
 acked-tied sess view legs tied = tied
 
@@ -111,7 +111,7 @@ proxying-soft : (s : SessionView) → Soft s (proxying s)
 unfolding proxying
 proxying-soft s = if-soft (is_proxy s.role) s s _ (keep-soft s) (refl, λ gone. gone)
 
-proxied-tied : (found : Option RequestView) (count : ℕ) (view : View) (legs : List Leg) → Tied 1 view.sessions legs → Tied 1 (proxied found count view).sessions legs
+proxied-tied : (found : Option RequestView) (count : ℕ) (view : View) (legs : List Leg) → Tied view.sessions legs → Tied (proxied found count view).sessions legs
 unfolding proxied
 proxied-tied None count view legs tied = tied
 proxied-tied (Some request) count view legs tied = changed-tied request.sess proxying (change_request request.id (proxied_request count) view) legs proxying-soft tied
@@ -119,68 +119,68 @@ proxied-tied (Some request) count view legs tied = changed-tied request.sess pro
 flag-soft : (flag : Bool) (s : SessionView) → Soft s (record s { ready_flag = flag })
 flag-soft flag s = (refl, λ gone. gone)
 
-flagged-tied : (target : Target) (flag : Bool) (view : View) (legs : List Leg) → Tied 1 view.sessions legs → Tied 1 (flagged target flag view).sessions legs
+flagged-tied : (target : Target) (flag : Bool) (view : View) (legs : List Leg) → Tied view.sessions legs → Tied (flagged target flag view).sessions legs
 unfolding flagged
 flagged-tied targets.Application flag view legs tied = tied
 flagged-tied (targets.Session sess) flag view legs tied = changed-tied sess (λ s. record s { ready_flag = flag }) view legs (flag-soft flag) tied
 
 -- ## What they do to the legs
 
-answering-tied : (config : Config) (found : Option RequestView) (answer : Answer) (working : Working) (ss : List SessionView) → Tied 1 ss working.known.legs → Tied 1 ss (answering config found answer working).known.legs
+answering-tied : (config : Config) (found : Option RequestView) (answer : Answer) (working : Working) (ss : List SessionView) → Tied ss working.known.legs → Tied ss (answering config found answer working).known.legs
 unfolding answering
 answering-tied config None answer working ss tied = tied
 answering-tied config (Some r) answer working ss tied = tied
 
-pub new-false : (first : Option ReqId) → (new_leg first).invalidated ≡ false
+pub new-false : (sess : SessId) (first : Option ReqId) → (new_leg sess first).invalidated ≡ false
 unfolding new_leg
-new-false first = refl
+new-false sess first = refl
 
-leg-drafted : (req : ReqId) (uri : Option Uri) (kept : Option Kept) (working : Working) (ss : List SessionView) → Tied 1 ss working.known.legs → Tied 1 ss (drafts_leg req uri kept working).known.legs
+leg-drafted : (req : ReqId) (uri : Option Uri) (kept : Option Kept) (working : Working) (ss : List SessionView) → Tied ss working.known.legs → Tied ss (drafts_leg req uri kept working).known.legs
 unfolding drafts_leg writes
 leg-drafted req uri None working ss tied = tied
-leg-drafted req uri (Some kept) working ss tied = more-legs ss working.known.legs 1 (new_leg None) (new-false None) tied
+leg-drafted req uri (Some kept) working ss tied = more-legs ss working.known.legs (new_leg (new_session working.play.view) None) (new-false (new_session working.play.view) None) tied
 
 pub dialog-calm : (passed : Passed) (leg : Leg) → Calm leg (in_dialog passed leg)
 unfolding in_dialog
-dialog-calm passed leg = refl
+dialog-calm passed leg = (refl, refl)
 
-sent-in : (config : Config) (s : SessId) (ask : Inside) (dialog : Option DialogState) (working : Working) (ss : List SessionView) → Tied 1 ss working.known.legs → Tied 1 ss (sends_in config s ask dialog working).known.legs
+sent-in : (config : Config) (s : SessId) (ask : Inside) (dialog : Option DialogState) (working : Working) (ss : List SessionView) → Tied ss working.known.legs → Tied ss (sends_in config s ask dialog working).known.legs
 unfolding sends_in sends_later keeps_sent
 sent-in config s ask None working ss tied = tied
 sent-in config s ask (Some dialog) working ss tied = leg-tied s (in_dialog _) ss working.known (dialog-calm _) tied
 
-written-tied : (config : Config) (draft : Written) (s : SessId) (what : Asked) (working : Working) (ss : List SessionView) → Tied 1 ss working.known.legs → Tied 1 ss (sends_written config draft s what working).known.legs
+written-tied : (config : Config) (draft : Written) (s : SessId) (what : Asked) (working : Working) (ss : List SessionView) → Tied ss working.known.legs → Tied ss (sends_written config draft s what working).known.legs
 unfolding sends_written sends_initial keeps_sent
-written-tied config draft s (asked.Initial request) working ss tied = leg-tied s (λ leg. record leg { first = Some (record { 0 = working.play.view.next_request }) }) ss working.known (λ leg. refl) tied
+written-tied config draft s (asked.Initial request) working ss tied = leg-tied s (λ leg. record leg { first = Some (record { 0 = working.play.view.next_request }) }) ss working.known (λ leg. (refl, refl)) tied
 written-tied config draft s (asked.Later ask) working ss tied = sent-in config s ask (dialog_in working.known s) working ss tied
 
-sends-tied : (config : Config) (draft : ℕ) (written : Option Written) (found : Option Draft) (working : Working) (ss : List SessionView) → Tied 1 ss working.known.legs → Tied 1 ss (sends config draft written found working).known.legs
+sends-tied : (config : Config) (draft : ℕ) (written : Option Written) (found : Option Draft) (working : Working) (ss : List SessionView) → Tied ss working.known.legs → Tied ss (sends config draft written found working).known.legs
 unfolding sends forgets
 sends-tied config draft (Some written) (Some found) working ss tied = written-tied config written found.sess written.asked working ss tied
 sends-tied config draft (Some written) None working ss tied = tied
 sends-tied config draft None found working ss tied = tied
 
-ack_with-tied : (config : Config) (body : Bytes) (dialog : Option DialogState) (kept : Option Kept) (working : Working) (ss : List SessionView) → Tied 1 ss working.known.legs → Tied 1 ss (ack_with config body dialog kept working).known.legs
+ack_with-tied : (config : Config) (body : Bytes) (dialog : Option DialogState) (kept : Option Kept) (working : Working) (ss : List SessionView) → Tied ss working.known.legs → Tied ss (ack_with config body dialog kept working).known.legs
 unfolding ack_with
 ack_with-tied config body (Some dialog) (Some kept) working ss tied = tied
 ack_with-tied config body (Some dialog) None working ss tied = tied
 ack_with-tied config body None kept working ss tied = tied
 
-acks-tied : (config : Config) (s : SessId) (body : Bytes) (found : Option RequestView) (working : Working) (ss : List SessionView) → Tied 1 ss working.known.legs → Tied 1 ss (acknowledges config s body found working).known.legs
+acks-tied : (config : Config) (s : SessId) (body : Bytes) (found : Option RequestView) (working : Working) (ss : List SessionView) → Tied ss working.known.legs → Tied ss (acknowledges config s body found working).known.legs
 unfolding acknowledges
 acks-tied config s body None working ss tied = tied
 acks-tied config s body (Some r) working ss tied = ack_with-tied config body _ _ working ss tied
 
-if-known : (b : Bool) (x y : Known) (ss : List SessionView) → Tied 1 ss x.legs → Tied 1 ss y.legs → Tied 1 ss (cond b x y).legs
+if-known : (b : Bool) (x y : Known) (ss : List SessionView) → Tied ss x.legs → Tied ss y.legs → Tied ss (cond b x y).legs
 if-known true x y ss p q = p
 if-known false x y ss p q = q
 
-first-proxied : (req : ReqId) (uris : List Uri) (how : ProxyOptions) (kept : Option Kept) (known : Known) (ss : List SessionView) → Tied 1 ss known.legs → Tied 1 ss (proxies_first req uris how kept known).legs
+first-proxied : (req : ReqId) (uris : List Uri) (how : ProxyOptions) (kept : Option Kept) (known : Known) (ss : List SessionView) → Tied ss known.legs → Tied ss (proxies_first req uris how kept known).legs
 unfolding proxies_first
 first-proxied req uris how None known ss tied = tied
 first-proxied req uris how (Some kept) known ss tied = tied
 
-proxies-tied : (req : ReqId) (uris : List Uri) (how : ProxyOptions) (known : Known) (ss : List SessionView) → Tied 1 ss known.legs → Tied 1 ss (proxies req uris how known).legs
+proxies-tied : (req : ReqId) (uris : List Uri) (how : ProxyOptions) (known : Known) (ss : List SessionView) → Tied ss known.legs → Tied ss (proxies req uris how known).legs
 unfolding proxies
 proxies-tied req uris how known ss tied =
     if-known (is_some (proxy_of known req)) (change_proxy req (with_targets uris) known) (proxies_first req uris how (kept_of known req) known) ss tied (first-proxied req uris how (kept_of known req) known ss tied)
@@ -198,23 +198,22 @@ unfolding refusal named known_session
 ends-there play sess is =
     name-there play.view (session_in play.view sess) (or-left (name_refusal play.view (known_session play sess ∷ [])) (own_refusal play (calls.InvalidateSession sess)) (or-right _ _ is))
 
-invalid-tied : (sess : SessId) (view : View) (known : Known) (found : SessionView) → session_in view sess ≡ Some found → Tied 1 view.sessions known.legs
-    → Tied 1 (invalidated sess view).sessions (change_leg sess ending known).legs
+invalid-tied : (sess : SessId) (view : View) (known : Known) (found : SessionView) → session_in view sess ≡ Some found → Tied view.sessions known.legs
+    → Tied (invalidated sess view).sessions (change_leg sess ending known).legs
 unfolding invalidated settled_requests tidy removed change_leg
 invalid-tied sess view known found is tied =
     let between : View = settled_requests sess 500 view in
     let each = unlinked-each Soft keep-soft then-soft link-soft gone-soft sess between in
     let other = find-soft view.sessions (unlinked sess between).sessions sess found each is in
-    tied-ends (unlinked sess between).sessions known.legs 1 (sess.0 - 1) sess (sub-one sess.0 (above view.sessions 1 sess found (placed-of view.sessions known.legs 1 tied) is)) other.0 other.1
-    (tied-soft view.sessions (unlinked sess between).sessions known.legs 1 each tied)
+    tied-ends (unlinked sess between).sessions known.legs sess other.0 other.1 (tied-soft view.sessions (unlinked sess between).sessions known.legs each tied)
 
 -- ## Each call
 
-call-tied : (config : Config) (working : Working) (call : Call) → refusal working.play call ≡ None → TiedOf working → Tied 1 (after_call working.play call).view.sessions (does config working call).known.legs
+call-tied : (config : Config) (working : Working) (call : Call) → refusal working.play call ≡ None → TiedOf working → Tied (after_call working.play call).view.sessions (does config working call).known.legs
 unfolding after_call does created created_later with_draft drafts_own drafts_later writes directs forgets cancels invalidates with_timer
 call-tied config working (calls.Respond req answer) is tied =
     answering-tied config (request_in working.play.view req) answer working _ (answered-tied (request_in working.play.view req) answer.code working.play.view working.known.legs tied)
-call-tied config working (calls.CreateRequest ask) is tied = more-legs _ working.known.legs 1 (new_leg None) (new-false None) (own-tied working.play.view working.known.legs tied)
+call-tied config working (calls.CreateRequest ask) is tied = more-legs _ working.known.legs (new_leg (new_session working.play.view) None) (new-false (new_session working.play.view) None) (own-tied working.play.view working.known.legs tied)
 call-tied config working (calls.CreateInDialog sess ask) is tied = tied
 call-tied config working (calls.B2bCreate req uri) is tied =
     leg-drafted req uri (kept_of working.known req) working _ (leg-created (request_in working.play.view req) working.play working.known.legs tied)
@@ -242,7 +241,7 @@ call-tied config working (calls.InvalidateSession sess) is tied =
 call-tied config working calls.InvalidateApplication is tied = tied
 
 by-refusal : (config : Config) (working : Working) (call : Call) (found : Option Refusal) → refusal working.play call ≡ found → TiedOf working
-    → Tied 1 (played_by working.play call found).view.sessions (does_by config working call found).known.legs
+    → Tied (played_by working.play call found).view.sessions (does_by config working call found).known.legs
 unfolding played_by does_by
 by-refusal config working call None is tied = call-tied config working call is tied
 by-refusal config working call (Some refused) is tied = tied
@@ -260,7 +259,7 @@ calls-tied (m ∷ made) config working tied = calls-tied made config (worked con
 
 -- ## What follows
 
-lefts-tied : (drafts : List Draft) (view : View) (legs : List Leg) → Tied 1 view.sessions legs → Tied 1 (fold without_left view drafts).sessions legs
+lefts-tied : (drafts : List Draft) (view : View) (legs : List Leg) → Tied view.sessions legs → Tied (fold without_left view drafts).sessions legs
 unfolding without_left
 lefts-tied [] view legs tied = tied
 lefts-tied (draft ∷ drafts) view legs tied =
@@ -303,12 +302,12 @@ tag-soft : (tag : Option Bytes) (s : SessionView) → Soft s (subscribed_tag tag
 unfolding subscribed_tag
 tag-soft tag s = if-soft (is_none s.peer_tag) s (record s { peer_tag = tag }) s (refl, λ gone. gone) (keep-soft s)
 
-subscribed-tied : (proxy : Proxy) (sess : SessId) (response : Response) (view : View) (legs : List Leg) → Tied 1 view.sessions legs → Tied 1 (with_subscribed proxy sess response view).sessions legs
+subscribed-tied : (proxy : Proxy) (sess : SessId) (response : Response) (view : View) (legs : List Leg) → Tied view.sessions legs → Tied (with_subscribed proxy sess response view).sessions legs
 unfolding with_subscribed
 subscribed-tied proxy sess response view legs tied =
     if-tied _ (change_session sess (subscribed_tag (tag_of response.head.to)) view) view legs (changed-tied sess (subscribed_tag (tag_of response.head.to)) view legs (tag-soft (tag_of response.head.to)) tied) tied
 
-forwarded-tied : (proxy : Proxy) (sess : SessId) (found : Option RequestView) (response : Response) (view : View) (legs : List Leg) → Tied 1 view.sessions legs → Tied 1 (forwarded_view proxy sess found response view).sessions legs
+forwarded-tied : (proxy : Proxy) (sess : SessId) (found : Option RequestView) (response : Response) (view : View) (legs : List Leg) → Tied view.sessions legs → Tied (forwarded_view proxy sess found response view).sessions legs
 unfolding forwarded_view tidy
 forwarded-tied proxy sess None response view legs tied = changed-tied sess (moved_on proxy response) view legs (moved-soft proxy response) tied
 forwarded-tied proxy sess (Some request) response view legs tied = answered_in-tied sess request (is_some (tag_of response.head.to)) response.code view legs tied
@@ -341,7 +340,7 @@ unfolding closes
 closes-tied proxy working tied =
     if-of (is_exhausted proxy && is_some proxy.options)
     (in_view (record working.play.view { sessions = map (closed_session working.known proxy.req proxy.sess) working.play.view.sessions }) working) working
-    (tied-soft working.play.view.sessions _ working.known.legs 1 (each-map Soft working.play.view.sessions (closed_session working.known proxy.req proxy.sess) (closed-soft working.known proxy.req proxy.sess)) tied) tied
+    (tied-soft working.play.view.sessions _ working.known.legs (each-map Soft working.play.view.sessions (closed_session working.known proxy.req proxy.sess) (closed-soft working.known proxy.req proxy.sess)) tied) tied
 
 cancels-tied : (proxy : Proxy) (working : Working) → TiedOf working → TiedOf (sends_cancels proxy working)
 unfolding sends_cancels
@@ -371,9 +370,9 @@ spent-tied config request working tied =
     if-of (is_owed request) (in_view (answered (Some request) 483 working.play.view) (answering config (Some request) (bare_answer 483 too_many_hops) working)) working
     (answering-tied config (Some request) (bare_answer 483 too_many_hops) working _ (answered-tied (Some request) 483 working.play.view working.known.legs tied)) tied
 
-passed-tied : (b : Bool) (view : View) (x y : Working) (legs : List Leg) → Tied 1 view.sessions legs → x.known.legs ≡ legs → y.known.legs ≡ legs → TiedOf (in_view view (cond b x y))
-passed-tied true view x y legs tied p q = subst (λ (ls : List Leg). Tied 1 view.sessions ls) (sym p) tied
-passed-tied false view x y legs tied p q = subst (λ (ls : List Leg). Tied 1 view.sessions ls) (sym q) tied
+passed-tied : (b : Bool) (view : View) (x y : Working) (legs : List Leg) → Tied view.sessions legs → x.known.legs ≡ legs → y.known.legs ≡ legs → TiedOf (in_view view (cond b x y))
+passed-tied true view x y legs tied p q = subst (λ (ls : List Leg). Tied view.sessions ls) (sym p) tied
+passed-tied false view x y legs tied p q = subst (λ (ls : List Leg). Tied view.sessions ls) (sym q) tied
 
 on-tied : (config : Config) (kept : Kept) (working : Working) → TiedOf working → TiedOf (passed_on config kept working)
 unfolding passed_on
@@ -402,7 +401,7 @@ unfolding finished
 finished-tied config event req end working tied =
     passes_later-tied config event req _ (all-tied config _ (faulted-tied config req end _ (drafts-tied working tied)))
 
-sweeps-tied : (sessions : List SessionView) (known : Known) (before view : View) (legs : List Leg) → Tied 1 view.sessions legs → Tied 1 (fold (swept_one known before) view sessions).sessions legs
+sweeps-tied : (sessions : List SessionView) (known : Known) (before view : View) (legs : List Leg) → Tied view.sessions legs → Tied (fold (swept_one known before) view sessions).sessions legs
 unfolding swept_one
 sweeps-tied [] known before view legs tied = tied
 sweeps-tied (s ∷ sessions) known before view legs tied =
@@ -439,6 +438,6 @@ turn-tied config turn x tied =
     left-tied turn.waiting.event _ (finished-tied config turn.waiting.event shown.req turn.end (worked_all config shown turn.calls) (worked_all-tied config shown turn.calls (prepared-tied config turn.ringing x turn.waiting turn.now tied)))
 
 pub life-tied : (config : Config) (history : History) (turns : List Turn) → TiedIn (session_after config history turns).view (session_after config history turns).known
-unfolding session_after fresh first_view first_known first_session first_leg Tied
-life-tied config history [] = (refl, λ ended. cc, tt)
+unfolding session_after fresh first_view first_known first_session first_leg
+life-tied config history [] = first-tied _ _ refl refl
 life-tied config history (turn ∷ earlier) = turn-tied config turn (session_after config history earlier) (life-tied config history earlier)

@@ -21,7 +21,7 @@ use Rattle.sc_hosts.specs.Legs.{new_leg}
 use Rattle.sc_hosts.specs.Looking.{is_request, removed, request_in, unlinked}
 use Rattle.sc_hosts.specs.PreparingRequests.{next_id, received, request_view}
 use Rattle.sc_hosts.specs.Refusals.{refusal}
-use Rattle.sc_hosts.specs.ViewChanges.{linked, with_own_session}
+use Rattle.sc_hosts.specs.ViewChanges.{linked, new_session, with_own_session}
 use Rattle.sc_hosts.specs.Working.{proxies}
 use Rattle.sc_walked.specs.SessionWalks.{Brings, IsSameRequest, IsShownAgain, SessionLaws, sent_kept, with_legs}
 use Rattle.sc_lasting.specs.Lasting.{All, Numbered}
@@ -72,7 +72,7 @@ module _ (number : ℕ) (request : Request) (passed : Bool) where
   again-shows known r again = λ is. ((λ p. absurd (clash r.proxied p again.proxied)), (λ p. absurd (clash r.received p again.received)))
 
   leg-come : (play : Play) (known : Known) (asked : Option RequestView) (kept : Option Kept) → HasCome number request passed (record { view = play.view; known = known })
-      → HasCome number request passed (record { view = (created_leg asked play).view; known = with_legs kept known })
+      → HasCome number request passed (record { view = (created_leg asked play).view; known = with_legs play.view kept known })
   unfolding created_leg with_legs with_draft linked with_own_session
   leg-come play known None None ok = ok
   leg-come play known None (Some kept) ok = ok
@@ -80,7 +80,7 @@ module _ (number : ℕ) (request : Request) (passed : Bool) where
   leg-come play known (Some asked) (Some kept) ok = ok
 
   begins-come : (x : Session) → HasCome number request passed x
-      → HasCome number request passed (record { view = with_own_session x.view; known = record x.known { legs = x.known.legs ++ new_leg None ∷ [] } })
+      → HasCome number request passed (record { view = with_own_session x.view; known = record x.known { legs = x.known.legs ++ new_leg (new_session x.view) None ∷ [] } })
   unfolding with_own_session
   begins-come x ok = ok
 

@@ -1,5 +1,5 @@
 -- The SipSession of a response, derived ones among them (JSR 289 section 6.2.3).
-use Rattle.std.specs.Prelude.{◌+◌, List, [], ◌∷◌, ◌++◌, Bool, true, false, not, ◌&&◌, Option, None, Some, is_none, nat_lt, if◌then◌else◌, length, map, filter}
+use Rattle.std.specs.Prelude.{List, [], ◌∷◌, ◌++◌, Bool, true, false, not, ◌&&◌, Option, None, Some, is_none, nat_lt, if◌then◌else◌, map, filter}
 use Rattle.std.specs.List.{find}
 use Rattle.std.specs.Option.{option_map_or}
 use Rattle.sc_value.specs.declared.ids.ReqId.{ReqId}
@@ -18,10 +18,11 @@ use Rattle.sc_grammar.specs.Written.{Bytes}
 use Rattle.sc_model.specs.Dialogs.{tag_of, subscribe}
 use Rattle.sc_model.specs.SessionStates.{invite}
 use Rattle.sc_model.specs.Transactions.{is_success}
-use Rattle.sc_hosts.specs.Looking.{same_request, same_session, is_early, is_uac, change_session, in_state, session_count}
+use Rattle.sc_hosts.specs.Looking.{same_request, same_session, session_in, is_early, is_uac, change_session, in_state, session_count}
 use Rattle.sc_hosts.specs.Messages.{makes_dialog}
 use Rattle.sc_hosts.specs.RefusalParts.{MOST_SESSIONS}
 use Rattle.sc_hosts.specs.Legs.{first_got, leg_of, new_leg, same_tag}
+use Rattle.sc_hosts.specs.ViewChanges.{new_session}
 
 -- ## The SipSession of a response to an initial INVITE: derived SipSessions (JSR 289 section 6.2.3)
 
@@ -88,7 +89,7 @@ handling session req original request response =
 -- the SipSession derived for this tag: as the original, INITIAL, unlinked and not gone
 unfoldable pub derived_session : View → SessionView → Bytes → SessionView
 derived_session view original tag = record original {
-  id = record { 0 = length view.sessions + 1 };
+  id = new_session view;
   state = Initial;
   peer_tag = Some tag;
   linked = None;
@@ -102,11 +103,12 @@ unfoldable pub derived_got : Option Request → List Got
 derived_got None = []
 derived_got (Some came) = first_got came
 
--- what is known of a derived SipSession: the request that it is of, and its caller's tag
-unfoldable pub derived_leg : Option Leg → ReqId → Option Request → Leg
-derived_leg None req came = record (new_leg (Some req)) { got = derived_got came }
-derived_leg (Some leg) req came =
-    record (new_leg (Some req)) { caller = leg.caller; got = derived_got came }
+-- what is known of a derived SipSession: the request that it is of, and its caller's tag, which its
+-- original has
+unfoldable pub derived_leg : SessId → Option Leg → ReqId → Option Request → Leg
+derived_leg sess None req came = record (new_leg sess (Some req)) { got = derived_got came }
+derived_leg sess (Some original) req came =
+    record (new_leg sess (Some req)) { caller = original.caller; got = derived_got came }
 
 -- the SipSession in which a response to the request is handled, and the session with it; the
 -- request is given where it came, and none where it is one's own
@@ -120,7 +122,7 @@ handled_in session req original came (Takes tag) = (
   },
 )
 handled_in session req original came (Derives tag) = (
-  record { 0 = length session.view.sessions + 1 },
+  new_session session.view,
   record session {
     view =
         record session.view {
@@ -128,7 +130,10 @@ handled_in session req original came (Derives tag) = (
         };
     known =
         record session.known {
-          legs = session.known.legs ++ derived_leg (leg_of session.known original.id) req came ∷ [];
+          legs =
+              session.known.legs
+              ++ derived_leg (new_session session.view) (leg_of session.known original.id) req came
+              ∷ [];
         };
   },
 )
@@ -146,13 +151,15 @@ unfoldable pub overtaken_session : Known → ReqId → SessId → SessionView �
 overtaken_session known req sess session =
     if is_overtaken known req sess session then in_state Terminated session else session
 
--- the legs, with a mark on those of such SipSessions, which lose their tags by it
-unfoldable pub overtaken_legs : Known → ReqId → SessId → List SessionView → List Leg → List Leg
-overtaken_legs known req sess [] legs = legs
-overtaken_legs known req sess (session ∷ sessions) [] = []
-overtaken_legs known req sess (session ∷ sessions) (leg ∷ legs) =
-    (if is_overtaken known req sess session then record leg { overtaken = true } else leg)
-    ∷ overtaken_legs known req sess sessions legs
+-- the SipSession of this leg is such a one
+unfoldable pub loses_tag : Session → ReqId → SessId → Leg → Bool
+loses_tag session req sess leg =
+    option_map_or (is_overtaken session.known req sess) (session_in session.view leg.id) false
+
+-- the leg of such a one, with the mark by which it loses its tag
+unfoldable pub overtaken_leg : Session → ReqId → SessId → Leg → Leg
+overtaken_leg session req sess leg =
+    if loses_tag session req sess leg then record leg { overtaken = true } else leg
 
 -- the application session once the first 2xx came in this SipSession
 unfoldable pub overtaken : ReqId → SessId → Session → Session
@@ -162,9 +169,7 @@ overtaken req sess session = record session {
         sessions = map (overtaken_session session.known req sess) session.view.sessions;
       };
   known =
-      record session.known {
-        legs = overtaken_legs session.known req sess session.view.sessions session.known.legs;
-      };
+      record session.known { legs = map (overtaken_leg session req sess) session.known.legs };
 }
 
 -- a failure of a UAC's INVITE ends its derived SipSessions

@@ -20,7 +20,7 @@ use Rattle.sc_state.specs.declared.session.Way.TheVariants.{Received, Sent}
 use Rattle.sc_state.specs.declared.working.Asked.TheVariants as asked
 use Rattle.sc_state.specs.declared.working.Working.{Working}
 use Rattle.sc_state.specs.declared.working.Written.{Written}
-use Rattle.sc_hosts.specs.ViewChanges.{new_call_id, new_tag}
+use Rattle.sc_hosts.specs.ViewChanges.{new_call_id, new_session, new_tag}
 use Rattle.sc_hosts.specs.Legs.{new_leg}
 use Rattle.sc_hosts.specs.Messages.{asked_request, leg_request, given_response}
 use Rattle.sc_hosts.specs.Preparing.{kept_of, own_tag_of}
@@ -58,12 +58,14 @@ answering config (Some request) answer working =
 unfoldable pub writes : Written → Working → Working
 writes draft working = record working { written = working.written ++ draft ∷ [] }
 
--- a further SipSession has its leg, of which nothing is known yet
+-- the next SipSession has its leg, of which nothing is known yet
 abbrev pub with_leg : Working → Working
-with_leg working =
-    record working {
-      known = record working.known { legs = working.known.legs ++ new_leg None ∷ [] };
-    }
+with_leg working = record working {
+  known =
+      record working.known {
+        legs = working.known.legs ++ new_leg (new_session working.play.view) None ∷ [];
+      };
+}
 
 -- an initial request of one's own, with a Call-ID and a From tag that are drawn for it
 unfoldable pub drafts_own : Ask → Working → Working

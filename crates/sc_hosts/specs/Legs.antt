@@ -1,7 +1,7 @@
 -- What an application session knows beside its view: how it begins, in which SipSession a message
 -- is handled, and what a message makes of the SipSession (RFC 3261 sections 12 and 13, JSR 289
 -- section 6).
-use Rattle.std.specs.Prelude.{ℕ, ◌-◌, List, [], ◌∷◌, ◌++◌, Bool, true, false, not, ◌&&◌, ◌||◌, Option, None, Some, is_some, option_map, option_and_then, unwrap_or, nat_lt, max, if◌then◌else◌, slice_get}
+use Rattle.std.specs.Prelude.{ℕ, List, [], ◌∷◌, ◌++◌, Bool, true, false, not, ◌&&◌, ◌||◌, Option, None, Some, is_some, option_map, option_and_then, unwrap_or, nat_lt, max, if◌then◌else◌}
 use Rattle.std.specs.List.{find, list_any}
 use Rattle.std.specs.Option.{option_map_or}
 use Rattle.sc_value.specs.declared.ids.AppId.{AppId}
@@ -10,7 +10,7 @@ use Rattle.sc_value.specs.declared.ids.SessId.{SessId}
 use Rattle.sc_value.specs.declared.message.Message.TheVariants as messages
 use Rattle.sc_value.specs.declared.message.Request.{Request}
 use Rattle.sc_value.specs.declared.message.Response.{Response}
-use Rattle.sc_value.specs.Lists.{change_first, change_nth}
+use Rattle.sc_value.specs.Lists.{change_first}
 use Rattle.sc_tokens.specs.Names.{same_bytes}
 use Rattle.sc_terms.specs.declared.settings.Config.{Config}
 use Rattle.sc_terms.specs.declared.views.View.{View}
@@ -28,23 +28,29 @@ use Rattle.sc_model.specs.Names.{tag_text}
 use Rattle.sc_model.specs.SessionStates.{invite, ack}
 use Rattle.sc_model.specs.Settings.{app_of, params_in, expiry_in}
 use Rattle.sc_model.specs.Transactions.{is_success}
-use Rattle.sc_hosts.specs.Looking.{is_open_state, is_proxy}
+use Rattle.sc_hosts.specs.Looking.{is_open_state, is_proxy, same_session}
 use Rattle.sc_hosts.specs.Messages.{makes_dialog}
 
 -- ## Legs
 
--- the leg of a SipSession stands at the place of its number
+-- the leg is that of the SipSession of this number
+abbrev pub is_leg_of : SessId → Leg → Bool
+is_leg_of sess leg = same_session leg.id sess
+
+-- what a SipSession knows of its dialog
 unfoldable pub leg_of : Known → SessId → Option Leg
-leg_of known sess = slice_get known.legs (sess.0 - 1)
+leg_of known sess = find (is_leg_of sess) known.legs
 
--- a change of the leg of a SipSession
+-- a change of what a SipSession knows of its dialog
 unfoldable pub change_leg : SessId → (Leg → Leg) → Known → Known
-change_leg sess change known = record known { legs = change_nth (sess.0 - 1) change known.legs }
+change_leg sess change known =
+    record known { legs = change_first (is_leg_of sess) change known.legs }
 
--- a leg of which nothing is known yet
-unfoldable pub new_leg : Option ReqId → Leg
-new_leg first =
+-- the leg of a SipSession that knows nothing of its dialog yet, with the request that began it
+unfoldable pub new_leg : SessId → Option ReqId → Leg
+new_leg sess first =
     record {
+      id = sess;
       first = first;
       caller = None;
       dialog = None;
@@ -106,6 +112,7 @@ first_got request =
 -- caller's tag, in case it proxies
 unfoldable pub first_leg : Bytes → Request → Leg
 first_leg tag request = record {
+  id = FIRST_SESSION;
   first = Some FIRST_REQUEST;
   caller = tag_of request.head.from;
   dialog = Some (dialog_of (Called tag request) []);

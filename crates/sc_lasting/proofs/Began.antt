@@ -34,7 +34,7 @@ use Rattle.sc_hosts.specs.PreparingResponses.{change_proxy}
 use Rattle.sc_hosts.specs.RefusalParts.{first_of}
 use Rattle.sc_hosts.specs.Refusals.{refusal, own_refusal, proxy_refusal}
 use Rattle.sc_hosts.specs.Sessions.{Turn}
-use Rattle.sc_hosts.specs.ViewChanges.{linked, with_own_session}
+use Rattle.sc_hosts.specs.ViewChanges.{linked, new_session, with_own_session}
 use Rattle.sc_hosts.specs.Working.{proxies, proxies_first, event_of}
 use Rattle.sc_walked.specs.SessionWalks.{Each, Brings, IsKeptProxy, IsSameRequest, IsSameProxy, SessionLaws, with_legs, sent_kept}
 use Rattle.sc_walked.proofs.WalkParts.{each-first, same-proxy}
@@ -291,7 +291,7 @@ turns-began began event play known req uris how (Some r) is found ok =
 
 leg-began : (began : Request) (play : Play) (known : Known) (request : Option RequestView) (kept : Option Kept)
     → Began began (record { view = play.view; known = known })
-    → Began began (record { view = (created_leg request play).view; known = with_legs kept known })
+    → Began began (record { view = (created_leg request play).view; known = with_legs play.view kept known })
 unfolding created_leg with_legs with_draft linked with_own_session
 leg-began began play known None None ok = ok
 leg-began began play known None (Some kept) ok = ok
@@ -299,7 +299,7 @@ leg-began began play known (Some request) None ok = ok
 leg-began began play known (Some request) (Some kept) ok = ok
 
 begins-began : (began : Request) (x : Session) → Began began x
-    → Began began (record { view = with_own_session x.view; known = record x.known { legs = x.known.legs ++ new_leg None ∷ [] } })
+    → Began began (record { view = with_own_session x.view; known = record x.known { legs = x.known.legs ++ new_leg (new_session x.view) None ∷ [] } })
 unfolding with_own_session
 begins-began began x ok = ok
 

@@ -20,7 +20,7 @@ use Rattle.sc_hosts.specs.Histories.{History, session_of}
 use Rattle.sc_hosts.specs.Legs.{new_leg, fresh, first_view, first_known}
 use Rattle.sc_hosts.specs.Looking.{is_request, unlinked, removed}
 use Rattle.sc_hosts.specs.PreparingRequests.{request_view}
-use Rattle.sc_hosts.specs.ViewChanges.{linked, with_own_session}
+use Rattle.sc_hosts.specs.ViewChanges.{linked, new_session, with_own_session}
 use Rattle.sc_hosts.specs.Working.{proxies, proxies_first}
 use Rattle.sc_walked.specs.SessionWalks.{Each, IsSameRequest, IsShownAgain, SessionLaws, with_legs}
 use Rattle.sc_walked.proofs.WalkParts.{each-first}
@@ -59,7 +59,7 @@ shown-ok v w known is ok = still v w known known (ap (λ (u : View). u.next_requ
 
 leg-ok : (play : Play) (known : Known) (request : Option RequestView) (kept : Option Kept)
     → Numbered (record { view = play.view; known = known })
-    → Numbered (record { view = (created_leg request play).view; known = with_legs kept known })
+    → Numbered (record { view = (created_leg request play).view; known = with_legs play.view kept known })
 unfolding created_leg with_legs with_draft linked with_own_session
 leg-ok play known None None ok = ok
 leg-ok play known None (Some kept) ok = ok
@@ -97,7 +97,7 @@ turns-ok view known after (Some request) count same ok = (
 )
 
 begins-ok : (x : Session) → Numbered x
-    → Numbered (record { view = with_own_session x.view; known = record x.known { legs = x.known.legs ++ new_leg None ∷ [] } })
+    → Numbered (record { view = with_own_session x.view; known = record x.known { legs = x.known.legs ++ new_leg (new_session x.view) None ∷ [] } })
 unfolding with_own_session
 begins-ok x ok = ok
 

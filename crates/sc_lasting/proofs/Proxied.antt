@@ -5,6 +5,7 @@ use Rattle.sc_value.specs.declared.ids.ReqId.{ReqId}
 use Rattle.sc_value.specs.declared.parts.Uri.{Uri}
 use Rattle.sc_terms.specs.declared.calls.ProxyOptions.{ProxyOptions}
 use Rattle.sc_terms.specs.declared.settings.Config.{Config}
+use Rattle.sc_terms.specs.declared.views.View.{View}
 use Rattle.sc_state.specs.declared.proxy.Proxy.{Proxy}
 use Rattle.sc_state.specs.declared.queue.Queued.{Queued}
 use Rattle.sc_state.specs.declared.queue.Queued.TheVariants as queued
@@ -55,10 +56,10 @@ then-on (x ∷ xs) (y ∷ ys) (z ∷ zs) p q = (carried-then x y z p.0 q.0, then
 
 -- ## Each change of a turn
 
-legs-on : (kept : Option Kept) (known : Known) → GoOn known.proxies (with_legs kept known).proxies
+legs-on : (view : View) (kept : Option Kept) (known : Known) → GoOn known.proxies (with_legs view kept known).proxies
 unfolding with_legs
-legs-on None known = same-on known.proxies
-legs-on (Some kept) known = same-on known.proxies
+legs-on view None known = same-on known.proxies
+legs-on view (Some kept) known = same-on known.proxies
 
 first-on : (req : ReqId) (uris : List Uri) (how : ProxyOptions) (kept : Option Kept) (known : Known)
     → GoOn known.proxies (proxies_first req uris how kept known).proxies
@@ -105,7 +106,7 @@ goes-law event = record {
   sends_none = λ x draft. same-on x.known.proxies;
   begins = λ x. same-on x.known.proxies;
   derives = λ x req sess original came tag is. same-on x.known.proxies;
-  begins_leg = λ play known req uri request kept is does found has. legs-on kept known;
+  begins_leg = λ play known req uri request kept is does found has. legs-on play.view kept known;
   links = λ play known a b is does. same-on known.proxies;
   turns = λ play known req uris how request is does found. proxies-on req uris how known;
   passes = λ x req kept is. more-on x.known.proxies _;

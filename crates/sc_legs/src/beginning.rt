@@ -169,6 +169,7 @@ fn first_leg(alloc: Global, own_tag: &Text, request: &Request) -> Result<Leg, No
     let got = first_got(alloc, request)?;
     let dialog = called(alloc, own_tag, request)?;
     Ok(Leg {
+        id: SessId(1),
         first: Some(ReqId(1)),
         caller,
         dialog,

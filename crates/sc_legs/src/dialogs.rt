@@ -1,10 +1,10 @@
 //! The dialog of a SipSession after a message.
 
 ghost use Rattle.std.specs.Prelude.{◌≡◌, Some, IfOk, OnOk};
-ghost use Rattle.sc_value.specs.Lists.{change_nth};
+ghost use Rattle.sc_value.specs.Lists.{change_first};
 ghost use Rattle.sc_value.specs.declared.message.Message.{Message};
 ghost use Rattle.sc_model.specs.Dialogs.{Passed};
-ghost use Rattle.sc_hosts.specs.Legs.{answered_leg, as_answer, change_leg, in_dialog, makes_dialog_of, retargeted, with_answer, with_request};
+ghost use Rattle.sc_hosts.specs.Legs.{answered_leg, as_answer, change_leg, in_dialog, is_leg_of, makes_dialog_of, retargeted, with_answer, with_request};
 
 use crate::legs::leg_place;
 use crate::tags::{from_tag, with_got};
@@ -151,44 +151,53 @@ fn with_answer(
     told
 }
 
-#[tactic(auto, using(sc_value::proofs::ListFacts::change_nth_at, sc_value::proofs::ListFacts::change_nth_none))]
-fn request_at(alloc: Global, legs: &mut [Leg], at: usize, request: &Request) -> Result<(), NoMemory>
-    ensures { OnOk result (legs.new ≡ change_nth at (with_request request.now) legs.old) }
-{
-    if at < legs.len() {
-        return with_request(alloc, &mut legs[at], request);
-    }
-    Ok(())
-}
-
-#[tactic(auto, using(sc_value::proofs::ListFacts::change_nth_at, sc_value::proofs::ListFacts::change_nth_none))]
-fn answer_at(
+#[tactic(auto, using(sc_value::proofs::ListFacts::change_first_position, sc_value::proofs::ListFacts::change_first_none))]
+fn request_in(
     alloc: Global,
     legs: &mut [Leg],
-    at: usize,
+    sess: SessId,
+    request: &Request,
+) -> Result<(), NoMemory>
+    ensures { OnOk result
+        (legs.new ≡ change_first (is_leg_of sess) (with_request request.now) legs.old) }
+{
+    match leg_place(legs, sess) {
+        Some(at) => with_request(alloc, &mut legs[at], request),
+        None => Ok(()),
+    }
+}
+
+#[tactic(auto, using(sc_value::proofs::ListFacts::change_first_position, sc_value::proofs::ListFacts::change_first_none))]
+fn answer_in(
+    alloc: Global,
+    legs: &mut [Leg],
+    sess: SessId,
     request: &Request,
     response: &Response,
 ) -> Result<(), NoMemory>
     ensures { OnOk result
-        (legs.new ≡ change_nth at (with_answer request.now response.now) legs.old) }
+        (legs.new
+        ≡ change_first (is_leg_of sess) (with_answer request.now response.now) legs.old) }
 {
-    if at < legs.len() {
-        return with_answer(alloc, &mut legs[at], request, response);
+    match leg_place(legs, sess) {
+        Some(at) => with_answer(alloc, &mut legs[at], request, response),
+        None => Ok(()),
     }
-    Ok(())
 }
 
-#[tactic(auto, using(sc_value::proofs::ListFacts::change_nth_at, sc_value::proofs::ListFacts::change_nth_none))]
-fn sent_at(legs: &mut [Leg], at: usize, request: &Request)
+#[tactic(auto, using(sc_value::proofs::ListFacts::change_first_position, sc_value::proofs::ListFacts::change_first_none))]
+fn sent_in(legs: &mut [Leg], sess: SessId, request: &Request)
     ensures { legs.new
-        ≡ change_nth at (in_dialog (Passed.By_self (Message.Request request.now))) legs.old }
+        ≡ change_first (is_leg_of sess) (in_dialog (Passed.By_self (Message.Request request.now)))
+        legs.old }
 {
-    if at < legs.len() {
-        in_dialog_sent(&mut legs[at], request);
+    match leg_place(legs, sess) {
+        Some(at) => in_dialog_sent(&mut legs[at], request),
+        None => {}
     }
 }
 
-/// Takes a request of the peer into a SipSession's leg.
+/// Takes a request of the peer into what a SipSession knows of its dialog.
 #[tactic(auto, unfolding(sc_hosts::specs::Legs::change_leg))]
 pub fn take_request(
     alloc: Global,
@@ -198,10 +207,10 @@ pub fn take_request(
 ) -> Result<(), NoMemory>
     ensures { OnOk result (known.new ≡ change_leg sess (with_request request.now) known.old) }
 {
-    request_at(alloc, &mut known.legs.items, leg_place(sess), request)
+    request_in(alloc, &mut known.legs.items, sess, request)
 }
 
-/// Takes a response to a request of one's own into a SipSession's leg.
+/// Takes a response to a request of one's own into what a SipSession knows of its dialog.
 #[tactic(auto, unfolding(sc_hosts::specs::Legs::change_leg))]
 pub fn take_answer(
     alloc: Global,
@@ -213,13 +222,7 @@ pub fn take_answer(
     ensures { OnOk result
         (known.new ≡ change_leg sess (with_answer request.now response.now) known.old) }
 {
-    answer_at(
-        alloc,
-        &mut known.legs.items,
-        leg_place(sess),
-        request,
-        response,
-    )
+    answer_in(alloc, &mut known.legs.items, sess, request, response)
 }
 
 /// Notes an own request in the dialog of a SipSession.
@@ -228,5 +231,5 @@ pub fn take_sent(known: &mut Known, sess: SessId, request: &Request)
     ensures { known.new
         ≡ change_leg sess (in_dialog (Passed.By_self (Message.Request request.now))) known.old }
 {
-    sent_at(&mut known.legs.items, leg_place(sess), request);
+    sent_in(&mut known.legs.items, sess, request);
 }

@@ -1,46 +1,49 @@
-//! The legs of SipSessions: each stands at the place of its SipSession's number.
+//! What the SipSessions of an application session know of their dialogs, by their numbers.
 
-ghost use Rattle.std.specs.Prelude.{◌≡◌, ◌-◌, false, slice_get, option_and_then};
+ghost use Rattle.std.specs.Prelude.{◌≡◌, false, position, option_and_then};
+ghost use Rattle.std.specs.List.{find};
 ghost use Rattle.std.specs.Option.{option_copied, option_map_or};
-ghost use Rattle.sc_hosts.specs.Legs.{leg_of, new_leg};
+ghost use Rattle.sc_hosts.specs.Legs.{is_leg_of, leg_of, new_leg};
 ghost use Rattle.sc_hosts.specs.PreparingResponses.{is_invalid};
 
 use sc_state::{Known, Leg};
 use sc_value::{List, ReqId, SessId, Text};
 use std::alloc::Global;
 
-#[tactic(auto, using(sc_value::proofs::ListFacts::slice_get_at, sc_value::proofs::ListFacts::slice_get_none))]
-fn leg_at(legs: &[Leg], at: usize) -> Option<&Leg>
-    ensures { option_copied result ≡ slice_get legs.now at }
+/// The place of a SipSession's leg among these, None where it has none.
+pub fn leg_place(legs: &[Leg], sess: SessId) -> Option<usize>
+    ensures { result ≡ position (is_leg_of sess) legs.now }
 {
-    if at < legs.len() {
-        Some(&legs[at])
-    } else {
-        None
+    legs.iter().position(|leg| leg.id.0 == sess.0)
+}
+
+/// The leg of a SipSession among these, None where it has none.
+#[tactic(auto, using(sc_value::proofs::ListFacts::find_position, sc_value::proofs::ListFacts::find_none))]
+pub fn leg_among(legs: &[Leg], sess: SessId) -> Option<&Leg>
+    ensures { option_copied result ≡ find (is_leg_of sess) legs.now }
+{
+    match leg_place(legs, sess) {
+        Some(at) => Some(&legs[at]),
+        None => None,
     }
 }
 
-/// The place of a SipSession's leg.
-pub fn leg_place(sess: SessId) -> usize
-    ensures { result ≡ sess.0 - 1 }
-{
-    sess.0.saturating_sub(1) as usize
-}
-
-/// The leg of a SipSession.
+/// What a SipSession knows of its dialog, None where there was never one of this number.
 #[tactic(auto, unfolding(sc_hosts::specs::Legs::leg_of))]
 pub fn leg_of(known: &Known, sess: SessId) -> Option<&Leg>
     ensures { option_copied result ≡ leg_of known.now sess }
 {
-    leg_at(known.legs.as_slice(), leg_place(sess))
+    leg_among(known.legs.as_slice(), sess)
 }
 
-/// A leg of which nothing is known yet.
+/// The leg of a SipSession that knows nothing of its dialog yet, with the request that began it,
+/// where that has its number.
 #[tactic(auto, unfolding(sc_hosts::specs::Legs::new_leg))]
-pub fn new_leg(alloc: Global, first: Option<ReqId>) -> Leg
-    ensures { result ≡ new_leg first }
+pub fn new_leg(alloc: Global, sess: SessId, first: Option<ReqId>) -> Leg
+    ensures { result ≡ new_leg sess first }
 {
     Leg {
+        id: sess,
         first,
         caller: None,
         dialog: None,

@@ -14,5 +14,5 @@ pub use beginning::{first_got, fresh};
 pub use dialogs::{take_answer, take_request, take_sent};
 pub use finding::session_for;
 pub use kept::stop_proxy;
-pub use legs::{caller_of, is_invalid, is_overtaken_leg, leg_of, leg_place, new_leg};
+pub use legs::{caller_of, is_invalid, is_overtaken_leg, leg_among, leg_of, leg_place, new_leg};
 pub use tags::{from_tag, is_from, is_low, same_tag, to_tag, with_got};

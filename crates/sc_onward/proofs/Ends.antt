@@ -1,7 +1,7 @@
 -- The turn of a later request of a proxied dialog ends: the request is passed on, or answered where it may go no further.
 use Rattle.std.proofs.Common.{◌≡◌, ◌<◌, inl, inr, ℕ, zero, suc, ◌+◌, ◌++◌, Bool, true, false, Option, None, Some, List, [], ◌∷◌, refl, sym, ap, subst, ◌∙◌, arith}
 use Rattle.std.proofs.lemmas.Bool.Decides.{nat_tests}
-use Rattle.std.specs.Prelude.{◌-◌, cond, is_none, is_some, map, not, slice_get, unwrap_or, ◌==◌, ◌&&◌, ◌||◌}
+use Rattle.std.specs.Prelude.{cond, is_none, is_some, map, not, unwrap_or, ◌==◌, ◌&&◌, ◌||◌}
 use Rattle.std.specs.List.{find, fold}
 use Rattle.std.specs.Option.{option_map_or}
 use Rattle.sc_value.specs.declared.ids.ReqId.{ReqId}
@@ -42,7 +42,7 @@ use Rattle.sc_hosts.specs.Branches.{is_exhausted, starting}
 use Rattle.sc_hosts.specs.Effects.{begun}
 use Rattle.sc_hosts.specs.Finishing.{finished, outcome, outcome_of}
 use Rattle.sc_hosts.specs.Giving.{answer_order, answering, answers, giving}
-use Rattle.sc_hosts.specs.Legs.{change_leg, is_low, leg_of, session_for}
+use Rattle.sc_hosts.specs.Legs.{change_leg, is_leg_of, is_low, leg_of, session_for}
 use Rattle.sc_hosts.specs.Looking.{is_proxy, is_request, removed, request_in, same_request, session_in}
 use Rattle.sc_hosts.specs.Messages.{answered_here, bare_answer, given_response, on_branch, own_address, passed_request, with_routes}
 use Rattle.sc_hosts.specs.Preparing.{kept_of, own_tag_of, prepared, prepared_for, proxy_of}
@@ -91,7 +91,7 @@ module _ (number : ℕ) (sess : SessId) (event : ℕ) (request : Request) where
 
   -- the SipSession was not ended by a call
   abbrev pub Valid : List Leg → Type 0
-  Valid legs = option_map_or (λ leg. leg.invalidated) (slice_get legs (sess.0 - 1)) false ≡ false
+  Valid legs = option_map_or (λ leg. leg.invalidated) (find (is_leg_of sess) legs) false ≡ false
 
   pub record Stays (working : Working) : Type 0 where
     pub view : View-at working.play.view
@@ -310,7 +310,7 @@ module _ (number : ℕ) (sess : SessId) (event : ℕ) (request : Request) where
 
   invalid-is : (known : Known) (s : SessId) → ◌≡◌ {A = SessId} s sess → Valid known.legs → is_invalid known s ≡ false
   unfolding is_invalid leg_of
-  invalid-is known s same legs = subst (λ (x : SessId). option_map_or (λ leg. leg.invalidated) (slice_get known.legs (x.0 - 1)) false ≡ false) (sym same) legs
+  invalid-is known s same legs = subst (λ (x : SessId). option_map_or (λ leg. leg.invalidated) (find (is_leg_of x) known.legs) false ≡ false) (sym same) legs
 
   pub valid-is : (known : Known) → is_invalid known sess ≡ false → Valid known.legs
   unfolding is_invalid leg_of

@@ -26,7 +26,7 @@ use Rattle.sc_hosts.specs.Preparing.{kept_of, proxy_of}
 use Rattle.sc_hosts.specs.PreparingRequests.{request_view}
 use Rattle.sc_hosts.specs.PreparingResponses.{change_proxy}
 use Rattle.sc_hosts.specs.Refusals.{refusal}
-use Rattle.sc_hosts.specs.ViewChanges.{linked, with_own_session}
+use Rattle.sc_hosts.specs.ViewChanges.{linked, new_session, with_own_session}
 use Rattle.sc_hosts.specs.Working.{event_of, proxies, proxies_first}
 use Rattle.sc_walked.specs.SessionWalks.{Brings, IsKeptProxy, IsSameRequest, SessionLaws, with_legs}
 use Rattle.sc_lasting.specs.Lasting.{All}
@@ -144,7 +144,7 @@ shown-clear : (number : ℕ) (v w : View) (known : Known) → w ≡ record v { s
 shown-clear number v w known is clear = subst (λ (u : View). IsClear number u known) (sym is) clear
 
 leg-clear : (number : ℕ) (play : Play) (known : Known) (request : Option RequestView) (kept : Option Kept) → IsClear number play.view known
-    → IsClear number (created_leg request play).view (with_legs kept known)
+    → IsClear number (created_leg request play).view (with_legs play.view kept known)
 unfolding created_leg with_legs with_draft linked with_own_session
 leg-clear number play known None None clear = clear
 leg-clear number play known None (Some kept) clear = clear
@@ -152,7 +152,7 @@ leg-clear number play known (Some request) None clear = clear
 leg-clear number play known (Some request) (Some kept) clear = clear
 
 begins-clear : (number : ℕ) (x : Session) → IsClear number x.view x.known
-    → IsClear number (with_own_session x.view) (record x.known { legs = x.known.legs ++ new_leg None ∷ [] })
+    → IsClear number (with_own_session x.view) (record x.known { legs = x.known.legs ++ new_leg (new_session x.view) None ∷ [] })
 unfolding with_own_session
 begins-clear number x clear = clear
 

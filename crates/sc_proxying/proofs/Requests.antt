@@ -19,7 +19,7 @@ use Rattle.sc_hosts.specs.Legs.{change_leg, is_low, leg_of, new_leg, session_for
 use Rattle.sc_hosts.specs.Looking.{removed, session_in, unlinked}
 use Rattle.sc_hosts.specs.Preparing.{prepared_for}
 use Rattle.sc_hosts.specs.PreparingRequests.{prepared_request, received, showing, silent, taken, taken_in, too_low}
-use Rattle.sc_hosts.specs.ViewChanges.{answered, answered_in, linked, tidy, with_own_session}
+use Rattle.sc_hosts.specs.ViewChanges.{answered, answered_in, linked, new_session, tidy, with_own_session}
 use Rattle.sc_hosts.specs.Working.{proxies}
 use Rattle.sc_walked.specs.SessionWalks.{SessionLaws, sent_kept, with_legs}
 use Rattle.sc_lasting.specs.Lasting.{All}
@@ -59,7 +59,7 @@ shown-keeps : (number : ℕ) (request : Request) (v w : View) (known : Known) �
 shown-keeps number request v w known is keeps = subst (λ (u : View). Keeps number request u known) (sym is) keeps
 
 leg-keeps : (number : ℕ) (request : Request) (play : Play) (known : Known) (came : Option RequestView) (kept : Option Kept) → Keeps number request play.view known
-    → Keeps number request (created_leg came play).view (with_legs kept known)
+    → Keeps number request (created_leg came play).view (with_legs play.view kept known)
 unfolding created_leg with_legs with_draft linked with_own_session
 leg-keeps number request play known None None keeps = keeps
 leg-keeps number request play known None (Some kept) keeps = keeps
@@ -67,7 +67,7 @@ leg-keeps number request play known (Some came) None keeps = keeps
 leg-keeps number request play known (Some came) (Some kept) keeps = keeps
 
 begins-keeps : (number : ℕ) (request : Request) (x : Session) → Keeps number request x.view x.known
-    → Keeps number request (with_own_session x.view) (record x.known { legs = x.known.legs ++ new_leg None ∷ [] })
+    → Keeps number request (with_own_session x.view) (record x.known { legs = x.known.legs ++ new_leg (new_session x.view) None ∷ [] })
 unfolding with_own_session
 begins-keeps number request x keeps = keeps
 

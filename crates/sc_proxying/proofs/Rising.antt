@@ -25,7 +25,7 @@ use Rattle.sc_hosts.specs.PreparingRequests.{received}
 use Rattle.sc_hosts.specs.PreparingResponses.{change_proxy}
 use Rattle.sc_hosts.specs.Refusals.{refusal}
 use Rattle.sc_hosts.specs.Sessions.{Turn}
-use Rattle.sc_hosts.specs.ViewChanges.{linked, with_own_session}
+use Rattle.sc_hosts.specs.ViewChanges.{linked, new_session, with_own_session}
 use Rattle.sc_hosts.specs.Working.{event_of, proxies, proxies_first}
 use Rattle.sc_walked.specs.SessionWalks.{IsKeptProxy, SessionLaws, with_legs}
 use Rattle.sc_walked.proofs.WalkEnds.{after_turn-walks, done-any}
@@ -79,8 +79,8 @@ shown-rises v w known is =
     subst (λ (u : View). Rises (record { view = v; known = known }) (record { view = u; known = known })) (sym is)
     (rises (record { view = v; known = known }) (record { view = record v { sessions = w.sessions }; known = known }) (same-number-up v.counter) (λ ok. ok) (λ start ok. ok))
 
-leg-rises : (play : Play) (known : Known) (request : Option RequestView) (kept : Option Kept) → (Numbered (record { view = play.view; known = known }) → Numbered (record { view = (created_leg request play).view; known = with_legs kept known }))
-    → Rises (record { view = play.view; known = known }) (record { view = (created_leg request play).view; known = with_legs kept known })
+leg-rises : (play : Play) (known : Known) (request : Option RequestView) (kept : Option Kept) → (Numbered (record { view = play.view; known = known }) → Numbered (record { view = (created_leg request play).view; known = with_legs play.view kept known }))
+    → Rises (record { view = play.view; known = known }) (record { view = (created_leg request play).view; known = with_legs play.view kept known })
 unfolding created_leg with_legs with_draft linked with_own_session
 leg-rises play known None None ok = rises _ _ (same-number-up play.view.counter) ok (λ start all. all)
 leg-rises play known None (Some kept) ok = rises _ _ (same-number-up play.view.counter) ok (λ start all. all)
@@ -127,8 +127,8 @@ passed-under : (next : ℕ) (kept : Kept) (branch : ℕ) (all : List Proxy) → 
 unfolding sent_proxy new_proxy
 passed-under next kept branch all less ok = all-append (IsUnder next) all (sent_proxy kept branch) ok less
 
-begins-rises : (x : Session) → (Numbered x → Numbered (record { view = with_own_session x.view; known = record x.known { legs = x.known.legs ++ new_leg None ∷ [] } }))
-    → Rises x (record { view = with_own_session x.view; known = record x.known { legs = x.known.legs ++ new_leg None ∷ [] } })
+begins-rises : (x : Session) → (Numbered x → Numbered (record { view = with_own_session x.view; known = record x.known { legs = x.known.legs ++ new_leg (new_session x.view) None ∷ [] } }))
+    → Rises x (record { view = with_own_session x.view; known = record x.known { legs = x.known.legs ++ new_leg (new_session x.view) None ∷ [] } })
 unfolding with_own_session
 begins-rises x ok = rises x _ (two-up x.view.counter) ok (λ start all. all)
 

@@ -29,7 +29,7 @@ use Rattle.sc_hosts.specs.Preparing.{kept_of, proxy_of}
 use Rattle.sc_hosts.specs.PreparingRequests.{next_id, received, request_view}
 use Rattle.sc_hosts.specs.PreparingResponses.{change_proxy}
 use Rattle.sc_hosts.specs.Refusals.{refusal}
-use Rattle.sc_hosts.specs.ViewChanges.{linked, with_own_session}
+use Rattle.sc_hosts.specs.ViewChanges.{linked, new_session, with_own_session}
 use Rattle.sc_hosts.specs.Working.{event_of, proxies, proxies_first}
 use Rattle.sc_walked.specs.SessionWalks.{Brings, Each, IsKeptProxy, IsSameProxy, IsSameRequest, SessionLaws, sent_kept, with_legs}
 use Rattle.sc_walked.proofs.WalkParts.{each-first, same-proxy}
@@ -125,14 +125,14 @@ module _ (Does : Call → Type 0) (P : List Proxy → List Kept → Type 0) (fir
   shown-held : (v w : View) (known : Known) → w ≡ record v { sessions = w.sessions } → Held P v known → Held P w known
   shown-held v w known is ok = subst (λ (u : View). Held P u known) (sym is) ok
 
-  leg-held : (play : Play) (known : Known) (request : Option RequestView) (kept : Option Kept) → Held P play.view known → Held P (created_leg request play).view (with_legs kept known)
+  leg-held : (play : Play) (known : Known) (request : Option RequestView) (kept : Option Kept) → Held P play.view known → Held P (created_leg request play).view (with_legs play.view kept known)
   unfolding created_leg with_legs with_draft linked with_own_session
   leg-held play known None None ok = ok
   leg-held play known None (Some kept) ok = ok
   leg-held play known (Some request) None ok = ok
   leg-held play known (Some request) (Some kept) ok = ok
 
-  begins-held : (x : Session) → Held P x.view x.known → Held P (with_own_session x.view) (record x.known { legs = x.known.legs ++ new_leg None ∷ [] })
+  begins-held : (x : Session) → Held P x.view x.known → Held P (with_own_session x.view) (record x.known { legs = x.known.legs ++ new_leg (new_session x.view) None ∷ [] })
   unfolding with_own_session
   begins-held x ok = ok
 

@@ -272,7 +272,7 @@ module _ (By : ℕ → Incoming → Type 0) where
   proxies-invited req uris how known =
       if-invited _ (change_proxy req (with_targets uris) known) (proxies_first req uris how (kept_of known req) known) known.invited refl (first-invited req uris how (kept_of known req) known)
 
-  leg-of : (play : Play) (known : Known) (request : Option RequestView) (kept : Option Kept) → AreOf By play.view known → AreOf By (created_leg request play).view (with_legs kept known)
+  leg-of : (play : Play) (known : Known) (request : Option RequestView) (kept : Option Kept) → AreOf By play.view known → AreOf By (created_leg request play).view (with_legs play.view kept known)
   unfolding created_leg with_legs with_draft linked with_own_session
   leg-of play known None None ok = ok
   leg-of play known None (Some kept) ok = ok

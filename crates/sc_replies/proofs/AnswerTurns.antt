@@ -286,15 +286,15 @@ staying-law = record {
   sends_none = λ x draft number is. is;
   begins = λ x number is. is;
   derives = λ x req sess original came tag is number has. has;
-  begins_leg = λ play known req uri request kept is does found has. legs-stay known kept;
+  begins_leg = λ play known req uri request kept is does found has. legs-stay play.view known kept;
   links = λ play known a b is does number has. has;
   turns = λ play known req uris how request is does found. turned-stays req uris how known;
   passes = λ x req kept is. more-stays x.known.proxies (sent_proxy kept (x.view.counter + 1));
 }
   where
-    legs-stay : (known : Known) (kept : Option Kept) → Stay known.proxies (with_legs kept known).proxies
-    legs-stay known None = λ number is. is
-    legs-stay known (Some kept) = λ number is. is
+    legs-stay : (view : View) (known : Known) (kept : Option Kept) → Stay known.proxies (with_legs view kept known).proxies
+    legs-stay view known None = λ number is. is
+    legs-stay view known (Some kept) = λ number is. is
 
 -- what follows as a turn ends
 

@@ -41,7 +41,7 @@ use Rattle.sc_hosts.specs.Preparing.{kept_of, prepared, prepared_for, proxy_of}
 use Rattle.sc_hosts.specs.PreparingRequests.{next_id, prepared_request, received, showing, silent, taken, taken_in, too_low, with_invited}
 use Rattle.sc_hosts.specs.PreparingResponses.{change_proxy}
 use Rattle.sc_hosts.specs.Sessions.{Turn}
-use Rattle.sc_hosts.specs.ViewChanges.{answered, answered_in, is_owed, linked, tidy, with_own_session}
+use Rattle.sc_hosts.specs.ViewChanges.{answered, answered_in, is_owed, linked, new_session, tidy, with_own_session}
 use Rattle.sc_hosts.specs.Working.{event_of, proxies, proxies_first, worked_all}
 use Rattle.sc_walked.specs.SessionWalks.{Brings, IsKeptProxy, SessionLaws, sent_kept, with_legs}
 use Rattle.sc_walked.proofs.WalkCalls.{worked_all-walks}
@@ -249,12 +249,12 @@ module _ (came : List Came) where
   shown-on : (v w : View) (known : Known) → w ≡ record v { sessions = w.sessions } → AllFit v.next_request came known → AllFit w.next_request came known
   shown-on v w known is fit = subst (λ (u : View). AllFit u.next_request came known) (sym is) fit
 
-  begins-on : (x : Session) → FitsAt came x → FitsAt came (record { view = with_own_session x.view; known = record x.known { legs = x.known.legs ++ new_leg None ∷ [] } })
+  begins-on : (x : Session) → FitsAt came x → FitsAt came (record { view = with_own_session x.view; known = record x.known { legs = x.known.legs ++ new_leg (new_session x.view) None ∷ [] } })
   unfolding with_own_session
   begins-on x fit = fit
 
   leg-on : (play : Play) (known : Known) (request : Option RequestView) (kept : Option Kept) → AllFit play.view.next_request came known
-      → AllFit (created_leg request play).view.next_request came (with_legs kept known)
+      → AllFit (created_leg request play).view.next_request came (with_legs play.view kept known)
   unfolding created_leg with_legs with_draft linked with_own_session
   leg-on play known None None fit = fit
   leg-on play known None (Some kept) fit = fit

@@ -10,6 +10,7 @@ use Rattle.sc_terms.specs.declared.calls.ProxyOptions.{ProxyOptions}
 use Rattle.sc_terms.specs.declared.settings.Config.{Config}
 use Rattle.sc_terms.specs.declared.views.RequestView.{RequestView}
 use Rattle.sc_terms.specs.declared.views.SessionView.{SessionView}
+use Rattle.sc_terms.specs.declared.views.View.{View}
 use Rattle.sc_state.specs.declared.queue.Queued.{Queued}
 use Rattle.sc_state.specs.declared.queue.Queued.TheVariants as queued
 use Rattle.sc_state.specs.declared.queue.Waiting.{Waiting}
@@ -93,10 +94,10 @@ module _ (came : List Came) where
   sent-keeps kepts new branch sent all =
       all-append (IsKeptAsCame came) kepts new all (λ event way. absurd (sent-way branch event (subst (λ (w : Way). w ≡ Received event) sent way)))
 
-  legs-keep : (known : Known) (kept : Option Kept) → Keeps known → Keeps (with_legs kept known)
+  legs-keep : (view : View) (known : Known) (kept : Option Kept) → Keeps known → Keeps (with_legs view kept known)
   unfolding with_legs
-  legs-keep known None keeps = keeps
-  legs-keep known (Some kept) keeps = keeps
+  legs-keep view known None keeps = keeps
+  legs-keep view known (Some kept) keeps = keeps
 
   first-keep : (req : ReqId) (uris : List Uri) (how : ProxyOptions) (kept : Option Kept) (known : Known) → Keeps known → Keeps (proxies_first req uris how kept known)
   unfolding proxies_first
@@ -133,7 +134,7 @@ module _ (came : List Came) where
     sends_none = λ x draft keeps. keeps;
     begins = λ x keeps. keeps;
     derives = λ x req sess original came tag is keeps. keeps;
-    begins_leg = λ play known req uri request kept is does found has keeps. legs-keep known kept keeps;
+    begins_leg = λ play known req uri request kept is does found has keeps. legs-keep play.view known kept keeps;
     links = λ play known a b is does keeps. keeps;
     turns = λ play known req uris how request is does found keeps. proxies-keep req uris how known keeps;
     passes = λ x req kept is keeps. keeps;

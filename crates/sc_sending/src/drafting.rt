@@ -10,7 +10,7 @@ ghost use Rattle.sc_hosts.specs.Preparing.{kept_of};
 ghost use Rattle.sc_hosts.specs.Giving.{writes, with_leg, drafts_own, drafts_later, drafts_leg, is_written, directs, forgets};
 ghost use Rattle.sc_sending.specs.Pieces.{directed};
 
-use sc_effects::{kept_of, new_call_id, new_tag};
+use sc_effects::{kept_of, new_call_id, new_session, new_tag};
 use sc_legs::new_leg;
 use sc_messages::{asked_request, leg_request};
 use sc_state::{Asked, Kept, Play, Working, Written};
@@ -29,7 +29,8 @@ fn writes(working: &mut Working, draft: Written) -> Result<(), NoMemory>
 fn with_leg(alloc: Global, working: &mut Working) -> Result<(), NoMemory>
     ensures { OnOk result (working.new ≡ with_leg working.old) }
 {
-    let leg = new_leg(alloc, None);
+    let sess = new_session(&working.play.view)?;
+    let leg = new_leg(alloc, sess, None);
     working.known.legs.push(leg)?;
     Ok(())
 }

@@ -1,13 +1,13 @@
 //! Requests that are sent, and ACKs.
 
-ghost use Rattle.std.specs.Prelude.{◌≡◌, ◌-◌, Some, None, IfOk, IfNone, OnOk};
+ghost use Rattle.std.specs.Prelude.{◌≡◌, Some, None, IfOk, IfNone, OnOk};
 ghost use Rattle.std.specs.List.{find};
 ghost use Rattle.std.specs.Option.{option_copied};
-ghost use Rattle.sc_value.specs.Lists.{change_nth};
+ghost use Rattle.sc_value.specs.Lists.{change_first};
 ghost use Rattle.sc_value.specs.declared.message.Message.{Message};
 ghost use Rattle.sc_model.specs.DialogRequests.{next_request, ack_request};
 ghost use Rattle.sc_model.specs.Dialogs.{Passed};
-ghost use Rattle.sc_hosts.specs.Legs.{change_leg, in_dialog};
+ghost use Rattle.sc_hosts.specs.Legs.{change_leg, in_dialog, is_leg_of};
 ghost use Rattle.sc_hosts.specs.Messages.{from_here, on_branch};
 ghost use Rattle.sc_hosts.specs.Preparing.{kept_of};
 ghost use Rattle.sc_hosts.specs.Refusals.{awaits_ack};
@@ -94,12 +94,13 @@ fn with_first(leg: &mut Leg, req: ReqId)
     leg.first = Some(req);
 }
 
-#[tactic(auto, using(sc_value::proofs::ListFacts::change_nth_at, sc_value::proofs::ListFacts::change_nth_none))]
-fn first_at(legs: &mut [Leg], at: usize, req: ReqId)
-    ensures { legs.new ≡ change_nth at (with_first req) legs.old }
+#[tactic(auto, using(sc_value::proofs::ListFacts::change_first_position, sc_value::proofs::ListFacts::change_first_none))]
+fn first_among(legs: &mut [Leg], sess: SessId, req: ReqId)
+    ensures { legs.new ≡ change_first (is_leg_of sess) (with_first req) legs.old }
 {
-    if at < legs.len() {
-        with_first(&mut legs[at], req);
+    match leg_place(legs, sess) {
+        Some(at) => with_first(&mut legs[at], req),
+        None => {}
     }
 }
 
@@ -107,7 +108,7 @@ fn first_at(legs: &mut [Leg], at: usize, req: ReqId)
 fn first_in(known: &mut Known, sess: SessId, req: ReqId)
     ensures { known.new ≡ change_leg sess (with_first req) known.old }
 {
-    first_at(&mut known.legs.items, leg_place(sess), req);
+    first_among(&mut known.legs.items, sess, req);
 }
 
 // Sends an initial request, by the directive of its draft.

@@ -22,6 +22,7 @@ impl CloneIn for Leg {
         let got = self.got.clone_in(alloc)?;
         let dialog = self.dialog.clone_in(alloc)?;
         Ok(Leg {
+            id: self.id,
             first: self.first,
             caller,
             dialog,

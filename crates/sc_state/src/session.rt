@@ -11,9 +11,11 @@ pub struct Got {
     pub number: u32,
 }
 
-/// What a SipSession is beside what is shown of it. It has the place of its SipSession.
+/// What a SipSession is beside what is shown of it: what it knows of its dialog.
 #[derive(Drop)]
 pub struct Leg {
+    /// The SipSession of which it is.
+    pub id: SessId,
     /// The request that began it, once it has its number; of a derived one that of its original.
     pub first: Option<ReqId>,
     /// The tag of the caller, where the application proxies: the peer's is that of the callee.
@@ -61,7 +63,7 @@ pub struct Known {
     /// The region and the place in the router's list with which it began.
     pub region: Region,
     pub order: u32,
-    /// One for each SipSession, in order.
+    /// One for each SipSession, by its number.
     pub legs: List<Leg>,
     /// In order of number.
     pub kept: List<Kept>,

@@ -61,7 +61,7 @@ settled-same sess code r =
 
 dialog-leg : (request : Request) (leg : Leg) → IsSameLeg leg (in_dialog (By_self (messages.Request request)) leg)
 unfolding in_dialog
-dialog-leg request leg = record { caller = refl }
+dialog-leg request leg = record { id = refl; caller = refl }
 
 pub answering-known : (config : Config) (found : Option RequestView) (answer : Answer) (working : Working)
     → (answering config found answer working).known ≡ working.known
@@ -83,7 +83,7 @@ acknowledges-known config sess body None working = refl
 acknowledges-known config sess body (Some request) working = ack_with-known config body _ _ working
 
 drafts_leg-known : (req : ReqId) (uri : Option Uri) (kept : Option Kept) (working : Working)
-    → (drafts_leg req uri kept working).known ≡ with_legs kept working.known
+    → (drafts_leg req uri kept working).known ≡ with_legs working.play.view kept working.known
 unfolding drafts_leg writes with_legs
 drafts_leg-known req uri None working = refl
 drafts_leg-known req uri (Some kept) working = refl
@@ -129,7 +129,7 @@ module _ (event : Queued) (Does : Call → Type 0) (Q : Session → Session → 
       let x : Session = session_at working in
       let y : Session = record x { known = change_leg sess (λ leg. record leg { invalidated = true }) x.known } in
       let z : Session = record y { view = settled_requests sess 500 y.view } in
-      law.after x y _ (leg-walks event Does Q law x sess (λ leg. record leg { invalidated = true }) (λ leg. record { caller = refl }))
+      law.after x y _ (leg-walks event Does Q law x sess (λ leg. record leg { invalidated = true }) (λ leg. record { id = refl; caller = refl }))
       (law.after y z _ (law.renews y _ (each-map IsSameRequest y.view.requests (settled_request sess 500) (settled-same sess 500))) (removed-walks z sess))
 
   -- ## Sending
@@ -147,7 +147,7 @@ module _ (event : Queued) (Does : Call → Type 0) (Q : Session → Session → 
   sends_written-walks config written draft (asked.Initial request) working =
       let x : Session = session_at working in
       let y : Session = record x { known = change_leg draft.sess (λ leg. record leg { first = Some (record { 0 = working.play.view.next_request }) }) x.known } in
-      law.after x y _ (leg-walks event Does Q law x draft.sess (λ leg. record leg { first = Some (record { 0 = working.play.view.next_request }) }) (λ leg. record { caller = refl })) (law.sends y draft _)
+      law.after x y _ (leg-walks event Does Q law x draft.sess (λ leg. record leg { first = Some (record { 0 = working.play.view.next_request }) }) (λ leg. record { id = refl; caller = refl })) (law.sends y draft _)
   sends_written-walks config written draft (asked.Later ask) working = sends_in-walks config draft ask _ working
 
   sends-walks : (config : Config) (number : ℕ) (written : Option Written) (draft : Option Draft) (working : Working)

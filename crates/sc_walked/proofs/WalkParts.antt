@@ -1,10 +1,10 @@
 -- Small changes of a session keep each relation with the laws.
-use Rattle.std.proofs.Common.{◌≡◌, ℕ, Bool, true, false, Option, None, Some, List, [], ◌∷◌, zero, suc, refl, ap, ◌∙◌, ◌++◌}
+use Rattle.std.proofs.Common.{◌≡◌, ℕ, Bool, true, false, Option, None, Some, List, [], ◌∷◌, refl, ap, ◌∙◌, ◌++◌}
 use Rattle.std.specs.Prelude.{cond, map, not}
 use Rattle.std.specs.List.{fold}
 use Rattle.sc_value.specs.declared.ids.ReqId.{ReqId}
 use Rattle.sc_value.specs.declared.ids.SessId.{SessId}
-use Rattle.sc_value.specs.Lists.{change_first, change_nth}
+use Rattle.sc_value.specs.Lists.{change_first}
 use Rattle.sc_terms.specs.declared.calls.Call.{Call}
 use Rattle.sc_terms.specs.declared.views.RequestView.{RequestView}
 use Rattle.sc_terms.specs.declared.views.Role.{Role}
@@ -23,7 +23,7 @@ use Rattle.sc_grammar.specs.Written.{Bytes}
 use Rattle.sc_model.specs.Dialogs.{subscribe}
 use Rattle.sc_model.specs.SessionStates.{bye, ended_state, invite, is_final}
 use Rattle.sc_model.specs.Transactions.{is_failure, is_success}
-use Rattle.sc_hosts.specs.Legs.{change_leg}
+use Rattle.sc_hosts.specs.Legs.{change_leg, is_leg_of}
 use Rattle.sc_hosts.specs.Looking.{change_request, change_session, is_session, is_request, is_uac}
 use Rattle.sc_hosts.specs.PreparingResponses.{change_proxy}
 use Rattle.sc_hosts.specs.States.{after_initial, after_later, after_response, failed_state, invited_state, subscribed_state, unsubscribed_state}
@@ -42,13 +42,6 @@ pub each-map : {A : Type 0} (Same : A → A → Type 0) (xs : List A) (change : 
 unfolding Each
 each-map Same [] change each = tt
 each-map Same (x ∷ xs) change each = (each x, each-map Same xs change each)
-
-pub each-nth : {A : Type 0} (Same : A → A → Type 0) (xs : List A) (place : ℕ) (change : A → A) → ((x : A) → Same x x)
-    → ((x : A) → Same x (change x)) → Each Same xs (change_nth place change xs)
-unfolding Each change_nth
-each-nth Same [] place change keep each = tt
-each-nth Same (x ∷ xs) zero change keep each = (each x, each-same Same xs keep)
-each-nth Same (x ∷ xs) (suc place) change keep each = (keep x, each-nth Same xs place change keep each)
 
 if-first : {A : Type 0} (Same : A → A → Type 0) (b : Bool) (x y : A) (xs ys : List A) → Same x y → Same x x
     → Each Same xs xs → Each Same xs ys → Each Same (x ∷ xs) (cond b (y ∷ xs) (x ∷ ys))
@@ -155,7 +148,7 @@ pub same-request : (r : RequestView) → IsSameRequest r r
 same-request r = record { id = refl; sess = refl; method = refl; received = refl; initial = refl; proxied = refl }
 
 pub same-leg : (leg : Leg) → IsSameLeg leg leg
-same-leg leg = record { caller = refl }
+same-leg leg = record { id = refl; caller = refl }
 
 no-more : {A : Type 0} (xs : List A) → xs ≡ xs ++ []
 no-more [] = refl
@@ -207,7 +200,7 @@ module _ (event : Queued) (Does : Call → Type 0) (Q : Session → Session → 
   pub leg-walks : (x : Session) (sess : SessId) (change : Leg → Leg) → ((leg : Leg) → IsSameLeg leg (change leg))
       → Q x (record x { known = change_leg sess change x.known })
   unfolding change_leg
-  leg-walks x sess change each = law.same_legs x _ (each-nth IsSameLeg x.known.legs _ change same-leg each)
+  leg-walks x sess change each = law.same_legs x _ (each-first IsSameLeg x.known.legs (is_leg_of sess) change same-leg each)
 
   pub proxy-walks : (x : Session) (req : ReqId) (change : Proxy → Proxy)
       → ((proxy : Proxy) → IsKeptProxy proxy (change proxy))

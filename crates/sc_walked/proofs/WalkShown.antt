@@ -36,7 +36,7 @@ use Rattle.sc_value.specs.declared.message.Message.TheVariants as messages
 use Rattle.sc_model.specs.Names.{edge_tag}
 use Rattle.sc_model.specs.SessionStates.{is_final}
 use Rattle.sc_hosts.specs.Branches.{is_supervised, stopped, to_cancel, ended_by, heard, after_end, ended_branch, with_candidate, with_targets, added_targets, passing_on, recurses, rung, is_global, branch_in, is_open}
-use Rattle.sc_hosts.specs.DerivedSessions.{Handling, In, Takes, Derives, handled_in, is_overtaken, overtaken_session, overtaken_legs, overtaken, is_of, failed_session, without_derived}
+use Rattle.sc_hosts.specs.DerivedSessions.{Handling, In, Takes, Derives, handled_in, is_overtaken, loses_tag, overtaken_session, overtaken_leg, overtaken, is_of, failed_session, without_derived}
 use Rattle.sc_hosts.specs.Legs.{change_leg, FIRST_SESSION, in_dialog, with_request, with_answer, answered_leg, as_answer, makes_dialog_of}
 use Rattle.sc_hosts.specs.Looking.{change_request, same_session, session_in, is_proxy, in_state}
 use Rattle.sc_hosts.specs.Messages.{own_response}
@@ -45,8 +45,8 @@ use Rattle.sc_hosts.specs.PreparingResponses.{is_sent_on, noted_final, shown_aga
 use Rattle.sc_hosts.specs.Preparing.{kept_of, proxy_of, terminated, cancelled_proxy, cancelled_request, prepared_cancel, fired, prepared_timer, has_expired, prepared_expiry, timed_out, prepared_branch_timer, prepared_for, prepared}
 use Rattle.sc_hosts.specs.ViewChanges.{tidy, answered_in, with_answer as with_final}
 use Rattle.sc_hosts.specs.Words.{request_timeout}
-use Rattle.sc_walked.proofs.WalkParts.{each-same, follow-ended, follow-same, if-is, moved, answer-same, same-request, same-leg, same-proxy, stays-on, session-walks, sessions-walk, request-walks, leg-walks, proxy-walks, tidy-walks, answered_in-walks, answered-walks, if-walks}
-use Rattle.sc_walked.specs.SessionWalks.{Each, IsMoved, IsSameRequest, IsSameLeg, IsSameProxy, IsKeptProxy, HasGoneOn, IsShownAgain, Brings, SessionLaws}
+use Rattle.sc_walked.proofs.WalkParts.{each-map, follow-ended, follow-same, if-is, moved, answer-same, same-request, same-leg, same-proxy, stays-on, session-walks, sessions-walk, request-walks, leg-walks, proxy-walks, tidy-walks, answered_in-walks, answered-walks, if-walks}
+use Rattle.sc_walked.specs.SessionWalks.{IsMoved, IsSameRequest, IsSameLeg, IsSameProxy, IsKeptProxy, HasGoneOn, IsShownAgain, Brings, SessionLaws}
 
 -- ## What a message makes of a SipSession, a request and a proxy leaves what it is
 
@@ -64,13 +64,9 @@ failed-moved : (known : Known) (req : ReqId) (original : SessId) (s : SessionVie
 unfolding failed_session
 failed-moved known req original s = if-is (IsMoved s) (is_of known req s && not (same_session s.id original)) (in_state Terminated s) s (state-moved s) (moved s)
 
-overtaken_legs-same : (known : Known) (req : ReqId) (sess : SessId) (sessions : List SessionView) (legs : List Leg)
-    → Each IsSameLeg legs (overtaken_legs known req sess sessions legs)
-unfolding Each overtaken_legs
-overtaken_legs-same known req sess [] legs = each-same IsSameLeg legs same-leg
-overtaken_legs-same known req sess (session ∷ sessions) [] = tt
-overtaken_legs-same known req sess (session ∷ sessions) (leg ∷ legs) =
-    (if-is (IsSameLeg leg) (is_overtaken known req sess session) (record leg { overtaken = true }) leg (record { caller = refl }) (same-leg leg), overtaken_legs-same known req sess sessions legs)
+overtaken-leg : (session : Session) (req : ReqId) (sess : SessId) (leg : Leg) → IsSameLeg leg (overtaken_leg session req sess leg)
+unfolding overtaken_leg
+overtaken-leg session req sess leg = if-is (IsSameLeg leg) (loses_tag session req sess leg) (record leg { overtaken = true }) leg (record { id = refl; caller = refl }) (same-leg leg)
 
 success-same : (sess : SessId) (response : Response) (r : RequestView) → IsSameRequest r (with_success sess response r)
 unfolding with_success
@@ -78,14 +74,14 @@ success-same sess response r = if-is (IsSameRequest r) _ _ r (record { id = refl
 
 pub request-leg : (request : Request) (leg : Leg) → IsSameLeg leg (with_request request leg)
 unfolding with_request in_dialog
-request-leg request leg = record { caller = refl }
+request-leg request leg = record { id = refl; caller = refl }
 
 answered-leg : (request : Request) (response : Response) (leg : Leg) → IsSameLeg leg (answered_leg request response leg)
 unfolding answered_leg in_dialog
 answered-leg request response leg =
     let made : Leg = record leg { dialog = Some (dialog_of (Calling request response) []) } in
-    if-is (IsSameLeg leg) (is_some leg.dialog) (in_dialog (By_peer (messages.Response response)) leg) (cond (makes_dialog_of request response) made leg) (record { caller = refl })
-    (if-is (IsSameLeg leg) (makes_dialog_of request response) made leg (record { caller = refl }) (same-leg leg))
+    if-is (IsSameLeg leg) (is_some leg.dialog) (in_dialog (By_peer (messages.Response response)) leg) (cond (makes_dialog_of request response) made leg) (record { id = refl; caller = refl })
+    (if-is (IsSameLeg leg) (makes_dialog_of request response) made leg (record { id = refl; caller = refl }) (same-leg leg))
 
 answer-leg : (request : Request) (response : Response) (leg : Leg) → IsSameLeg leg (with_answer request response leg)
 unfolding with_answer
@@ -312,7 +308,7 @@ module _ (event : Queued) (Does : Call → Type 0) (Q : Session → Session → 
   unfolding overtaken
   overtaken-walks x req sess =
       law.after x (record x { view = record x.view { sessions = map (overtaken_session x.known req sess) x.view.sessions } }) _ (sessions-walk event Does Q law x (overtaken_session x.known req sess) (overtaken-moved x.known req sess))
-      (law.same_legs (record x { view = record x.view { sessions = map (overtaken_session x.known req sess) x.view.sessions } }) _ (overtaken_legs-same x.known req sess x.view.sessions x.known.legs))
+      (law.same_legs (record x { view = record x.view { sessions = map (overtaken_session x.known req sess) x.view.sessions } }) _ (each-map IsSameLeg x.known.legs (overtaken_leg x req sess) (overtaken-leg x req sess)))
 
   without_derived-walks : (x : Session) (req : ReqId) (original : SessId) → Q x (without_derived req original x)
   unfolding without_derived

@@ -38,7 +38,7 @@ use Rattle.sc_hosts.specs.Preparing.{kept_of}
 use Rattle.sc_hosts.specs.PreparingRequests.{numbered, received}
 use Rattle.sc_hosts.specs.PreparingResponses.{with_request_again}
 use Rattle.sc_hosts.specs.Refusals.{refusal}
-use Rattle.sc_hosts.specs.ViewChanges.{linked, with_own_session}
+use Rattle.sc_hosts.specs.ViewChanges.{linked, new_session, with_own_session}
 use Rattle.sc_hosts.specs.Working.{proxies}
 
 -- ## What stays of the parts
@@ -86,8 +86,9 @@ pub record IsSameRequest (before after : RequestView) : Type 0 where
   pub initial : after.initial ≡ before.initial
   pub proxied : after.proxied ≡ before.proxied
 
--- what a leg has of the request that began it
+-- the leg of the same SipSession, with what it has of the request that began it
 pub record IsSameLeg (before after : Leg) : Type 0 where
+  pub id : after.id ≡ before.id
   pub caller : after.caller ≡ before.caller
 
 -- a proxied request has gone on: it has the targets that it had, and maybe more; where the search
@@ -141,10 +142,11 @@ AreDone Does play (m ∷ made) =
 
 -- ## The relations
 
--- a further leg, where the request is kept whose second leg is made
-unfoldable pub with_legs : Option Kept → Known → Known
-with_legs None known = known
-with_legs (Some kept) known = record known { legs = known.legs ++ new_leg None ∷ [] }
+-- the leg of the next SipSession, where the request is kept whose second leg is made
+unfoldable pub with_legs : View → Option Kept → Known → Known
+with_legs view None known = known
+with_legs view (Some kept) known =
+    record known { legs = known.legs ++ new_leg (new_session view) None ∷ [] }
 
 -- the request of a draft as it is kept once sent, under its number and branch
 abbrev pub sent_kept : View → Draft → Request → Kept
@@ -221,7 +223,8 @@ pub record SessionLaws (event : Queued) (Does : Call → Type 0)
       → Q x
       (record {
         view = with_own_session x.view;
-        known = record x.known { legs = x.known.legs ++ new_leg None ∷ [] };
+        known =
+            record x.known { legs = x.known.legs ++ new_leg (new_session x.view) None ∷ [] };
       })
   pub derives : (x : Session) (req : ReqId) (sess : SessId) (original : SessionView)
       (came : Option Request) (tag : Bytes)
@@ -231,7 +234,9 @@ pub record SessionLaws (event : Queued) (Does : Call → Type 0)
             record x.view { sessions = x.view.sessions ++ derived_session x.view original tag ∷ [] };
         known =
             record x.known {
-              legs = x.known.legs ++ derived_leg (leg_of x.known original.id) req came ∷ [];
+              legs =
+                  x.known.legs
+                  ++ derived_leg (new_session x.view) (leg_of x.known original.id) req came ∷ [];
             };
       })
   -- accepted calls that look at more than one of these
@@ -240,7 +245,7 @@ pub record SessionLaws (event : Queued) (Does : Call → Type 0)
       → refusal play (calls.B2bCreate req uri) ≡ None → Does (calls.B2bCreate req uri)
       → request_in play.view req ≡ request → kept_of known req ≡ kept
       → Q (record { view = play.view; known = known })
-      (record { view = (created_leg request play).view; known = with_legs kept known })
+      (record { view = (created_leg request play).view; known = with_legs play.view kept known })
   pub links : (play : Play) (known : Known) (a b : SessId) → refusal play (calls.Link a b) ≡ None
       → Does (calls.Link a b)
       → Q (record { view = play.view; known = known })

@@ -2,9 +2,9 @@
 
 ghost use Rattle.std.specs.Prelude.{◌≡◌, ◌++◌, ◌∷◌, [], true, nat_le, None, map, position, IfOk, OnOk};
 ghost use Rattle.std.specs.List.{flat_map};
-ghost use Rattle.sc_value.specs.Lists.{change_nth};
+ghost use Rattle.sc_value.specs.Lists.{change_first};
 ghost use Rattle.sc_hosts.specs.Looking.{same_session};
-ghost use Rattle.sc_hosts.specs.Legs.{change_leg};
+ghost use Rattle.sc_hosts.specs.Legs.{change_leg, is_leg_of};
 ghost use Rattle.sc_hosts.specs.Working.{owed_answer, insert_number, in_order, branch_of, invite_branches, goodbyes, invalidates};
 ghost use Rattle.sc_sending.specs.Pieces.{as_invalidated};
 ghost use Rattle.sc_work.specs.Goodbyes.{is_whose, owed_by, kept_branches, proxy_branches, cancel_now};
@@ -310,12 +310,13 @@ fn as_invalidated(leg: &mut Leg)
     leg.invalidated = true;
 }
 
-#[tactic(auto, using(sc_value::proofs::ListFacts::change_nth_at, sc_value::proofs::ListFacts::change_nth_none))]
-fn invalidated_at(legs: &mut [Leg], at: usize)
-    ensures { legs.new ≡ change_nth at as_invalidated legs.old }
+#[tactic(auto, using(sc_value::proofs::ListFacts::change_first_position, sc_value::proofs::ListFacts::change_first_none))]
+fn invalidated_among(legs: &mut [Leg], sess: SessId)
+    ensures { legs.new ≡ change_first (is_leg_of sess) as_invalidated legs.old }
 {
-    if at < legs.len() {
-        as_invalidated(&mut legs[at]);
+    match leg_place(legs, sess) {
+        Some(at) => as_invalidated(&mut legs[at]),
+        None => {}
     }
 }
 
@@ -323,7 +324,7 @@ fn invalidated_at(legs: &mut [Leg], at: usize)
 fn invalidated_in(known: &mut Known, sess: SessId)
     ensures { known.new ≡ change_leg sess as_invalidated known.old }
 {
-    invalidated_at(&mut known.legs.items, leg_place(sess));
+    invalidated_among(&mut known.legs.items, sess);
 }
 
 /// Ends a SipSession by a call.

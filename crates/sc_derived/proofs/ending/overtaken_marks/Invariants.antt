@@ -1,6 +1,6 @@
 use Rattle.std.proofs.Common.{◌≡◌, map, take}
-use Rattle.sc_hosts.specs.DerivedSessions.{is_overtaken}
+use Rattle.sc_hosts.specs.DerivedSessions.{loses_tag}
 use Rattle.sc_derived.proofs.ending.overtaken_marks.Given as goal
 
-abbrev pub invariant-loop-session : goal.invariant-loop-session
-invariant-loop-session l = l.marks ≡ map (is_overtaken l.known l.req l.sess) (take l.session-index l.sessions)
+abbrev pub invariant-loop-leg : goal.invariant-loop-leg
+invariant-loop-leg l = l.marks ≡ map (loses_tag l.session l.req l.sess) (take l.leg-index l.legs)
