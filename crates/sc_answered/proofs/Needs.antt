@@ -12,6 +12,7 @@ use Rattle.sc_model.specs.SessionStates.{bye, invite, is_final}
 use Rattle.sc_model.specs.Transactions.{is_failure, is_success}
 use Rattle.sc_hosts.specs.Looking.{is_confirmed, is_early, is_terminated, is_uac}
 use Rattle.sc_hosts.specs.States.{is_ringing}
+use Rattle.sc_lasting.proofs.Began.{not-false}
 use Rattle.sc_answered.specs.StateOf.{Accepts, Denies, Exhausted, Exhausts, Fails, Finishes, Happening, HangsUp, Meaning, Nothing, Overtaken, Overtakes, Rejects, Response, Rings, Subscribes, Undoes, Undone, Unsubscribes, confirms, has_rung, is_end, is_made, is_ring, is_turn, meaning, some_item, state_by, state_of, to_initial, to_invite, to_later, to_subscribe}
 use Rattle.sc_answered.specs.Needed.{can_end, hangs_up, makes_dialog, makes_early, takes_call}
 use Rattle.sc_answered.proofs.StateAfter.{all-eight, stands}
@@ -116,10 +117,6 @@ making-needs Overtaken is = cc
 making-needs Undone is = cc
 making-needs (Exhausted derived) is = cc
 
-not-not : (b : Bool) → not b ≡ false → b ≡ true
-not-not true is = refl
-not-not false is = cc
-
 ending-needs : (one : Happening) → is_ending (meaning one) ≡ true → can_end one ≡ true
 unfolding meaning can_end is_ending to_initial to_invite to_subscribe to_later
 ending-needs (Response role asked tagged code) is =
@@ -134,8 +131,8 @@ ending-needs (Response role asked tagged code) is =
     (λ f. if-passes is_ending (is_success code) Subscribes Nothing (can_end (Response role asked tagged code)) (λ a no. cc) (λ a no. cc)))
     (λ s. if-passes is_ending (is_final code) Finishes Nothing (can_end (Response role asked tagged code)) (λ f yes. rw (i, v, s, f) refl) (λ f no. cc))))
     (λ i. if-passes is_ending (not (is_final code)) Nothing (cond (same_bytes asked.method bye) HangsUp (cond asked.ends Unsubscribes Nothing)) (can_end (Response role asked tagged code)) (λ f no. cc)
-    (λ f. if-passes is_ending (same_bytes asked.method bye) HangsUp (cond asked.ends Unsubscribes Nothing) (can_end (Response role asked tagged code)) (λ b yes. rw (i, not-not (is_final code) f, b) refl)
-    (λ b. if-passes is_ending asked.ends Unsubscribes Nothing (can_end (Response role asked tagged code)) (λ e yes. rw (i, not-not (is_final code) f, b, e) refl) (λ e no. cc)))) is
+    (λ f. if-passes is_ending (same_bytes asked.method bye) HangsUp (cond asked.ends Unsubscribes Nothing) (can_end (Response role asked tagged code)) (λ b yes. rw (i, not-false (is_final code) f, b) refl)
+    (λ b. if-passes is_ending asked.ends Unsubscribes Nothing (can_end (Response role asked tagged code)) (λ e yes. rw (i, not-false (is_final code) f, b, e) refl) (λ e no. cc)))) is
 ending-needs Overtaken is = refl
 ending-needs Undone is = refl
 ending-needs (Exhausted derived) is = refl

@@ -1,5 +1,5 @@
 -- SipSessions stand under their numbers, each with the state of what happened in it; and what keeps that.
-use Rattle.std.proofs.Common.{◌≡◌, ◌≤◌, ℕ, suc, ◌+◌, ◌++◌, Bool, true, false, Option, None, Some, List, [], ◌∷◌, refl, sym, ap, subst, ◌∙◌, arith}
+use Rattle.std.proofs.Common.{◌≡◌, ◌≤◌, ℕ, suc, ◌+◌, ◌++◌, Bool, true, false, Option, None, Some, List, [], ◌∷◌, refl, sym, ap, subst, ◌∙◌, arith, append_assoc}
 use Rattle.std.proofs.lemmas.Bool.Decides.{nat_tests}
 use Rattle.std.specs.Prelude.{◌==◌, cond, filter, length, map}
 use Rattle.std.specs.List.{find}
@@ -26,16 +26,12 @@ Comes new before after = (happened : List Happened) → Stand happened 1 before 
 
 -- ## One after the other
 
-append-assoc : {A : Type 0} (xs ys zs : List A) → xs ++ (ys ++ zs) ≡ (xs ++ ys) ++ zs
-append-assoc [] ys zs = refl
-append-assoc (x ∷ xs) ys zs = ap (λ more. x ∷ more) (append-assoc xs ys zs)
-
 pub comes-same : (xs : List SessionView) → Comes [] xs xs
 comes-same xs happened stand = stand
 
 pub comes-then : (new more : List Happened) (xs ys zs : List SessionView) → Comes new xs ys → Comes more ys zs → Comes (more ++ new) xs zs
 comes-then new more xs ys zs p q happened stand =
-    subst (λ (all : List Happened). Stand all 1 zs) (append-assoc more new happened) (q (new ++ happened) (p happened stand))
+    subst (λ (all : List Happened). Stand all 1 zs) (sym (append_assoc more new happened)) (q (new ++ happened) (p happened stand))
 
 -- where nothing happens first
 pub comes-next : (more : List Happened) (xs ys zs : List SessionView) → Comes [] xs ys → Comes more ys zs → Comes more xs zs

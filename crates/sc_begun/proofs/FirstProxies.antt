@@ -26,7 +26,7 @@ use Rattle.sc_hosts.specs.Histories.{History, session_after}
 use Rattle.sc_hosts.specs.Legs.{fresh, first_view, first_known, new_leg}
 use Rattle.sc_hosts.specs.Looking.{is_request, same_request, request_in, unlinked, removed}
 use Rattle.sc_hosts.specs.Preparing.{kept_of, proxy_of}
-use Rattle.sc_hosts.specs.PreparingRequests.{received, request_view}
+use Rattle.sc_hosts.specs.PreparingRequests.{received}
 use Rattle.sc_hosts.specs.PreparingResponses.{change_proxy}
 use Rattle.sc_hosts.specs.Refusals.{refusal}
 use Rattle.sc_hosts.specs.Sessions.{Turn}
@@ -35,7 +35,7 @@ use Rattle.sc_hosts.specs.Working.{proxies, proxies_first, event_of}
 use Rattle.sc_walked.specs.SessionWalks.{Each, IsKeptProxy, IsSameRequest, SessionLaws, with_legs}
 use Rattle.sc_walked.proofs.WalkParts.{each-first}
 use Rattle.sc_lasting.specs.Lasting.{All, IsLife, IsOf}
-use Rattle.sc_lasting.proofs.Began.{Began, Keeps, began-law, kept-began, none-proxied, proxied-first, proxied-is, same-number, test-found}
+use Rattle.sc_lasting.proofs.Began.{Began, Keeps, began-law, kept-began, none-proxied, proxied-first, proxied-is, same-number, test-found, IsAsCame, proxied-came, view-number, sent-own}
 use Rattle.sc_lasting.proofs.Held.{lives-hold}
 use Rattle.sc_lasting.proofs.Parts.{all-append, all-each, all-filter, all-first, all-found, all-insert, all-map, received-holds, removed-only, unlinked-only}
 
@@ -91,34 +91,20 @@ new-backs : (began : Request) (next : ℕ) (r : RequestView) (all : List Proxy) 
 unfolding Backs
 new-backs began next r all own below = all-map (Below next) (Backs began r) all (λ p less came first is. absurd (not-lower p.req.0 next less (is ∙ own))) below
 
-sent-unreceived : (view : View) (draft : Draft) → (sent_view view draft).received ≡ false
-unfolding sent_view
-sent-unreceived view draft = refl
-
-came-number : (next : ReqId) (sess : SessId) (initial passed : Bool) (request : Request) → (request_view next sess initial passed request).id.0 ≡ next.0
-unfolding request_view
-came-number next sess initial passed request = refl
-
 received-proper : (began : Request) (x : Session) (number : ℕ) (sess : SessId) (initial passed : Bool) (request : Request) → Proper began x.view x.known
     → Proper began (received x number sess initial passed request).view (received x number sess initial passed request).known
 received-proper began x number sess initial passed request ok = received-holds (λ v k. Proper began v k) x number sess initial passed request
     (λ invited. (
       below-more x.view.next_request x.known.proxies ok.0,
       ok.1,
-      all-append (λ (r : RequestView). All (Backs began r) x.known.proxies) x.view.requests _ ok.2 (new-backs began x.view.next_request _ x.known.proxies (came-number _ sess initial passed request) ok.0),
+      all-append (λ (r : RequestView). All (Backs began r) x.known.proxies) x.view.requests _ ok.2 (new-backs began x.view.next_request _ x.known.proxies (view-number _ sess initial passed request) ok.0),
     ))
 
 sent-proper : (began : Request) (x : Session) (draft : Draft) → All (λ (r : RequestView). All (Backs began r) x.known.proxies) x.view.requests
     → All (λ (r : RequestView). All (Backs began r) x.known.proxies) (x.view.requests ++ sent_view x.view draft ∷ [])
-sent-proper began x draft all = all-append (λ (r : RequestView). All (Backs began r) x.known.proxies) x.view.requests _ all (unreceived began (sent_view x.view draft) x.known.proxies (sent-unreceived x.view draft))
+sent-proper began x draft all = all-append (λ (r : RequestView). All (Backs began r) x.known.proxies) x.view.requests _ all (unreceived began (sent_view x.view draft) x.known.proxies (sent-own x.view draft))
 
 -- ## What is proxied goes on
-
--- the request has the number that it had, and came or not as it did
-record IsAsCame (before after : RequestView) : Type 0 where
-  id : after.id ≡ before.id
-  received : after.received ≡ before.received
-  initial : after.initial ≡ before.initial
 
 backs-came : (began : Request) (r q : RequestView) (p : Proxy) → IsAsCame r q → Backs began r p → Backs began q p
 unfolding Backs
@@ -230,10 +216,6 @@ all-proper began view req uris how known r found came first start ok =
     if-proper began view (is_some (proxy_of known req)) (change_proxy req (with_targets uris) known) (proxies_first req uris how (kept_of known req) known)
     (change-proper began view known req uris (λ p has. found-began began view known req r p found came first has ok.2) ok)
     (first-proper began view req uris how (kept_of known req) known (below-found view req r found start.0.1) (λ k has. kept-began began view known req r k found has came first start.2) ok)
-
-proxied-came : (count : ℕ) (r : RequestView) → IsAsCame r (proxied_request count r)
-unfolding proxied_request
-proxied-came count r = record { id = refl; received = refl; initial = refl }
 
 view-proper : (began : Request) (view : View) (known : Known) (r : RequestView) (count : ℕ) → Proper began view known → Proper began (proxied (Some r) count view) known
 unfolding proxied

@@ -31,6 +31,7 @@ use Rattle.sc_hosts.specs.Steps.{closed_turn, invalidated, live_at, stepped, tur
 use Rattle.sc_hosts.specs.Transacting.{tidied}
 use Rattle.sc_lasting.specs.Lasting.{All}
 use Rattle.sc_lasting.proofs.Parts.{all-append, all-first, all-found, all-removed}
+use Rattle.sc_lasting.proofs.Shared.{all-at}
 use Rattle.sc_walks.specs.Walks.{HostLaws, NetLaws}
 use Rattle.sc_walks.proofs.WalkNets.{obeyed-walks}
 use Rattle.sc_walks.proofs.WalkSteps.{bad_by-walks, lost-walks, ticked-walks, with_ready-walks}
@@ -44,15 +45,6 @@ unfolding All change_nth
 all-nth P place change [] each all = tt
 all-nth P zero change (x ∷ xs) each all = (each x refl all.0, all.1)
 all-nth P (suc place) change (x ∷ xs) each all = (all.0, all-nth P place change xs each all.1)
-
-all-at : {A : Type 0} (P : A → Type 0) (xs : List A) (place : ℕ) (x : A) → slice_get xs place ≡ Some x → All P xs → P x
-unfolding All
-all-at P [] place x at all = cc
-all-at P (y ∷ xs) zero x at all = subst-some P y x at all.0
-  where
-    subst-some : {A : Type 0} (P : A → Type 0) (y x : A) → Some y ≡ Some x → P y → P x
-    subst-some P y x is p = let same : y ≡ x = cc in rw (← same) p
-all-at P (y ∷ xs) (suc place) x at all = all-at P xs place x at all.1
 
 module _ {S : Type 0} (Good : S → Type 0) where
   -- each of its sessions is such

@@ -10,8 +10,6 @@ use Rattle.sc_terms.specs.declared.steps.Step.{Step}
 use Rattle.sc_parts.specs.declared.setup.Setup.{Setup}
 use Rattle.sc_state.specs.declared.host.Live.{Live}
 use Rattle.sc_state.specs.declared.net.Note.{Note}
-use Rattle.sc_state.specs.declared.queue.Queued.{Queued}
-use Rattle.sc_state.specs.declared.queue.Queued.TheVariants as queued
 use Rattle.sc_state.specs.declared.queue.Waiting.{Waiting}
 use Rattle.sc_state.specs.declared.session.Session.{Session}
 use Rattle.sc_state.specs.declared.working.Prepared.{Prepared}
@@ -26,13 +24,12 @@ use Rattle.sc_hosts.specs.Runs.{IsLawful, chained}
 use Rattle.sc_hosts.specs.Sessions.{Turn}
 use Rattle.sc_hosts.specs.Steps.{live_at, outcome_by, ringing_at, turn_of}
 use Rattle.sc_hosts.specs.Working.{worked_all}
-use Rattle.sc_walks.specs.Walks.{IsLate}
 use Rattle.sc_walked.proofs.WalkCalls.{session_at, worked_all-walks}
 use Rattle.sc_walked.proofs.WalkEnds.{done-any, drafts_ended-goes, faulted-goes}
 use Rattle.sc_walked.proofs.WalkShown.{prepared-walks}
 use Rattle.sc_lasting.specs.Lasting.{All, IsOf}
-use Rattle.sc_lived.specs.Lived.{AreLate, AreOfOne, Begins, IsLived, told, turned_events}
-use Rattle.sc_lived.proofs.Accepted.{one-life}
+use Rattle.sc_lived.specs.Lived.{AreLate, AreOfOne, IsLived, told, turned_events}
+use Rattle.sc_lived.proofs.Accepted.{one-life, begins-of, late-of}
 use Rattle.sc_lived.proofs.Sayings.{has-lived, read-at}
 use Rattle.sc_hops.specs.Hops.{IsUntagged}
 use Rattle.sc_begun.specs.Begun.{IsFirst}
@@ -59,28 +56,6 @@ turn-first config ringing session waiting now made end began first of ok =
     (all_act-first config began ready first (three (two (one ok))).proper.1 (before-first config shown.req end working firsts))
 
 -- ## The event of a turn
-
-begins-of : (began : Request) (event : Queued) → Begins began event → IsOf began event
-unfolding Begins IsOf
-begins-of began (queued.Initial region subscriber popped request) is = is
-begins-of began (queued.Request request) is = tt
-begins-of began (queued.Response branch response) is = tt
-begins-of began (queued.Cancelled number) is = tt
-begins-of began (queued.Timer id) is = tt
-begins-of began (queued.BranchTimer branch due) is = tt
-begins-of began queued.Expired is = tt
-begins-of began queued.Ready is = tt
-
-late-of : (began : Request) (event : Queued) → IsLate event → IsOf began event
-unfolding IsLate IsOf
-late-of began (queued.Initial region subscriber popped request) late = absurd late
-late-of began (queued.Request request) late = tt
-late-of began (queued.Response branch response) late = tt
-late-of began (queued.Cancelled number) late = tt
-late-of began (queued.Timer id) late = tt
-late-of began (queued.BranchTimer branch due) late = tt
-late-of began queued.Expired late = tt
-late-of began queued.Ready late = tt
 
 late-there : (began : Request) (earlier : List Waiting) (waiting : Waiting) (rest : List Waiting) → AreLate (earlier ++ waiting ∷ rest) → IsOf began waiting.event
 unfolding AreLate

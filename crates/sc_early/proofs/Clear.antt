@@ -29,10 +29,10 @@ use Rattle.sc_lasting.specs.Lasting.{All, Numbered}
 use Rattle.sc_lasting.proofs.Began.{same-number}
 use Rattle.sc_lasting.proofs.Parts.{all-found}
 use Rattle.sc_promised.specs.Reliable.{Act, Fresh, Late, Offers, Pending, Pracks, Remembered, play_after, remembered_at, remembered_of, script_of}
-use Rattle.sc_promised.proofs.Endings.{strict-fits, waits}
+use Rattle.sc_promised.proofs.Endings.{strict-fits, waits, same-rel}
 use Rattle.sc_remembered.specs.Acts.{shown_in}
 use Rattle.sc_remembered.specs.Early.{AreEarly, IsOneAct, IsUnknown, MakesActs, act_of, invite_of}
-use Rattle.sc_remembered.proofs.Chains.{left-same, same-remembered, shown-same}
+use Rattle.sc_remembered.proofs.Chains.{left-same, shown-same}
 use Rattle.sc_remembered.proofs.EarlyTurns.{early-acts}
 use Rattle.sc_remembered.proofs.Lives.{early-made, script-left}
 use Rattle.sc_remembered.proofs.Others.{act-others}
@@ -145,7 +145,7 @@ module _ (view : View) (n : ℕ) (room : view.next_request ≤ 2 ^ 64) (next : v
   one-leaves : (told : Event) → ((act : Act) → act_of view told ≡ Some act → IsDrawn view act) → IsOneAct view told (early_script view told)
       → remembered_at (play_after (begun view) (early_script view told)).view n ≡ Fresh
   unfolding IsOneAct
-  one-leaves told drawn (inl same) = same-remembered (play_after (begun view) (early_script view told)).view view n same ∙ clear
+  one-leaves told drawn (inl same) = same-rel (play_after (begun view) (early_script view told)).view view n same ∙ clear
   one-leaves told drawn (inr act) =
       ap (λ (script : Script). remembered_at (play_after (begun view) script).view n) act.2 ∙ act-leaves act.0 (drawn act.0 act.1) (invite_of act.0 == n) refl
 

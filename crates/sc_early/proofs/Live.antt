@@ -1,5 +1,5 @@
 -- Live sessions of the kind that gives provisional responses reliably.
-use Rattle.std.proofs.Common.{◌≡◌, ◌<◌, ℕ, ◌++◌, Bool, true, false, Option, None, Some, List, [], ◌∷◌, refl, sym, ap, subst, ◌∙◌, arith}
+use Rattle.std.proofs.Common.{◌≡◌, ◌<◌, ℕ, ◌++◌, Bool, true, false, Option, None, Some, List, [], ◌∷◌, refl, sym, ap, subst, ◌∙◌, arith, append_assoc}
 use Rattle.std.proofs.Math.Logic.{∥∥₁_map}
 use Rattle.std.specs.Prelude.{◌^◌, ◌&&◌, codes, cond, option_and_then, option_map}
 use Rattle.std.specs.List.{find}
@@ -55,10 +55,6 @@ use Rattle.sc_early.proofs.ToldFirst.{NotFirst, later-told}
 
 -- ## The events of a life
 
-append-assoc : {A : Type 0} (xs ys zs : List A) → (xs ++ ys) ++ zs ≡ xs ++ (ys ++ zs)
-append-assoc [] ys zs = refl
-append-assoc (x ∷ xs) ys zs = ap (λ more. x ∷ more) (append-assoc xs ys zs)
-
 late-in : (ws : List Waiting) (w : Waiting) (more : List Waiting) → AreLate (ws ++ w ∷ more) → IsLate w.event
 unfolding AreLate
 late-in [] w more late = late.0
@@ -73,7 +69,7 @@ late-behind (f ∷ ws) v w more began one = late-in (ws ++ v ∷ []) w more one.
 earlier-one : (began : Request) (turn : Turn) (earlier : List Turn) (inbox : List Waiting) → AreOfOne began (turned_events (turn ∷ earlier) ++ inbox)
     → AreOfOne began (turned_events earlier ++ turn.waiting ∷ inbox)
 unfolding turned_events
-earlier-one began turn earlier inbox one = subst (AreOfOne began) (append-assoc (turned_events earlier) (turn.waiting ∷ []) inbox) one
+earlier-one began turn earlier inbox one = subst (AreOfOne began) (append_assoc (turned_events earlier) (turn.waiting ∷ []) inbox) one
 
 later-one : (began : Request) (turn before : Turn) (earlier : List Turn) (inbox : List Waiting) → AreOfOne began (turned_events (before ∷ earlier) ++ turn.waiting ∷ inbox) → IsLate turn.waiting.event
 unfolding turned_events

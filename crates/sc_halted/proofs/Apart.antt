@@ -1,5 +1,5 @@
 -- A client transaction that has just begun: as long as nothing that goes between hosts has its branch it stays as it is, and what hosts answer hasn't its branch.
-use Rattle.std.proofs.Common.{◌++◌, ◌+◌, ◌∙◌, ◌∷◌, ◌≡◌, ◌⊎◌, Bool, List, None, Option, Some, [], ap, arith, cond, false, find, inl, inr, length, refl, slice_get, subst, sym, true, ℕ}
+use Rattle.std.proofs.Common.{◌+◌, ◌∙◌, ◌∷◌, ◌≡◌, ◌⊎◌, Bool, List, None, Option, Some, [], ap, arith, cond, false, find, inl, inr, length, refl, slice_get, subst, sym, true, ℕ}
 use Rattle.std.proofs.lemmas.Bool.Decides.{nat_tests}
 use Rattle.std.specs.Option.{option_map_or}
 use Rattle.std.specs.Prelude.{◌&&◌, ◌==◌, is_some, nat_le, not, option_map, unwrap_or}
@@ -43,9 +43,10 @@ use Rattle.sc_hosts.specs.Words.{does_not_exist, ok as fine_reason, trying, unav
 use Rattle.sc_lasting.specs.Lasting.{All}
 use Rattle.sc_lasting.proofs.Began.{test-found}
 use Rattle.sc_lasting.proofs.Parts.{all-append, all-filter, all-first, all-found}
+use Rattle.sc_lasting.proofs.Shared.{kin-top}
 use Rattle.sc_keyed.specs.Keyed.{IsIn}
 use Rattle.sc_hops.proofs.OneTurn.{unrouted-vias}
-use Rattle.sc_ways.proofs.FirstHop.{in-filter}
+use Rattle.sc_ways.proofs.FirstHop.{in-filter, in-left}
 
 equal : (m n : ℕ) → (m == n) ≡ true → m ≡ n
 equal m n is = grind (arith, nat_tests, is)
@@ -79,16 +80,6 @@ last-of false y z w is = cc
 same-name-of : (x y : AppId) → x.host ≡ y.host → x.serial ≡ y.serial → x ≡ y
 same-name-of x y p q =
     ap (λ (n : ℕ). record { host = n; serial = x.serial }) p ∙ ap (λ (n : ℕ). record { host = y.host; serial = n }) q
-
-kin-top : (vias : List Via) → top_via (unwrap_or (option_map (λ via. via ∷ []) (slice_get vias 0)) []) ≡ top_via vias
-kin-top [] = refl
-kin-top (via ∷ vias) = refl
-
-in-more : {A : Type 0} (x : A) (xs ys : List A) → IsIn x xs → IsIn x (xs ++ ys)
-unfolding IsIn
-in-more x [] ys there = absurd there
-in-more x (y ∷ xs) ys (inl same) = inl same
-in-more x (y ∷ xs) ys (inr later) = inr (in-more x xs ys later)
 
 module _ (salt : Bytes) (epoch : ℕ) (C : Client) where
   -- the branch of the transaction
@@ -214,7 +205,7 @@ module _ (salt : Bytes) (epoch : ℕ) (C : Client) where
     cancelling-well number now client host other ok = (
       all-append Right host.clients (cancelling now client) ok.0 (inr (record { names = other.names; via = kin-free client.request.head.via other.via })),
       ok.1,
-      λ h here. in-more C host.clients (cancelling now client ∷ []) (ok.2 h here),
+      λ h here. in-left C host.clients (cancelling now client ∷ []) (ok.2 h here),
     )
 
     -- ## Replies

@@ -50,6 +50,7 @@ use Rattle.sc_once.proofs.ChangedHosts.{changed_hosts}
 use Rattle.sc_lasting.specs.Lasting.{All}
 use Rattle.sc_lasting.proofs.Parts.{all-append, all-both, all-filter, all-first, all-found, all-map}
 use Rattle.sc_keyed.specs.Keyed.{IsIn}
+use Rattle.sc_ways.proofs.FirstHop.{in-last}
 use Rattle.sc_halted.proofs.Apart.{B, Free, FreeLast, FreeReply, IsFree, LastFree, Other, Right, Took, Well, kin-free, queue-took, takes-took}
 
 one-of : {A : Type 0} (P : A → Type 0) (x : A) → P x → All P (x ∷ [])
@@ -59,11 +60,6 @@ one-of P x p = (p, tt)
 none-of : {A : Type 0} (P : A → Type 0) → All P []
 unfolding All
 none-of P = tt
-
-last-in : {A : Type 0} (x : A) (xs : List A) → IsIn x (xs ++ x ∷ [])
-unfolding IsIn
-last-in x [] = inl refl
-last-in x (y ∷ xs) = inr (last-in x xs)
 
 module _ (salt : Bytes) (epoch : ℕ) (C : Client) (fresh : is_over (state_of_client C) ≡ false) where
   abbrev pub FreeEntry : Entry → Type 0
@@ -321,7 +317,7 @@ module _ (salt : Bytes) (epoch : ℕ) (C : Client) (fresh : is_over (state_of_cl
 
   begun-in : (found : Option (Host Session)) (host : Host Session) → option_map {T = Host Session} {U = Host Session} (λ h. with_client C h) found ≡ Some host → IsIn C host.clients
   begun-in None host is = cc
-  begun-in (Some h) host is = subst (λ (x : Host Session). IsIn C x.clients) (same-host (with_client C h) host is) (last-in C h.clients)
+  begun-in (Some h) host is = subst (λ (x : Host Session). IsIn C x.clients) (same-host (with_client C h) host is) (in-last C h.clients)
     where
       same-host : (x y : Host Session) → Some x ≡ Some y → x ≡ y
       same-host x y is = cc

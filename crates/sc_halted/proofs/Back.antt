@@ -4,14 +4,12 @@ use Rattle.std.specs.List.{find}
 use Rattle.std.specs.Option.{option_map_or}
 use Rattle.std.specs.Prelude.{◌==◌, drop, not}
 use Rattle.sc_value.specs.Lists.{change_first}
-use Rattle.sc_value.specs.Params.{branch_name, param_value}
 use Rattle.sc_value.specs.declared.ids.AppId.{AppId}
 use Rattle.sc_value.specs.declared.message.Message.TheVariants as messages
 use Rattle.sc_value.specs.declared.message.Request.{Request}
 use Rattle.sc_value.specs.declared.message.Response.{Response}
 use Rattle.sc_value.specs.declared.parts.Via.{Via}
-use Rattle.sc_tokens.specs.Names.{same_bytes, same_name}
-use Rattle.sc_terms.specs.declared.settings.Config.{Config}
+use Rattle.sc_tokens.specs.Names.{same_bytes}
 use Rattle.sc_parts.specs.declared.setup.Setup.{Setup}
 use Rattle.sc_parts.specs.declared.transactions.ClientItem.{ClientItem}
 use Rattle.sc_parts.specs.declared.transactions.ClientItem.TheVariants as client_items
@@ -58,6 +56,7 @@ use Rattle.sc_keyed.specs.Keyed.{IsIn, IsOn}
 use Rattle.sc_ways.proofs.Counts.{H as RisesAt, Rises, hosts as rise-hosts, nets as rise-nets}
 use Rattle.sc_ways.proofs.Epochs.{H as EpochAt, P as SameEpoch, hosts as epoch-hosts, nets as epoch-nets}
 use Rattle.sc_ways.proofs.Waits.{events-live}
+use Rattle.sc_ways.proofs.OwnBranches.{branch-is}
 use Rattle.sc_onward.proofs.Delivered.{busy-is, first-walks}
 use Rattle.sc_halted.proofs.Apart.{Other, Right, clash, last-of, same-digit, same-self}
 use Rattle.sc_halted.proofs.ApartNets.{AllWell, FreeEntry, first-moves}
@@ -80,10 +79,6 @@ less-up a b c p q = omega (arith, p, q)
 
 some-same : {A : Type 0} (x y : A) → Some x ≡ Some y → x ≡ y
 some-same x y is = cc
-
-pub branch-is : (config : Config) (epoch : ℕ) (app : AppId) (branch : ℕ) → branch_of (own_via config epoch app branch) ≡ branch_text config.salt epoch app branch
-unfolding own_via param_value branch_name same_name
-branch-is config epoch app branch = refl
 
 module _ (setup : Setup) (epoch : ℕ) (app : AppId) (branch now place : ℕ) (sent : Request) where
   -- the client transaction of the request, as it begins

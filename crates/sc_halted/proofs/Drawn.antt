@@ -1,5 +1,5 @@
 -- The branch on which a session sends a request last in its turn is new: no order of the turn before it and no transaction has it, where nobody guessed it.
-use Rattle.std.proofs.Common.{◌++◌, ◌<◌, ◌^◌, ◌∙◌, ◌∷◌, ◌≡◌, ◌≤◌, Bool, List, None, Option, Some, [], ap, arith, false, inl, inr, length, refl, subst, sym, true, ℕ}
+use Rattle.std.proofs.Common.{◌++◌, ◌<◌, ◌^◌, ◌∙◌, ◌∷◌, ◌≡◌, ◌≤◌, Bool, List, None, Option, Some, [], ap, arith, false, inr, length, refl, subst, sym, true, ℕ}
 use Rattle.std.specs.List.{find}
 use Rattle.std.specs.Option.{option_map_or}
 use Rattle.std.specs.Prelude.{option_map}
@@ -32,27 +32,11 @@ use Rattle.sc_keyed.specs.Keyed.{AreOn, IsIn, IsOn}
 use Rattle.sc_keyed.proofs.ClientKeys.{IsDrawnBy}
 use Rattle.sc_keyed.proofs.KeyedHosts.{counter_at, last_number}
 use Rattle.sc_ways.proofs.Got.{small-place}
-use Rattle.sc_ways.proofs.OwnBranches.{Is64, IsReady}
+use Rattle.sc_ways.proofs.OwnBranches.{Is64, IsReady, all-in, in-all, branch-is}
 use Rattle.sc_halted.specs.Halted.{is_under}
 use Rattle.sc_halted.proofs.Apart.{Free, FreeLast, LastFree, Other, Right}
 use Rattle.sc_halted.proofs.ApartNets.{FreeOrder, OtherNet}
-use Rattle.sc_halted.proofs.Back.{C, branch-is, fresh}
-
-in-all : {A : Type 0} (P : A → Type 0) (xs : List A) → ((x : A) → IsIn x xs → P x) → All P xs
-unfolding All IsIn
-in-all P [] each = tt
-in-all P (x ∷ xs) each = (each x (inl refl), in-all P xs (λ y within. each y (inr within)))
-
-of-all : {A : Type 0} (P : A → Type 0) (xs : List A) (x : A) → All P xs → IsIn x xs → P x
-unfolding All IsIn
-of-all P [] x all is = absurd is
-of-all P (y ∷ xs) x all (inl same) = subst P (sym same) all.0
-of-all P (y ∷ xs) x all (inr later) = of-all P xs x all.1 later
-
-pub all-left : {A : Type 0} (P : A → Type 0) (xs ys : List A) → All P (xs ++ ys) → All P xs
-unfolding All
-all-left P [] ys all = tt
-all-left P (x ∷ xs) ys all = (all.0, all-left P xs ys all.1)
+use Rattle.sc_halted.proofs.Back.{C, fresh}
 
 less-not : (a b : ℕ) → a < b → b ≡ a → ⊥
 less-not a b less is = omega (arith, less, is)
@@ -203,7 +187,7 @@ module _ (setup : Setup) (epoch : ℕ) (app : AppId) (small : IsOf64 epoch app 0
     unfolding IsDrawnBy as_session
     client-other number host client at within =
         let keyed = ready.keyed number host at in
-        let fits = of-all ClientOn host.clients client (ready.kept.hosts number host at).1 within in
+        let fits = in-all ClientOn host.clients client (ready.kept.hosts number host at).1 within in
         let here : client.app.host ≡ number = keyed.clients.here client within in
         let home : Is64 client.app.host = subst Is64 (sym here) (under-length number (length net.hosts) (small-place net.hosts number host at) ready.few) in
         let serial : Is64 client.app.serial = up-to client.app.serial host.last (keyed.clients.given client within) (ready.lasts number host at) in
@@ -221,7 +205,7 @@ module _ (setup : Setup) (epoch : ℕ) (app : AppId) (small : IsOf64 epoch app 0
         → OtherNet Salt epoch Own Fresh net
     net-other on servers =
         λ number host at. (
-          in-all (Right Salt epoch Own ⊥ Fresh) host.clients (λ client within. inr (client-other number host client at within)),
+          all-in (Right Salt epoch Own ⊥ Fresh) host.clients (λ client within. inr (client-other number host client at within)),
           all-map (λ (server : Server). (response : Response) → server.last ≡ Some response → is_under sent response ≡ false) (LastFree Salt epoch Own) host.servers (λ server each. last-free on server.last each) (servers number host at),
           λ none. absurd none,
         )

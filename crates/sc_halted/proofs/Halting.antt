@@ -58,6 +58,7 @@ use Rattle.sc_paths.specs.LaterRequests.{SetOut, later_in, set_out_by}
 use Rattle.sc_paths.specs.Moments.{Got, Moment, given_in, moments, orders_by}
 use Rattle.sc_lasting.specs.Lasting.{All}
 use Rattle.sc_lasting.proofs.Parts.{all-map}
+use Rattle.sc_lasting.proofs.Shared.{all-front, all-at}
 use Rattle.sc_waits.specs.Growing.{events_in}
 use Rattle.sc_keyed.specs.Keyed.{AreOn, IsOn}
 use Rattle.sc_hops.specs.Hops.{AreOtherBranches}
@@ -69,7 +70,7 @@ use Rattle.sc_ways.specs.Ways.{AreSmallDraws}
 use Rattle.sc_ways.proofs.OneHop.{orders-are}
 use Rattle.sc_ways.proofs.OwnBranches.{Is64, IsOnOwnBranch, out-own}
 use Rattle.sc_ways.proofs.Recorders.{found-small}
-use Rattle.sc_ways.proofs.Runs.{all-at, run-each}
+use Rattle.sc_ways.proofs.Runs.{run-each}
 use Rattle.sc_ways.proofs.Waits.{events-live}
 use Rattle.sc_onward.specs.Onward.{AreCounted, AreSmallNumbers, ComesNext, ComesToProxy, HasNewBranches, HasNoServer, PassesLast, TurnsTo}
 use Rattle.sc_onward.proofs.Clean.{CleanNet}
@@ -80,7 +81,7 @@ use Rattle.sc_onward.proofs.Stopping.{found-again}
 use Rattle.sc_onward.proofs.Whole.{run-new, run-sound}
 use Rattle.sc_halted.specs.Halted.{At_once, ComesBack, Dropped, Ended_by_call, Ended_itself, Full_there, IsAnsweredBack, IsEndedIn, IsFoundFull, IsHalted, IsRefusedFirst, IsTold, IsUnguessed, Of_low_number, Of_no_dialog, Of_no_hops, Of_own_session, Passed_on, entry_of, given_at, is_under, put_out, shown_at}
 use Rattle.sc_halted.proofs.Away.{Becomes, Full_back, Goes_nowhere, Gone_back, Quiet, SendsLast, Stepped as SteppedOf, Tells, TellsBack, Told_once, Waits_there, becomes}
-use Rattle.sc_halted.proofs.Drawn.{AnswerFree, all-left, before-free, last-above, last-on, last-small, net-other, under-free}
+use Rattle.sc_halted.proofs.Drawn.{AnswerFree, before-free, last-above, last-on, last-small, net-other, under-free}
 use Rattle.sc_halted.proofs.Ending.{turn-either, turn-ends, turn-goes, turn-stops}
 use Rattle.sc_halted.proofs.Holding.{never-ended, tied-after}
 use Rattle.sc_halted.proofs.Tied.{TiedIn}
@@ -307,7 +308,7 @@ module _ (setup : Setup) (epoch : ℕ) (small : epoch < 2 ^ 64) (moment : Moment
         given = before-free setup epoch got.app session-small branch _ to.host sent branch-small passes.before turn.live.session.view.counter Done-in.session.view.counter send-on
             (all-map (UnderNone sent) (AnswerFree setup epoch got.app session-small branch 0 to.host sent branch-small) passes.before
             (λ order each. λ event response same. under-free setup epoch got.app session-small branch 0 to.host sent branch-small its-branch response (each event response same))
-            (all-left (UnderNone sent) passes.before (passes.order ∷ []) (subst (λ (given : List Order). All (UnderNone sent) given) moment-given guess.given)));
+            (all-front (UnderNone sent) passes.before (passes.order ∷ []) (subst (λ (given : List Order). All (UnderNone sent) given) moment-given guess.given)));
       }
 
     abbrev TellsOf : ℕ → ℕ → Type 0

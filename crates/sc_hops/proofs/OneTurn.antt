@@ -39,6 +39,7 @@ use Rattle.sc_lives.proofs.NumberedNets.{host_at-numbered}
 use Rattle.sc_lives.proofs.Serials.{found-rising}
 use Rattle.sc_once.specs.Growing.{IsBetween}
 use Rattle.sc_lasting.specs.Lasting.{All, Numbered}
+use Rattle.sc_lasting.proofs.Parts.{all-map}
 use Rattle.sc_hops.specs.Hops.{AreFit, AreKinds, HasMoreVias, IsAny, IsFit, IsOnWay, IsOrdered, IsPassedBy, IsPassedWay, IsSettled, IsUntagged, TakesLater}
 use Rattle.sc_hops.proofs.Carried.{FitsIn, Holds}
 use Rattle.sc_hops.proofs.Given.{dated-passed, turn-ordered}
@@ -82,11 +83,6 @@ below-all (w ∷ inbox) low high between = (top (map (λ w. w.number) inbox) w.n
     top [] low high is = is
     top (n ∷ ns) low high is = omega (arith, is.0, top ns n high is.1)
 
-pub all-weaker : {A : Type 0} (P Q : A → Type 0) (xs : List A) → ((x : A) → P x → Q x) → All P xs → All Q xs
-unfolding All
-all-weaker P Q [] each all = tt
-all-weaker P Q (x ∷ xs) each all = (each x all.0, all-weaker P Q xs each all.1)
-
 clash : (n most : ℕ) → n ≤ most → most < n → ⊥
 clash n most low high = omega (arith, low, high)
 
@@ -100,12 +96,12 @@ live-numbers app net live is = rw is refl
 pub nothing-above : (Told Sent : Request → Type 0) (setup : Setup) (epoch : ℕ) (net : Net Session) → AreNumbered net → ((app : AppId) → IsBetween (waiting_in app net) 0 net.count)
     → (number : ℕ) (host : Host Session) → host_at number net ≡ Some host → AreFit (FitsIn Told Sent setup epoch) net.count number host.sessions
 nothing-above Told Sent setup epoch net numbered within number host at =
-    all-weaker (λ (live : Live Session). find (is_live live.serial) host.sessions ≡ Some live) (λ (live : Live Session). All (λ (w : Waiting). net.count < w.number → FitsIn Told Sent setup epoch (record { host = number; serial = live.serial }) w.event) live.inbox) host.sessions
+    all-map (λ (live : Live Session). find (is_live live.serial) host.sessions ≡ Some live) (λ (live : Live Session). All (λ (w : Waiting). net.count < w.number → FitsIn Told Sent setup epoch (record { host = number; serial = live.serial }) w.event) live.inbox) host.sessions
     (λ live found.
     let app : AppId = record { host = number; serial = live.serial } in
     let lives : live_at app net ≡ Some live = rw at found in
     let between : IsBetween (map (λ w. w.number) live.inbox) 0 net.count = subst (λ (ns : List ℕ). IsBetween ns 0 net.count) (live-numbers app net live lives) (within app) in
-    all-weaker (λ (w : Waiting). w.number ≤ net.count) (λ (w : Waiting). net.count < w.number → FitsIn Told Sent setup epoch app w.event) live.inbox (λ w low high. absurd (clash w.number net.count low high)) (below-all live.inbox 0 net.count between))
+    all-map (λ (w : Waiting). w.number ≤ net.count) (λ (w : Waiting). net.count < w.number → FitsIn Told Sent setup epoch app w.event) live.inbox (λ w low high. absurd (clash w.number net.count low high)) (below-all live.inbox 0 net.count between))
     (to-all (λ (live : Live Session). find (is_live live.serial) host.sessions ≡ Some live) host.sessions
     (found-rising host.sessions 0 host.last (numbered-host host (host_at number net) at (host_at-numbered number net numbered))))
 
@@ -178,9 +174,9 @@ pub turn-passes : (setup : Setup) (net : Net Session) (app : AppId) (number : �
     → AreFit (IsFit HasMoreVias (IsPassedBy setup.config takes.live.session request) setup.config net.epoch) net.count place host.sessions
 turn-passes setup net app number request now made end settled takes place host at =
     let holds = turn-fits setup net app takes.live number request now made end takes.lives takes.first takes.below settled.numbered settled.within settled.quiet takes.untagged in
-    all-weaker (λ (live : Live Session). All (λ (w : Waiting). net.count < w.number → FitsIn HasMoreVias (PassedAt setup.config takes.live.session now request) setup net.epoch (record { host = place; serial = live.serial }) w.event) live.inbox)
+    all-map (λ (live : Live Session). All (λ (w : Waiting). net.count < w.number → FitsIn HasMoreVias (PassedAt setup.config takes.live.session now request) setup net.epoch (record { host = place; serial = live.serial }) w.event) live.inbox)
     (λ (live : Live Session). All (λ (w : Waiting). net.count < w.number → IsFit HasMoreVias (IsPassedBy setup.config takes.live.session request) setup.config net.epoch (record { host = place; serial = live.serial }) w.event) live.inbox) host.sessions
-    (λ live all. all-weaker (λ (w : Waiting). net.count < w.number → FitsIn HasMoreVias (PassedAt setup.config takes.live.session now request) setup net.epoch (record { host = place; serial = live.serial }) w.event)
+    (λ live all. all-map (λ (w : Waiting). net.count < w.number → FitsIn HasMoreVias (PassedAt setup.config takes.live.session now request) setup net.epoch (record { host = place; serial = live.serial }) w.event)
     (λ (w : Waiting). net.count < w.number → IsFit HasMoreVias (IsPassedBy setup.config takes.live.session request) setup.config net.epoch (record { host = place; serial = live.serial }) w.event) live.inbox
     (λ w fits above. undated setup net.epoch takes.live request now (record { host = place; serial = live.serial }) w.event (fits above)) all)
     (holds.hosts place host at).0

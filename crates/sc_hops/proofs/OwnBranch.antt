@@ -1,6 +1,6 @@
 -- A turn queues no request on the branch of a later request that it sends, but that one and what goes its way.
 use Rattle.std.proofs.Common.{◌≡◌, ℕ, zero, suc, true, false, Option, Some, List, [], ◌∷◌, refl, sym, subst}
-use Rattle.std.specs.Prelude.{option_map, slice_get, unwrap_or}
+use Rattle.std.specs.Prelude.{slice_get}
 use Rattle.std.specs.Option.{option_map_or}
 use Rattle.sc_value.specs.declared.ids.AppId.{AppId}
 use Rattle.sc_value.specs.declared.message.Request.{Request}
@@ -28,9 +28,11 @@ use Rattle.sc_hosts.specs.Runs.{after_step}
 use Rattle.sc_hosts.specs.Steps.{live_at, outcome_by, turn_of}
 use Rattle.sc_hosts.specs.Transacting.{same_top, same_via, top_via}
 use Rattle.sc_lasting.specs.Lasting.{All}
+use Rattle.sc_lasting.proofs.Shared.{kin-top}
+use Rattle.sc_lasting.proofs.Parts.{all-map}
 use Rattle.sc_hops.specs.Hops.{AreFit, AreKinds, AreOtherBranches, GoesAs, GoesAsBranch, HasBranchOf, HasNoClient, IsFit, IsOnWay, IsOrdered, IsOtherBranch, IsSettled, Is_ack, Is_send, Sends, SendsLater}
 use Rattle.sc_hops.proofs.Carried.{Holds}
-use Rattle.sc_hops.proofs.OneTurn.{all-weaker, none-on-way, nothing-above, unrouted-vias}
+use Rattle.sc_hops.proofs.OneTurn.{none-on-way, nothing-above, unrouted-vias}
 use Rattle.sc_hops.proofs.Turned.{turn-holds}
 
 -- ## What goes its way
@@ -38,11 +40,7 @@ use Rattle.sc_hops.proofs.Turned.{turn-holds}
 pub goes-itself : (request : Request) → GoesAs request request
 goes-itself request = record { route = refl; uri = refl; call_id = refl }
 
-kin-top : (vias : List Via) → top_via (unwrap_or (option_map (λ via. via ∷ []) (slice_get vias 0)) []) ≡ top_via vias
-kin-top [] = refl
-kin-top (via ∷ vias) = refl
-
-kin-branch : (request : Request) (method : Bytes) (to : Address) (other : Request) → HasBranchOf request (kin method to other) → HasBranchOf request other
+pub kin-branch : (request : Request) (method : Bytes) (to : Address) (other : Request) → HasBranchOf request (kin method to other) → HasBranchOf request other
 unfolding same_top kin
 kin-branch request method to other is =
     subst (λ (top : Option Via). option_map_or (λ x. option_map_or (same_via x) top false) (top_via request.head.via) false ≡ true) (kin-top other.head.via) is
@@ -78,7 +76,7 @@ other-ordered config request (orders.Cancel branch) other = tt
 other-ordered config request (orders.CancelNow branch) other = tt
 
 all-others : (given : List Order) (config : Config) (request : Request) → All (IsOtherBranch request) given → All (IsOrdered config (GoesAsBranch request) (GoesAsBranch request)) given
-all-others given config request others = all-weaker (IsOtherBranch request) (IsOrdered config (GoesAsBranch request) (GoesAsBranch request)) given (λ order other. other-ordered config request order other) others
+all-others given config request others = all-map (IsOtherBranch request) (IsOrdered config (GoesAsBranch request) (GoesAsBranch request)) given (λ order other. other-ordered config request order other) others
 
 own-ordered : (config : Config) (request : Request) (order : Order) → Sends request order → IsOrdered config (GoesAsBranch request) (GoesAsBranch request) order
 unfolding IsOrdered
@@ -99,7 +97,7 @@ given-ordered (first ∷ given) (suc place) config request order at sends others
 -- ## The turn
 
 no-clients : (request : Request) (clients : List Client) → All (λ (client : Client). HasBranchOf request client.request → ⊥) clients → All (λ (client : Client). GoesAsBranch request client.request) clients
-no-clients request clients none = all-weaker (λ (client : Client). HasBranchOf request client.request → ⊥) (λ (client : Client). GoesAsBranch request client.request) clients (λ client other. none-goes request client.request other) none
+no-clients request clients none = all-map (λ (client : Client). HasBranchOf request client.request → ⊥) (λ (client : Client). GoesAsBranch request client.request) clients (λ client other. none-goes request client.request other) none
 
 clients-of : (request : Request) (net : Net Session) → HasNoClient request net → (number : ℕ) (host : Host Session) → host_at number net ≡ Some host
     → All (λ (client : Client). GoesAsBranch request client.request) host.clients

@@ -1,6 +1,6 @@
 -- What a host takes queues no later request but the one that it takes.
 use Rattle.std.proofs.Common.{◌≡◌, ◌<◌, ℕ, ◌+◌, Bool, true, false, Option, None, Some, refl, sym, subst}
-use Rattle.std.specs.Prelude.{cond, is_some, option_and_then}
+use Rattle.std.specs.Prelude.{cond, is_some}
 use Rattle.sc_value.specs.Lists.{change_first}
 use Rattle.sc_value.specs.declared.ids.AppId.{AppId}
 use Rattle.sc_value.specs.declared.message.Message.TheVariants as messages
@@ -37,17 +37,13 @@ use Rattle.sc_hosts.specs.Transacting.{client_for, client_passed, has_final, is_
 use Rattle.sc_hosts.specs.Words.{trying}
 use Rattle.sc_lasting.specs.Lasting.{All}
 use Rattle.sc_lasting.proofs.Parts.{all-append, all-filter, all-first, all-found}
+use Rattle.sc_lasting.proofs.Shared.{found-behind}
 use Rattle.sc_reached.proofs.Reaching.{serial-is}
 use Rattle.sc_hops.specs.Hops.{AreFit, IsOnWay, IsPlain, IsReplied}
 
 -- the event is right for this session of the host
 abbrev pub Right : (AppId → Queued → Type 0) → ℕ → ℕ → Queued → Type 0
 Right Fits number serial event = Fits (record { host = number; serial = serial }) event
-
-through : {A B : Type 0} (next : A → Option B) (found : Option A) (b : B) → option_and_then next found ≡ Some b
-    → (a : A) × (found ≡ Some a) × (next a ≡ Some b)
-through next None b is = cc
-through next (Some a) b is = (a, refl, is)
 
 module _ {S : Type 0} (Way Sound : Request → Type 0) (Fits : AppId → Queued → Type 0) (plain : (app : AppId) (event : Queued) → IsPlain event → Fits app event) (base number now : ℕ) where
   abbrev Session : Live S → Type 0
@@ -215,10 +211,9 @@ module _ {S : Type 0} (Way Sound : Request → Type 0) (Fits : AppId → Queued 
 
   pub take_request-ok : (form : Form S) (config : Config) (epoch : ℕ) (from : Peer) (noted : Option Note) (request : Request) (count : ℕ) (host : Host S)
       → ComesNew config epoch request host → Good host → Ok (takes form config (record { host = number; epoch = epoch; from = from; now = now; count = count }) noted (messages.Request request) host)
-  unfolding through
   take_request-ok form config epoch from noted request count host comes good =
       takes-by Ok form config (record { host = number; epoch = epoch; from = from; now = now; count = count }) noted request host (λ server found. cancelled-ok from server request count host good)
       (λ server found. quiet-ok _ count (pass_server-good server.event _ host good)) (λ server found. repeated-ok server count host good)
-      (λ live no_cancel tagged is. let way = through (λ uri. named_live epoch number uri host) (own_uri config request) live is in
+      (λ live no_cancel tagged is. let way = found-behind (λ uri. named_live epoch number uri host) (own_uri config request) live is in
       queue_later-ok config epoch from request count live host (comes no_cancel tagged way.0 way.1 live way.2) good)
       (λ untagged. take_initial-ok form config epoch from noted request count host good) (refuse-ok config from 481 _ request count host good)

@@ -1,6 +1,6 @@
 -- A turn queues no later requests of a kind but those that it gives to send.
-use Rattle.std.proofs.Common.{◌≡◌, ◌<◌, ℕ, Bool, true, false, Option, None, Some, List, [], ◌∷◌}
-use Rattle.std.specs.Prelude.{cond, drop, slice_get}
+use Rattle.std.proofs.Common.{◌≡◌, ◌<◌, ℕ, Bool, true, false, Option, None, Some, List, []}
+use Rattle.std.specs.Prelude.{cond, slice_get}
 use Rattle.sc_value.specs.declared.ids.AppId.{AppId}
 use Rattle.sc_value.specs.declared.message.Request.{Request}
 use Rattle.sc_terms.specs.declared.calls.CallRecord.{CallRecord}
@@ -25,17 +25,13 @@ use Rattle.sc_hosts.specs.Steps.{closed_turn, invalidated, live_at, outcome_by, 
 use Rattle.sc_hosts.specs.Transacting.{tidied}
 use Rattle.sc_lasting.specs.Lasting.{All}
 use Rattle.sc_lasting.proofs.Parts.{all-filter, all-first, all-removed}
+use Rattle.sc_lasting.proofs.Shared.{all-rest}
 use Rattle.sc_given.proofs.GivenCalls.{all-given}
 use Rattle.sc_given.proofs.GivenGoodbyes.{goodbye-kind}
 use Rattle.sc_hops.specs.Hops.{AreFit, AreKinds, IsOrdered, IsPlain}
 use Rattle.sc_hops.proofs.Carried.{FitsIn, Holds, changes, delivered-holds, obeyed-holds, queue_for-holds}
 
 -- ## Lists of events
-
-fewer : {A : Type 0} (P : A → Type 0) (xs : List A) → All P xs → All P (drop 1 xs)
-unfolding All
-fewer P [] all = tt
-fewer P (x ∷ xs) all = all.1
 
 module _ {S : Type 0} (Way Sound Told Sent : Request → Type 0) (setup : Setup) (epoch base : ℕ) (kinds : AreKinds Way Sound Told Sent) where
   abbrev Holding : Net S → Type 0
@@ -51,7 +47,7 @@ module _ {S : Type 0} (Way Sound Told Sent : Request → Type 0) (setup : Setup)
       → Right number (turned_live form setup.config now turn done live)
   unfolding turned_live
   turned_live-right form now number turn done live right =
-      fewer (λ (waiting : Waiting). base < waiting.number → FitsIn Told Sent setup epoch (record { host = number; serial = live.serial }) waiting.event) live.inbox right
+      all-rest (λ (waiting : Waiting). base < waiting.number → FitsIn Told Sent setup epoch (record { host = number; serial = live.serial }) waiting.event) live.inbox right
 
   changed-holds : (number : ℕ) (change : Host S → Host S) (net : Net S) → ((host : Host S) → Good number host → Good number (change host)) → Holding net
       → Holding (change_host number change net)

@@ -16,6 +16,7 @@ use Rattle.sc_hosts.specs.Inboxes.{is_full}
 use Rattle.sc_hosts.specs.Runs.{IsLawful, chained, start}
 use Rattle.sc_hosts.specs.Steps.{live_at}
 use Rattle.sc_lasting.specs.Lasting.{All}
+use Rattle.sc_lasting.proofs.Shared.{all-at, found-behind}
 use Rattle.sc_paths.specs.LaterRequests.{Occurrence, SetOut, carries, carries_by, has_vias, set_out, set_out_by, visits, visits_from}
 use Rattle.sc_paths.specs.Moments.{Got, Moment, got_in, moments}
 use Rattle.sc_paths.specs.Pieces.{Dialog, Direction, IsPiece, Piece, ahead}
@@ -24,8 +25,8 @@ use Rattle.sc_ways.proofs.FirstWhole.{followed}
 use Rattle.sc_ways.proofs.Law.{ahead-small, ends, run-own}
 use Rattle.sc_ways.proofs.OneHop.{IsFine}
 use Rattle.sc_ways.proofs.OwnBranches.{HasOwnBranch}
-use Rattle.sc_ways.proofs.Prefix.{IsCarried, carried, moment-of, outside-by, through}
-use Rattle.sc_ways.proofs.Runs.{all-at, all-behind, run-fine}
+use Rattle.sc_ways.proofs.Prefix.{IsCarried, carried, moment-of, outside-by}
+use Rattle.sc_ways.proofs.Runs.{all-behind, run-fine}
 use Rattle.sc_ways.proofs.Sending.{session-by}
 use Rattle.sc_onward.specs.Onward.{AreSmallNumbers}
 use Rattle.sc_onward.proofs.Sent.{sent-first}
@@ -181,7 +182,7 @@ module _ (setup : Setup) (epoch began : ℕ) (journal : List Step) (dialog : Dia
   unfolding set_out
   by-out None set is = cc
   by-out (Some out) set is =
-      let by = through (λ (moment : Moment). set_out_by setup moment moment.step occurrence.order) (slice_get Run occurrence.step) out set in
+      let by = found-behind (λ (moment : Moment). set_out_by setup moment moment.step occurrence.order) (slice_get Run occurrence.step) out set in
       by-found by.0 out by.1 by.2 set (find (has_vias 0 out.request.head.via) (got_in out.moment)) refl
 
   ends-so : End

@@ -36,6 +36,7 @@ use Rattle.sc_onward.specs.Onward.{ComesNext, TurnsTo}
 use Rattle.sc_onward.proofs.Sent.{LeadsTo, ahead-leads}
 use Rattle.sc_onward.proofs.Whole.{prefix-whole, visits-one}
 use Rattle.sc_halted.specs.Halted.{IsHalted}
+use Rattle.sc_recorded.proofs.Hosts.{unrouted-to}
 use Rattle.sc_journeys.specs.Journeys.{Halts}
 
 -- ## Without the own Route
@@ -45,14 +46,6 @@ unfolding unrouted
 unrouted-method config request = by (option_map_or (λ route. is_own config route.uri) (slice_get request.head.route 0) false)
   where
     by : (b : Bool) → method_of (cond b (record request { head = record request.head { route = drop 1 request.head.route } }) request) ≡ method_of request
-    by true = refl
-    by false = refl
-
-unrouted-to : (config : Config) (request : Request) → (unrouted config request).head.to ≡ request.head.to
-unfolding unrouted
-unrouted-to config request = by (option_map_or (λ route. is_own config route.uri) (slice_get request.head.route 0) false)
-  where
-    by : (b : Bool) → (cond b (record request { head = record request.head { route = drop 1 request.head.route } }) request).head.to ≡ request.head.to
     by true = refl
     by false = refl
 

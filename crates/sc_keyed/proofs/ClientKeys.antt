@@ -39,7 +39,7 @@ equal a b is = grind (arith, nat_tests, is)
 number-itself : (n : ℕ) → (n == n) ≡ true
 number-itself n = grind (arith, nat_tests)
 
-none-else : (b : Bool) → (b ≡ true → ⊥) → b ≡ false
+pub none-else : (b : Bool) → (b ≡ true → ⊥) → b ≡ false
 none-else true never = absurd (never refl)
 none-else false never = refl
 

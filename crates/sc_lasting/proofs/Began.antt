@@ -43,6 +43,7 @@ use Rattle.sc_lasting.specs.Lasting.{All, IsOf, Proxies, Numbered, IsLife}
 use Rattle.sc_lasting.proofs.Parts.{all-append, all-filter, all-found, all-insert, all-map, all-each, unlinked-only, removed-only, received_kept, received-holds}
 use Rattle.sc_lasting.proofs.Numbers.{numbers-law, proxies-kept}
 use Rattle.sc_lasting.proofs.Held.{lives-hold}
+use Rattle.sc_lasting.proofs.Shared.{all-two}
 
 -- what is kept under the number of a request that came and began a SipSession is that request
 unfoldable pub Keeps : Request → RequestView → Kept → Type 0
@@ -68,7 +69,7 @@ unfolding first_of
 first-passed false r rest is = (refl, is)
 first-passed true r rest is = cc
 
-not-false : (b : Bool) → not b ≡ false → b ≡ true
+pub not-false : (b : Bool) → not b ≡ false → b ≡ true
 not-false true is = refl
 not-false false is = cc
 
@@ -105,12 +106,6 @@ test-found test (y ∷ xs) x is = test-if (test y) y xs x test refl is (test-fou
 
 -- ## What is kept
 
-all-both : {A : Type 0} (P R S : A → Type 0) (xs : List A) → ((x : A) → P x → R x → S x) → All P xs → All R xs
-    → All S xs
-unfolding All
-all-both P R S [] each p r = tt
-all-both P R S (x ∷ xs) each p r = (each x p.0 r.0, all-both P R S xs each p.1 r.1)
-
 keeps-same : (began : Request) (r q : RequestView) (kept : Kept) → IsSameRequest r q → Keeps began r kept
     → Keeps began q kept
 unfolding Keeps
@@ -133,7 +128,7 @@ olds-keep : (began : Request) (next : ℕ) (requests : List RequestView) (kepts 
     → All (λ (r : RequestView). All (Keeps began r) kepts) requests
     → All (λ (r : RequestView). All (Keeps began r) (kepts ++ kept ∷ [])) requests
 olds-keep began next requests kepts kept own below all =
-    all-both (λ (r : RequestView). r.id.0 < next) (λ (r : RequestView). All (Keeps began r) kepts) (λ (r : RequestView). All (Keeps began r) (kepts ++ kept ∷ [])) requests (λ r. old-keeps began next r kepts kept own) below all
+    all-two (λ (r : RequestView). r.id.0 < next) (λ (r : RequestView). All (Keeps began r) kepts) (λ (r : RequestView). All (Keeps began r) (kepts ++ kept ∷ [])) requests (λ r. old-keeps began next r kepts kept own) below all
 
 -- a request of the next number, and what was kept
 new-keeps : (began : Request) (next : ℕ) (r : RequestView) (kepts : List Kept) → r.id.0 ≡ next
@@ -188,14 +183,18 @@ came-keeps : (began : Request) (next : ReqId) (sess : SessId) (initial passed : 
 unfolding Keeps request_view
 came-keeps began next sess initial passed request kept same is = λ received first number. same ∙ is first
 
-view-number : (next : ReqId) (sess : SessId) (initial passed : Bool) (request : Request)
+pub view-number : (next : ReqId) (sess : SessId) (initial passed : Bool) (request : Request)
     → (request_view next sess initial passed request).id.0 ≡ next.0
 unfolding request_view
 view-number next sess initial passed request = refl
 
-sent-number : (view : View) (draft : Draft) → (sent_view view draft).id.0 ≡ view.next_request
+pub sent-number : (view : View) (draft : Draft) → (sent_view view draft).id.0 ≡ view.next_request
 unfolding sent_view
 sent-number view draft = refl
+
+pub sent-own : (view : View) (draft : Draft) → (sent_view view draft).received ≡ false
+unfolding sent_view
+sent-own view draft = refl
 
 -- ## An accepted call proxies
 
@@ -253,13 +252,13 @@ kept-began began view known req r k found has received initial all =
     all-found (Keeps began r) (λ kept. same_request kept.id req) known.kept k has (all-found (λ (r : RequestView). All (Keeps began r) known.kept) (is_request req) view.requests r found all) received initial
     (same-number k.id.0 req.0 (test-found (λ kept. same_request kept.id req) known.kept k has) ∙ sym (same-number r.id.0 req.0 (test-found (is_request req) view.requests r found)))
 
--- the request came as it did
-record IsAsCame (before after : RequestView) : Type 0 where
-  id : after.id ≡ before.id
-  received : after.received ≡ before.received
-  initial : after.initial ≡ before.initial
+-- it has the number, the side and the beginning that it had
+pub record IsAsCame (before after : RequestView) : Type 0 where
+  pub id : after.id ≡ before.id
+  pub received : after.received ≡ before.received
+  pub initial : after.initial ≡ before.initial
 
-proxied-came : (count : ℕ) (r : RequestView) → IsAsCame r (proxied_request count r)
+pub proxied-came : (count : ℕ) (r : RequestView) → IsAsCame r (proxied_request count r)
 unfolding proxied_request
 proxied-came count r = record { id = refl; received = refl; initial = refl }
 

@@ -1,3 +1,4 @@
+pub mod Shared
 pub mod Parts
 pub mod Numbers
 pub mod Held

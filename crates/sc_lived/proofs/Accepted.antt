@@ -5,7 +5,6 @@ use mathlib.Core.Bool.{Bool-set}
 use Rattle.sc_value.specs.declared.ids.AppId.{AppId}
 use Rattle.sc_value.specs.declared.message.Request.{Request}
 use Rattle.sc_terms.specs.declared.calls.Call.{Call}
-use Rattle.sc_terms.specs.declared.calls.Call.TheVariants as calls
 use Rattle.sc_terms.specs.declared.calls.CallAnswer.{CallAnswer}
 use Rattle.sc_terms.specs.declared.calls.CallRecord.{CallRecord}
 use Rattle.sc_terms.specs.declared.calls.End.{End}
@@ -29,13 +28,15 @@ use Rattle.sc_hosts.specs.Histories.{History, after_turn, session_after, session
 use Rattle.sc_hosts.specs.Preparing.{prepared}
 use Rattle.sc_hosts.specs.Refusals.{refusal}
 use Rattle.sc_hosts.specs.Runs.{AllowedBy}
-use Rattle.sc_hosts.specs.Scripting.{IsAnswered, IsAnsweredFrom}
+use Rattle.sc_hosts.specs.Scripting.{IsAnswered, IsAnsweredFrom, is_refused}
 use Rattle.sc_hosts.specs.Sessions.{Turn}
 use Rattle.sc_walked.specs.SessionWalks.{AreDone}
 use Rattle.sc_walked.proofs.WalkEnds.{done-any, done-more, done-nothing}
 use Rattle.sc_walks.specs.Walks.{IsLate}
 use Rattle.sc_lasting.specs.Lasting.{All, IsLife, IsOf, IsSince}
-use Rattle.sc_lived.specs.Lived.{AreAccepted, AreLate, AreOfOne, AreTaken, Begins, MayTake, Told, is_refused, told_of, told_turns, turned_events}
+use Rattle.sc_lasting.proofs.Shared.{all-front, all-last}
+use Rattle.sc_promised.proofs.Attributes.{accepted-stands}
+use Rattle.sc_lived.specs.Lived.{AreAccepted, AreLate, AreOfOne, AreTaken, Begins, MayTake, Told, told_of, told_turns, turned_events}
 
 -- ## What a turn may bring is answered
 
@@ -65,31 +66,6 @@ by-none : (play : Play) (call : Call) (found : Option Refusal) → found ≡ Non
 unfolding answer_by
 by-none play call None is = refl
 by-none play call (Some refused) is = cc
-
-pub accepted-stands : (play : Play) (call : Call) → is_refused (accepted play call) ≡ false
-unfolding accepted is_refused
-accepted-stands play (calls.ProxyTo req uris how) = refl
-accepted-stands play (calls.Respond req answer) = refl
-accepted-stands play (calls.CreateRequest ask) = refl
-accepted-stands play (calls.CreateInDialog sess ask) = refl
-accepted-stands play (calls.B2bCreate req uri) = refl
-accepted-stands play (calls.SetDirective draft directive origin) = refl
-accepted-stands play (calls.Send draft) = refl
-accepted-stands play (calls.Discard draft) = refl
-accepted-stands play (calls.Ack sess body) = refl
-accepted-stands play (calls.Cancel req) = refl
-accepted-stands play (calls.ProxyCancel req) = refl
-accepted-stands play (calls.B2bRespond sess answer) = refl
-accepted-stands play (calls.Link a b) = refl
-accepted-stands play (calls.Unlink a) = refl
-accepted-stands play (calls.StartTimer delay period info) = refl
-accepted-stands play (calls.CancelTimer id) = refl
-accepted-stands play (calls.SetAttribute name value) = refl
-accepted-stands play (calls.RemoveAttribute name) = refl
-accepted-stands play (calls.SetExpires minutes) = refl
-accepted-stands play (calls.SetReadyFlag target flag) = refl
-accepted-stands play (calls.InvalidateSession sess) = refl
-accepted-stands play calls.InvalidateApplication = refl
 
 answer-stands : (play : Play) (call : Call) (answer : CallAnswer) → answer ≡ answer_of play call → refusal play call ≡ None
     → is_refused answer ≡ false
@@ -129,18 +105,13 @@ turn-done setup app Does history earlier turn may each =
     (answered-done Does turn.calls (begun (shown (session_of setup.config (record history { turns = earlier }))).view)
     (∥∥₁_map may (allowed-answered (charters_of setup app.host) (shown (session_of setup.config (record history { turns = earlier }))) _ turn.calls turn.end refl)) each)
 
-last-of : {A : Type 0} (P : A → Type 0) (xs : List A) (x : A) → All P (xs ++ x ∷ []) → All P xs × P x
-unfolding All
-last-of P [] x all = (tt, all.0)
-last-of P (y ∷ xs) x all = let rest = last-of P xs x all.1 in ((all.0, rest.0), rest.1)
-
 pub since-done : (setup : Setup) (app : AppId) (Does : Call → Type 0) (history : History) (earlier later : List Turn)
     → AreTaken setup app history (later ++ earlier) → AreAccepted Does (told_turns later)
     → IsSince (λ event. Unit {0}) Does setup.config history earlier later
 unfolding IsSince AreTaken told_turns
 since-done setup app Does history earlier [] taken each = tt
 since-done setup app Does history earlier (turn ∷ later) taken each =
-    let split = last-of (λ (turn : Told). All (λ (made : CallRecord). is_refused made.answer ≡ false → Does made.call) turn.calls) (told_turns later) (told_of turn) each in
+    let split = all-last (λ (turn : Told). All (λ (made : CallRecord). is_refused made.answer ≡ false → Does made.call) turn.calls) (told_turns later) (told_of turn) each in
     (tt, turn-done setup app Does history (later ++ earlier) turn taken.0 split.1, since-done setup app Does history earlier later taken.1 split.0)
 
 pub life-done : (setup : Setup) (app : AppId) (Does : Call → Type 0) (history : History) (turns : List Turn)
@@ -149,12 +120,12 @@ pub life-done : (setup : Setup) (app : AppId) (Does : Call → Type 0) (history 
 unfolding IsLife AreTaken told_turns
 life-done setup app Does history [] taken each = tt
 life-done setup app Does history (turn ∷ earlier) taken each =
-    let split = last-of (λ (turn : Told). All (λ (made : CallRecord). is_refused made.answer ≡ false → Does made.call) turn.calls) (told_turns earlier) (told_of turn) each in
+    let split = all-last (λ (turn : Told). All (λ (made : CallRecord). is_refused made.answer ≡ false → Does made.call) turn.calls) (told_turns earlier) (told_of turn) each in
     (tt, turn-done setup app Does history earlier turn taken.0 split.1, life-done setup app Does history earlier taken.1 split.0)
 
 -- ## Events
 
-begins-of : (began : Request) (event : Queued) → Begins began event → IsOf began event
+pub begins-of : (began : Request) (event : Queued) → Begins began event → IsOf began event
 unfolding Begins IsOf
 begins-of began (queued.Initial region subscriber popped request) is = is
 begins-of began (queued.Request request) is = absurd is
@@ -165,7 +136,7 @@ begins-of began (queued.BranchTimer branch due) is = absurd is
 begins-of began queued.Expired is = absurd is
 begins-of began queued.Ready is = absurd is
 
-late-of : (began : Request) (event : Queued) → IsLate event → IsOf began event
+pub late-of : (began : Request) (event : Queued) → IsLate event → IsOf began event
 unfolding IsLate IsOf
 late-of began (queued.Initial region subscriber popped request) late = absurd late
 late-of began (queued.Request request) late = tt
@@ -189,24 +160,19 @@ unfolding AreOfOne All
 one-all began [] one = absurd one
 one-all began (w ∷ ws) one = (begins-of began w.event one.0, late-all began ws one.1)
 
-front-of : {A : Type 0} (P : A → Type 0) (xs ys : List A) → All P (xs ++ ys) → All P xs
-unfolding All
-front-of P [] ys all = tt
-front-of P (x ∷ xs) ys all = (all.0, front-of P xs ys all.1)
-
 life-of : (config : Config) (history : History) (turns : List Turn) → AreOf history.request (turned_events turns)
     → IsLife (IsOf history.request) (λ call. Unit {0}) config history turns
 unfolding IsLife turned_events
 life-of config history [] all = tt
 life-of config history (turn ∷ earlier) all =
-    let split = last-of (λ (waiting : Waiting). IsOf history.request waiting.event) (turned_events earlier) turn.waiting all in
+    let split = all-last (λ (waiting : Waiting). IsOf history.request waiting.event) (turned_events earlier) turn.waiting all in
     (split.1, done-any turn.calls (λ call. Unit {0}) (λ call. tt) _, life-of config history earlier split.0)
 
 -- a life of one beginning
 pub one-life : (config : Config) (history : History) (inbox : List Waiting)
     → AreOfOne history.request (turned_events history.turns ++ inbox)
     → IsLife (IsOf history.request) (λ call. Unit {0}) config history history.turns
-one-life config history inbox one = life-of config history history.turns (front-of _ (turned_events history.turns) inbox (one-all history.request _ one))
+one-life config history inbox one = life-of config history history.turns (all-front _ (turned_events history.turns) inbox (one-all history.request _ one))
 
 -- any calls
 pub any-accepted : (given : List Told) → AreAccepted (λ call. Unit {0}) given

@@ -1,11 +1,9 @@
 -- The life of a live application session: its turns are those that the journal tells of it, and
--- only its first event began it.
-use Rattle.std.specs.Prelude.{◌≡◌, ℕ, List, [], ◌∷◌, ◌++◌, Bool, true, false, if◌then◌else◌}
+-- only its first event began it (JSR 289 section 6).
+use Rattle.std.specs.Prelude.{◌≡◌, ℕ, List, [], ◌∷◌, ◌++◌, false, if◌then◌else◌}
 use Rattle.sc_value.specs.declared.ids.AppId.{AppId}
 use Rattle.sc_value.specs.declared.message.Request.{Request}
 use Rattle.sc_terms.specs.declared.calls.Call.{Call}
-use Rattle.sc_terms.specs.declared.calls.CallAnswer.{CallAnswer}
-use Rattle.sc_terms.specs.declared.calls.CallAnswer.TheVariants as answers
 use Rattle.sc_terms.specs.declared.calls.CallRecord.{CallRecord}
 use Rattle.sc_terms.specs.declared.calls.End.{End}
 use Rattle.sc_terms.specs.declared.steps.Step.{Step}
@@ -21,6 +19,7 @@ use Rattle.sc_hosts.specs.Preparing.{prepared}
 use Rattle.sc_hosts.specs.Runs.{AllowedBy}
 use Rattle.sc_hosts.specs.Sessions.{Turn}
 use Rattle.sc_hosts.specs.Transacting.{is_same_app}
+use Rattle.sc_hosts.specs.Scripting.{is_refused}
 use Rattle.sc_lasting.specs.Lasting.{All}
 use Rattle.sc_walks.specs.Walks.{IsLate}
 
@@ -117,11 +116,6 @@ pub record HasMore (setup : Setup) (first : Session) (given : List Told)
   pub was : first ≡ session_of setup.config before
   pub is : session ≡ session_of setup.config history
   pub more : IsMoreOf before given history
-
--- the call was refused
-unfoldable pub is_refused : CallAnswer → Bool
-is_refused (answers.Refused refusal) = true
-is_refused answer = false
 
 -- each call of these turns that wasn't refused is of this kind
 abbrev pub AreAccepted : (Call → Type 0) → List Told → Type 0

@@ -30,7 +30,7 @@ use Rattle.sc_hosts.specs.Runs.{IsLawful, IsLawfulFrom, MayTurn, after_step, cha
 use Rattle.sc_hosts.specs.Sessions.{Turn}
 use Rattle.sc_hosts.specs.Steps.{live_at, outcome_by, turn_of}
 use Rattle.sc_hosts.specs.Taking.{unrouted}
-use Rattle.sc_hosts.specs.Transacting.{same_top, top_via}
+use Rattle.sc_hosts.specs.Transacting.{same_top}
 use Rattle.sc_forms.specs.Simulations.{map_host, map_live}
 use Rattle.sc_forms.proofs.HistoryLaws.{chained-histories, lawful_back-histories, live_at-histories}
 use Rattle.sc_forms.proofs.NetMaps.{host_at-maps}
@@ -45,7 +45,7 @@ use Rattle.sc_hops.specs.Hops.{HasBranchOf}
 use Rattle.sc_hops.proofs.OneTurn.{unrouted-vias}
 use Rattle.sc_vias.proofs.RunVias.{drawn-is, live-named, on-rises, turn-on}
 use Rattle.sc_ways.proofs.OneHop.{allowed-turn, orders-are}
-use Rattle.sc_ways.proofs.OwnBranches.{Is64, IsReadyAt, on-one, with-branch}
+use Rattle.sc_ways.proofs.OwnBranches.{Is64, IsReadyAt, on-one, with-branch, has-via}
 use Rattle.sc_ways.proofs.Recorders.{found-small}
 use Rattle.sc_ways.proofs.Runs.{run-each}
 use Rattle.sc_recorded.specs.Recorded.{IsInner}
@@ -63,14 +63,6 @@ lower a b c p q = omega (arith, p, q)
 
 clash : (k branch drawn last : ℕ) → k ≡ branch → branch ≤ drawn → drawn ≤ last → last < k → ⊥
 clash k branch drawn last is under up above = omega (arith, is, under, up, above)
-
-has-via : (config : Config) (epoch : ℕ) (app : AppId) (branch : ℕ) (request : Request) → IsOn config epoch app branch request → 1 ≤ length request.head.via
-unfolding IsOn
-has-via config epoch app branch request on = by request.head.via _ on
-  where
-    by : (vias : List Via) (x : Via) → top_via vias ≡ Some x → 1 ≤ length vias
-    by [] x is = cc
-    by (via ∷ vias) x is = omega arith
 
 some-is : {A : Type 0} (x y : A) → Some x ≡ Some y → x ≡ y
 some-is x y is = cc

@@ -28,6 +28,7 @@ use Rattle.sc_hosts.specs.Runs.{IsAllowed, IsLawful, MayTurn, after_step, chaine
 use Rattle.sc_hosts.specs.Steps.{live_at, outcome_by, turn_of}
 use Rattle.sc_hosts.specs.Taking.{names, unrouted}
 use Rattle.sc_lasting.specs.Lasting.{All}
+use Rattle.sc_lasting.proofs.Shared.{all-at, found-behind}
 use Rattle.sc_paths.specs.LaterRequests.{Occurrence, SetOut, carries, carries_by, has_vias, later_in, later_vias, leads, leads_to, set_out, set_out_by, visits, visits_from}
 use Rattle.sc_paths.specs.Moments.{Got, Moment, given_in, got_in, moments, orders_by}
 use Rattle.sc_paths.specs.Pieces.{Dialog, Direction, IsPiece, Piece, ahead, along, end_of, listed, recorders}
@@ -38,9 +39,8 @@ use Rattle.sc_ways.proofs.FirstHop.{first-visited, found-some, none-found, vias-
 use Rattle.sc_ways.proofs.Law.{prefix}
 use Rattle.sc_ways.proofs.OneHop.{allowed-turn, orders-are}
 use Rattle.sc_ways.proofs.OwnBranches.{IsOnOwnBranch, out-own}
-use Rattle.sc_ways.proofs.Prefix.{IsCarried, carried, outside-by, through}
+use Rattle.sc_ways.proofs.Prefix.{IsCarried, carried, outside-by}
 use Rattle.sc_ways.proofs.Recorders.{found-small}
-use Rattle.sc_ways.proofs.Runs.{all-at}
 use Rattle.sc_ways.proofs.Sending.{sends-by, session-by}
 use Rattle.sc_ways.proofs.Waits.{events-live}
 use Rattle.sc_onward.specs.Onward.{HasNewBranches, HasNoServer}
@@ -136,7 +136,7 @@ module _ (setup : Setup) (epoch : ℕ) (small : epoch < 2 ^ 64) (moment : Moment
       allowed-turn setup net from.app from.event from.now from.made from.end (subst (λ (s : Step). IsAllowed as_session setup net s) from.step_is sound.ready.fine.allowed) in
       let request-is : out.request ≡ from.request = ap (λ (o : SetOut). o.request) from.out_is in
       let moment-is : ◌≡◌ {A = Moment} out.moment moment = ap (λ (o : SetOut). o.moment) from.out_is in
-      let order = through later_in (slice_get (given_in setup moment) place) from.request from.ordered in
+      let order = found-behind later_in (slice_get (given_in setup moment) place) from.request from.ordered in
       let parts = cut (given_in setup moment) place order.0 order.1 in
       let given : given_in setup moment ≡ (outcome_by as_session setup.config may.live.session (turn_of (record net { sent = [] }) from.app may.waiting from.now from.made from.end)).orders =
       ap (λ (s : Step). orders_by setup net s) from.step_is ∙ orders-are setup net from.app from.event from.now from.made from.end may.live may.waiting may.live_is may.waiting_is in
@@ -200,7 +200,7 @@ module _ (setup : Setup) (epoch began : ℕ) (journal : List Step) (dialog : Dia
       → live_at app out.moment.before ≡ Some was → live_at app out.moment.after ≡ Some last → is_full last ≡ false → find (has_vias 0 out.request.head.via) (got_in out.moment) ≡ None → ⊥
   unfolding set_out
   some-found out host set sender carries app more first was last there ends room none =
-      let by = through (λ (moment : Moment). set_out_by setup moment moment.step occurrence.order) (slice_get Run occurrence.step) out set in
+      let by = found-behind (λ (moment : Moment). set_out_by setup moment moment.step occurrence.order) (slice_get Run occurrence.step) out set in
       let order = by-order occurrence.order by.0 out host by.2 sender in
       let from = session-by setup by.0 by.0.step order.0 out order.1 in
       let same : ◌≡◌ {A = Moment} out.moment by.0 = ap (λ (o : SetOut). o.moment) from.out_is in

@@ -9,7 +9,6 @@ use Rattle.sc_value.specs.declared.ids.AppId.{AppId}
 use Rattle.sc_value.specs.declared.message.Message.TheVariants as messages
 use Rattle.sc_value.specs.declared.message.Request.{Request}
 use Rattle.sc_value.specs.declared.parts.Address.{Address}
-use Rattle.sc_value.specs.declared.parts.Via.{Via}
 use Rattle.sc_terms.specs.declared.calls.CallRecord.{CallRecord}
 use Rattle.sc_terms.specs.declared.calls.End.{End}
 use Rattle.sc_terms.specs.declared.settings.Config.{Config}
@@ -27,7 +26,6 @@ use Rattle.sc_state.specs.declared.queue.Queued.{Queued}
 use Rattle.sc_state.specs.declared.queue.Queued.TheVariants as queued
 use Rattle.sc_state.specs.declared.queue.Waiting.{Waiting}
 use Rattle.sc_state.specs.declared.session.Session.{Session}
-use Rattle.sc_grammar.specs.Written.{Bytes}
 use Rattle.sc_model.specs.DialogRequests.{cancel}
 use Rattle.sc_model.specs.Dialogs.{tag_of}
 use Rattle.sc_model.specs.Names.{IsOf64}
@@ -36,13 +34,12 @@ use Rattle.sc_hosts.specs.Destinations.{next_uri}
 use Rattle.sc_hosts.specs.Finishing.{goodbye}
 use Rattle.sc_hosts.specs.Histories.{as_session}
 use Rattle.sc_hosts.specs.Inboxes.{is_full, is_live, live_in}
-use Rattle.sc_hosts.specs.Messages.{kin}
 use Rattle.sc_hosts.specs.Nets.{acknowledge, change_host, host_at, named_host, obey, obeyed, peer_of_host, put, queue_for, send_later, send_named, send_to, with_routes}
 use Rattle.sc_hosts.specs.Runs.{after_step, delivered}
 use Rattle.sc_hosts.specs.Sessions.{Turn}
 use Rattle.sc_hosts.specs.Steps.{closed_turn, inbox_of, invalidated, live_at, outcome_by, stepped, turn_of, turned, turned_live, turns, turns_first, with_ready, without_live}
 use Rattle.sc_hosts.specs.Taking.{names, named_live, own_uri}
-use Rattle.sc_hosts.specs.Transacting.{method_of, same_top, same_via, tidied, top_via}
+use Rattle.sc_hosts.specs.Transacting.{method_of, tidied}
 use Rattle.sc_lasting.specs.Lasting.{All}
 use Rattle.sc_lives.specs.Numbers.{AreNumbered}
 use Rattle.sc_lives.proofs.HostCounts.{change_host-hosts, if-hosts, obeyed-hosts, queue_for-hosts}
@@ -59,9 +56,10 @@ use Rattle.sc_reached.specs.Reached.{AllSmall}
 use Rattle.sc_reached.proofs.NamedHosts.{named_host-is}
 use Rattle.sc_reached.proofs.Naming.{named_live-is}
 use Rattle.sc_reached.proofs.Reaching.{at-host}
-use Rattle.sc_hops.specs.Hops.{AreFit, AreKinds, HasBranchOf, HasNoClient, IsFit, IsOnWay, IsOrdered, IsOtherBranch, Is_ack, Is_send, Sends}
+use Rattle.sc_hops.specs.Hops.{AreFit, AreKinds, HasNoClient, IsFit, IsOnWay, IsOrdered, IsOtherBranch, Is_ack, Is_send, Sends}
 use Rattle.sc_hops.proofs.Carried.{FitsIn, obeyed-holds}
 use Rattle.sc_hops.proofs.OneTurn.{none-on-way}
+use Rattle.sc_hops.proofs.OwnBranch.{kin-branch}
 use Rattle.sc_ways.proofs.Counts.{AreWithin, H as RisesAt, Rises, closed_turn-rises, hosts as rise-hosts, nets as rise-nets, same-last, small-net}
 use Rattle.sc_ways.proofs.Epochs.{H as EpochAt, P as SameEpoch, closed_turn-epoch, hosts as epoch-hosts, nets as epoch-nets}
 use Rattle.sc_ways.proofs.Got.{small-sessions}
@@ -69,15 +67,6 @@ use Rattle.sc_onward.proofs.Clean.{CleanNet, Goes, IsApartFrom, change-goes, clo
 use Rattle.sc_onward.proofs.Delivered.{Arrives, Stands, comes}
 
 -- ## Orders on other branches
-
-kin-top : (vias : List Via) → top_via (unwrap_or (option_map (λ via. via ∷ []) (slice_get vias 0)) []) ≡ top_via vias
-kin-top [] = refl
-kin-top (via ∷ vias) = refl
-
-kin-branch : (sent : Request) (method : Bytes) (to : Address) (other : Request) → HasBranchOf sent (kin method to other) → HasBranchOf sent other
-unfolding same_top kin
-kin-branch sent method to other is =
-    subst (λ (top : Option Via). option_map_or (λ x. option_map_or (same_via x) top false) (top_via sent.head.via) false ≡ true) (kin-top other.head.via) is
 
 abbrev pub Never : Request → Type 0
 Never request = ⊥

@@ -13,6 +13,7 @@ use Rattle.sc_hosts.specs.Runs.{IsLawful, after_step, chained, chained_from, sta
 use Rattle.sc_hosts.specs.Steps.{live_at}
 use Rattle.sc_lasting.specs.Lasting.{All}
 use Rattle.sc_lasting.proofs.Lives.{live-is}
+use Rattle.sc_lasting.proofs.Shared.{all-at}
 use Rattle.sc_keyed.proofs.KeyedNets.{AllKeyed}
 use Rattle.sc_keyed.proofs.KeyedRuns.{session-keyed}
 use Rattle.sc_keyed.proofs.KeyedTurns.{NoTurn}
@@ -26,7 +27,7 @@ use Rattle.sc_ways.proofs.Counts.{AreWithin, run-rises, step-rises}
 use Rattle.sc_ways.proofs.Law.{prefix, ready-all}
 use Rattle.sc_ways.proofs.OneHop.{IsFine}
 use Rattle.sc_ways.proofs.OwnBranches.{Is64, IsReadyAt, moments-kept}
-use Rattle.sc_ways.proofs.Runs.{all-at, all-behind, quiet-last, run-each, run-fine}
+use Rattle.sc_ways.proofs.Runs.{all-behind, quiet-last, run-each, run-fine}
 use Rattle.sc_onward.specs.Onward.{AreCounted, AreSmallNumbers, ComesNext, GoesAllTheWay, HasNewBranches, IsCarriedOn, IsUnstopped}
 use Rattle.sc_onward.proofs.Fresh.{all-new}
 use Rattle.sc_onward.proofs.OneHop.{IsSound, Item, next-found, one-hop}

@@ -15,7 +15,7 @@ use Rattle.sc_terms.specs.declared.views.RequestView.{RequestView}
 use Rattle.sc_terms.specs.declared.views.View.{View}
 use Rattle.sc_state.specs.declared.working.Play.{Play}
 use Rattle.sc_grammar.specs.Written.{Bytes}
-use Rattle.sc_hosts.specs.Effects.{after_listed, played_by, after_call, answer_of, answer_by, accepted}
+use Rattle.sc_hosts.specs.Effects.{after_listed, played_by, answer_of, answer_by, accepted}
 use Rattle.sc_hosts.specs.HelperParts.{strict_number, accepted_then, cancel_then, field_of}
 use Rattle.sc_hosts.specs.Offers.{Offer, offer_in, pending_offer, prack_by, late_offer, names_offer, rel_name, ended_offer_text}
 use Rattle.sc_hosts.specs.Looking.{timer_in, request_in}
@@ -23,7 +23,7 @@ use Rattle.sc_hosts.specs.Refusals.{refusal}
 use Rattle.sc_hosts.specs.Words.{ok, does_not_exist}
 use Rattle.sc_model.specs.BestResponses.{server_error}
 use Rattle.sc_hosts.specs.Scripting.{Script, Done, only, reply, where_some, attribute, is_refused}
-use Rattle.sc_promised.proofs.Attributes.{accepted-none, responded-attributes, set-attribute}
+use Rattle.sc_promised.proofs.Attributes.{accepted-none, responded-attributes, set-attribute, cancelled-attributes}
 use Rattle.sc_promised.proofs.Texts.{acked-read, failed-read}
 use Rattle.sc_promised.specs.Reliable.{Remembered, Pending, remembered_of, remembered_in, remembered_four, remembered_at, last_of, play_after}
 
@@ -107,17 +107,6 @@ answered-same : (play : Play) (req : ReqId) (answer : Answer)
 unfolding play_after only
 answered-same play req answer = responded-attributes play req answer
 
-cancelled-by : (play : Play) (id : TimerId) (found : Option Refusal)
-    → (played_by play (calls.CancelTimer id) found).view.attributes ≡ play.view.attributes
-unfolding played_by after_call
-cancelled-by play id None = refl
-cancelled-by play id (Some refused) = refl
-
-cancelled-attributes : (play : Play) (id : TimerId)
-    → (after_listed play (calls.CancelTimer id)).view.attributes ≡ play.view.attributes
-unfolding after_listed
-cancelled-attributes play id = cancelled-by play id (refusal play (calls.CancelTimer id))
-
 after-if : (play : Play) (b : Bool) (req : ReqId) (answer : Answer)
     → (play_after play (cond b Done (only (calls.Respond req answer)))).view.attributes ≡ play.view.attributes
 unfolding play_after
@@ -132,7 +121,7 @@ cancel-answer play false id req answer = answered-same play req answer
 
 -- ## A PRACK
 
-same-rel : (a b : View) (n : ℕ) → a.attributes ≡ b.attributes → remembered_at a n ≡ remembered_at b n
+pub same-rel : (a b : View) (n : ℕ) → a.attributes ≡ b.attributes → remembered_at a n ≡ remembered_at b n
 unfolding attribute remembered_of
 same-rel a b n same = rw same refl
 

@@ -24,7 +24,7 @@ unfolding play_after accepted_then
 on-accepted play call script is = rw (is, play_after) refl
 
 -- and for the number of a timer
-timer-number : (play : Play) (delay : ℕ) (info : Bytes)
+pub timer-number : (play : Play) (delay : ℕ) (info : Bytes)
     → is_refused (answer_of play (calls.StartTimer delay Once info)) ≡ false
     → answer_of play (calls.StartTimer delay Once info) ≡ answers.Number play.view.next_timer
 unfolding answer_of answer_by accepted

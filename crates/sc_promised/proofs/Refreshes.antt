@@ -16,7 +16,7 @@ use Rattle.sc_terms.specs.declared.views.RequestView.{RequestView}
 use Rattle.sc_terms.specs.declared.views.View.{View}
 use Rattle.sc_state.specs.declared.working.Play.{Play}
 use Rattle.sc_grammar.specs.Written.{Bytes}
-use Rattle.sc_hosts.specs.Effects.{after_listed, played_by, after_call, answer_of, answer_by, accepted, with_timer}
+use Rattle.sc_hosts.specs.Effects.{after_listed, played_by, after_call, answer_of, with_timer}
 use Rattle.sc_hosts.specs.HelperParts.{accepted_then, cancel_then, remove_then}
 use Rattle.sc_hosts.specs.Looking.{request_in, timer_in}
 use Rattle.sc_hosts.specs.Refusals.{refusal}
@@ -26,6 +26,7 @@ use Rattle.sc_hosts.specs.ViewChanges.{answered, answered_in, tidy}
 use Rattle.sc_promised.specs.Reliable.{play_after}
 use Rattle.sc_promised.specs.Refreshing.{IsAccepted, IsBegun}
 use Rattle.sc_promised.proofs.Attributes.{accepted-none, set-attribute}
+use Rattle.sc_promised.proofs.OfferLaws.{timer-number}
 
 -- ## What is done before
 
@@ -102,12 +103,6 @@ stopping sess n me view script begins = by (attribute (timed_name sess) view)
     by (Some text) = timed (timed_of text)
 
 -- ## The timer and its name
-
-timer-number : (play : Play) (delay : ℕ) (info : Bytes)
-    → is_refused (answer_of play (calls.StartTimer delay Once info)) ≡ false
-    → answer_of play (calls.StartTimer delay Once info) ≡ answers.Number play.view.next_timer
-unfolding answer_of answer_by accepted
-timer-number play delay info is = rw (accepted-none play (calls.StartTimer delay Once info) is) refl
 
 started : (play : Play) (delay : ℕ) (info : Bytes)
     → is_refused (answer_of play (calls.StartTimer delay Once info)) ≡ false

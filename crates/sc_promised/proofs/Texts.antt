@@ -39,17 +39,17 @@ pub decimal-lacks : (n : ℕ) → n < 2 ^ 64 → has 32 (decimal n) ≡ false
 decimal-lacks n fits = decimal_by_steps (Lacks 32) (λ k _. digit-lacks 32 k (omega arith)) (λ k ds _ lacks. more-lacks 32 k ds (omega arith) lacks) n fits
 
 -- a word before a blank is a piece
-word-piece : (word rest : Bytes) → has 32 word ≡ false → pieces 32 (word ++ 32 ∷ rest) ≡ word ∷ pieces 32 rest
+pub word-piece : (word rest : Bytes) → has 32 word ≡ false → pieces 32 (word ++ 32 ∷ rest) ≡ word ∷ pieces 32 rest
 unfolding pieces has onto_first
 word-piece [] rest lacks = refl
 word-piece (b ∷ bs) rest lacks = rw (lacks-first (b == 32) (list_any (λ b. b == 32) bs) lacks, word-piece bs rest (lacks-rest (b == 32) (list_any (λ b. b == 32) bs) lacks)) refl
 
-last-piece : (word : Bytes) → has 32 word ≡ false → pieces 32 word ≡ word ∷ []
+pub last-piece : (word : Bytes) → has 32 word ≡ false → pieces 32 word ≡ word ∷ []
 unfolding pieces has onto_first
 last-piece [] lacks = refl
 last-piece (b ∷ bs) lacks = rw (lacks-first (b == 32) (list_any (λ b. b == 32) bs) lacks, last-piece bs (lacks-rest (b == 32) (list_any (λ b. b == 32) bs) lacks)) refl
 
-strict-decimal : (n : ℕ) → n < 2 ^ 64 → strict_number (decimal n) ≡ Some n
+pub strict-decimal : (n : ℕ) → n < 2 ^ 64 → strict_number (decimal n) ≡ Some n
 unfolding strict_number
 strict-decimal n within = rw (decimal_is_read n (2 ^ 64) (omega arith) within, same-self (decimal n)) refl
 

@@ -22,6 +22,7 @@ use Rattle.sc_hosts.specs.Scripting.{Script, Done, only, reply, where_some, attr
 use Rattle.sc_hosts.specs.Words.{ok, does_not_exist}
 use Rattle.sc_promised.specs.Reliable.{Remembered, Fresh, Pending, remembered_of, remembered_in, remembered_three, remembered_four, remembered_at, waiting_of, names_waiting, next_of, offers, offer_answer, offer_by, offer_script, offered, offered_as, is_late, play_after, first_code, settles, script_of, Act, Offers, Pracks, Late, Happened, IsOf, IsTrace}
 use Rattle.sc_promised.proofs.Attributes.{responded-attributes}
+use Rattle.sc_promised.proofs.Endings.{same-rel}
 
 -- ## What waits is what is remembered as pending
 
@@ -95,21 +96,17 @@ prack-code view invited req request = prack-by-code view invited req request (pe
 
 -- ## It waits until it is settled
 
-same-remembered : (a b : View) (n : ℕ) → a.attributes ≡ b.attributes → remembered_at a n ≡ remembered_at b n
-unfolding attribute remembered_of
-same-remembered a b n same = rw same refl
-
 answered-same : (play : Play) (req : ReqId) (answer : Answer) (n : ℕ)
     → remembered_at (play_after play (only (calls.Respond req answer))).view n ≡ remembered_at play.view n
 unfolding play_after only
-answered-same play req answer n = same-remembered _ play.view n (responded-attributes play req answer)
+answered-same play req answer n = same-rel _ play.view n (responded-attributes play req answer)
 
 -- a script whose first answer is refused
 refused-same : (play : Play) (req : ReqId) (answer : Answer) (script : Script) (n : ℕ)
     → is_refused (answer_of play (calls.Respond req answer)) ≡ true
     → remembered_at (play_after play (accepted_then (calls.Respond req answer) script)).view n ≡ remembered_at play.view n
 unfolding play_after accepted_then
-refused-same play req answer script n is = rw (is, play_after) (same-remembered (after_listed play (calls.Respond req answer)).view play.view n (responded-attributes play req answer))
+refused-same play req answer script n is = rw (is, play_after) (same-rel (after_listed play (calls.Respond req answer)).view play.view n (responded-attributes play req answer))
 
 not-settled : (a b : Bool) → (a && not b) ≡ false → a ≡ true → b ≡ true
 not-settled true true is has = refl

@@ -1,5 +1,5 @@
 -- Whatever happens to a proxied request, it is what the functions of the list say.
-use Rattle.std.proofs.Common.{◌≡◌, ◌≤◌, ◌<◌, ℕ, ◌+◌, ◌++◌, Bool, true, false, Option, None, Some, List, [], ◌∷◌, refl, sym, ap, subst, ◌∙◌, arith}
+use Rattle.std.proofs.Common.{◌≡◌, ◌≤◌, ◌<◌, ℕ, ◌+◌, ◌++◌, Bool, true, false, Option, None, Some, List, [], ◌∷◌, refl, sym, ap, subst, ◌∙◌, arith, append-nil}
 use Rattle.std.specs.Prelude.{◌==◌, ◌&&◌, ◌||◌, cond, drop, filter, is_none, length, map, nat_le, not}
 use Rattle.std.specs.List.{list_any}
 use Rattle.std.specs.Option.{option_or}
@@ -18,7 +18,7 @@ use Rattle.sc_model.specs.Transactions.{first_in_time, is_success}
 use Rattle.sc_hosts.specs.Acting.{rested, rested_branch, with_forwarded}
 use Rattle.sc_hosts.specs.Branches.{added_targets, after_end, cancelled_branch, ended_branch, ended_by, heard, is_branch, is_global, is_open, new_branch, new_proxy, passing_on, recurses, rung, stopped, to_cancel, with_candidate, with_end, with_targets}
 use Rattle.sc_proxied.specs.ProxyLists.{Asked, Expired, Forwarded, Heard, IsHad, IsOfList, PassedOn, ProxyEvent, Rested, Started, Stopped, TimedOut, added_by, added_since, candidate_by, candidates_of, cancelled_of, counts, ends_all, final_by, final_of, followed, forwarded_by, forwarded_of, happens, is_cancelled, is_expiry_of, is_open_at, is_open_in, is_rest, is_settled, proxy_after, started_by, started_of, stops, taken_by, taken_since, targets_of, tried_of, was_started}
-use Rattle.sc_proxied.proofs.Lists.{AllOf, AreApart, AreOf, IsBranchOf, NumbersApart, all-of, append-none, append-numbers, apart-of, closed-final, drop-more, drop-next, each-number, each-of, equal, final-same, first-numbers, first-of, forwarded-next, kept-numbers, longer, more-of, never-both, number-itself, number_of, numbers-more, open-final, open-is, or-none, other-way, settled-next, started-next, unstarted-cancelled, unstarted-final}
+use Rattle.sc_proxied.proofs.Lists.{AllOf, AreApart, AreOf, IsBranchOf, NumbersApart, all-of, append-numbers, apart-of, closed-final, drop-more, drop-next, each-number, each-of, equal, final-same, first-numbers, first-of, forwarded-next, kept-numbers, longer, more-of, never-both, number-itself, number_of, numbers-more, open-final, open-is, or-none, other-way, settled-next, started-next, unstarted-cancelled, unstarted-final}
 
 -- what the proxy is as the list says, with what the list leaves room for
 record Stands (first proxy : Proxy) (events : List ProxyEvent) : Type 0 where
@@ -92,8 +92,8 @@ module _ (first : Proxy) where
     forwarded = forwarded ∙ ap (λ (f : Option ℕ). option_or f (forwarded_by event)) stands.forwarded ∙ sym (forwarded-next event events);
     room = subst (λ (n : ℕ). cond (stops events event) 0 (taken_since events + n) ≤ length (cond (stops events event) [] (added_since first events ++ added_by first (tried_of first events) events event))) (sym (none-taken event none))
         (room-by (stops events event) (taken_since events) (added_since first events) (added_by first (tried_of first events) events event) stands.room);
-    numbers = numbers ∙ stands.numbers ∙ sym (append-none (started_of events)) ∙ ap (λ (ns : List ℕ). started_of events ++ ns) (sym none);
-    apart = subst NumbersApart (sym (append-none (started_of events)) ∙ ap (λ (ns : List ℕ). started_of events ++ ns) (sym none)) stands.apart;
+    numbers = numbers ∙ stands.numbers ∙ sym (append-nil (started_of events)) ∙ ap (λ (ns : List ℕ). started_of events ++ ns) (sym none);
+    apart = subst NumbersApart (sym (append-nil (started_of events)) ∙ ap (λ (ns : List ℕ). started_of events ++ ns) (sym none)) stands.apart;
     are = are;
   }
 
@@ -160,13 +160,13 @@ module _ (first : Proxy) where
       → Stands first (happens (Asked uris) proxy) (Asked uris ∷ events)
   unfolding happens with_targets added_by candidate_by stops started_by forwarded_by final_by is_rest is_expiry_of
   asked-stands uris proxy events stands =
-      stands-next proxy (with_targets uris proxy) (Asked uris) events stands refl refl refl refl (sym (or-none proxy.settled)) (sym (append-none proxy.candidates)) (none-or proxy.forwarded) refl
+      stands-next proxy (with_targets uris proxy) (Asked uris) events stands refl refl refl refl (sym (or-none proxy.settled)) (sym (append-nil proxy.candidates)) (none-or proxy.forwarded) refl
       (all-same (Asked uris) events proxy.branches (λ number. final-same number (Asked uris) events refl) (λ number. cancel-quiet number (Asked uris) events refl refl refl) stands.are)
 
   stopped-stands : (proxy : Proxy) (events : List ProxyEvent) → Stands first proxy events → Stands first (happens Stopped proxy) (Stopped ∷ events)
   unfolding happens stopped added_by candidate_by stops started_by forwarded_by final_by is_rest
   stopped-stands proxy events stands =
-      stands-next proxy (stopped proxy) Stopped events stands refl refl (sym (append-none proxy.tried)) refl (sym (or-true proxy.settled)) (sym (append-none proxy.candidates)) (none-or proxy.forwarded)
+      stands-next proxy (stopped proxy) Stopped events stands refl refl (sym (append-nil proxy.tried)) refl (sym (or-true proxy.settled)) (sym (append-nil proxy.candidates)) (none-or proxy.forwarded)
       (each-number cancelled_branch proxy.branches stop-number)
       (each-of (HasEnded Stopped events) (IsBranchOf (Stopped ∷ events)) proxy.branches cancelled_branch (stop-branch Stopped events refl refl)
       (all-of (IsBranchOf events) (HasEnded Stopped events) proxy.branches (λ branch is. record { was = is.started; ended = is.ended ∙ sym (final-same branch.number Stopped events refl) }) stands.are))
@@ -174,7 +174,7 @@ module _ (first : Proxy) where
   rested-stands : (proxy : Proxy) (events : List ProxyEvent) → Stands first proxy events → Stands first (happens Rested proxy) (Rested ∷ events)
   unfolding happens rested rested_branch added_by candidate_by stops started_by forwarded_by final_by is_rest is_cancelled
   rested-stands proxy events stands =
-      stands-next proxy (rested proxy) Rested events stands refl refl (sym (append-none proxy.tried)) (sym (append-none proxy.targets)) (sym (or-none proxy.settled)) (sym (append-none proxy.candidates)) (none-or proxy.forwarded)
+      stands-next proxy (rested proxy) Rested events stands refl refl (sym (append-nil proxy.tried)) (sym (append-nil proxy.targets)) (sym (or-none proxy.settled)) (sym (append-nil proxy.candidates)) (none-or proxy.forwarded)
       (each-number rested_branch proxy.branches (λ branch. refl))
       (each-of (IsBranchOf events) (IsBranchOf (Rested ∷ events)) proxy.branches rested_branch
       (λ branch is. record { started = started-more branch.number Rested events is.started; ended = is.ended ∙ sym (final-same branch.number Rested events refl); cancelled = refl }) stands.are)
@@ -184,13 +184,13 @@ module _ (first : Proxy) where
       → Stands first (cond (final && is_none f) (record proxy { forwarded = Some code }) proxy) (Forwarded code ∷ events)
   unfolding added_by candidate_by stops started_by forwarded_by final_by is_rest is_expiry_of
   forwarded-by code proxy events stands true is None at =
-      stands-next proxy (record proxy { forwarded = Some code }) (Forwarded code) events stands refl refl (sym (append-none proxy.tried)) (sym (append-none proxy.targets)) (sym (or-none proxy.settled)) (sym (append-none proxy.candidates)) (rw (is, at) refl) refl
+      stands-next proxy (record proxy { forwarded = Some code }) (Forwarded code) events stands refl refl (sym (append-nil proxy.tried)) (sym (append-nil proxy.targets)) (sym (or-none proxy.settled)) (sym (append-nil proxy.candidates)) (rw (is, at) refl) refl
       (all-same (Forwarded code) events proxy.branches (λ number. final-same number (Forwarded code) events refl) (λ number. cancel-quiet number (Forwarded code) events refl refl refl) stands.are)
   forwarded-by code proxy events stands true is (Some n) at =
-      stands-next proxy proxy (Forwarded code) events stands refl refl (sym (append-none proxy.tried)) (sym (append-none proxy.targets)) (sym (or-none proxy.settled)) (sym (append-none proxy.candidates)) (rw at refl) refl
+      stands-next proxy proxy (Forwarded code) events stands refl refl (sym (append-nil proxy.tried)) (sym (append-nil proxy.targets)) (sym (or-none proxy.settled)) (sym (append-nil proxy.candidates)) (rw at refl) refl
       (all-same (Forwarded code) events proxy.branches (λ number. final-same number (Forwarded code) events refl) (λ number. cancel-quiet number (Forwarded code) events refl refl refl) stands.are)
   forwarded-by code proxy events stands false is f at =
-      stands-next proxy proxy (Forwarded code) events stands refl refl (sym (append-none proxy.tried)) (sym (append-none proxy.targets)) (sym (or-none proxy.settled)) (sym (append-none proxy.candidates)) (rw is (none-or proxy.forwarded)) refl
+      stands-next proxy proxy (Forwarded code) events stands refl refl (sym (append-nil proxy.tried)) (sym (append-nil proxy.targets)) (sym (or-none proxy.settled)) (sym (append-nil proxy.candidates)) (rw is (none-or proxy.forwarded)) refl
       (all-same (Forwarded code) events proxy.branches (λ number. final-same number (Forwarded code) events refl) (λ number. cancel-quiet number (Forwarded code) events refl refl refl) stands.are)
 
   forwarded-stands : (code : ℕ) (proxy : Proxy) (events : List ProxyEvent) → Stands first proxy events
@@ -206,12 +206,12 @@ module _ (first : Proxy) where
   unfolding happens new_branch added_by candidate_by stops started_by taken_by forwarded_by final_by is_rest is_expiry_of tried_of targets_of candidates_of started_of taken_since added_since
   started-stands number now proxy events fresh below stands = record {
     options = stands.options;
-    tried = stands.tried ∙ sym (append-none (tried_of first events));
-    targets = ap (λ (us : List Uri). drop 1 us) stands.targets ∙ drop-next (taken_since events) (added_since first events) ∙ ap (λ (us : List Uri). drop (taken_since events + 1) us) (sym (append-none (added_since first events)));
+    tried = stands.tried ∙ sym (append-nil (tried_of first events));
+    targets = ap (λ (us : List Uri). drop 1 us) stands.targets ∙ drop-next (taken_since events) (added_since first events) ∙ ap (λ (us : List Uri). drop (taken_since events + 1) us) (sym (append-nil (added_since first events)));
     settled = stands.settled ∙ sym (or-none (is_settled events)) ∙ sym (settled-next (Started number now) events);
-    candidates = stands.candidates ∙ sym (append-none (candidates_of first events));
+    candidates = stands.candidates ∙ sym (append-nil (candidates_of first events));
     forwarded = stands.forwarded ∙ none-or (forwarded_of events) ∙ sym (forwarded-next (Started number now) events);
-    room = subst (λ (us : List Uri). taken_since events + 1 ≤ length us) (sym (append-none (added_since first events))) (next (taken_since events) (length (added_since first events)) below);
+    room = subst (λ (us : List Uri). taken_since events + 1 ≤ length us) (sym (append-nil (added_since first events))) (next (taken_since events) (length (added_since first events)) below);
     numbers = append-numbers proxy.branches (new_branch proxy number now) ∙ ap (λ (ns : List ℕ). ns ++ number ∷ []) stands.numbers;
     apart = numbers-more number (started_of events) stands.apart (unlisted number events fresh);
     are = more-of (IsBranchOf (Started number now ∷ events)) proxy.branches (new_branch proxy number now)
@@ -232,10 +232,10 @@ module _ (first : Proxy) where
   unfolding happens added_by candidate_by stops started_by taken_by forwarded_by final_by is_rest is_expiry_of tried_of targets_of candidates_of started_of taken_since added_since
   passed-stands number proxy events fresh stands = record {
     options = stands.options;
-    tried = stands.tried ∙ sym (append-none (tried_of first events));
-    targets = stands.targets ∙ sym (append-none (drop (taken_since events) (added_since first events))) ∙ sym (targets-by false (taken_since events) (added_since first events) [] stands.room);
+    tried = stands.tried ∙ sym (append-nil (tried_of first events));
+    targets = stands.targets ∙ sym (append-nil (drop (taken_since events) (added_since first events))) ∙ sym (targets-by false (taken_since events) (added_since first events) [] stands.room);
     settled = stands.settled ∙ sym (or-none (is_settled events)) ∙ sym (settled-next (PassedOn number) events);
-    candidates = stands.candidates ∙ sym (append-none (candidates_of first events));
+    candidates = stands.candidates ∙ sym (append-nil (candidates_of first events));
     forwarded = stands.forwarded ∙ none-or (forwarded_of events) ∙ sym (forwarded-next (PassedOn number) events);
     room = room-by false (taken_since events) (added_since first events) [] stands.room;
     numbers = append-numbers proxy.branches _ ∙ ap (λ (ns : List ℕ). ns ++ number ∷ []) stands.numbers;
@@ -320,11 +320,11 @@ module _ (first : Proxy) where
       → Stands first (cond b (to_cancel number proxy) proxy) (Expired number ∷ events)
   unfolding to_cancel added_by candidate_by stops started_by forwarded_by
   expired-by number proxy events stands true at =
-      stands-next proxy (to_cancel number proxy) (Expired number) events stands refl refl (sym (append-none proxy.tried)) (sym (append-none proxy.targets)) (sym (or-none proxy.settled)) (sym (append-none proxy.candidates)) (none-or proxy.forwarded)
+      stands-next proxy (to_cancel number proxy) (Expired number) events stands refl refl (sym (append-nil proxy.tried)) (sym (append-nil proxy.targets)) (sym (or-none proxy.settled)) (sym (append-nil proxy.candidates)) (none-or proxy.forwarded)
       (first-numbers (is_branch number) marked proxy.branches (λ branch. refl))
       (first-of (IsBranchOf events) (IsBranchOf (Expired number ∷ events)) number proxy.branches marked (apart-in proxy events stands) (expired-marks number events) (expired-leaves number events) stands.are)
   expired-by number proxy events stands false at =
-      stands-next proxy proxy (Expired number) events stands refl refl (sym (append-none proxy.tried)) (sym (append-none proxy.targets)) (sym (or-none proxy.settled)) (sym (append-none proxy.candidates)) (none-or proxy.forwarded) refl
+      stands-next proxy proxy (Expired number) events stands refl refl (sym (append-nil proxy.tried)) (sym (append-nil proxy.targets)) (sym (or-none proxy.settled)) (sym (append-nil proxy.candidates)) (none-or proxy.forwarded) refl
       (all-of (IsBranchOf events) (IsBranchOf (Expired number ∷ events)) proxy.branches (expired-closed number events (sym (running number proxy events stands) ∙ at)) stands.are)
 
   expired-stands : (number : ℕ) (proxy : Proxy) (events : List ProxyEvent) → Stands first proxy events
@@ -411,9 +411,9 @@ module _ (first : Proxy) where
     if-same part false x y z p q = q
 
     by-candidates : (s e : Bool) (rs : List Response) → cond (s || not e) rs (rs ++ response ∷ []) ≡ rs ++ cond (not s && e) (response ∷ []) []
-    by-candidates true e rs = sym (append-none rs)
+    by-candidates true e rs = sym (append-nil rs)
     by-candidates false true rs = refl
-    by-candidates false false rs = sym (append-none rs)
+    by-candidates false false rs = sym (append-nil rs)
 
     kept-candidates : (b : Bool) (p : Proxy) → (cond b p (record p { candidates = p.candidates ++ response ∷ [] })).candidates ≡ cond b p.candidates (p.candidates ++ response ∷ [])
     kept-candidates true p = refl
@@ -566,17 +566,17 @@ module _ (first : Proxy) where
   late-stands number sess response now proxy events stands closed true is-s =
       let event : ProxyEvent = Heard number sess response now in
       passed-on sess response (stopped proxy) (event ∷ events)
-      (stands-next proxy (stopped proxy) event events stands refl refl (rw closed (sym (append-none proxy.tried))) (rw is-s refl) (rw is-s (sym (or-true proxy.settled)))
-      (sym (ap (λ (rs : List Response). proxy.candidates ++ rs) (late-candidate number sess response now events closed (is_final response.code)) ∙ append-none proxy.candidates)) (none-or proxy.forwarded)
+      (stands-next proxy (stopped proxy) event events stands refl refl (rw closed (sym (append-nil proxy.tried))) (rw is-s refl) (rw is-s (sym (or-true proxy.settled)))
+      (sym (ap (λ (rs : List Response). proxy.candidates ++ rs) (late-candidate number sess response now events closed (is_final response.code)) ∙ append-nil proxy.candidates)) (none-or proxy.forwarded)
       (each-number cancelled_branch proxy.branches stop-number)
       (each-of (HasEnded event events) (IsBranchOf (event ∷ events)) proxy.branches cancelled_branch (stop-branch event events refl (rw is-s refl))
       (all-of (IsBranchOf events) (HasEnded event events) proxy.branches (λ branch is. record { was = is.started; ended = is.ended ∙ sym (late-final number branch.number event events closed (heard-else number branch.number sess response now)) }) stands.are)))
   late-stands number sess response now proxy events stands closed false is-s =
       let event : ProxyEvent = Heard number sess response now in
       let quiet : stops events event ≡ false = rw (is-s, closed) (never-both (is_global response.code)) in
-      stands-next proxy proxy event events stands refl refl (rw closed (sym (append-none proxy.tried))) (sym (ap (λ b. cond b [] (proxy.targets ++ added_by first (tried_of first events) events event)) quiet ∙ rw closed (append-none proxy.targets)))
+      stands-next proxy proxy event events stands refl refl (rw closed (sym (append-nil proxy.tried))) (sym (ap (λ b. cond b [] (proxy.targets ++ added_by first (tried_of first events) events event)) quiet ∙ rw closed (append-nil proxy.targets)))
       (sym (ap (λ b. proxy.settled || b) quiet ∙ or-none proxy.settled))
-      (sym (ap (λ (rs : List Response). proxy.candidates ++ rs) (late-candidate number sess response now events closed (is_final response.code)) ∙ append-none proxy.candidates)) (none-or proxy.forwarded) refl
+      (sym (ap (λ (rs : List Response). proxy.candidates ++ rs) (late-candidate number sess response now events closed (is_final response.code)) ∙ append-nil proxy.candidates)) (none-or proxy.forwarded) refl
       (all-same event events proxy.branches (λ m. late-final number m event events closed (heard-else number m sess response now)) (λ m. cancel-quiet m event events refl quiet refl) stands.are)
 
   -- a provisional one
@@ -597,9 +597,9 @@ module _ (first : Proxy) where
       let none : added_by first (tried_of first events) events event ≡ [] = rw (was, no-redirect response.code final) refl in
       let same : (branch : Branch) → IsBranchOf events branch → IsBranchOf (event ∷ events) branch = λ branch is. branch-same event events branch (final-same branch.number event events (provisional number branch.number sess response now final)) (cancel-quiet branch.number event events refl quiet refl) is in
       passed-on sess response (rung number now proxy) (event ∷ events)
-      (stands-next proxy (rung number now proxy) event events stands refl refl (sym (ap (λ (us : List Uri). proxy.tried ++ us) none ∙ append-none proxy.tried))
-      (sym (ap (λ b. cond b [] (proxy.targets ++ added_by first (tried_of first events) events event)) quiet ∙ ap (λ (us : List Uri). proxy.targets ++ us) none ∙ append-none proxy.targets))
-      (sym (ap (λ b. proxy.settled || b) quiet ∙ or-none proxy.settled)) (rw final (sym (append-none proxy.candidates))) (none-or proxy.forwarded)
+      (stands-next proxy (rung number now proxy) event events stands refl refl (sym (ap (λ (us : List Uri). proxy.tried ++ us) none ∙ append-nil proxy.tried))
+      (sym (ap (λ b. cond b [] (proxy.targets ++ added_by first (tried_of first events) events event)) quiet ∙ ap (λ (us : List Uri). proxy.targets ++ us) none ∙ append-nil proxy.targets))
+      (sym (ap (λ b. proxy.settled || b) quiet ∙ or-none proxy.settled)) (rw final (sym (append-nil proxy.candidates))) (none-or proxy.forwarded)
       (first-numbers (is_branch number) _ proxy.branches (λ branch. refl))
       (first-of (IsBranchOf events) (IsBranchOf (event ∷ events)) number proxy.branches _ (apart-in proxy events stands)
       (λ branch at is. record { started = (same branch is).started; ended = (same branch is).ended; cancelled = (same branch is).cancelled }) (λ branch at is. same branch is) stands.are))
@@ -627,7 +627,7 @@ module _ (first : Proxy) where
   timed-by number sess response proxy events stands false closed =
       let event : ProxyEvent = TimedOut number sess response in
       let quiet : stops events event ≡ false = rw closed refl in
-      stands-next proxy proxy event events stands refl refl (rw closed (sym (append-none proxy.tried))) (rw closed (sym (append-none proxy.targets))) (rw closed (sym (or-none proxy.settled))) (rw closed (sym (append-none proxy.candidates))) (none-or proxy.forwarded) refl
+      stands-next proxy proxy event events stands refl refl (rw closed (sym (append-nil proxy.tried))) (rw closed (sym (append-nil proxy.targets))) (rw closed (sym (or-none proxy.settled))) (rw closed (sym (append-nil proxy.candidates))) (none-or proxy.forwarded) refl
       (all-same event events proxy.branches (λ m. late-final number m event events closed (timed-else number m sess response)) (λ m. cancel-quiet m event events refl quiet refl) stands.are)
 
   timed-stands : (number : ℕ) (sess : SessId) (response : Response) (proxy : Proxy) (events : List ProxyEvent) → Stands first proxy events

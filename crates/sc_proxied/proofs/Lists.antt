@@ -35,10 +35,6 @@ equal a b is = grind (arith, nat_tests, is)
 pub number-itself : (n : ℕ) → (n == n) ≡ true
 number-itself n = grind (arith, nat_tests)
 
-pub append-none : {A : Type 0} (xs : List A) → xs ++ [] ≡ xs
-append-none [] = refl
-append-none (x ∷ xs) = ap (λ ys. x ∷ ys) (append-none xs)
-
 -- ## Which branches were started
 
 pub started-next : (number : ℕ) (event : ProxyEvent) (events : List ProxyEvent)

@@ -1,5 +1,5 @@
 -- What follows for a proxied request as a turn ends.
-use Rattle.std.proofs.Common.{◌≡◌, ◌≤◌, ◌<◌, ℕ, ◌+◌, suc, ◌++◌, Bool, true, false, Option, None, Some, List, [], ◌∷◌, inl, inr, refl, sym, ap, subst, ◌∙◌, append_assoc, arith}
+use Rattle.std.proofs.Common.{◌≡◌, ◌≤◌, ◌<◌, ℕ, ◌+◌, suc, ◌++◌, Bool, true, false, Option, None, Some, List, [], ◌∷◌, inl, inr, refl, sym, ap, subst, ◌∙◌, append_assoc, arith, append-nil}
 use Rattle.std.specs.Prelude.{◌==◌, ◌&&◌, cond, drop, is_some, length, map, take, unwrap_or}
 use Rattle.std.specs.List.{find, fold}
 use Rattle.sc_tokens.specs.Names.{same_bytes}
@@ -27,7 +27,7 @@ use Rattle.sc_hosts.specs.PreparingResponses.{change_proxy, is_invalid}
 use Rattle.sc_hosts.specs.ViewChanges.{answered_in, tidy}
 use Rattle.sc_hosts.specs.Working.{next_branch}
 use Rattle.sc_proxied.specs.ProxyLists.{Forwarded, ProxyEvent, Rested, Started, happens, proxy_after}
-use Rattle.sc_proxied.proofs.Lists.{NumbersApart, append-none, number-itself, other-way}
+use Rattle.sc_proxied.proofs.Lists.{NumbersApart, number-itself, other-way}
 use Rattle.sc_walked.specs.SessionWalks.{Each}
 use Rattle.sc_lasting.specs.Lasting.{All}
 use Rattle.sc_proxying.specs.Proxying.{IsOfEnd, chosen_codes, code_of, forwarded_codes, forwards_of, passed_codes, starts_at}
@@ -140,7 +140,7 @@ if-part false xs ys all p q = q
 starting-first : (proxy : Proxy) → IsFirstPart (starting proxy) proxy.targets
 unfolding starting
 starting-first proxy =
-    if-part (is_parallel proxy) proxy.targets (cond (has_open proxy) [] (take 1 proxy.targets)) proxy.targets (record { more = []; is = sym (append-none proxy.targets) })
+    if-part (is_parallel proxy) proxy.targets (cond (has_open proxy) [] (take 1 proxy.targets)) proxy.targets (record { more = []; is = sym (append-nil proxy.targets) })
     (if-part (has_open proxy) [] (take 1 proxy.targets) proxy.targets (record { more = proxy.targets; is = refl }) (first-taken proxy.targets))
 
 -- ## Responses are forwarded
@@ -296,7 +296,7 @@ module _ (config : Config) (done rest : List Proxy) (proxy : Proxy) (free : IsFr
       let passed : Working = passes (proxy_now proxy begun) proxy.passing begun in
       let two : HaveForwarded (waits ++ []) base passed =
       passes-more (proxy_now proxy begun) proxy.passing [] base begun (now-req base begun one.here) (record { here = one.here; now_is = one.now_is }) in
-      let three : HaveForwarded waits base passed = subst (λ (codes : List ℕ). HaveForwarded codes base passed) (append-none waits) two in
+      let three : HaveForwarded waits base passed = subst (λ (codes : List ℕ). HaveForwarded codes base passed) (append-nil waits) two in
       let codes : List ℕ = chosen_codes (proxy_now proxy passed) ++ waits in
       let chosen : Working = chooses (proxy_now proxy passed) passed in
       let four : HaveForwarded codes base chosen = chooses-more (proxy_now proxy passed) waits base passed (now-req (forwards_of waits ++ base) passed three.here) three in

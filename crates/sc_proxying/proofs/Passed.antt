@@ -3,26 +3,22 @@ use Rattle.std.proofs.Common.{◌≡◌, ◌≤◌, ◌⊎◌, ℕ, ◌+◌, ◌
 use Rattle.std.specs.Prelude.{◌==◌, ◌||◌, cond, not, option_and_then}
 use Rattle.sc_tokens.specs.Names.{same_bytes}
 use Rattle.sc_value.specs.declared.ids.ReqId.{ReqId}
-use Rattle.sc_value.specs.declared.ids.SessId.{SessId}
 use Rattle.sc_value.specs.declared.message.Request.{Request}
 use Rattle.sc_terms.specs.declared.settings.Config.{Config}
 use Rattle.sc_terms.specs.declared.views.RequestView.{RequestView}
-use Rattle.sc_terms.specs.declared.views.SessionView.{SessionView}
 use Rattle.sc_state.specs.declared.orders.Order.TheVariants as orders
 use Rattle.sc_state.specs.declared.queue.Queued.TheVariants as queued
 use Rattle.sc_state.specs.declared.session.Kept.{Kept}
 use Rattle.sc_state.specs.declared.session.Known.{Known}
 use Rattle.sc_state.specs.declared.session.Session.{Session}
-use Rattle.sc_state.specs.declared.working.Prepared.{Prepared}
 use Rattle.sc_state.specs.declared.working.Working.{Working}
 use Rattle.sc_model.specs.SessionStates.{ack}
 use Rattle.sc_hosts.specs.Acting.{drawn, hops_spent, in_view, is_request_event, passed_later, passed_on, passed_request_of, passes_later, sent_proxy}
 use Rattle.sc_hosts.specs.Giving.{answering, giving}
-use Rattle.sc_hosts.specs.Legs.{is_low, leg_of, session_for}
-use Rattle.sc_hosts.specs.Looking.{is_request, request_in, same_request, session_in}
+use Rattle.sc_hosts.specs.Legs.{session_for}
+use Rattle.sc_hosts.specs.Looking.{is_request, request_in, same_request}
 use Rattle.sc_hosts.specs.Messages.{bare_answer, on_branch, passed_request}
 use Rattle.sc_hosts.specs.Preparing.{kept_of, prepared_for}
-use Rattle.sc_hosts.specs.PreparingRequests.{prepared_request, showing, silent, taken, taken_in, too_low}
 use Rattle.sc_hosts.specs.PreparingResponses.{is_invalid}
 use Rattle.sc_hosts.specs.ViewChanges.{answered, answered_in, is_owed, tidy}
 use Rattle.sc_hosts.specs.Words.{too_many_hops}
@@ -31,6 +27,7 @@ use Rattle.sc_walked.proofs.WalkCalls.{answering-known}
 use Rattle.sc_lasting.specs.Lasting.{All}
 use Rattle.sc_lasting.proofs.Began.{same-number, test-found}
 use Rattle.sc_lasting.proofs.Parts.{all-found}
+use Rattle.sc_lasting.proofs.Numbers.{request-next}
 use Rattle.sc_proxying.proofs.Requests.{IsKeptAs}
 
 -- nothing more is proxied, or this request of this number, on the next branch
@@ -98,33 +95,6 @@ unfolding passes_later is_request_event
 later-passes config number request req w keeps is = request_of-passes config number request (option_and_then (request_in w.play.view) req) w keeps (found-number config number req w is)
 
 -- ## The number of the request that came
-
-some-next : (a b : ReqId) → Some a ≡ Some b → b.0 ≡ a.0
-some-next a b is = cc
-
-if-req : (b : Bool) (x y : Prepared) (r : ReqId) (number : ℕ) → (x.req ≡ Some r → r.0 ≡ number) → (y.req ≡ Some r → r.0 ≡ number) → (cond b x y).req ≡ Some r → r.0 ≡ number
-if-req true x y r number p q is = p is
-if-req false x y r number p q is = q is
-
-low-next : (x : Session) (number : ℕ) (sess : SessId) (request : Request) (r : ReqId) → (too_low x number sess request).req ≡ Some r → r.0 ≡ x.view.next_request
-unfolding too_low silent
-low-next x number sess request r is = cc
-
-taken-next : (x : Session) (number : ℕ) (found : SessionView) (request : Request) (r : ReqId) → (taken x number found request).req ≡ Some r → r.0 ≡ x.view.next_request
-unfolding taken showing
-taken-next x number found request r is = some-next (record { 0 = x.view.next_request }) r is
-
-taken_in-next : (x : Session) (number : ℕ) (sess : SessId) (found : Option SessionView) (request : Request) (r : ReqId) → (taken_in x number sess found request).req ≡ Some r
-    → r.0 ≡ x.view.next_request
-unfolding taken_in silent
-taken_in-next x number sess None request r is = cc
-taken_in-next x number sess (Some found) request r is =
-    if-req (is_low (leg_of x.known sess) request) (too_low x number sess request) (taken x number found request) r x.view.next_request (low-next x number sess request r) (taken-next x number found request r) is
-
-request-next : (x : Session) (number : ℕ) (request : Request) (sess : Option SessId) (r : ReqId) → (prepared_request x number request sess).req ≡ Some r → r.0 ≡ x.view.next_request
-unfolding prepared_request silent
-request-next x number request None r is = cc
-request-next x number request (Some sess) r is = taken_in-next x number sess (session_in x.view sess) request r is
 
 pub shown-next : (config : Config) (ringing : List ℕ) (x : Session) (number : ℕ) (request : Request) (r : ReqId)
     → (prepared_for config ringing x number (queued.Request request)).req ≡ Some r → r.0 ≡ x.view.next_request

@@ -100,9 +100,6 @@ up-same n = omega arith
 pub up-then : (a b c : ℕ) → a ≤ b → b ≤ c → a ≤ c
 up-then a b c p q = omega (arith, p, q)
 
-pub up-less : (a b c : ℕ) → a ≤ b → b < c → a < c
-up-less a b c p q = omega (arith, p, q)
-
 less-up : (a b c : ℕ) → a < b → b ≤ c → a ≤ c
 less-up a b c p q = omega (arith, p, q)
 

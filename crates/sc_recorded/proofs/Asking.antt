@@ -14,7 +14,6 @@ use Rattle.sc_terms.specs.declared.calls.ProxyOptions.{ProxyOptions}
 use Rattle.sc_terms.specs.declared.calls.Refusal.{Refusal}
 use Rattle.sc_terms.specs.declared.inside.Inside.{Inside}
 use Rattle.sc_terms.specs.declared.settings.Config.{Config}
-use Rattle.sc_terms.specs.declared.views.RequestView.{RequestView}
 use Rattle.sc_state.specs.declared.proxy.Proxy.{Proxy}
 use Rattle.sc_state.specs.declared.queue.Queued.TheVariants as queued
 use Rattle.sc_state.specs.declared.session.Kept.{Kept}
@@ -27,7 +26,6 @@ use Rattle.sc_state.specs.declared.working.Play.{Play}
 use Rattle.sc_state.specs.declared.working.Prepared.{Prepared}
 use Rattle.sc_state.specs.declared.working.Working.{Working}
 use Rattle.sc_state.specs.declared.working.Written.{Written}
-use Rattle.sc_grammar.specs.Written.{Bytes}
 use Rattle.sc_model.specs.Dialogs.{DialogState}
 use Rattle.sc_hosts.specs.Branches.{stopped}
 use Rattle.sc_hosts.specs.Effects.{after_listed, begun}
@@ -36,29 +34,18 @@ use Rattle.sc_hosts.specs.Legs.{change_leg}
 use Rattle.sc_hosts.specs.Looking.{request_in, same_request}
 use Rattle.sc_hosts.specs.Preparing.{kept_of}
 use Rattle.sc_hosts.specs.Refusals.{refusal}
-use Rattle.sc_hosts.specs.Working.{ack_with, acknowledges, cancels, does, does_by, invalidates, keeps_sent, sends, sends_in, sends_initial, sends_later, sends_written, starts, worked, worked_all}
+use Rattle.sc_hosts.specs.Working.{cancels, does, does_by, invalidates, keeps_sent, sends, sends_in, sends_initial, sends_later, sends_written, starts, worked, worked_all}
+use Rattle.sc_hosts.specs.Scripting.{is_refused}
 use Rattle.sc_walked.specs.SessionWalks.{IsKeptProxy}
-use Rattle.sc_walked.proofs.WalkCalls.{answering-known, worked_all-walks}
+use Rattle.sc_walked.proofs.WalkCalls.{answering-known, worked_all-walks, acknowledges-known}
 use Rattle.sc_walked.proofs.WalkEnds.{done-any}
 use Rattle.sc_walked.proofs.WalkParts.{each-first, kept-proxy}
 use Rattle.sc_walked.proofs.WalkShown.{stopped-kept}
 use Rattle.sc_lasting.specs.Lasting.{Directly}
-use Rattle.sc_lived.specs.Lived.{is_refused}
 use Rattle.sc_paths.specs.Moments.{options_of}
 use Rattle.sc_recorded.proofs.Settled.{Closed, Held, IsBased, IsFirm, Open, any-firm, asked-closes, closed-firm, held-law, bare-firm, proxied-number, ready-late}
 
 -- ## Each call
-
-ack_with-same : (config : Config) (body : Bytes) (dialog : Option DialogState) (kept : Option Kept) (working : Working) → (ack_with config body dialog kept working).known ≡ working.known
-unfolding ack_with
-ack_with-same config body (Some dialog) (Some kept) working = refl
-ack_with-same config body (Some dialog) None working = refl
-ack_with-same config body None kept working = refl
-
-acknowledged-same : (config : Config) (sess : SessId) (body : Bytes) (request : Option RequestView) (working : Working) → (acknowledges config sess body request working).known ≡ working.known
-unfolding acknowledges
-acknowledged-same config sess body None working = refl
-acknowledged-same config sess body (Some request) working = ack_with-same config body _ _ working
 
 -- where it proxies, it is the first request
 abbrev IsOfFirst : Call → Type 0
@@ -101,7 +88,7 @@ module _ (Does : Call → Type 0) (P : List Proxy → List Kept → Type 0) (fir
   does-keeps config working (calls.SetDirective draft directive origin) less first allowed ok = ok
   does-keeps config working (calls.Send draft) less first allowed ok = sends-keeps config draft _ _ working less ok
   does-keeps config working (calls.Discard draft) less first allowed ok = ok
-  does-keeps config working (calls.Ack sess body) less first allowed ok = subst (λ (k : Known). Keeps k) (sym (acknowledged-same config sess body _ working)) ok
+  does-keeps config working (calls.Ack sess body) less first allowed ok = subst (λ (k : Known). Keeps k) (sym (acknowledges-known config sess body _ working)) ok
   does-keeps config working (calls.Cancel req) less first allowed ok = ok
   does-keeps config working (calls.ProxyTo req uris how) less first allowed ok = firm.asked working.known req uris how (first req uris how refl) allowed ok
   does-keeps config working (calls.ProxyCancel req) less first allowed ok =

@@ -1,7 +1,7 @@
 -- The Record-Route goes along the way: each session got the INVITE with that of the one before, which that one may have put its own URI in
 -- front of.
 use Rattle.std.proofs.Common.{◌≡◌, ◌≤◌, ◌⊎◌, inl, inr, ℕ, suc, Bool, true, false, Option, None, Some, List, [], ◌∷◌, refl, sym, ap, subst, ◌∙◌, arith}
-use Rattle.std.specs.Prelude.{◌&&◌, cond, drop, filter, is_none, is_some, length, option_and_then, slice_get}
+use Rattle.std.specs.Prelude.{◌&&◌, cond, drop, filter, is_none, is_some, length, slice_get}
 use Rattle.std.specs.List.{cons_option, filter_map, find, flat_map}
 use Rattle.std.specs.Option.{option_map_or}
 use Rattle.sc_value.specs.declared.ids.AppId.{AppId}
@@ -27,22 +27,19 @@ use Rattle.sc_hosts.specs.Transacting.{is_client, is_same_app, takes_from, top_v
 use Rattle.sc_lasting.specs.Lasting.{All}
 use Rattle.sc_lasting.proofs.Began.{test-found}
 use Rattle.sc_lasting.proofs.Parts.{all-both, all-found, all-map}
+use Rattle.sc_lasting.proofs.Shared.{found-behind}
 use Rattle.sc_keyed.specs.Keyed.{IsOn}
 use Rattle.sc_keyed.proofs.ClientKeys.{app-is}
 use Rattle.sc_paths.specs.Moments.{Got, Moment, began_with, first_server, got_in, is_first_of, same_vias}
 use Rattle.sc_paths.specs.Pieces.{Dialog, Piece, is_branch_of, is_outside, is_sent_by, left_by, left_from, makes, received, vias_at}
 use Rattle.sc_ways.proofs.OneHop.{long-same}
+use Rattle.sc_ways.proofs.Callees.{first-by}
 use Rattle.sc_recorded.specs.Recorded.{IsInner, records, routed}
 use Rattle.sc_recorded.proofs.Hosts.{IsServed}
 use Rattle.sc_recorded.proofs.SoundKinds.{IsOwn, IsSound, TakesTagged, beginning, sound-kinds}
 use Rattle.sc_recorded.proofs.Texts.{own-branch}
 
 -- ## Options and tests
-
-through : {A B : Type 0} (next : A → Option B) (found : Option A) (b : B) → option_and_then next found ≡ Some b
-    → (a : A) × (found ≡ Some a) × (next a ≡ Some b)
-through next None b is = cc
-through {A = A} next (Some a) b is = (a, refl, is)
 
 both : (a b : Bool) → (a && b) ≡ true → (a ≡ true) × (b ≡ true)
 both true b is = (refl, is)
@@ -59,10 +56,6 @@ some-is x y is = cc
 final-known : (final known : Option Request) (request : Request) → (final ≡ known) ⊎ (known ≡ None) → known ≡ Some request → final ≡ Some request
 final-known final known request (inl same) is = same ∙ is
 final-known final known request (inr none) is = cc
-
-first-by : {B : Type 0} (found : Option B) (rest : List B) (b : B) → slice_get (cons_option found rest) 0 ≡ Some b → (P : Type 0) → (found ≡ Some b → P) → (slice_get rest 0 ≡ Some b → P) → P
-first-by None rest b is P one more = more is
-first-by (Some x) rest b is P one more = one is
 
 -- it was there in some moment
 pub first-in : (P : Server → Type 0) (app : AppId) (run : List Moment) (server : Server) → All (λ (moment : Moment). (s : Server) → first_server app moment.after ≡ Some s → P s) run
@@ -120,7 +113,7 @@ module _ (setup : Setup) (epoch : ℕ) (run : List Moment) (piece : Piece) where
     begun-at : (moment : Moment) → IsAt app of.final moment → (server : Server) → first_server app moment.after ≡ Some server → HasBegun server
     unfolding first_server
     begun-at moment at server is =
-        let found = through (λ (host : Host Session). find (is_first_of app) host.servers) (host_at app.host moment.after) server is in
+        let found = found-behind (λ (host : Host Session). find (is_first_of app) host.servers) (host_at app.host moment.after) server is in
         let served : Served app at.known server = all-found (Served app at.known) (is_first_of app) found.0.servers server found.2 (at.servers app.host found.0 found.1) in
         let tests = both _ _ (test-found (is_first_of app) found.0.servers server found.2) in
         record {
@@ -171,7 +164,7 @@ module _ (setup : Setup) (epoch : ℕ) (run : List Moment) (piece : Piece) where
         → is_sent_by setup.config epoch run piece app server ≡ true → server.request.head.record_route ≡ sent app
     unfolding first_server is_sent_by
     next-at next moment at server is by =
-        let found = through (λ (host : Host Session). find (is_first_of next) host.servers) (host_at next.host moment.after) server is in
+        let found = found-behind (λ (host : Host Session). find (is_first_of next) host.servers) (host_at next.host moment.after) server is in
         let served : Served app at.known server = all-found (Served app at.known) (is_first_of next) found.0.servers server found.2 (at.servers next.host found.0 found.1) in
         let tests = both _ _ (test-found (is_first_of next) found.0.servers server found.2) in
         let whole = both _ _ by in

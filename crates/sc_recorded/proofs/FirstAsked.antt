@@ -1,9 +1,8 @@
 -- Whether a session record-routes: what the first of its calls that proxied and were accepted asks for, as a journal tells them.
-use Rattle.std.proofs.Common.{◌≡◌, ℕ, ◌++◌, Bool, true, false, List, [], ◌∷◌, refl, ap, sym, subst, ◌∙◌, arith}
-use Rattle.std.specs.Prelude.{◌==◌, ◌&&◌, cond, slice_get}
+use Rattle.std.proofs.Common.{◌≡◌, ℕ, ◌++◌, Bool, true, false, List, [], ◌∷◌, refl, ap, sym, subst, ◌∙◌, append-nil}
+use Rattle.std.specs.Prelude.{cond, slice_get}
 use Rattle.std.specs.List.{flat_map}
 use Rattle.std.specs.Option.{option_map_or}
-use Rattle.std.proofs.lemmas.Bool.Decides.{nat_tests}
 use Rattle.sc_value.specs.declared.ids.AppId.{AppId}
 use Rattle.sc_terms.specs.declared.calls.CallRecord.{CallRecord}
 use Rattle.sc_terms.specs.declared.calls.End.{End}
@@ -16,22 +15,16 @@ use Rattle.sc_state.specs.declared.session.Session.{Session}
 use Rattle.sc_hosts.specs.Histories.{as_session}
 use Rattle.sc_hosts.specs.Runs.{after_step}
 use Rattle.sc_hosts.specs.Transacting.{is_same_app}
-use Rattle.sc_walked.proofs.WalkShown.{append-none}
 use Rattle.sc_lived.specs.Lived.{told, told_by}
 use Rattle.sc_paths.specs.Moments.{Moment, moments_from, options_in, proxied_with}
+use Rattle.sc_ways.proofs.Directs.{flipped}
 use Rattle.sc_recorded.specs.Recorded.{records}
 use Rattle.sc_recorded.proofs.Asking.{FirstSays, asked_in}
 use Rattle.sc_recorded.proofs.Runs.{asked-both}
 use Rattle.sc_recorded.proofs.Spans.{asked_of}
 
-flipped : (a b : AppId) → is_same_app a b ≡ is_same_app b a
-flipped a b = by a.host b.host a.serial b.serial
-  where
-    by : (a b c d : ℕ) → (a == b && c == d) ≡ (b == a && d == c)
-    by a b c d = grind (arith, nat_tests)
-
 turn-asks : (b : Bool) (event now : ℕ) (made : List CallRecord) (end : End) → cond b (asked_in made) [] ≡ asked_of (cond b (record { event = event; now = now; calls = made; end = end } ∷ []) [])
-turn-asks true event now made end = sym (append-none (asked_in made))
+turn-asks true event now made end = sym (append-nil (asked_in made))
 turn-asks false event now made end = refl
 
 step-asks : (app : AppId) (step : Step) → options_in app step ≡ asked_of (told_by app step)

@@ -58,7 +58,7 @@ pub record AreKinds {S : Type 0} (form : Form S) (request_of : S → Request) (L
   pub popped : (known : Option Request) (config : Config) (request : Request) → Sound known request → Sound known (unrouted config request)
   pub vias : (known : Option Request) (request : Request) → Sound known request → 1 ≤ length request.head.via
 
-unrouted-to : (config : Config) (request : Request) → (unrouted config request).head.to ≡ request.head.to
+pub unrouted-to : (config : Config) (request : Request) → (unrouted config request).head.to ≡ request.head.to
 unfolding unrouted
 unrouted-to config request = by (option_map_or (λ route. is_own config route.uri) (slice_get request.head.route 0) false)
   where

@@ -13,6 +13,7 @@ use Rattle.sc_state.specs.declared.host.Server.{Server}
 use Rattle.sc_hosts.specs.Messages.{own_address}
 use Rattle.sc_hosts.specs.Transacting.{is_same_app}
 use Rattle.sc_lasting.specs.Lasting.{All}
+use Rattle.sc_lasting.proofs.Shared.{all-front}
 use Rattle.sc_paths.specs.Moments.{Moment, same_vias}
 use Rattle.sc_paths.specs.Pieces.{Dialog, Piece, begins, first_received, goes_from, heads_at_end, is_outside, is_sent_by, left_from, received, record_routed, recorded, recorders, sessions_of, vias_at}
 use Rattle.sc_recorded.specs.Recorded.{IsRecorded, records, routed}
@@ -85,11 +86,6 @@ filtered : {A : Type 0} (P : A → Type 0) (test : A → Bool) (xs : List A) →
 unfolding All
 filtered P test [] all = tt
 filtered P test (x ∷ xs) all = kept-by P test x (filter test xs) (test x) refl all.0 (filtered P test xs all.1)
-
-front-of : {A : Type 0} (P : A → Type 0) (xs ys : List A) → All P (xs ++ ys) → All P xs
-unfolding All
-front-of P [] ys all = tt
-front-of P (x ∷ xs) ys all = (all.0, front-of P xs ys all.1)
 
 module _ (setup : Setup) (epoch : ℕ) (run : List Moment) (piece : Piece) where
   abbrev Sent : AppId → List Address
@@ -245,13 +241,13 @@ module _ (setup : Setup) (epoch : ℕ) (run : List Moment) (dialog : Dialog) whe
       → received run (way caller proxies (Some c)) c ≡ Some server → server.request.head.record_route ≡ Routes (way caller proxies (Some c))
   unfolding sessions_of behind
   comes (Some x) proxies c server begins goes told came =
-      came-with setup epoch run (way (Some x) proxies (Some c)) proxies x c [] server (front-of (IsOfRun setup epoch run (way (Some x) proxies (Some c))) (x ∷ proxies) (c ∷ []) told) goes
+      came-with setup epoch run (way (Some x) proxies (Some c)) proxies x c [] server (all-front (IsOfRun setup epoch run (way (Some x) proxies (Some c))) (x ∷ proxies) (c ∷ []) told) goes
       (sent-first x proxies (Some c)) came ∙ sym (routes-first x proxies (Some c))
   comes None [] c server begins goes told came = came-alone c server came
   comes None (y ∷ proxies) c server begins goes told came =
       let first = outside-first y proxies (Some c) begins in
       came-with setup epoch run (way None (y ∷ proxies) (Some c)) proxies y c (routed setup.config epoch y (records run y) first.0.request.head.record_route) server
-      (front-of (IsOfRun setup epoch run (way None (y ∷ proxies) (Some c))) (y ∷ proxies) (c ∷ []) told) goes (sent-is setup epoch run (way None (y ∷ proxies) (Some c)) y first.0 first.1) came
+      (all-front (IsOfRun setup epoch run (way None (y ∷ proxies) (Some c))) (y ∷ proxies) (c ∷ []) told) goes (sent-is setup epoch run (way None (y ∷ proxies) (Some c)) y first.0 first.1) came
       ∙ sym (routes-outside y proxies (Some c) first.0 first.1)
 
   comes-with : (caller : Option AppId) (proxies : List AppId) (callee : Option AppId) (c : AppId) (server : Server) → callee ≡ Some c → Begins (way caller proxies callee)

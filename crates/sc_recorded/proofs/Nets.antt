@@ -39,6 +39,7 @@ use Rattle.sc_hosts.specs.TakingResponses.{cancelling}
 use Rattle.sc_hosts.specs.Transacting.{is_client, is_server, tidied, pass_client, with_client}
 use Rattle.sc_lasting.specs.Lasting.{All}
 use Rattle.sc_lasting.proofs.Parts.{all-append, all-filter, all-first, all-found, all-map}
+use Rattle.sc_lasting.proofs.Shared.{all-rest, all-at}
 use Rattle.sc_once.proofs.ChangedHosts.{changed_hosts}
 use Rattle.sc_hops.specs.Hops.{IsOnWay, IsReplied}
 use Rattle.sc_recorded.specs.Recorded.{IsInner, IsTaggedEvent}
@@ -53,19 +54,6 @@ itself-apart n is = grind (arith, nat_tests, is)
 is-changed : {A : Type 0} (new host : A) (found : Option A) → option_map (λ (old : A). new) found ≡ Some host → host ≡ new
 is-changed new host None is = cc
 is-changed new host (Some old) is = cc
-
-pub first-of : {A : Type 0} (P : A → Type 0) (xs : List A) (x : A) → slice_get xs 0 ≡ Some x → All P xs → P x
-unfolding All
-first-of P [] x is all = cc
-first-of {A = A} P (y ∷ xs) x is all = subst P (same y x is) all.0
-  where
-    same : (y x : A) → Some y ≡ Some x → y ≡ x
-    same y x is = cc
-
-pub rest-of : {A : Type 0} (P : A → Type 0) (xs : List A) → All P xs → All P (drop 1 xs)
-unfolding All
-rest-of P [] all = tt
-rest-of P (x ∷ xs) all = all.1
 
 module _ {S : Type 0} (form : Form S) (app : AppId) (request_of : S → Request) (Lives : S → Type 0) (Sound : Option Request → Request → Type 0) (kinds : AreKinds form request_of Lives Sound) where
   -- the host of this number is so
@@ -358,8 +346,8 @@ module _ {S : Type 0} (form : Form S) (app : AppId) (request_of : S → Request)
   unfolding deliver_entry
   deliver_entry-goes known setup None net is holds = goes known net holds
   deliver_entry-goes known setup (Some entry) net is holds =
-      deliver_at-goes known setup entry _ (record net { wire = drop 1 net.wire }) refl (first-of (λ (e : Entry). IsOnWay (Sound known) e.message) net.wire entry is holds.wire)
-      (record { hosts = holds.hosts; wire = rest-of (λ (e : Entry). IsOnWay (Sound known) e.message) net.wire holds.wire })
+      deliver_at-goes known setup entry _ (record net { wire = drop 1 net.wire }) refl (all-at (λ (e : Entry). IsOnWay (Sound known) e.message) net.wire 0 entry is holds.wire)
+      (record { hosts = holds.hosts; wire = all-rest (λ (e : Entry). IsOnWay (Sound known) e.message) net.wire holds.wire })
 
   deliver_first-goes : (known : Option Request) (setup : Setup) (net : Net S) → Holds known net → Goes known (deliver_first form setup net)
   unfolding deliver_first

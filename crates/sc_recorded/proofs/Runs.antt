@@ -32,6 +32,7 @@ use Rattle.sc_forms.specs.Simulations.{map_host, map_live}
 use Rattle.sc_forms.proofs.HistoryLaws.{chained-histories, live_at-histories}
 use Rattle.sc_forms.proofs.NetMaps.{host_at-maps}
 use Rattle.sc_lasting.specs.Lasting.{All, IsLife, IsOf}
+use Rattle.sc_lasting.proofs.Shared.{all-at}
 use Rattle.sc_ways.proofs.Directs.{told-append}
 use Rattle.sc_lived.specs.Lived.{AreOfOne, AreTaken, IsLived, MayTake, Told, told, told_by, told_of, told_turns, turned_events}
 use Rattle.sc_lived.proofs.Accepted.{one-life}
@@ -54,7 +55,7 @@ use Rattle.sc_recorded.proofs.Hosts.{other-name, Good, IsLiveAs, IsReached, IsSe
 use Rattle.sc_recorded.proofs.SoundKinds.{Fit, IsSound, TakesTagged, beginning, other-fit, own-fit, sound-kinds}
 use Rattle.sc_recorded.proofs.MadeGiven.{AreMade}
 use Rattle.sc_recorded.proofs.MadeTurns.{turn-made}
-use Rattle.sc_recorded.proofs.Nets.{Goes, Holds, first-of}
+use Rattle.sc_recorded.proofs.Nets.{Goes, Holds}
 use Rattle.sc_recorded.proofs.Spans.{asked_of, life-says, says-front}
 use Rattle.sc_recorded.proofs.Steps.{StepFits, live-as, step-goes}
 
@@ -108,7 +109,7 @@ live-serial of (Some host) live is = serial-is of.serial host.sessions live is
 
 -- ## Starting
 
-quiet-is : {S : Type 0} (apps : List AppEntry) (number : ℕ) (host : Host S) → slice_get (map (λ app. quiet_host {S = S}) apps) number ≡ Some host → host ≡ quiet_host
+pub quiet-is : {S : Type 0} (apps : List AppEntry) (number : ℕ) (host : Host S) → slice_get (map (λ app. quiet_host {S = S}) apps) number ≡ Some host → host ≡ quiet_host
 quiet-is [] number host at = cc
 quiet-is (app ∷ apps) zero host at = cc
 quiet-is (app ∷ apps) (suc number) host at = quiet-is apps number host at
@@ -207,7 +208,7 @@ module _ (setup : Setup) (epoch began : ℕ) (journal : List Step) (app : AppId)
           (subst (λ (l : Live History). MayTake setup of (record l.session { turns = l.session.turns }) (turn_of (Old before) of may.waiting now made end)) same-live may.allowed)
 
       tagged : IsTaggedEvent waiting.event
-      tagged = first-of (λ (w : Waiting). IsTaggedEvent w.event) live.inbox waiting at as-live.3
+      tagged = all-at (λ (w : Waiting). IsTaggedEvent w.event) live.inbox 0 waiting at as-live.3
 
       module _ (here : of ≡ app) where
         abbrev first : Request

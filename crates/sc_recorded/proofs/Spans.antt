@@ -1,5 +1,5 @@
 -- Over the life of a session, what it proxied with options says what the first of its accepted calls that proxied asked for.
-use Rattle.std.proofs.Common.{◌≡◌, ◌<◌, ℕ, ◌+◌, ◌++◌, Bool, true, false, Option, None, Some, List, [], ◌∷◌, refl, ap, append_assoc, sym, subst, ◌∙◌, arith}
+use Rattle.std.proofs.Common.{◌≡◌, ◌<◌, ℕ, ◌+◌, ◌++◌, Bool, true, false, Option, None, Some, List, [], ◌∷◌, refl, ap, append_assoc, sym, subst, ◌∙◌, arith, append-nil}
 use Rattle.std.proofs.Math.Logic.{∥∥₁_map, ∥∥₁_elim}
 use mathlib.Core.Bool.{Bool-set}
 use Rattle.std.specs.Prelude.{cond, is_some, not, ◌&&◌}
@@ -32,18 +32,18 @@ use Rattle.sc_hosts.specs.Looking.{removed}
 use Rattle.sc_hosts.specs.Preparing.{prepared, prepared_for}
 use Rattle.sc_hosts.specs.PreparingRequests.{request_view, showing}
 use Rattle.sc_hosts.specs.Refusals.{refusal}
-use Rattle.sc_hosts.specs.Scripting.{IsAnsweredFrom}
+use Rattle.sc_hosts.specs.Scripting.{IsAnsweredFrom, is_refused}
 use Rattle.sc_hosts.specs.Sessions.{Turn}
 use Rattle.sc_hosts.specs.Working.{worked_all}
 use Rattle.sc_walked.specs.SessionWalks.{SessionLaws}
 use Rattle.sc_walked.proofs.WalkEnds.{all_act-goes, drafts_ended-goes, faulted-goes}
 use Rattle.sc_walked.proofs.WalkParts.{fold-walks, if-view, tidy-walks}
-use Rattle.sc_walked.proofs.WalkShown.{append-none}
 use Rattle.sc_walks.specs.Walks.{IsLate}
 use Rattle.sc_lasting.specs.Lasting.{All}
 use Rattle.sc_lasting.proofs.Parts.{all-append, all-filter, received-holds}
-use Rattle.sc_lived.specs.Lived.{AreLate, AreOfOne, AreTaken, Begins, MayTake, Told, is_refused, told_of, told_turns, turned_events}
-use Rattle.sc_lived.proofs.Accepted.{accepted-stands, allowed-answered, read-after}
+use Rattle.sc_lived.specs.Lived.{AreLate, AreOfOne, AreTaken, Begins, MayTake, Told, told_of, told_turns, turned_events}
+use Rattle.sc_lived.proofs.Accepted.{allowed-answered, read-after}
+use Rattle.sc_promised.proofs.Attributes.{accepted-stands}
 use Rattle.sc_recorded.proofs.Asking.{AreListed, FirstSays, Stands, asked_in}
 use Rattle.sc_recorded.proofs.Settled.{Held, IsBased, IsOne, Open, SaysSo, any-firm, held-law, ready-late}
 use Rattle.sc_recorded.proofs.Settling.{acting-says, based-played, calls-stand, later-based, shown-stands, turn-stands}
@@ -147,7 +147,7 @@ abbrev pub asked_of : List Told → List ProxyOptions
 asked_of given = flat_map (λ (t : Told). asked_in t.calls) given
 
 asked-append : (ts : List Told) (t : Told) → asked_of (ts ++ t ∷ []) ≡ asked_of ts ++ asked_in t.calls
-asked-append [] t = append-none (asked_in t.calls)
+asked-append [] t = append-nil (asked_in t.calls)
 asked-append (u ∷ ts) t = ap (λ hs. asked_in u.calls ++ hs) (asked-append ts t) ∙ sym (append_assoc (asked_in u.calls) (asked_of ts) (asked_in t.calls))
 
 pub says-front : (stays : Bool) (xs ys : List ProxyOptions) → FirstSays stays (xs ++ ys) → FirstSays stays xs

@@ -50,12 +50,13 @@ use Rattle.sc_hosts.specs.Transacting.{tidied}
 use Rattle.sc_hosts.specs.Words.{unavailable}
 use Rattle.sc_lasting.specs.Lasting.{All}
 use Rattle.sc_lasting.proofs.Parts.{all-filter, all-first, all-found, all-removed}
+use Rattle.sc_lasting.proofs.Shared.{all-rest, all-at}
 use Rattle.sc_given.proofs.GivenCalls.{all-given}
 use Rattle.sc_given.proofs.GivenGoodbyes.{goodbye-kind}
 use Rattle.sc_walks.proofs.DueEvents.{AreGood, IsGoodItem, due-good}
 use Rattle.sc_recorded.specs.Recorded.{IsInner, IsTaggedEvent}
 use Rattle.sc_recorded.proofs.Hosts.{AreKinds, Good, IsLiveAs, IsSent, IsServed, MessageComes, pass_server-good, takes-began}
-use Rattle.sc_recorded.proofs.Nets.{Goes, Holds, OrderFits, answer-holds, changes, delivered-goes, first-of, goes, goes-then, if-goes, if-holds, obeyed-holds, passed-holds, placed-goes, queue_for-holds, rest-of}
+use Rattle.sc_recorded.proofs.Nets.{Goes, Holds, OrderFits, answer-holds, changes, delivered-goes, goes, goes-then, if-goes, if-holds, obeyed-holds, passed-holds, placed-goes, queue_for-holds}
 
 some-via : (vias : List Via) → 0 < length vias → 1 ≤ length vias
 some-via vias some = omega (arith, some)
@@ -274,7 +275,7 @@ module _ {S : Type 0} (form : Form S) (app : AppId) (request_of : S → Request)
         subst (λ (r : Request). 1 ≤ length r.head.via) (sym same) ok.0,
         λ here. subst (λ (r : Request). known ≡ Some r) (sym same) (ok.1 here),
         kinds.turned setup.config turn live.session tagged ok.2,
-        rest-of (λ (waiting : Waiting). IsTaggedEvent waiting.event) live.inbox ok.3,
+        all-rest (λ (waiting : Waiting). IsTaggedEvent waiting.event) live.inbox ok.3,
       )
 
   turned-kept : (known : Option Request) (of : AppId) (turn : Turn) (done : Outcome) (net : Net S) → IsTaggedEvent turn.waiting.event → All (Ordered known) done.orders → Kept known net
@@ -322,7 +323,7 @@ module _ {S : Type 0} (form : Form S) (app : AppId) (request_of : S → Request)
   turns-kept known of None now made end net at fits kept = kept
   turns-kept known of (Some live) now made end net at fits kept =
       turns_first-kept known of live (slice_get live.inbox 0) now made end net
-      (λ first is. first-of (λ (waiting : Waiting). IsTaggedEvent waiting.event) live.inbox first is (live-as known of net live at kept).3) (λ first is. fits live first refl is) kept
+      (λ first is. all-at (λ (waiting : Waiting). IsTaggedEvent waiting.event) live.inbox 0 first is (live-as known of net live at kept).3) (λ first is. fits live first refl is) kept
 
   withdrawn-kept : (known : Option Request) (of : AppId) (live : Option (Live S)) (net : Net S) → Kept known net → Kept known (withdrawn form setup of live net)
   unfolding withdrawn

@@ -5,9 +5,7 @@ use Rattle.std.proofs.lemmas.Bool.Decides.{Decides-eqb}
 use Rattle.std.proofs.lemmas.Fmt.{decimal_injective}
 use Rattle.std.proofs.lemmas.List.{append_cancel_left}
 use Rattle.std.proofs.lemmas.Slice.Eq.{starts_is}
-use Rattle.sc_value.specs.Params.{branch_name, param_value}
 use Rattle.sc_value.specs.declared.ids.AppId.{AppId}
-use Rattle.sc_tokens.specs.Names.{same_name}
 use Rattle.sc_terms.specs.declared.settings.Config.{Config}
 use Rattle.sc_grammar.specs.Written.{Bytes}
 use Rattle.sc_model.specs.Names.{IsOf64, app_text, branch_cookie, branch_text, mark_text, tag_text}
@@ -15,10 +13,7 @@ use Rattle.sc_model.proofs.Names.{counted_is, lacks_decimal, parted_same}
 use Rattle.sc_hosts.specs.Messages.{own_via}
 use Rattle.sc_hosts.specs.Transacting.{branch_of}
 use Rattle.sc_paths.specs.Pieces.{is_branch_of}
-
-branch-is : (config : Config) (epoch : ℕ) (app : AppId) (branch : ℕ) → branch_of (own_via config epoch app branch) ≡ branch_text config.salt epoch app branch
-unfolding own_via param_value branch_name same_name
-branch-is config epoch app branch = refl
+use Rattle.sc_ways.proofs.OwnBranches.{branch-is}
 
 -- with what each branch of a session begins
 abbrev front : Bytes → ℕ → AppId → Bytes

@@ -10,6 +10,7 @@ use Rattle.sc_hosts.specs.Legs.{first_view, fresh}
 use Rattle.sc_hosts.specs.Scripting.{attribute}
 use Rattle.sc_hosts.specs.Sessions.{Turn}
 use Rattle.sc_promised.specs.Reliable.{Act, Fresh, Happened, IsOf, IsSound, IsTrace, Remembered, after, play_after, remembered_at, remembered_of, script_of}
+use Rattle.sc_promised.proofs.Endings.{same-rel}
 use Rattle.sc_remembered.specs.Acts.{AreActs, IsActOf, LeavesIt, shown_in}
 use Rattle.sc_remembered.proofs.Ended.{outcome-kept}
 use Rattle.sc_remembered.proofs.Shown.{shown-kept}
@@ -30,21 +31,16 @@ unfolding last_of_all
 last-more n rel [] h = refl
 last-more n rel (a ∷ acts) h = last-more n (remembered_at (after a).view n) acts h
 
--- the same attributes are read the same
-pub same-remembered : (a b : View) (n : ℕ) → a.attributes ≡ b.attributes → remembered_at a n ≡ remembered_at b n
-unfolding attribute
-same-remembered a b n same = rw same refl
-
 -- ## From turn to turn
 
 pub shown-same : (config : Config) (session : Session) (turn : Turn) (n : ℕ) → remembered_at (shown_in config session turn) n ≡ remembered_at session.view n
-shown-same config session turn n = same-remembered (shown_in config session turn) session.view n (shown-kept config turn.ringing session turn.waiting turn.now)
+shown-same config session turn n = same-rel (shown_in config session turn) session.view n (shown-kept config turn.ringing session turn.waiting turn.now)
 
 pub left-same : (config : Config) (session : Session) (turn : Turn) (n : ℕ)
     → remembered_at (after_turn config turn session).view n ≡ remembered_at (after_calls (shown_in config session turn) turn.calls).view n
 unfolding after_turn
 left-same config session turn n =
-    same-remembered (after_turn config turn session).view (after_calls (shown_in config session turn) turn.calls).view n (outcome-kept config turn.ringing session turn.waiting turn.now turn.calls turn.end)
+    same-rel (after_turn config turn session).view (after_calls (shown_in config session turn) turn.calls).view n (outcome-kept config turn.ringing session turn.waiting turn.now turn.calls turn.end)
 
 -- the acts so far, and what is remembered after them
 record Traced (config : Config) (history : History) (n : ℕ) (turns : List Turn) (acts : List Happened) : Type 0 where
@@ -55,7 +51,7 @@ first-traced : (config : Config) (history : History) (n : ℕ) → Traced config
 unfolding session_after fresh first_view attribute remembered_of IsTrace last_of_all
 first-traced config history n = record { trace = tt; last = refl }
 
-begun-view : (view : View) → (begun view).view ≡ view
+pub begun-view : (view : View) → (begun view).view ≡ view
 unfolding begun
 begun-view view = refl
 

@@ -9,7 +9,6 @@ use Rattle.sc_value.specs.declared.ids.TimerId.{TimerId}
 use Rattle.sc_value.specs.declared.message.Request.{Request}
 use Rattle.sc_grammar.specs.Written.{Bytes}
 use Rattle.sc_terms.specs.declared.calls.Call.TheVariants as calls
-use Rattle.sc_terms.specs.declared.calls.Refusal.{Refusal}
 use Rattle.sc_terms.specs.declared.events.Event.{Event}
 use Rattle.sc_terms.specs.declared.events.Event.TheVariants as events
 use Rattle.sc_terms.specs.declared.views.RequestView.{RequestView}
@@ -18,14 +17,13 @@ use Rattle.sc_terms.specs.declared.views.View.{View}
 use Rattle.sc_state.specs.declared.working.Play.{Play}
 use Rattle.sc_model.specs.SessionStates.{ack, invite}
 use Rattle.sc_hosts.specs.Charters.{reply_ok}
-use Rattle.sc_hosts.specs.Effects.{after_call, after_calls, after_listed, answer_of, begun, played_by}
+use Rattle.sc_hosts.specs.Effects.{after_calls, after_listed, answer_of, begun}
 use Rattle.sc_hosts.specs.HelperParts.{cancel_first_timer, lists_option, strict_number}
 use Rattle.sc_hosts.specs.Offers.{after_word, early_script, first_offer, is_invite_of, late_offer, rel_option, session_progress, take_prack}
-use Rattle.sc_hosts.specs.Refusals.{refusal}
 use Rattle.sc_hosts.specs.Scripting.{Done, Make, Script, only, played, played_from, reply, then_make, where_some}
 use Rattle.sc_hosts.specs.Words.{does_not_exist, ok, prack, ringing}
 use Rattle.sc_promised.specs.Reliable.{Act, Fresh, Late, Offers, Pracks, offer_script, play_after, remembered_at, script_of}
-use Rattle.sc_promised.proofs.Attributes.{responded-attributes}
+use Rattle.sc_promised.proofs.Attributes.{responded-attributes, cancelled-attributes}
 use Rattle.sc_promised.proofs.Waiting.{first-is}
 use Rattle.sc_remembered.specs.Early.{IsOneAct, IsUnknown, act_of}
 
@@ -60,15 +58,6 @@ replied-leaves view req code reason = responded-attributes (begun view) req _ �
 twice-leaves : (view : View) (req : ReqId) (code next-code : ℕ) (reason next-reason : Bytes) → Leaves view (then_make (reply req code reason) (only (reply req next-code next-reason)))
 unfolding play_after then_make only reply
 twice-leaves view req code next-code reason next-reason = responded-attributes (after_listed (begun view) _) req _ ∙ responded-attributes (begun view) req _ ∙ begun-attributes view
-
-cancelled-by : (play : Play) (id : TimerId) (found : Option Refusal) → (played_by play (calls.CancelTimer id) found).view.attributes ≡ play.view.attributes
-unfolding played_by after_call
-cancelled-by play id None = refl
-cancelled-by play id (Some refused) = refl
-
-cancelled-attributes : (play : Play) (id : TimerId) → (after_listed play (calls.CancelTimer id)).view.attributes ≡ play.view.attributes
-unfolding after_listed
-cancelled-attributes play id = cancelled-by play id (refusal play (calls.CancelTimer id))
 
 cancelled-leaves : (view : View) (found : Option TimerView) → Leaves view (where_some found (λ timer. only (calls.CancelTimer timer.id)))
 unfolding play_after where_some only begun

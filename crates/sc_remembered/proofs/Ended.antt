@@ -40,7 +40,8 @@ use Rattle.sc_hosts.specs.PreparingResponses.{is_invalid}
 use Rattle.sc_hosts.specs.ViewChanges.{answered, answered_in, is_owed, tidy}
 use Rattle.sc_hosts.specs.Words.{too_many_hops}
 use Rattle.sc_hosts.specs.Working.{starts, worked, worked_all}
-use Rattle.sc_remembered.proofs.Parts.{Rest, answered-rest, if-same, removed-rest, rest-of}
+use Rattle.sc_lasting.proofs.ShownProxies.{if-same}
+use Rattle.sc_remembered.proofs.Parts.{Rest, answered-rest, removed-rest, rest-of}
 
 abbrev fields-of : Working → Rest
 fields-of working = rest-of working.play.view

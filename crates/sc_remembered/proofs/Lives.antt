@@ -14,10 +14,10 @@ use Rattle.sc_hosts.specs.Scripting.{Script, played}
 use Rattle.sc_hosts.specs.Sessions.{Turn}
 use Rattle.sc_lasting.proofs.Began.{same-number}
 use Rattle.sc_promised.specs.Reliable.{Act, IsOf, IsSound, Late, Offers, Pracks, play_after, remembered_at, script_of}
+use Rattle.sc_promised.proofs.Endings.{same-rel}
 use Rattle.sc_remembered.specs.Acts.{AreActs, IsActOf, LeavesIt, shown_in}
 use Rattle.sc_remembered.specs.Early.{AreEarly, IsEarlyTurn, IsOneAct, MakesActs, act_of, invite_of}
 use Rattle.sc_remembered.specs.Played.{PlaysScript}
-use Rattle.sc_remembered.proofs.Chains.{same-remembered}
 use Rattle.sc_remembered.proofs.EarlyTurns.{early-acts, played-is}
 use Rattle.sc_remembered.proofs.Others.{act-others}
 
@@ -53,7 +53,7 @@ module _ (n : ℕ) (view : View) (made : List CallRecord) (told : Event) (is : m
 
   script-made : IsOneAct view told (early_script view told) → Made n view made
   unfolding IsOneAct Made LeavesIt
-  script-made (inl same) = inl (script-left n view made (early_script view told) is ∙ same-remembered (play_after (begun view) (early_script view told)).view view n same)
+  script-made (inl same) = inl (script-left n view made (early_script view told) is ∙ same-rel (play_after (begun view) (early_script view told)).view view n same)
   script-made (inr act) = act-made act.0 act.1 act.2 (invite_of act.0 == n) refl
 
 turn-made : (n : ℕ) (view : View) (event : Option Event) (made : List CallRecord) → n < 2 ^ 64 → IsEarlyTurn view event made → PlaysScript early_script view event made → Made n view made

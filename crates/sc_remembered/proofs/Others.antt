@@ -1,15 +1,12 @@
 -- An act of one INVITE leaves what is remembered of every other.
-use Rattle.std.proofs.Common.{◌≡◌, ◌<◌, ℕ, ◌++◌, Bool, true, false, Option, None, Some, List, [], ◌∷◌, refl, sym, ap, subst, ◌∙◌, arith}
-use Rattle.std.specs.Prelude.{◌==◌, ◌+◌, ◌&&◌, ◌^◌, cond, codes, decimal, is_some, not, option_map}
-use Rattle.std.specs.List.{find}
+use Rattle.std.proofs.Common.{◌≡◌, ◌<◌, ℕ, ◌++◌, Bool, true, false, Option, None, Some, [], ◌∷◌, refl, sym, ap, subst, ◌∙◌, arith}
+use Rattle.std.specs.Prelude.{◌==◌, ◌+◌, ◌&&◌, ◌^◌, cond, codes, decimal, is_some, not}
 use Rattle.std.proofs.lemmas.Bool.Decides.{nat_tests}
 use Rattle.std.proofs.lemmas.Fmt.{decimal_injective}
 use Rattle.sc_tokens.specs.Names.{same_bytes}
-use Rattle.sc_value.specs.Lists.{change_first, remove_first}
 use Rattle.sc_value.specs.declared.ids.ReqId.{ReqId}
 use Rattle.sc_value.specs.declared.ids.TimerId.{TimerId}
 use Rattle.sc_value.specs.declared.message.Request.{Request}
-use Rattle.sc_value.specs.declared.parts.Field.{Field}
 use Rattle.sc_grammar.specs.Written.{Bytes}
 use Rattle.sc_terms.specs.declared.calls.Call.{Call}
 use Rattle.sc_terms.specs.declared.calls.Call.TheVariants as calls
@@ -17,21 +14,18 @@ use Rattle.sc_terms.specs.declared.calls.CallAnswer.{CallAnswer}
 use Rattle.sc_terms.specs.declared.calls.CallAnswer.TheVariants as answers
 use Rattle.sc_terms.specs.declared.calls.Refusal.{Refusal}
 use Rattle.sc_terms.specs.declared.views.View.{View}
-use Rattle.sc_terms.specs.declared.inside.Inside.{Inside}
-use Rattle.sc_value.specs.declared.ids.SessId.{SessId}
-use Rattle.sc_state.specs.declared.working.Draft.{Draft}
-use Rattle.sc_hosts.specs.RefusalParts.{draft_in}
 use Rattle.sc_state.specs.declared.working.Play.{Play}
 use Rattle.sc_hosts.proofs.Deliveries.{same_bytes-equal}
-use Rattle.sc_hosts.specs.Effects.{after_call, begun, after_listed, answer_of, created_later, played_by, sent, with_attribute, with_draft, with_timer}
+use Rattle.sc_hosts.specs.Effects.{after_call, begun, after_listed, answer_of, played_by, with_timer}
 use Rattle.sc_hosts.specs.HelperParts.{accepted_then, cancel_then, field_of, lists_option}
 use Rattle.sc_hosts.specs.Offers.{Offer, ended_offer_text, late_offer, names_offer, pending_offer, prack_by, rel_name, rel_option}
 use Rattle.sc_hosts.specs.Looking.{request_in, timer_in}
-use Rattle.sc_hosts.specs.Refusals.{is_set, refusal}
+use Rattle.sc_hosts.specs.Refusals.{refusal}
 use Rattle.sc_hosts.specs.Scripting.{Done, Make, Script, attribute, is_refused, only, reply, where_some, with_number}
 use Rattle.sc_hosts.specs.Words.{does_not_exist, ok}
 use Rattle.sc_model.specs.BestResponses.{server_error}
 use Rattle.sc_promised.specs.Reliable.{Acked, Act, Failed, Fresh, Late, MOST_RSEQ, Offers, Pending, Pracks, Remembered, offer_by, offer_call, offer_script, offers, play_after, remembered_at, remembered_of, script_of}
+use Rattle.sc_promised.proofs.Attributes.{cancelled-by, created-by, sent-by, set-other, remove-other}
 use Rattle.sc_remembered.proofs.Parts.{answered-kept}
 use Rattle.sc_remembered.specs.Early.{invite_of}
 
@@ -57,62 +51,6 @@ names-apart m n p q other = by (same_bytes (rel_name m) (rel_name n)) refl
     by : (b : Bool) → same_bytes (rel_name m) (rel_name n) ≡ b → b ≡ false
     by true is = clash m n (names-one m n p q (same_bytes-equal (rel_name m) (rel_name n) is)) other
     by false is = refl
-
--- ## An attribute of another name
-
-abbrev named : Bytes → Field → Bool
-named name field = same_bytes field.name name
-
-abbrev value-of : Option Field → Option Bytes
-value-of found = option_map (λ (f : Field). f.value) found
-
-if-value : (b : Bool) (x y : Field) (f g : Option Field) → x.value ≡ y.value → value-of f ≡ value-of g → value-of (cond b (Some x) f) ≡ value-of (cond b (Some y) g)
-if-value true x y f g one more = rw one refl
-if-value false x y f g one more = more
-
-other-there : (name value other : Bytes) → same_bytes name other ≡ false → (fields : List Field)
-    → value-of (find (named other) (change_first (named name) (λ f. record f { value = value }) fields)) ≡ value-of (find (named other) fields)
-unfolding change_first
-other-there name value other apart [] = refl
-other-there name value other apart (field ∷ fields) = by (same_bytes field.name name) refl (other-there name value other apart fields)
-  where
-    by : (b : Bool) → same_bytes field.name name ≡ b → value-of (find (named other) (change_first (named name) (λ f. record f { value = value }) fields)) ≡ value-of (find (named other) fields)
-        → value-of (find (named other) (cond b (record field { value = value } ∷ fields) (field ∷ change_first (named name) (λ f. record f { value = value }) fields))) ≡ value-of (find (named other) (field ∷ fields))
-    by true is more = rw (subst (λ (text : Bytes). same_bytes text other ≡ false) (sym (same_bytes-equal field.name name is)) apart) refl
-    by false is more = if-value (same_bytes field.name other) field field (find (named other) (change_first (named name) (λ f. record f { value = value }) fields)) (find (named other) fields) refl more
-
-other-new : (name value other : Bytes) → same_bytes name other ≡ false → (fields : List Field)
-    → value-of (find (named other) (fields ++ record { name = name; value = value } ∷ [])) ≡ value-of (find (named other) fields)
-other-new name value other apart [] = rw apart refl
-other-new name value other apart (field ∷ fields) =
-    if-value (same_bytes field.name other) field field (find (named other) (fields ++ record { name = name; value = value } ∷ [])) (find (named other) fields) refl (other-new name value other apart fields)
-
-other-set : (name value other : Bytes) → same_bytes name other ≡ false → (fields : List Field) (b : Bool)
-    → value-of (find (named other) (cond b (change_first (named name) (λ f. record f { value = value }) fields) (fields ++ record { name = name; value = value } ∷ []))) ≡ value-of (find (named other) fields)
-other-set name value other apart fields true = other-there name value other apart fields
-other-set name value other apart fields false = other-new name value other apart fields
-
-pub set-other : (name value other : Bytes) → same_bytes name other ≡ false → (play : Play) (found : Option Refusal)
-    → attribute other (played_by play (calls.SetAttribute name value) found).view ≡ attribute other play.view
-unfolding played_by after_call with_attribute attribute
-set-other name value other apart play None = other-set name value other apart play.view.attributes (is_set name play.view.attributes)
-set-other name value other apart play (Some refused) = refl
-
-other-removed : (name other : Bytes) → same_bytes name other ≡ false → (fields : List Field) → value-of (find (named other) (remove_first (named name) fields)) ≡ value-of (find (named other) fields)
-unfolding remove_first
-other-removed name other apart [] = refl
-other-removed name other apart (field ∷ fields) = by (same_bytes field.name name) refl (other-removed name other apart fields)
-  where
-    by : (b : Bool) → same_bytes field.name name ≡ b → value-of (find (named other) (remove_first (named name) fields)) ≡ value-of (find (named other) fields)
-        → value-of (find (named other) (cond b fields (field ∷ remove_first (named name) fields))) ≡ value-of (find (named other) (field ∷ fields))
-    by true is more = rw (subst (λ (text : Bytes). same_bytes text other ≡ false) (sym (same_bytes-equal field.name name is)) apart) refl
-    by false is more = if-value (same_bytes field.name other) field field (find (named other) (remove_first (named name) fields)) (find (named other) fields) refl more
-
-remove-other : (name other : Bytes) → same_bytes name other ≡ false → (play : Play) (found : Option Refusal)
-    → attribute other (played_by play (calls.RemoveAttribute name) found).view ≡ attribute other play.view
-unfolding played_by after_call attribute
-remove-other name other apart play None = other-removed name other apart play.view.attributes
-remove-other name other apart play (Some refused) = refl
 
 -- ## Scripts that write one attribute alone
 
@@ -145,26 +83,6 @@ unfolding played_by after_call with_timer
 start-fields play delay period info None = refl
 start-fields play delay period info (Some refused) = refl
 
-stop-fields : (play : Play) (id : TimerId) (found : Option Refusal) → (played_by play (calls.CancelTimer id) found).view.attributes ≡ play.view.attributes
-unfolding played_by after_call
-stop-fields play id None = refl
-stop-fields play id (Some refused) = refl
-
-create-fields : (play : Play) (sess : SessId) (ask : Inside) (found : Option Refusal) → (played_by play (calls.CreateInDialog sess ask) found).view.attributes ≡ play.view.attributes
-unfolding played_by after_call created_later with_draft
-create-fields play sess ask None = refl
-create-fields play sess ask (Some refused) = refl
-
-sent-fields : (number : ℕ) (draft : Option Draft) (play : Play) → (sent number draft play).view.attributes ≡ play.view.attributes
-unfolding sent
-sent-fields number None play = refl
-sent-fields number (Some draft) play = refl
-
-send-fields : (play : Play) (draft : ℕ) (found : Option Refusal) → (played_by play (calls.Send draft) found).view.attributes ≡ play.view.attributes
-unfolding played_by after_call
-send-fields play draft None = sent-fields draft (draft_in play draft) play
-send-fields play draft (Some refused) = refl
-
 call-other : (name other : Bytes) → same_bytes name other ≡ false → (play : Play) (call : Call) → IsFor name call
     → attribute other (after_listed play call).view ≡ attribute other play.view
 unfolding IsFor after_listed attribute
@@ -173,13 +91,13 @@ call-other name other apart play (calls.SetAttribute written value) is =
 call-other name other apart play (calls.Respond req answer) is = same-fields other play (calls.Respond req answer) _ (respond-fields play req answer (refusal play (calls.Respond req answer)))
 call-other name other apart play (calls.StartTimer delay period info) is =
     same-fields other play (calls.StartTimer delay period info) _ (start-fields play delay period info (refusal play (calls.StartTimer delay period info)))
-call-other name other apart play (calls.CancelTimer id) is = same-fields other play (calls.CancelTimer id) _ (stop-fields play id (refusal play (calls.CancelTimer id)))
+call-other name other apart play (calls.CancelTimer id) is = same-fields other play (calls.CancelTimer id) _ (cancelled-by play id (refusal play (calls.CancelTimer id)))
 call-other name other apart play (calls.CreateRequest ask) is = absurd is
 call-other name other apart play (calls.CreateInDialog sess ask) is =
-    same-fields other play (calls.CreateInDialog sess ask) _ (create-fields play sess ask (refusal play (calls.CreateInDialog sess ask)))
+    same-fields other play (calls.CreateInDialog sess ask) _ (created-by play sess ask (refusal play (calls.CreateInDialog sess ask)))
 call-other name other apart play (calls.B2bCreate req uri) is = absurd is
 call-other name other apart play (calls.SetDirective draft directive origin) is = absurd is
-call-other name other apart play (calls.Send draft) is = same-fields other play (calls.Send draft) _ (send-fields play draft (refusal play (calls.Send draft)))
+call-other name other apart play (calls.Send draft) is = same-fields other play (calls.Send draft) _ (sent-by play draft (refusal play (calls.Send draft)))
 call-other name other apart play (calls.Discard draft) is = absurd is
 call-other name other apart play (calls.Ack sess body) is = absurd is
 call-other name other apart play (calls.Cancel req) is = absurd is

@@ -10,10 +10,6 @@ use Rattle.sc_hosts.specs.Looking.{removed}
 use Rattle.sc_hosts.specs.ViewChanges.{answered, answered_in, tidy}
 use Rattle.sc_lasting.proofs.Parts.{removed-only}
 
-pub if-same : {A : Type 0} {B : Type 0} (part : A → B) (b : Bool) (x y : A) (z : B) → part x ≡ z → part y ≡ z → part (cond b x y) ≡ z
-if-same part true x y z p q = p
-if-same part false x y z p q = q
-
 -- of the one view the other has the moment and the attributes
 abbrev pub IsAside : View → View → Type 0
 IsAside before after = (after.now ≡ before.now) × (after.attributes ≡ before.attributes)

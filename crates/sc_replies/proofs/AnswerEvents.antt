@@ -33,6 +33,8 @@ use Rattle.sc_walked.proofs.WalkParts.{each-first, each-same}
 use Rattle.sc_lasting.specs.Lasting.{All}
 use Rattle.sc_lasting.proofs.Numbers.{proxies-kept}
 use Rattle.sc_lasting.proofs.Parts.{all-append, all-each, all-filter, all-found, all-insert, all-map, each-weaker, removed-only, unlinked-only}
+use Rattle.sc_lasting.proofs.Shared.{all-two}
+use Rattle.sc_lasting.proofs.Began.{IsAsCame, proxied-came}
 use Rattle.sc_replies.specs.Fields.{Incoming}
 
 -- ## What goes by which event
@@ -93,28 +95,13 @@ not-number a n less is = grind (arith, less, is)
 clash : (b : Bool) → b ≡ true → b ≡ false → ⊥
 clash b p q = cc
 
-all-both : {A : Type 0} (P R S : A → Type 0) (xs : List A) → ((x : A) → P x → R x → S x) → All P xs → All R xs → All S xs
-unfolding All
-all-both P R S [] each p r = tt
-all-both P R S (x ∷ xs) each p r = (each x p.0 r.0, all-both P R S xs each p.1 r.1)
-
 -- ## Requests that are shown go on
-
--- the same request, which came as it did
-record IsAsCame (before after : RequestView) : Type 0 where
-  id : after.id ≡ before.id
-  received : after.received ≡ before.received
-  initial : after.initial ≡ before.initial
 
 came-same : (r : RequestView) → IsAsCame r r
 came-same r = record { id = refl; received = refl; initial = refl }
 
 request-came : (r q : RequestView) → IsSameRequest r q → IsAsCame r q
 request-came r q same = record { id = same.id; received = same.received; initial = same.initial }
-
-proxied-came : (count : ℕ) (r : RequestView) → IsAsCame r (proxied_request count r)
-unfolding proxied_request
-proxied-came count r = record { id = refl; received = refl; initial = refl }
 
 module _ (By : ℕ → Incoming → Type 0) where
   shown-after : (r q : RequestView) (kept : Kept) → IsAsCame r q → ShownOf By r kept → ShownOf By q kept
@@ -186,9 +173,9 @@ module _ (By : ℕ → Incoming → Type 0) where
     all-append (ShownBelow (v.next_request + 1)) v.requests r (all-map (ShownBelow v.next_request) (ShownBelow (v.next_request + 1)) v.requests (λ one. up one.id.0 v.next_request) ok.1) (own-is r.id.0 v.next_request own),
     all-map (InvitedBelow v.next_request) (InvitedBelow (v.next_request + 1)) k.invited (λ one. up one.req.0 v.next_request) ok.2,
     all-append (AllShown By (k.kept ++ kept ∷ [])) v.requests r
-        (all-both (ShownBelow v.next_request) (AllShown By k.kept) (AllShown By (k.kept ++ kept ∷ [])) v.requests (λ one. old-shown v.next_request one k.kept kept number) ok.1 ok.3)
+        (all-two (ShownBelow v.next_request) (AllShown By k.kept) (AllShown By (k.kept ++ kept ∷ [])) v.requests (λ one. old-shown v.next_request one k.kept kept number) ok.1 ok.3)
         (all-append (ShownOf By r) k.kept kept (new-shown v.next_request r k.kept own ok.0) of),
-    all-both (InvitedBelow v.next_request) (AllInvited By k.kept) (AllInvited By (k.kept ++ kept ∷ [])) k.invited (λ one. old-invited v.next_request one k.kept kept number) ok.2 ok.4,
+    all-two (InvitedBelow v.next_request) (AllInvited By k.kept) (AllInvited By (k.kept ++ kept ∷ [])) k.invited (λ one. old-invited v.next_request one k.kept kept number) ok.2 ok.4,
   )
 
   -- a request of one's own is shown under it alone

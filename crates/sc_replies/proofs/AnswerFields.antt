@@ -15,13 +15,13 @@ use Rattle.sc_replies.specs.Fields.{HasFieldsOf, IsAnswerTo, answer_routes}
 -- ## Fields that stay
 
 -- the same code, and the fields of an answer
-record IsAlike (y z : Response) : Type 0 where
-  code : z.code ≡ y.code
-  via : z.head.via ≡ y.head.via
-  from : z.head.from ≡ y.head.from
-  to : z.head.to ≡ y.head.to
-  call_id : z.head.call_id ≡ y.head.call_id
-  cseq : z.head.cseq ≡ y.head.cseq
+pub record IsAlike (y z : Response) : Type 0 where
+  pub code : z.code ≡ y.code
+  pub via : z.head.via ≡ y.head.via
+  pub from : z.head.from ≡ y.head.from
+  pub to : z.head.to ≡ y.head.to
+  pub call_id : z.head.call_id ≡ y.head.call_id
+  pub cseq : z.head.cseq ≡ y.head.cseq
 
 if-alike : (b : Bool) (r y z : Response) → IsAlike r y → IsAlike r z → IsAlike r (cond b y z)
 if-alike true r y z p q = p
@@ -30,11 +30,11 @@ if-alike false r y z p q = q
 same-alike : (r : Response) → IsAlike r r
 same-alike r = record { code = refl; via = refl; from = refl; to = refl; call_id = refl; cseq = refl }
 
-here-alike : (config : Config) (view : View) (request : Request) (r : Response) → IsAlike r (answered_here config view request r)
+pub here-alike : (config : Config) (view : View) (request : Request) (r : Response) → IsAlike r (answered_here config view request r)
 unfolding answered_here
 here-alike config view request r = if-alike _ r _ r (record { code = refl; via = refl; from = refl; to = refl; call_id = refl; cseq = refl }) (same-alike r)
 
-routes-alike : (initial : Bool) (request : Request) (r : Response) → IsAlike r (with_routes initial request r)
+pub routes-alike : (initial : Bool) (request : Request) (r : Response) → IsAlike r (with_routes initial request r)
 unfolding with_routes
 routes-alike initial request r = if-alike _ r _ r (record { code = refl; via = refl; from = refl; to = refl; call_id = refl; cseq = refl }) (same-alike r)
 

@@ -25,7 +25,7 @@ use Rattle.sc_replies.specs.Fields.{AnswersAlone, Incoming, WasBrought, incoming
 use Rattle.sc_replies.proofs.AnswerEvents.{AreOf, more-of}
 use Rattle.sc_replies.proofs.AnswerFields.{own-answers}
 use Rattle.sc_replies.proofs.AnswerOrders.{Gives, goodbyes-give}
-use Rattle.sc_replies.proofs.AnswerTurns.{lives-of}
+use Rattle.sc_replies.proofs.AnswerTurns.{lives-of, brought-first}
 
 -- nothing is forwarded
 abbrev NoneGoes : ℕ → Type 0
@@ -77,12 +77,6 @@ module _ (By : ℕ → Incoming → Type 0) where
 
 -- ## A life
 
-first-brought : (events more : List Waiting) (number : ℕ) (came : Incoming) → WasBrought events number came → WasBrought (events ++ more) number came
-unfolding WasBrought
-first-brought [] more number came by = absurd by
-first-brought (waiting ∷ events) more number came (inl is) = inl is
-first-brought (waiting ∷ events) more number came (inr later) = inr (first-brought events more number came later)
-
 last-brought : (events more : List Waiting) (number : ℕ) (came : Incoming) → WasBrought more number came → WasBrought (events ++ more) number came
 unfolding WasBrought
 last-brought [] more number came by = by
@@ -113,5 +107,5 @@ histories-end config history inbox =
     let session : Session = session_of config history in
     all-map (Gives (InAll events) NoneGoes) (AnswersAlone events) (goodbye config session inbox) (order-alone events)
     (goodbye-gives (InAll events) config session inbox
-    (more-of (InAll (turned_events history.turns)) (InAll events) session.view session.known (λ number came by. first-brought (turned_events history.turns) inbox number came by) (lives-of history.turns config history))
+    (more-of (InAll (turned_events history.turns)) (InAll events) session.view session.known (λ number came by. brought-first (turned_events history.turns) inbox number came by) (lives-of history.turns config history))
     (all-map (IsBy (InAll inbox)) (IsBy (InAll events)) inbox (λ one by came is. last-brought (turned_events history.turns) inbox one.number came (by came is)) (own-brought inbox)))

@@ -362,7 +362,7 @@ each-goes (p ∷ ps) = (
 
 -- ## A life
 
-brought-first : (events more : List Waiting) (number : ℕ) (came : Incoming) → WasBrought events number came → WasBrought (events ++ more) number came
+pub brought-first : (events more : List Waiting) (number : ℕ) (came : Incoming) → WasBrought events number came → WasBrought (events ++ more) number came
 unfolding WasBrought
 brought-first [] more number came by = absurd by
 brought-first (waiting ∷ events) more number came (inl is) = inl is

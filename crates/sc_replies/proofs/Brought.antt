@@ -1,5 +1,5 @@
 -- What a session keeps, can cancel and proxies under the number of a request that came goes by the event that brought this request.
-use Rattle.std.proofs.Common.{◌≡◌, ◌<◌, ℕ, ◌+◌, ◌++◌, Bool, true, false, Option, None, Some, List, [], ◌∷◌, refl, sym, ap, subst, ◌∙◌, arith}
+use Rattle.std.proofs.Common.{◌≡◌, ◌<◌, ℕ, ◌+◌, ◌++◌, Bool, true, false, Option, None, Some, List, [], ◌∷◌, refl, sym, ap, subst, ◌∙◌, arith, append-nil}
 use Rattle.std.specs.Prelude.{◌&&◌, cond, is_some, length, not}
 use Rattle.std.specs.List.{find, fold}
 use Rattle.sc_tokens.specs.Names.{same_bytes}
@@ -65,10 +65,6 @@ own-is a n is = omega (arith, is)
 
 not-lower : (a n : ℕ) → a < n → a ≡ n → ⊥
 not-lower a n less is = grind (arith, less, is)
-
-no-more : {A : Type 0} (xs : List A) → xs ≡ xs ++ []
-no-more [] = refl
-no-more (x ∷ xs) = ap (λ ys. x ∷ ys) (no-more xs)
 
 -- the event of a way is one event alone
 one-event : (way : Way) (a b : ℕ) → way ≡ Received a → way ≡ Received b → a ≡ b
@@ -449,7 +445,7 @@ module _ (came : List Came) (x : Session) (number : ℕ) (request : Request) (fi
   later-shown (Some sess) = in-fits sess (session_in x.view sess)
 
 none-brought : (came : List Came) (shown : Prepared) → FitsShown came shown → FitsShown (came ++ []) shown
-none-brought came shown fit = subst (λ (all : List Came). FitsShown all shown) (no-more came) fit
+none-brought came shown fit = subst (λ (all : List Came). FitsShown all shown) (sym (append-nil came)) fit
 
 abbrev now_at : ℕ → Session → Session
 now_at now x = record x { view = record x.view { now = now } }
@@ -508,12 +504,12 @@ single-brought : (came : List Came) (x : Session) (number : ℕ) (event : Queued
 unfolding brought
 single-brought came x number (queued.Initial region subscriber popped request) below single = single-more x.view.next_request came (one_of x number request) refl below single
 single-brought came x number (queued.Request request) below single = single-more x.view.next_request came (one_of x number request) refl below single
-single-brought came x number (queued.Response branch response) below single = subst AreSingle (no-more came) single
-single-brought came x number (queued.Cancelled event) below single = subst AreSingle (no-more came) single
-single-brought came x number (queued.Timer id) below single = subst AreSingle (no-more came) single
-single-brought came x number (queued.BranchTimer branch due) below single = subst AreSingle (no-more came) single
-single-brought came x number queued.Expired below single = subst AreSingle (no-more came) single
-single-brought came x number queued.Ready below single = subst AreSingle (no-more came) single
+single-brought came x number (queued.Response branch response) below single = subst AreSingle (sym (append-nil came)) single
+single-brought came x number (queued.Cancelled event) below single = subst AreSingle (sym (append-nil came)) single
+single-brought came x number (queued.Timer id) below single = subst AreSingle (sym (append-nil came)) single
+single-brought came x number (queued.BranchTimer branch due) below single = subst AreSingle (sym (append-nil came)) single
+single-brought came x number queued.Expired below single = subst AreSingle (sym (append-nil came)) single
+single-brought came x number queued.Ready below single = subst AreSingle (sym (append-nil came)) single
 
 turns-single : (turns : List Turn) (config : Config) (history : History) → AreSingle (came_of config history turns)
 unfolding came_of AreSingle

@@ -1,14 +1,12 @@
 -- What a session shows, keeps and proxies goes by the requests that came, over a whole life.
-use Rattle.std.proofs.Common.{◌≡◌, ℕ, ◌==◌, ◌++◌, Bool, true, false, Option, None, Some, List, [], ◌∷◌, refl, sym, ap, inl, inr}
+use Rattle.std.proofs.Common.{◌≡◌, ℕ, ◌==◌, ◌++◌, Bool, true, false, Option, Some, List, [], ◌∷◌, refl, sym, ap, inl, inr}
 use Rattle.std.specs.Prelude.{cond}
 use Rattle.std.specs.List.{find}
 use Rattle.sc_value.specs.declared.ids.ReqId.{ReqId}
-use Rattle.sc_value.specs.declared.ids.SessId.{SessId}
 use Rattle.sc_value.specs.declared.message.Request.{Request}
 use Rattle.sc_terms.specs.declared.calls.CallRecord.{CallRecord}
 use Rattle.sc_terms.specs.declared.calls.End.{End}
 use Rattle.sc_terms.specs.declared.settings.Config.{Config}
-use Rattle.sc_terms.specs.declared.views.SessionView.{SessionView}
 use Rattle.sc_state.specs.declared.queue.Queued.{Queued}
 use Rattle.sc_state.specs.declared.queue.Queued.TheVariants as queued
 use Rattle.sc_state.specs.declared.session.Known.{Known}
@@ -18,15 +16,15 @@ use Rattle.sc_state.specs.declared.working.Working.{Working}
 use Rattle.sc_hosts.specs.Acting.{all_act, drafts_ended, faulted, is_request_event}
 use Rattle.sc_hosts.specs.Finishing.{finished, outcome}
 use Rattle.sc_hosts.specs.Histories.{History, after_turn, session_after}
-use Rattle.sc_hosts.specs.Legs.{first_known, first_view, fresh, is_low, leg_of, session_for}
-use Rattle.sc_hosts.specs.Looking.{session_in}
+use Rattle.sc_hosts.specs.Legs.{first_known, first_view, fresh, session_for}
 use Rattle.sc_hosts.specs.Preparing.{prepared, prepared_for}
-use Rattle.sc_hosts.specs.PreparingRequests.{next_id, prepared_request, showing, silent, taken, taken_in, too_low}
+use Rattle.sc_hosts.specs.PreparingRequests.{next_id}
 use Rattle.sc_hosts.specs.Sessions.{Turn}
 use Rattle.sc_hosts.specs.Working.{starts, worked_all}
 use Rattle.sc_lasting.specs.Lasting.{All}
 use Rattle.sc_lasting.proofs.Began.{same-number, test-found}
 use Rattle.sc_lasting.proofs.Parts.{all-found, all-map}
+use Rattle.sc_lasting.proofs.Numbers.{request-next}
 use Rattle.sc_replies.specs.Came.{Came, IsAmong, brought, brought_by, came_of}
 use Rattle.sc_replies.proofs.Brought.{FitsAt, FitsIn, FitsShown, GoesBy, acted-fit, calls-fit, drafts-fit, faulted-fit, lives-fit, shown-fits}
 use Rattle.sc_replies.proofs.BroughtProxies.{acted-came}
@@ -108,32 +106,6 @@ module _ (came : List Came) where
   acted-fine config working fine = (acted-fit came config working fine.0, acted-come came config working fine.1, acted-came came config working fine.0 fine.2)
 
 -- ## The number of the request that came
-
-some-next : (a b : ReqId) → Some a ≡ Some b → b.0 ≡ a.0
-some-next a b is = cc
-
-if-next : (b : Bool) (x y : Prepared) (r : ReqId) (number : ℕ) → (x.req ≡ Some r → r.0 ≡ number) → (y.req ≡ Some r → r.0 ≡ number) → (cond b x y).req ≡ Some r → r.0 ≡ number
-if-next true x y r number p q is = p is
-if-next false x y r number p q is = q is
-
-low-next : (x : Session) (number : ℕ) (sess : SessId) (request : Request) (r : ReqId) → (too_low x number sess request).req ≡ Some r → r.0 ≡ x.view.next_request
-unfolding too_low silent
-low-next x number sess request r is = cc
-
-taken-next : (x : Session) (number : ℕ) (found : SessionView) (request : Request) (r : ReqId) → (taken x number found request).req ≡ Some r → r.0 ≡ x.view.next_request
-unfolding taken showing
-taken-next x number found request r is = some-next (next_id x) r is
-
-in-next : (x : Session) (number : ℕ) (sess : SessId) (found : Option SessionView) (request : Request) (r : ReqId) → (taken_in x number sess found request).req ≡ Some r → r.0 ≡ x.view.next_request
-unfolding taken_in silent
-in-next x number sess None request r is = cc
-in-next x number sess (Some found) request r is =
-    if-next (is_low (leg_of x.known sess) request) (too_low x number sess request) (taken x number found request) r x.view.next_request (low-next x number sess request r) (taken-next x number found request r) is
-
-request-next : (x : Session) (number : ℕ) (request : Request) (sess : Option SessId) (r : ReqId) → (prepared_request x number request sess).req ≡ Some r → r.0 ≡ x.view.next_request
-unfolding prepared_request silent
-request-next x number request None r is = cc
-request-next x number request (Some sess) r is = in-next x number sess (session_in x.view sess) request r is
 
 abbrev now_at : ℕ → Session → Session
 now_at now x = record x { view = record x.view { now = now } }

@@ -34,13 +34,14 @@ use Rattle.sc_hosts.specs.Preparing.{kept_of}
 use Rattle.sc_hosts.specs.RefusalParts.{draft_in}
 use Rattle.sc_hosts.specs.Refusals.{awaits_ack, begun_by, refusal}
 use Rattle.sc_hosts.specs.ViewChanges.{answered, invalidated, linked, settled_request, settled_requests, tidy, with_own_session}
-use Rattle.sc_hosts.specs.Working.{ack_with, acknowledges, cancels, dialog_in, does, does_by, invalidates, keeps_sent, proxies, sends, sends_in, sends_initial, sends_later, sends_written, worked}
+use Rattle.sc_hosts.specs.Working.{acknowledges, cancels, dialog_in, does, does_by, invalidates, keeps_sent, proxies, sends, sends_in, sends_initial, sends_later, sends_written, worked}
 use Rattle.sc_hosts.specs.Finishing.{lacks_final}
 use Rattle.sc_walked.specs.SessionWalks.{sent_kept}
-use Rattle.sc_walked.proofs.WalkCalls.{answering-known}
+use Rattle.sc_walked.proofs.WalkCalls.{answering-known, acknowledges-known}
 use Rattle.sc_walked.proofs.WalkParts.{each-first, each-map, if-is}
 use Rattle.sc_lasting.proofs.Numbers.{proxies-kept}
 use Rattle.sc_lasting.proofs.Parts.{removed-only, unlinked-only}
+use Rattle.sc_lasting.proofs.Began.{sent-number, sent-own}
 use Rattle.sc_replies.proofs.Owed.{Holds, IsAfter, after-answer, after-same, answered-holds, appended, appended-alone, changed-holds, renewed, sent-held, shown-holds, still, tidy-holds}
 
 -- within a turn
@@ -125,14 +126,6 @@ links-hold a b view known ok = ok
 abbrev after_sent : View → Draft → View
 after_sent view draft = record view { requests = view.requests ++ sent_view view draft ∷ []; next_request = view.next_request + 1; counter = view.counter + 1 }
 
-sent-number : (view : View) (draft : Draft) → (sent_view view draft).id.0 ≡ view.next_request
-unfolding sent_view
-sent-number view draft = refl
-
-sent-own : (view : View) (draft : Draft) → (sent_view view draft).received ≡ false
-unfolding sent_view
-sent-own view draft = refl
-
 sent-alone : (view : View) (draft : Draft) (known : Known) → Holds view known → Holds (after_sent view draft) known
 sent-alone view draft known ok = appended-alone view (after_sent view draft) known (sent_view view draft) refl refl (sent-number view draft) (sent-held known.kept (sent_view view draft) (sent-own view draft)) ok
 
@@ -162,17 +155,6 @@ sends-hold config number None None working ok = ok
 sends-hold config number None (Some draft) working ok = sent-alone working.play.view draft working.known ok
 
 -- ## Each call
-
-ack_with-known : (config : Config) (body : Bytes) (dialog : Option DialogState) (kept : Option Kept) (working : Working) → (ack_with config body dialog kept working).known ≡ working.known
-unfolding ack_with
-ack_with-known config body (Some dialog) (Some kept) working = refl
-ack_with-known config body (Some dialog) None working = refl
-ack_with-known config body None kept working = refl
-
-acknowledges-known : (config : Config) (sess : SessId) (body : Bytes) (request : Option RequestView) (working : Working) → (acknowledges config sess body request working).known ≡ working.known
-unfolding acknowledges
-acknowledges-known config sess body None working = refl
-acknowledges-known config sess body (Some request) working = ack_with-known config body (dialog_in working.known sess) (kept_of working.known request.id) working
 
 acks-hold : (view : View) (config : Config) (sess : SessId) (body : Bytes) (request : Option RequestView) (working : Working) → Holds view working.known → Holds view (acknowledges config sess body request working).known
 acks-hold view config sess body request working ok = rw (acknowledges-known config sess body request working) ok

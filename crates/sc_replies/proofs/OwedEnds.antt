@@ -50,6 +50,7 @@ use Rattle.sc_walked.proofs.WalkCalls.{answering-known}
 use Rattle.sc_lasting.specs.Lasting.{All}
 use Rattle.sc_lasting.proofs.Began.{same-number, test-found}
 use Rattle.sc_lasting.proofs.Parts.{all-filter}
+use Rattle.sc_lasting.proofs.Shared.{all-two}
 use Rattle.sc_replies.proofs.Owed.{Apart, Differs, Holds, IsBelow, IsFine, IsHeld, IsKept, answered-holds, answered_in-holds, dropped, own-number, tidy-holds, turned-round}
 use Rattle.sc_replies.proofs.OwedShown.{At, prepared-holds}
 use Rattle.sc_replies.proofs.OwedCalls.{InTurn, calls-hold, removed-holds}
@@ -250,11 +251,6 @@ light-one x r own held = λ received owed.
   where
     under-number : (a b : ReqId) → a.0 ≡ b.0 → (rs : List RequestView) (r : RequestView) → find (is_request b) rs ≡ Some r → find (is_request a) rs ≡ Some r
     under-number a b same rs r is = rw same is
-
-all-two : {A : Type 0} (P R S : A → Type 0) (xs : List A) → ((x : A) → P x → R x → S x) → All P xs → All R xs → All S xs
-unfolding All
-all-two P R S [] each p r = tt
-all-two P R S (x ∷ xs) each p r = (each x p.0 r.0, all-two P R S xs each p.1 r.1)
 
 -- each request is the one under its number
 abbrev IsOwn : List RequestView → RequestView → Type 0

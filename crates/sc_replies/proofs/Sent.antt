@@ -1,5 +1,5 @@
 -- Answers that are given one after the other; and the answer to a request that is kept.
-use Rattle.std.proofs.Common.{◌≡◌, ℕ, ◌++◌, Bool, true, false, Option, None, Some, List, [], ◌∷◌, refl, sym, ap, subst, ◌∙◌}
+use Rattle.std.proofs.Common.{◌≡◌, ℕ, ◌++◌, Bool, true, false, Option, None, Some, List, [], ◌∷◌, refl, sym, ap, subst, ◌∙◌, append_assoc, append-nil}
 use Rattle.std.proofs.lemmas.List.Elements.{filter_map-append}
 use Rattle.std.specs.Prelude.{cond, filter, is_some, not}
 use Rattle.std.specs.List.{find}
@@ -24,7 +24,7 @@ use Rattle.sc_model.specs.Dialogs.{tag_of}
 use Rattle.sc_model.specs.Responses.{response_head, response_to, tag_param, tagged, untagged, with_tag}
 use Rattle.sc_hosts.specs.Giving.{answer_order, answering, answers}
 use Rattle.sc_hosts.specs.Looking.{session_in}
-use Rattle.sc_hosts.specs.Messages.{answered_here, bare_answer, given_response, own_response, with_routes}
+use Rattle.sc_hosts.specs.Messages.{answered_here, bare_answer, given_response, own_response}
 use Rattle.sc_hosts.specs.Preparing.{kept_of, own_tag_of}
 use Rattle.sc_answered.specs.StateOf.{Asked}
 use Rattle.sc_answered.specs.Happened.{Happened, answer_to, asked_of, response_in}
@@ -34,16 +34,9 @@ use Rattle.sc_replies.proofs.Brought.{by-kept}
 use Rattle.sc_replies.proofs.Fine.{FineIn, brought-is}
 use Rattle.sc_replies.proofs.Owed.{IsKept}
 use Rattle.sc_replies.proofs.ShownCame.{HasCome}
+use Rattle.sc_replies.proofs.AnswerFields.{IsAlike, here-alike, routes-alike}
 
 -- ## One after the other
-
-append-assoc : {A : Type 0} (xs ys zs : List A) → (xs ++ ys) ++ zs ≡ xs ++ (ys ++ zs)
-append-assoc [] ys zs = refl
-append-assoc (x ∷ xs) ys zs = ap (λ more. x ∷ more) (append-assoc xs ys zs)
-
-no-more : {A : Type 0} (xs : List A) → xs ≡ xs ++ []
-no-more [] = refl
-no-more (x ∷ xs) = ap (λ ys. x ∷ ys) (no-more xs)
 
 -- more is given behind
 are-longer : (came : List Came) (answers : List Reply) (given more : List Order) → AreGiven came answers given → AreGiven came answers (given ++ more)
@@ -54,7 +47,7 @@ are-longer came (reply ∷ earlier) given more all = (
     before = all.0.before;
     order = all.0.order;
     later = all.0.later ++ more;
-    is = ap (λ (os : List Order). os ++ more) all.0.is ∙ append-assoc all.0.before (all.0.order ∷ all.0.later) more;
+    is = ap (λ (os : List Order). os ++ more) all.0.is ∙ append_assoc all.0.before (all.0.order ∷ all.0.later) more;
     answers = all.0.answers;
   },
   all.1,
@@ -69,7 +62,7 @@ are-then came (reply ∷ later) earlier given more first all = (
     before = given ++ all.0.before;
     order = all.0.order;
     later = all.0.later;
-    is = ap (λ (os : List Order). given ++ os) all.0.is ∙ sym (append-assoc given all.0.before (all.0.order ∷ all.0.later));
+    is = ap (λ (os : List Order). given ++ os) all.0.is ∙ sym (append_assoc given all.0.before (all.0.order ∷ all.0.later));
     answers = all.0.answers;
   },
   are-then came later earlier given all.0.before first all.1,
@@ -87,7 +80,7 @@ sends-none came before more = record { more = more; is = refl; given = tt }
 
 pub sends-same : (came : List Came) (before : List Order) → Sends came [] before before
 unfolding AreGiven
-sends-same came before = record { more = []; is = no-more before; given = tt }
+sends-same came before = record { more = []; is = sym (append-nil before); given = tt }
 
 -- from nothing on
 pub sends-any : (came : List Came) (after : List Order) → Sends came [] [] after
@@ -97,7 +90,7 @@ sends-any came after = record { more = after; is = refl; given = tt }
 pub sends-then : (came : List Came) (new more : List Happened) (xs ys zs : List Order) → Sends came new xs ys → Sends came more ys zs → Sends came (more ++ new) xs zs
 sends-then came new more xs ys zs p q = record {
   more = p.more ++ q.more;
-  is = q.is ∙ ap (λ (os : List Order). os ++ q.more) p.is ∙ append-assoc xs p.more q.more;
+  is = q.is ∙ ap (λ (os : List Order). os ++ q.more) p.is ∙ append_assoc xs p.more q.more;
   given = subst (λ (all : List Reply). AreGiven came all (p.more ++ q.more)) (sym (filter_map-append (λ (one : Happened). reply_in one.what) more new))
       (are-then came (replies more) (replies new) p.more q.more p.given q.given);
 }
@@ -105,7 +98,7 @@ sends-then came new more xs ys zs p q = record {
 -- where nothing is told first
 pub sends-next : (came : List Came) (new : List Happened) (xs ys zs : List Order) → Sends came [] xs ys → Sends came new ys zs → Sends came new xs zs
 sends-next came new xs ys zs p q =
-    subst (λ (all : List Happened). Sends came all xs zs) (sym (no-more new)) (sends-then came [] new xs ys zs p q)
+    subst (λ (all : List Happened). Sends came all xs zs) (append-nil new) (sends-then came [] new xs ys zs p q)
 
 -- where nothing is told next
 pub sends-still : (came : List Came) (new : List Happened) (xs ys zs : List Order) → Sends came new xs ys → Sends came [] ys zs → Sends came new xs zs
@@ -175,23 +168,6 @@ pub own-tagged : (tag : Bytes) (code : ℕ) (reason : Bytes) (request : Request)
 unfolding own_response response_to response_head bare_answer
 own-tagged tag code reason request = has-tag tag request.head.to
 
--- the same code and To
-record IsAlike (y z : Response) : Type 0 where
-  code : z.code ≡ y.code
-  to : z.head.to ≡ y.head.to
-
-if-alike : (b : Bool) (r y z : Response) → IsAlike r y → IsAlike r z → IsAlike r (cond b y z)
-if-alike true r y z p q = p
-if-alike false r y z p q = q
-
-here-alike : (config : Config) (view : View) (request : Request) (r : Response) → IsAlike r (answered_here config view request r)
-unfolding answered_here
-here-alike config view request r = if-alike _ r _ r (record { code = refl; to = refl }) (record { code = refl; to = refl })
-
-routes-alike : (initial : Bool) (request : Request) (r : Response) → IsAlike r (with_routes initial request r)
-unfolding with_routes
-routes-alike initial request r = if-alike _ r _ r (record { code = refl; to = refl }) (record { code = refl; to = refl })
-
 to-tagged : (tag : Bytes) (request : Request) (answer : Answer) → is_some (tag_of (response_to tag request answer).head.to) ≡ true
 unfolding response_to response_head
 to-tagged tag request answer = has-tag tag request.head.to
@@ -206,7 +182,14 @@ unfolding given_response
 given-alike config view tag initial request answer =
     let here = here-alike config view request (response_to tag request answer) in
     let routes = routes-alike initial request (answered_here config view request (response_to tag request answer)) in
-    record { code = routes.code ∙ here.code; to = routes.to ∙ here.to }
+    record {
+      code = routes.code ∙ here.code;
+      via = routes.via ∙ here.via;
+      from = routes.from ∙ here.from;
+      to = routes.to ∙ here.to;
+      call_id = routes.call_id ∙ here.call_id;
+      cseq = routes.cseq ∙ here.cseq;
+    }
 
 given-code : (config : Config) (view : View) (tag : Bytes) (initial : Bool) (request : Request) (answer : Answer) → (given_response config view tag initial request answer).code ≡ answer.code
 given-code config view tag initial request answer = (given-alike config view tag initial request answer).code ∙ to-code tag request answer

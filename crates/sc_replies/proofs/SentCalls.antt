@@ -35,7 +35,7 @@ use Rattle.sc_hosts.specs.Preparing.{kept_of}
 use Rattle.sc_hosts.specs.RefusalParts.{draft_in}
 use Rattle.sc_hosts.specs.Refusals.{awaits_ack, b2b_respond_refusal, begun_by, own_refusal, refusal, respond_refusal}
 use Rattle.sc_hosts.specs.Working.{ack_with, acknowledges, cancels, dialog_in, does, does_by, invalidates, keeps_sent, sends, sends_in, sends_initial, sends_later, sends_written, sent_branch, worked}
-use Rattle.sc_lasting.proofs.Began.{first-passed, or-left, or-right}
+use Rattle.sc_lasting.proofs.Began.{first-passed, or-left, or-right, not-false}
 use Rattle.sc_lasting.proofs.Parts.{all-found}
 use Rattle.sc_answered.specs.Happened.{answer_to, given, given_by, given_if}
 use Rattle.sc_replies.specs.Came.{Came}
@@ -46,10 +46,6 @@ use Rattle.sc_replies.proofs.ShownCame.{HasCome, IsCome}
 use Rattle.sc_replies.proofs.Sent.{Sends, answering-sends, sends-none, sends-same, sends-then}
 
 -- ## What an accepted answer says of its request
-
-not-false : (b : Bool) → not b ≡ false → b ≡ true
-not-false true is = refl
-not-false false is = cc
 
 lacks-by : (final : Option ℕ) (is_ack : Bool) → is_some final ≡ false → is_ack ≡ false → (is_none final && not is_ack) ≡ true
 lacks-by None true p q = cc

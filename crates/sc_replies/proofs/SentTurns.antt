@@ -1,5 +1,5 @@
 -- What each turn of a history answers it gives to send.
-use Rattle.std.proofs.Common.{◌≡◌, ℕ, ◌++◌, Bool, true, false, Option, None, Some, List, [], ◌∷◌, refl, sym, ap, ◌∙◌, subst}
+use Rattle.std.proofs.Common.{◌≡◌, ℕ, ◌++◌, Bool, true, false, Option, None, Some, List, [], ◌∷◌, refl, sym, ap, ◌∙◌, subst, append_assoc, append-nil}
 use Rattle.std.specs.Prelude.{◌&&◌, cond, is_none, not}
 use Rattle.std.specs.List.{find}
 use Rattle.sc_tokens.specs.Names.{same_bytes}
@@ -57,10 +57,6 @@ use Rattle.sc_replies.proofs.SentEnds.{called-sends, found-brought}
 
 abbrev orders_in : Prepared → List Order
 orders_in shown = shown.orders
-
-no-more : {A : Type 0} (xs : List A) → xs ≡ xs ++ []
-no-more [] = refl
-no-more (x ∷ xs) = ap (λ ys. x ∷ ys) (no-more xs)
 
 -- ## What the container answers first
 
@@ -157,7 +153,7 @@ for-sends came config ringing x number (queued.Request request) fit as_came =
     (last-has came (record { id = next_id x; event = number; request = request }) req.0 (sym is)))
 for-sends came config ringing x number (queued.Response branch response) fit as_came = sends-any _ _
 for-sends came config ringing x number (queued.Cancelled event) fit as_came =
-    cancel-sends (came ++ []) x (is_invited event) (find (is_invited event) x.known.invited) refl (subst (λ (all : List Came). FineAt all x) (no-more came) fit) (more-came came [] x.known as_came)
+    cancel-sends (came ++ []) x (is_invited event) (find (is_invited event) x.known.invited) refl (subst (λ (all : List Came). FineAt all x) (sym (append-nil came)) fit) (more-came came [] x.known as_came)
 for-sends came config ringing x number (queued.Timer id) fit as_came = sends-any _ _
 for-sends came config ringing x number (queued.BranchTimer branch due) fit as_came = sends-any _ _
 for-sends came config ringing x number queued.Expired fit as_came = sends-any _ _
@@ -236,16 +232,12 @@ turns-give (turn ∷ earlier) config history =
 pub histories-give : (config : Config) (history : History) → GaveAll config history history.turns
 histories-give config history = turns-give history.turns config history
 
-append-assoc : {A : Type 0} (xs ys zs : List A) → xs ++ (ys ++ zs) ≡ (xs ++ ys) ++ zs
-append-assoc [] ys zs = refl
-append-assoc (x ∷ xs) ys zs = ap (λ more. x ∷ more) (append-assoc xs ys zs)
-
 heard-parts : (x : Session) (number : ℕ) (event : Queued) → heard x number event ≡ answered_first x number event ++ came x event
 unfolding heard answered_first came
 heard-parts x number (queued.Initial region subscriber popped request) = refl
-heard-parts x number (queued.Request request) = no-more (told_low x number request (session_for x request))
+heard-parts x number (queued.Request request) = sym (append-nil (told_low x number request (session_for x request)))
 heard-parts x number (queued.Response branch response) = refl
-heard-parts x number (queued.Cancelled event) = no-more (cancelled x (find (is_invited event) x.known.invited))
+heard-parts x number (queued.Cancelled event) = sym (append-nil (cancelled x (find (is_invited event) x.known.invited)))
 heard-parts x number (queued.Timer id) = refl
 heard-parts x number (queued.BranchTimer branch due) = refl
 heard-parts x number queued.Expired = refl
@@ -257,7 +249,7 @@ unfolding happened_by gave
 turn-parts config x turn =
     let shown : _ = shown_by config turn (prepared config turn.ringing x turn.waiting turn.now) in
     ap (λ more. shown ++ more) (heard-parts (at_moment turn.now x) turn.waiting.number turn.waiting.event)
-    ∙ append-assoc shown (answered_first (at_moment turn.now x) turn.waiting.number turn.waiting.event) (came (at_moment turn.now x) turn.waiting.event)
+    ∙ sym (append_assoc shown (answered_first (at_moment turn.now x) turn.waiting.number turn.waiting.event) (came (at_moment turn.now x) turn.waiting.event))
 
 pub live-history : (setup : Setup) (epoch began : ℕ) (journal : List Step) (app : AppId) (live : Live History)
     → IsLawful (as_history setup.config) setup epoch began journal → live_at app (chained (as_history setup.config) setup epoch began journal) ≡ Some live

@@ -36,6 +36,7 @@ use Rattle.sc_walked.proofs.WalkParts.{each-first, each-map}
 use Rattle.sc_walked.proofs.WalkShown.{prepared-walks}
 use Rattle.sc_lasting.specs.Lasting.{All}
 use Rattle.sc_lasting.proofs.Parts.{all-append, all-each, all-filter, all-first, all-insert, all-map, removed-only, unlinked-only}
+use Rattle.sc_lasting.proofs.Began.{sent-own}
 use Rattle.sc_replies.specs.Came.{Came, brought}
 use Rattle.sc_replies.proofs.Owed.{IsAfter, after-same, final-after, found-more, own-number, there-after}
 
@@ -68,10 +69,6 @@ unreceived came r sent = λ received. absurd (clash r.received received sent)
   where
     clash : (b : Bool) → b ≡ true → b ≡ false → ⊥
     clash b p q = cc
-
-sent-own : (view : View) (draft : Draft) → (sent_view view draft).received ≡ false
-unfolding sent_view
-sent-own view draft = refl
 
 module _ (came : List Came) where
   -- ## Each change

@@ -1,6 +1,6 @@
 -- The answers to an INVITE at the end of its way return its Record-Route.
 use Rattle.std.proofs.Common.{◌≡◌, inl, inr, ℕ, Bool, true, false, Option, None, Some, List, [], ◌∷◌, refl, sym, ap, subst, ◌∙◌, arith}
-use Rattle.std.specs.Prelude.{◌==◌, ◌&&◌, ◌||◌, cond, is_none, is_some, option_and_then}
+use Rattle.std.specs.Prelude.{◌==◌, ◌&&◌, ◌||◌, cond, is_none, is_some}
 use Rattle.std.specs.List.{cons_option, filter_map, find, flat_map}
 use Rattle.std.specs.Option.{option_map_or}
 use Rattle.std.proofs.lemmas.Bool.Decides.{nat_tests}
@@ -32,6 +32,7 @@ use Rattle.sc_lasting.specs.Lasting.{All}
 use Rattle.sc_recorded.proofs.Chain.{first-in}
 use Rattle.sc_lasting.proofs.Began.{same-number, test-found}
 use Rattle.sc_lasting.proofs.Parts.{all-both, all-found, all-map}
+use Rattle.sc_lasting.proofs.Shared.{found-behind}
 use Rattle.sc_keyed.specs.Keyed.{IsIn}
 use Rattle.sc_keyed.proofs.ClientKeys.{app-is}
 use Rattle.sc_paths.specs.Moments.{Moment, began_with, first_server, given_in, is_first_of, moments, moments_from, proxied_with}
@@ -145,10 +146,6 @@ module _ (setup : Setup) (app : AppId) (final : List Arrival) (single : AreSingl
 
 -- ## The law
 
-through : {A B : Type 0} (next : A → Option B) (found : Option A) (b : B) → option_and_then next found ≡ Some b → (a : A) × (found ≡ Some a) × (next a ≡ Some b)
-through next None b is = cc
-through {A = A} next (Some a) b is = (a, refl, is)
-
 received-is : (b : Bool) (found : Option Server) (server : Server) → cond b None found ≡ Some server → found ≡ Some server
 received-is true found server is = cc
 received-is false found server is = is
@@ -166,7 +163,7 @@ module _ (setup : Setup) (epoch began : ℕ) (journal : List Step) (lawful : IsL
     found-at : (final : List Arrival) (moment : Moment) → IsAt setup epoch began journal app none final moment → (server : Server) → first_server app moment.after ≡ Some server → HasOne app final server
     unfolding first_server
     found-at final moment at server is =
-        let found = through (λ (host : Host Session). find (is_first_of app) host.servers) (host_at app.host moment.after) server is in
+        let found = found-behind (λ (host : Host Session). find (is_first_of app) host.servers) (host_at app.host moment.after) server is in
         let tests = both _ _ (test-found (is_first_of app) found.0.servers server found.2) in
         record {
           its = app-is server.app app tests.0;

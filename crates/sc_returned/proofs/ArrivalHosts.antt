@@ -1,9 +1,8 @@
 -- What a host keeps of a request that came to a session goes by the number of its event: its server transaction and that event are of one
 -- request and one session.
 use Rattle.std.proofs.Common.{◌≡◌, ◌≤◌, ◌⊎◌, inl, inr, ℕ, ◌+◌, ◌++◌, Bool, true, false, Option, None, Some, List, [], ◌∷◌, refl, sym, ap, subst, ◌∙◌, arith}
-use Rattle.std.specs.Prelude.{◌==◌, cond, drop, is_none, is_some, option_and_then, slice_get}
+use Rattle.std.specs.Prelude.{◌==◌, cond, is_none, is_some, option_and_then}
 use Rattle.std.specs.List.{find}
-use Rattle.std.specs.Option.{option_map_or}
 use Rattle.std.proofs.lemmas.Bool.Decides.{nat_tests}
 use Rattle.sc_tokens.specs.Names.{same_bytes}
 use Rattle.sc_value.specs.Lists.{change_first}
@@ -31,7 +30,6 @@ use Rattle.sc_state.specs.declared.queue.Queued.TheVariants as queued
 use Rattle.sc_state.specs.declared.queue.Waiting.{Waiting}
 use Rattle.sc_grammar.specs.Written.{Bytes}
 use Rattle.sc_model.specs.Dialogs.{tag_of}
-use Rattle.sc_model.specs.OwnHosts.{is_own}
 use Rattle.sc_model.specs.SessionStates.{ack, invite}
 use Rattle.sc_hosts.proofs.EachSort.{takes-by}
 use Rattle.sc_hosts.specs.Inboxes.{is_live, live_in, queue, quiet, replying, with_event}
@@ -46,6 +44,8 @@ use Rattle.sc_lasting.proofs.Began.{same-number, test-found}
 use Rattle.sc_lasting.proofs.Parts.{all-append, all-filter, all-first, all-map}
 use Rattle.sc_keyed.specs.Keyed.{IsIn}
 use Rattle.sc_replies.specs.Fields.{Incoming, incoming}
+use Rattle.sc_ways.proofs.FirstHop.{in-left, in-last}
+use Rattle.sc_recorded.proofs.Hosts.{unrouted-to}
 
 -- ## Requests that came
 
@@ -73,17 +73,6 @@ Grows arrivals count later after =
     ((later ≡ arrivals) × (count ≤ after))
     ⊎ ((request : Request) × (new : Arrival) × (new.came ≡ as_came request) × (new.number ≡ count + 1) × (later ≡ arrivals ++ new ∷ []) × (count + 1 ≤ after))
 
-pub in-first : {A : Type 0} (x : A) (xs ys : List A) → IsIn x xs → IsIn x (xs ++ ys)
-unfolding IsIn
-in-first x [] ys among = absurd among
-in-first x (y ∷ xs) ys (inl is) = inl is
-in-first x (y ∷ xs) ys (inr among) = inr (in-first x xs ys among)
-
-pub in-last : {A : Type 0} (x : A) (xs : List A) → IsIn x (xs ++ x ∷ [])
-unfolding IsIn
-in-last x [] = inl refl
-in-last x (y ∷ xs) = inr (in-last x xs)
-
 -- what is told of the sessions of a form, by the requests that came
 pub record AreKept {S : Type 0} (form : Form S) (Lives : List Arrival → AppId → S → Type 0) : Type 0 where
   pub begins : (arrivals : List Arrival) (config : Config) (app : AppId) (epoch now : ℕ) (noted : Note) (request : Request) → Lives arrivals app (form.begin config app epoch now noted request)
@@ -104,14 +93,6 @@ then-up a b c p q = omega (arith, p, q)
 
 is-up : (a b : ℕ) → b ≡ a → a ≤ b
 is-up a b is = omega (arith, is)
-
-unrouted-to : (config : Config) (request : Request) → (unrouted config request).head.to ≡ request.head.to
-unfolding unrouted
-unrouted-to config request = by (option_map_or (λ route. is_own config route.uri) (slice_get request.head.route 0) false)
-  where
-    by : (b : Bool) → (cond b (record request { head = record request.head { route = drop 1 request.head.route } }) request).head.to ≡ request.head.to
-    by true = refl
-    by false = refl
 
 equal-numbers : (a b : ℕ) → a ≡ b → (a == b) ≡ true
 equal-numbers a b is = grind (arith, nat_tests, is)
@@ -161,10 +142,10 @@ module _ {S : Type 0} (form : Form S) (Lives : List Arrival → AppId → S → 
   -- ## More came
 
   more-noted : (arrivals new : List Arrival) (app : AppId) (waiting : Waiting) → Noted arrivals app waiting → Noted (arrivals ++ new) app waiting
-  more-noted arrivals new app waiting noted = λ came is. in-first (record { number = waiting.number; app = app; came = came }) arrivals new (noted came is)
+  more-noted arrivals new app waiting noted = λ came is. in-left (record { number = waiting.number; app = app; came = came }) arrivals new (noted came is)
 
   more-server : (arrivals new : List Arrival) (server : Server) → ServerIn arrivals server → ServerIn (arrivals ++ new) server
-  more-server arrivals new server is = in-first (record { number = server.event; app = server.app; came = as_came server.request }) arrivals new is
+  more-server arrivals new server is = in-left (record { number = server.event; app = server.app; came = as_came server.request }) arrivals new is
 
   more-live : (arrivals new : List Arrival) (number : ℕ) (live : Live S) → LiveIn arrivals number live → LiveIn (arrivals ++ new) number live
   more-live arrivals new number live ok =

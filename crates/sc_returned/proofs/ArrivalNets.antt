@@ -1,6 +1,6 @@
 -- What a session gives to send, and what is delivered, keeps what a net has of requests that came.
 use Rattle.std.proofs.Common.{◌≡◌, ◌≤◌, inl, inr, ℕ, ◌+◌, zero, suc, ◌++◌, Bool, true, false, Option, None, Some, List, [], ◌∷◌, refl, sym, ap, subst, append_assoc, append-nil, ◌∙◌, arith}
-use Rattle.std.specs.Prelude.{◌==◌, cond, drop, is_none, slice_get}
+use Rattle.std.specs.Prelude.{◌==◌, cond, drop, is_none}
 use Rattle.sc_value.specs.declared.ids.AppId.{AppId}
 use Rattle.sc_value.specs.declared.ids.Place.{Place}
 use Rattle.sc_value.specs.declared.message.Message.{Message}
@@ -86,14 +86,6 @@ next-up n count after is up = omega (arith, is, up)
 
 past-up : (n count after : ℕ) → n ≤ count → count + 1 ≤ after → n ≤ after
 past-up n count after most up = omega (arith, most, up)
-
-pub first-at : {A : Type 0} (P : A → Type 0) (xs : List A) (x : A) → slice_get xs 0 ≡ Some x → All P xs → P x
-unfolding All
-first-at P [] x is all = cc
-first-at {A = A} P (y ∷ xs) x is all = subst P (same y x is) all.0
-  where
-    same : (y x : A) → Some y ≡ Some x → y ≡ x
-    same y x is = cc
 
 module _ {S : Type 0} (form : Form S) (Lives : List Arrival → AppId → S → Type 0) (kept : AreKept form Lives) where
   abbrev Right : List Arrival → ℕ → Host S → Type 0

@@ -1,6 +1,6 @@
 -- Each step keeps what a net has of requests that came.
 use Rattle.std.proofs.Common.{◌≡◌, ℕ, ◌++◌, Bool, true, false, Option, None, Some, List, [], ◌∷◌, refl, sym, subst}
-use Rattle.std.specs.Prelude.{cond, drop, option_and_then, slice_get}
+use Rattle.std.specs.Prelude.{cond, option_and_then, slice_get}
 use Rattle.std.specs.List.{fold}
 use Rattle.sc_value.specs.Lists.{change_first}
 use Rattle.sc_value.specs.declared.answerable.Answerable.{Answerable}
@@ -50,15 +50,11 @@ use Rattle.sc_hosts.specs.Words.{unavailable}
 use Rattle.sc_lasting.specs.Lasting.{All}
 use Rattle.sc_lasting.proofs.Began.{same-number, test-found}
 use Rattle.sc_lasting.proofs.Parts.{all-filter, all-first, all-found, all-removed}
+use Rattle.sc_lasting.proofs.Shared.{all-rest, all-at}
 use Rattle.sc_walks.proofs.DueEvents.{AreGood, IsGoodItem, due-good}
 use Rattle.sc_replies.specs.Fields.{incoming}
 use Rattle.sc_returned.proofs.ArrivalHosts.{AreKept, Arrival, HostIn, LiveIn, Noted, ServerIn, pass_server-good, takes-began}
-use Rattle.sc_returned.proofs.ArrivalNets.{Goes, Holds, changes, delivered-goes, first-at, goes, goes-then, if-goes, if-holds, obeyed-holds, passed-holds, placed-goes, put-holds, queue_for-holds}
-
-rest-of : {A : Type 0} (P : A → Type 0) (xs : List A) → All P xs → All P (drop 1 xs)
-unfolding All
-rest-of P [] all = tt
-rest-of P (x ∷ xs) all = all.1
+use Rattle.sc_returned.proofs.ArrivalNets.{Goes, Holds, changes, delivered-goes, goes, goes-then, if-goes, if-holds, obeyed-holds, passed-holds, placed-goes, put-holds, queue_for-holds}
 
 -- it brings no request
 unfoldable IsQuiet : Queued → Type 0
@@ -222,7 +218,7 @@ module _ {S : Type 0} (form : Form S) (Lives : List Arrival → AppId → S → 
   unfolding turned_live
   turned-in arrivals number now turn done live noted ok =
       let app : AppId = record { host = number; serial = live.serial } in
-      (rest-of (Noted arrivals app) live.inbox ok.0, kept.turned arrivals app setup.config turn live.session noted ok.1)
+      (all-rest (Noted arrivals app) live.inbox ok.0, kept.turned arrivals app setup.config turn live.session noted ok.1)
 
   turned-kept : (arrivals : List Arrival) (of : AppId) (turn : Turn) (done : Outcome) (net : Net S) → Noted arrivals of turn.waiting → Keeps arrivals net → Keeps arrivals (turned form setup of turn done net)
   unfolding turned
@@ -259,7 +255,7 @@ module _ {S : Type 0} (form : Form S) (Lives : List Arrival → AppId → S → 
   unfolding turns
   turns-kept arrivals of None now made end net at holds = holds
   turns-kept arrivals of (Some live) now made end net at holds =
-      turns_first-kept arrivals of live (slice_get live.inbox 0) now made end net (λ first is. first-at (Noted arrivals of) live.inbox first is (live-in arrivals of net live at holds).0) holds
+      turns_first-kept arrivals of live (slice_get live.inbox 0) now made end net (λ first is. all-at (Noted arrivals of) live.inbox 0 first is (live-in arrivals of net live at holds).0) holds
 
   withdrawn-kept : (arrivals : List Arrival) (of : AppId) (live : Option (Live S)) (net : Net S) → Keeps arrivals net → Keeps arrivals (withdrawn form setup of live net)
   unfolding withdrawn

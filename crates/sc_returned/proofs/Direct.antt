@@ -1,6 +1,6 @@
 -- A session that proxied nothing by a call proxies later requests alone.
 use Rattle.std.proofs.Common.{◌≡◌, inl, inr, ℕ, ◌++◌, Bool, true, false, Option, None, Some, List, [], ◌∷◌, refl, sym, subst, arith}
-use Rattle.std.specs.Prelude.{◌==◌, ◌&&◌, cond, is_none, is_some, slice_get}
+use Rattle.std.specs.Prelude.{◌==◌, ◌&&◌, cond, is_none, is_some}
 use Rattle.std.specs.List.{cons_option, filter_map, flat_map}
 use Rattle.std.proofs.lemmas.Bool.Decides.{nat_tests}
 use Rattle.sc_value.specs.declared.ids.AppId.{AppId}
@@ -29,14 +29,17 @@ use Rattle.sc_hosts.specs.Histories.{History, as_session}
 use Rattle.sc_hosts.specs.Runs.{after_step}
 use Rattle.sc_hosts.specs.Sessions.{Turn}
 use Rattle.sc_hosts.specs.Transacting.{is_same_app}
+use Rattle.sc_hosts.specs.Scripting.{is_refused}
 use Rattle.sc_walked.specs.SessionWalks.{AreDone}
 use Rattle.sc_lasting.specs.Lasting.{All, Directly, IsLife}
-use Rattle.sc_lived.specs.Lived.{AreAccepted, Told, is_refused, told, told_by, turned_events}
+use Rattle.sc_lasting.proofs.Shared.{all-last}
+use Rattle.sc_lived.specs.Lived.{AreAccepted, Told, told, told_by, turned_events}
 use Rattle.sc_paths.specs.Moments.{Moment, moments_from, options_in, options_of, proxied_with}
 use Rattle.sc_proxied.specs.ProxyLists.{ProxyEvent}
 use Rattle.sc_proxying.specs.Proxying.{AreOfTurns, BeginsBy, BeginsIn, IsPassed}
 use Rattle.sc_keyed.specs.Keyed.{IsIn}
 use Rattle.sc_replies.specs.Fields.{Incoming, incoming}
+use Rattle.sc_ways.proofs.Directs.{none-first}
 use Rattle.sc_returned.proofs.ArrivalHosts.{Arrival, Noted}
 use Rattle.sc_returned.proofs.ArrivalNets.{IsAsCome, all-in}
 
@@ -137,10 +140,6 @@ none-steps app setup (step ∷ journal) net is =
     let both = none-both (options_in app step) (flat_map (λ (moment : Moment). options_in app moment.step) (moments_from setup (after_step as_session setup net step) journal)) is in
     (both.0, none-steps app setup journal (after_step as_session setup net step) both.1)
 
-none-first : {A : Type 0} (xs : List A) → slice_get xs 0 ≡ None → xs ≡ []
-none-first [] is = refl
-none-first (x ∷ xs) is = cc
-
 -- where no call of the session proxied in a run
 pub none-proxied : (app : AppId) (setup : Setup) (journal : List Step) (net : Net Session) → proxied_with (moments_from setup net journal) app ≡ None → All (TellsNone app) journal
 unfolding proxied_with
@@ -198,11 +197,6 @@ passed-tagged arrivals of number (queued.BranchTimer branch due) first own passe
 passed-tagged arrivals of number queued.Expired first own passed noted come = absurd passed
 passed-tagged arrivals of number queued.Ready first own passed noted come = absurd passed
 
-last-of : {A : Type 0} (P : A → Type 0) (xs : List A) (x : A) → All P (xs ++ x ∷ []) → All P xs × P x
-unfolding All
-last-of P [] x all = (tt, all.0)
-last-of P (y ∷ xs) x all = let rest = last-of P xs x all.1 in ((all.0, rest.0), rest.1)
-
 -- it is a later request
 pub turns-tagged : (turns : List Turn) (config : Config) (history : History) (first : Proxy) (events : List ProxyEvent) (arrivals : List Arrival) (of : AppId)
     → AreOfTurns config history first turns events → IsLife (λ event. Unit {0}) Directly config history turns → All (Noted arrivals of) (turned_events turns) → All IsAsCome arrivals
@@ -211,6 +205,6 @@ unfolding AreOfTurns IsLife turned_events
 turns-tagged [] config history first events arrivals of told life noted come = absurd told
 turns-tagged (turn ∷ earlier) config history first events arrivals of (inl begun) life noted come = absurd (in-none first turn.calls _ begun.given life.1 begun.of_calls)
 turns-tagged (turn ∷ earlier) config history first events arrivals of (inr (inl passed)) life noted come =
-    passed-tagged arrivals of turn.waiting.number turn.waiting.event first events passed (last-of (Noted arrivals of) (turned_events earlier) turn.waiting noted).1 come
+    passed-tagged arrivals of turn.waiting.number turn.waiting.event first events passed (all-last (Noted arrivals of) (turned_events earlier) turn.waiting noted).1 come
 turns-tagged (turn ∷ earlier) config history first events arrivals of (inr (inr more)) life noted come =
-    turns-tagged earlier config history first more.1 arrivals of more.4 life.2 (last-of (Noted arrivals of) (turned_events earlier) turn.waiting noted).0 come
+    turns-tagged earlier config history first more.1 arrivals of more.4 life.2 (all-last (Noted arrivals of) (turned_events earlier) turn.waiting noted).0 come

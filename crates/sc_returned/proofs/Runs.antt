@@ -1,13 +1,12 @@
 -- At each moment of a lawful run: what server transactions and sessions have of requests that came, and which request each response is to.
-use Rattle.std.proofs.Common.{◌≡◌, ◌⊎◌, inl, inr, ℕ, zero, suc, ◌++◌, true, Option, None, Some, List, [], ◌∷◌, refl, sym, ap, subst, append_assoc, append-nil, ◌∙◌}
-use Rattle.std.specs.Prelude.{◌==◌, is_some, map, option_map, slice_get}
+use Rattle.std.proofs.Common.{◌≡◌, ◌⊎◌, inl, inr, ℕ, ◌++◌, true, Option, None, Some, List, [], ◌∷◌, refl, sym, ap, subst, append_assoc, append-nil, ◌∙◌}
+use Rattle.std.specs.Prelude.{◌==◌, is_some, option_map, slice_get}
 use Rattle.std.specs.List.{find}
 use Rattle.std.specs.Option.{option_map_or}
 use Rattle.sc_value.specs.declared.ids.AppId.{AppId}
 use Rattle.sc_value.specs.declared.message.Response.{Response}
 use Rattle.sc_terms.specs.declared.calls.CallRecord.{CallRecord}
 use Rattle.sc_terms.specs.declared.calls.End.{End}
-use Rattle.sc_terms.specs.declared.settings.AppEntry.{AppEntry}
 use Rattle.sc_terms.specs.declared.settings.Config.{Config}
 use Rattle.sc_terms.specs.declared.steps.Step.{Step}
 use Rattle.sc_terms.specs.declared.steps.Step.TheVariants as steps
@@ -34,8 +33,9 @@ use Rattle.sc_forms.specs.Simulations.{map_host}
 use Rattle.sc_forms.proofs.HistoryLaws.{chained-histories, lawful_back-histories}
 use Rattle.sc_forms.proofs.NetMaps.{host_at-maps}
 use Rattle.sc_lasting.specs.Lasting.{All, Directly}
-use Rattle.sc_recorded.proofs.Runs.{chained-next, lawful-front}
+use Rattle.sc_recorded.proofs.Runs.{chained-next, lawful-front, quiet-is}
 use Rattle.sc_lasting.proofs.Parts.{all-append, all-found, all-map}
+use Rattle.sc_lasting.proofs.Shared.{all-at}
 use Rattle.sc_lived.specs.Lived.{AreAccepted, AreTaken, IsLived, MayTake, Told, told, told_of, told_turns, turned_events}
 use Rattle.sc_lived.proofs.Accepted.{life-done, read-after}
 use Rattle.sc_lived.proofs.Sayings.{Read, has-lived, read-at, same-taken}
@@ -46,8 +46,9 @@ use Rattle.sc_keyed.specs.Keyed.{IsIn}
 use Rattle.sc_replies.specs.Fields.{Answers, AnswersAll, Incoming, IsAnswerTo, WasBrought}
 use Rattle.sc_replies.specs.Replies.{orders_of}
 use Rattle.sc_replies.proofs.AnswerTurns.{histories-answer}
-use Rattle.sc_returned.proofs.ArrivalHosts.{AreKept, Arrival, HostIn, Noted, ServerIn, in-first}
-use Rattle.sc_returned.proofs.ArrivalNets.{AreSingle, Goes, Holds, first-at}
+use Rattle.sc_ways.proofs.FirstHop.{in-left}
+use Rattle.sc_returned.proofs.ArrivalHosts.{AreKept, Arrival, HostIn, Noted, ServerIn}
+use Rattle.sc_returned.proofs.ArrivalNets.{AreSingle, Goes, Holds}
 use Rattle.sc_returned.proofs.ArrivalSteps.{live-in, step-goes}
 use Rattle.sc_returned.proofs.Direct.{IsDirectly, TellsNone, told-direct, turn-direct, turns-tagged}
 
@@ -60,7 +61,7 @@ LivesOf arrivals app history = All (Noted arrivals app) (turned_events history.t
 more-of : (arrivals new : List Arrival) (app : AppId) (events : List Waiting) → All (Noted arrivals app) events → All (Noted (arrivals ++ new) app) events
 more-of arrivals new app events all =
     all-map (Noted arrivals app) (Noted (arrivals ++ new) app) events
-    (λ waiting noted came is. in-first (record { number = waiting.number; app = app; came = came }) arrivals new (noted came is)) all
+    (λ waiting noted came is. in-left (record { number = waiting.number; app = app; came = came }) arrivals new (noted came is)) all
 
 kept-of : (config : Config) → AreKept (as_history config) LivesOf
 unfolding LivesOf as_history begun_history turned_history turned_events All
@@ -76,11 +77,6 @@ parts-of : {A : Type 0} (P : A → Type 0) (xs ys : List A) → All P (xs ++ ys)
 unfolding All
 parts-of P [] ys all = (tt, all)
 parts-of P (x ∷ xs) ys all = let rest = parts-of P xs ys all.1 in ((all.0, rest.0), rest.1)
-
-quiet-is : {S : Type 0} (apps : List AppEntry) (number : ℕ) (host : Host S) → slice_get (map (λ app. quiet_host {S = S}) apps) number ≡ Some host → host ≡ quiet_host
-quiet-is [] number host at = cc
-quiet-is (app ∷ apps) zero host at = cc
-quiet-is (app ∷ apps) (suc number) host at = quiet-is apps number host at
 
 -- ## Responses
 
@@ -100,8 +96,8 @@ unfolding Responds
 more-responds app arrivals new (orders.Respond number response) responds = (responds.0, by responds.1)
   where
     by : IsTo app arrivals responds.0 number response → IsTo app (arrivals ++ new) responds.0 number response
-    by (inl one) = inl (one.0, in-first (record { number = number; app = responds.0; came = one.0 }) arrivals new one.1, one.2)
-    by (inr one) = inr (one.0, in-first (record { number = number; app = responds.0; came = one.0 }) arrivals new one.1, one.2)
+    by (inl one) = inl (one.0, in-left (record { number = number; app = responds.0; came = one.0 }) arrivals new one.1, one.2)
+    by (inr one) = inr (one.0, in-left (record { number = number; app = responds.0; came = one.0 }) arrivals new one.1, one.2)
 more-responds app arrivals new (orders.Begin branch directive region state request) responds = tt
 more-responds app arrivals new (orders.Send branch request) responds = tt
 more-responds app arrivals new (orders.Acknowledge request) responds = tt
@@ -177,7 +173,7 @@ module _ (setup : Setup) (epoch began : ℕ) (journal : List Step) (app : AppId)
       unfolding LivesOf turned_events turn_of
       noted =
           all-append (Noted arrivals of) (turned_events history.turns) waiting was-noted.1
-          (first-at (Noted arrivals of) read.old.inbox waiting (subst (λ (inbox : List Waiting). slice_get inbox 0 ≡ Some waiting) read.inbox_is at) was-noted.0)
+          (all-at (Noted arrivals of) read.old.inbox 0 waiting (subst (λ (inbox : List Waiting). slice_get inbox 0 ≡ Some waiting) read.inbox_is at) was-noted.0)
 
       session-is : live.session ≡ session_after setup.config now_history history.turns
       session-is = read.session_is ∙ read-after setup.config now_history history.turns
@@ -312,7 +308,7 @@ module _ (setup : Setup) (epoch began : ℕ) (journal : List Step) (app : AppId)
       subst (λ (all : List Server). All (ServerIn arrivals) all) (sym old.2) (kept.hosts number old.0 old.1).servers
 
   more-servers : (arrivals new : List Arrival) (all : List Server) → All (ServerIn arrivals) all → All (ServerIn (arrivals ++ new)) all
-  more-servers arrivals new all each = all-map (ServerIn arrivals) (ServerIn (arrivals ++ new)) all (λ server among. in-first _ arrivals new among) each
+  more-servers arrivals new all each = all-map (ServerIn arrivals) (ServerIn (arrivals ++ new)) all (λ server among. in-left _ arrivals new among) each
 
   at-from : (later before : List Step) (arrivals : List Arrival) → before ++ later ≡ journal → IsLawful as_session setup epoch began journal → IsLawfulFrom as_session setup (New before) later → Keeps arrivals (Old before)
       → AreAt arrivals (moments_from setup (New before) later)

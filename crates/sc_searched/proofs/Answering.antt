@@ -1,5 +1,5 @@
 -- In every history each request that is proxied was answered wherever its search was over.
-use Rattle.std.proofs.Common.{◌≡◌, ℕ, ◌++◌, Bool, true, false, List, [], ◌∷◌, inl, inr, refl, sym, ap, append_assoc, subst, ◌∙◌}
+use Rattle.std.proofs.Common.{◌≡◌, ℕ, ◌++◌, Bool, true, false, List, [], ◌∷◌, inl, inr, sym, ap, append_assoc, subst, ◌∙◌, append-nil}
 use Rattle.std.specs.Prelude.{cond, is_none}
 use Rattle.sc_value.specs.declared.ids.ReqId.{ReqId}
 use Rattle.sc_terms.specs.declared.calls.Call.{Call}
@@ -122,14 +122,10 @@ module _ (config : Config) (history : History) (q : Proxy) where
   begun-done session turn events begun had =
       let given : List ProxyEvent = begun.given in
       let all_had : IsHad first (begun.ended ++ given) = subst (λ (all : List ProxyEvent). IsHad first all) begun.own_is had in
-      let given_had : IsHad first (given ++ []) = subst (λ (all : List ProxyEvent). IsHad first all) (sym (append-none given)) (later-had first begun.ended given all_had) in
+      let given_had : IsHad first (given ++ []) = subst (λ (all : List ProxyEvent). IsHad first all) (sym (append-nil given)) (later-had first begun.ended given all_had) in
       let one : IsDone q (given ++ []) = within-done q given [] given_had (begins-within turn.calls first (shown_play config session turn) given begun.of_calls) start-done in
       subst (λ (all : List ProxyEvent). IsDone q all) (sym begun.own_is)
-      (end-done q turn.now begun.ended given begun.of_end all_had (subst (λ (all : List ProxyEvent). IsDone q all) (append-none given) one))
-    where
-      append-none : (xs : List ProxyEvent) → xs ++ [] ≡ xs
-      append-none [] = refl
-      append-none (x ∷ xs) = ap (λ (ys : List ProxyEvent). x ∷ ys) (append-none xs)
+      (end-done q turn.now begun.ended given begun.of_end all_had (subst (λ (all : List ProxyEvent). IsDone q all) (append-nil given) one))
 
   passed-done : (event : Queued) (events : List ProxyEvent) → IsPassed event first events → IsHad first events → IsDone q events
   unfolding IsPassed All IsWithin

@@ -22,6 +22,7 @@ use Rattle.sc_remembered.specs.Played.{ArePlayed, PlaysScript, event_in}
 use Rattle.sc_remembered.proofs.Ended.{outcome-kept}
 use Rattle.sc_remembered.proofs.EarlyTurns.{played-is}
 use Rattle.sc_remembered.proofs.Shown.{shown-kept}
+use Rattle.sc_remembered.proofs.Chains.{begun-view}
 use Rattle.sc_timed.specs.TimedActs.{IsChain, IsOneAct, TimedAct, TimedHappened, act_of, after, calls_of, side_of, timer_at}
 use Rattle.sc_timed.specs.TimedLives.{AreActs, HasActs, HaveRoom, IsActOf, LeavesTimer}
 use Rattle.sc_timed.proofs.OtherTimers.{acts-leave, none-leave}
@@ -66,10 +67,6 @@ record Chained (config : Config) (history : History) (n : ℕ) (turns : List Tur
 first-chained : (config : Config) (history : History) (n : ℕ) → Chained config history n [] []
 unfolding session_after fresh first_view attribute IsChain last_of_all
 first-chained config history n = record { chain = tt; last = refl }
-
-begun-view : (view : View) → (begun view).view ≡ view
-unfolding begun
-begun-view view = refl
 
 after-act : (view : View) (act : TimedAct) → after (record { play = begun view; act = act }) ≡ play_after (begun view) (calls_of view act)
 unfolding begun

@@ -13,6 +13,7 @@ use Rattle.sc_model.proofs.RisingKeys.{marked, rises}
 use Rattle.sc_hosts.specs.Sessions.{Form}
 use Rattle.sc_hosts.specs.Ticks.{Dated, all_dated, due_items, same_entry}
 use Rattle.sc_keyed.specs.Keyed.{AreApart}
+use Rattle.sc_keyed.proofs.ClientKeys.{none-else}
 use Rattle.sc_timely.specs.Timely.{are_one}
 use Rattle.sc_timely.proofs.DueItems.{same-is, test-found}
 
@@ -26,10 +27,6 @@ none-first false b is = refl
 none-second : (a b : Bool) → (a || b) ≡ false → b ≡ false
 none-second true b is = cc
 none-second false b is = is
-
-none-else : (b : Bool) → (b ≡ true → ⊥) → b ≡ false
-none-else true never = absurd (never refl)
-none-else false never = refl
 
 -- ## Entries in order
 

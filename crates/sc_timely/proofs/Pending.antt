@@ -29,7 +29,7 @@ use Rattle.sc_hosts.specs.Words.{request_timeout}
 use Rattle.sc_once.proofs.Finding.{slice_get-other}
 use Rattle.sc_keyed.specs.Keyed.{HasOwnKeys, IsIn, is_same_server}
 use Rattle.sc_keyed.proofs.Apart.{apart-changed, apart-filter, in-changed, in-filter}
-use Rattle.sc_keyed.proofs.ClientKeys.{app-is, both-same, equal, key-is, same-test}
+use Rattle.sc_keyed.proofs.ClientKeys.{app-is, both-same, equal, key-is, same-test, none-else}
 use Rattle.sc_timely.proofs.Transactions.{client-done, server-done}
 
 -- ## Keys
@@ -65,10 +65,6 @@ skipped false b is none = is
 
 clash : (b : Bool) → b ≡ true → b ≡ false → ⊥
 clash b p q = cc
-
-none-else : (b : Bool) → (b ≡ true → ⊥) → b ≡ false
-none-else true never = absurd (never refl)
-none-else false never = refl
 
 neither : (a b : Bool) → b ≡ false → (a && b) ≡ false
 neither true b none = none

@@ -1,10 +1,9 @@
 -- After any journal each client transaction's request stands under the own Via of its session and branch.
 use Rattle.std.proofs.Common.{◌≡◌, ◌≤◌, ◌<◌, ℕ, zero, suc, Option, None, Some, List, [], ◌∷◌, refl, sym, ap, subst, ◌∙◌, arith}
-use Rattle.std.specs.Prelude.{map, option_and_then, option_map, slice_get, unwrap_or}
+use Rattle.std.specs.Prelude.{map, option_and_then, option_map, slice_get}
 use Rattle.sc_value.specs.declared.ids.AppId.{AppId}
 use Rattle.sc_value.specs.declared.message.Request.{Request}
 use Rattle.sc_value.specs.declared.parts.Address.{Address}
-use Rattle.sc_value.specs.declared.parts.Via.{Via}
 use Rattle.sc_terms.specs.declared.calls.CallRecord.{CallRecord}
 use Rattle.sc_terms.specs.declared.calls.End.{End}
 use Rattle.sc_terms.specs.declared.settings.AppEntry.{AppEntry}
@@ -30,11 +29,11 @@ use Rattle.sc_hosts.specs.Nets.{host_at, with_routes}
 use Rattle.sc_hosts.specs.Runs.{after_step, chained, chained_from, quiet_host, start}
 use Rattle.sc_hosts.specs.Sessions.{Turn}
 use Rattle.sc_hosts.specs.Steps.{live_at, outcome_by, turn_of}
-use Rattle.sc_hosts.specs.Transacting.{top_via}
 use Rattle.sc_forms.specs.Simulations.{map_host, map_net}
 use Rattle.sc_forms.proofs.HistoryLaws.{chained-histories}
 use Rattle.sc_lasting.specs.Lasting.{All}
 use Rattle.sc_lasting.proofs.Parts.{all-found}
+use Rattle.sc_lasting.proofs.Shared.{kin-top}
 use Rattle.sc_reached.proofs.Reaching.{serial-is}
 use Rattle.sc_keyed.specs.Keyed.{AreOn, IsOn}
 use Rattle.sc_keyed.proofs.Branches.{sends-on-branches, turn-names}
@@ -52,10 +51,6 @@ IsOfName epoch app session = (session.view.epoch ≡ epoch) × (session.view.app
 -- the request stands under the Via of this branch, whose number is of a kind
 abbrev pub IsVia : Config → ℕ → (ℕ → Type 0) → AppId → ℕ → Request → Type 0
 IsVia config epoch Small app branch request = IsOn config epoch app branch request × Small branch
-
-kin-top : (vias : List Via) → top_via (unwrap_or (option_map (λ via. via ∷ []) (slice_get vias 0)) []) ≡ top_via vias
-kin-top [] = refl
-kin-top (via ∷ vias) = refl
 
 kin-on : (config : Config) (epoch : ℕ) (app : AppId) (branch : ℕ) (method : Bytes) (to : Address) (request : Request) → IsOn config epoch app branch request
     → IsOn config epoch app branch (kin method to request)

@@ -69,14 +69,14 @@ unfolding answering
 answering-known config None answer working = refl
 answering-known config (Some request) answer working = refl
 
-ack_with-known : (config : Config) (body : Bytes) (dialog : Option DialogState) (kept : Option Kept) (working : Working)
+pub ack_with-known : (config : Config) (body : Bytes) (dialog : Option DialogState) (kept : Option Kept) (working : Working)
     → (ack_with config body dialog kept working).known ≡ working.known
 unfolding ack_with
 ack_with-known config body (Some dialog) (Some kept) working = refl
 ack_with-known config body (Some dialog) None working = refl
 ack_with-known config body None kept working = refl
 
-acknowledges-known : (config : Config) (sess : SessId) (body : Bytes) (request : Option RequestView) (working : Working)
+pub acknowledges-known : (config : Config) (sess : SessId) (body : Bytes) (request : Option RequestView) (working : Working)
     → (acknowledges config sess body request working).known ≡ working.known
 unfolding acknowledges
 acknowledges-known config sess body None working = refl

@@ -1,5 +1,5 @@
 -- The end of a turn keeps each relation with the laws; and so a whole turn does.
-use Rattle.std.proofs.Common.{◌≡◌, ℕ, ◌++◌, Bool, true, false, Option, None, Some, List, [], ◌∷◌, refl, sym, ap}
+use Rattle.std.proofs.Common.{◌≡◌, ℕ, ◌++◌, Bool, true, false, Option, None, Some, List, [], ◌∷◌, refl, sym, ap, append-nil}
 use Rattle.std.specs.Prelude.{cond, ◌&&◌, ◌||◌, ◌==◌, not, map, drop, is_some, is_none, option_and_then}
 use Rattle.std.specs.List.{fold}
 use Rattle.sc_tokens.specs.Names.{same_bytes}
@@ -50,7 +50,7 @@ use Rattle.sc_hosts.specs.ViewChanges.{answered, answered_in, is_owed}
 use Rattle.sc_hosts.specs.Working.{next_branch, worked_all}
 use Rattle.sc_hosts.specs.Words.{too_many_hops}
 use Rattle.sc_walked.proofs.WalkParts.{follow-ended, follow-initial, follow-same, if-is, moved, same-proxy, stays-on, session-walks, sessions-walk, proxy-walks, tidy-walks, answered_in-walks, answered-walks, if-walks, if-view, fold-walks}
-use Rattle.sc_walked.proofs.WalkShown.{append-none, prepared-walks}
+use Rattle.sc_walked.proofs.WalkShown.{prepared-walks}
 use Rattle.sc_walked.proofs.WalkCalls.{session_at, answering-known, worked_all-walks}
 use Rattle.sc_walked.specs.SessionWalks.{AreDone, IsMoved, IsSameProxy, IsKeptProxy, SessionLaws}
 
@@ -84,7 +84,7 @@ forwarded-by code proxy true None none = record {
   event = refl;
   request = refl;
   options = refl;
-  on = record { more = []; tried = sym (append-none proxy.tried); settled = λ is. is; forwarded = λ is. unforwarded proxy.forwarded code none is };
+  on = record { more = []; tried = sym (append-nil proxy.tried); settled = λ is. is; forwarded = λ is. unforwarded proxy.forwarded code none is };
 }
 forwarded-by code proxy true (Some n) at = same-proxy proxy
 forwarded-by code proxy false f at = same-proxy proxy

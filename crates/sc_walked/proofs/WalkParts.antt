@@ -1,5 +1,5 @@
 -- Small changes of a session keep each relation with the laws.
-use Rattle.std.proofs.Common.{◌≡◌, ℕ, Bool, true, false, Option, None, Some, List, [], ◌∷◌, refl, ap, ◌∙◌, ◌++◌}
+use Rattle.std.proofs.Common.{◌≡◌, ℕ, Bool, true, false, Option, None, Some, List, [], ◌∷◌, refl, ◌∙◌, append-nil, sym}
 use Rattle.std.specs.Prelude.{cond, map, not}
 use Rattle.std.specs.List.{fold}
 use Rattle.sc_value.specs.declared.ids.ReqId.{ReqId}
@@ -150,16 +150,12 @@ same-request r = record { id = refl; sess = refl; method = refl; received = refl
 pub same-leg : (leg : Leg) → IsSameLeg leg leg
 same-leg leg = record { id = refl; caller = refl }
 
-no-more : {A : Type 0} (xs : List A) → xs ≡ xs ++ []
-no-more [] = refl
-no-more (x ∷ xs) = ap (λ ys. x ∷ ys) (no-more xs)
-
 -- where none of it changed
 pub stays-on : (before after : Proxy) → after.tried ≡ before.tried → after.settled ≡ before.settled → after.forwarded ≡ before.forwarded
     → HasGoneOn before after
 stays-on before after tried settled forwarded = record {
   more = [];
-  tried = tried ∙ no-more before.tried;
+  tried = tried ∙ sym (append-nil before.tried);
   settled = λ is. settled ∙ is;
   forwarded = λ is. forwarded;
 }

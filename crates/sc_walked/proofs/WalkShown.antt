@@ -1,5 +1,5 @@
 -- What a turn shows keeps each relation with the laws.
-use Rattle.std.proofs.Common.{◌≡◌, ℕ, ◌+◌, ◌++◌, Bool, true, false, Option, None, Some, List, [], ◌∷◌, refl, sym, ◌∙◌, ap}
+use Rattle.std.proofs.Common.{◌≡◌, ℕ, ◌+◌, ◌++◌, Bool, true, false, Option, None, Some, List, [], ◌∷◌, refl, sym, ◌∙◌, ap, append_assoc, append-nil}
 use Rattle.std.specs.Prelude.{cond, ◌&&◌, not, is_none, is_some, length, map}
 use Rattle.std.specs.List.{find}
 use Rattle.std.specs.Option.{option_map_or}
@@ -87,19 +87,11 @@ answer-leg : (request : Request) (response : Response) (leg : Leg) → IsSameLeg
 unfolding with_answer
 answer-leg request response leg = answered-leg request (as_answer request response) leg
 
-pub append-none : {A : Type 0} (xs : List A) → xs ++ [] ≡ xs
-append-none [] = refl
-append-none (x ∷ xs) = ap (λ ys. x ∷ ys) (append-none xs)
-
-append-assoc : {A : Type 0} (xs ys zs : List A) → (xs ++ ys) ++ zs ≡ xs ++ (ys ++ zs)
-append-assoc [] ys zs = refl
-append-assoc (x ∷ xs) ys zs = ap (λ more. x ∷ more) (append-assoc xs ys zs)
-
 -- a proxied request goes on and on
 pub gone-then : (x y z : Proxy) → HasGoneOn x y → HasGoneOn y z → HasGoneOn x z
 gone-then x y z p q = record {
   more = p.more ++ q.more;
-  tried = q.tried ∙ ap (λ us. us ++ q.more) p.tried ∙ append-assoc x.tried p.more q.more;
+  tried = q.tried ∙ ap (λ us. us ++ q.more) p.tried ∙ append_assoc x.tried p.more q.more;
   settled = λ is. q.settled (p.settled is);
   forwarded = λ is. q.forwarded (ap (λ f. is_some f) (p.forwarded is) ∙ is) ∙ p.forwarded is;
 }
@@ -112,7 +104,7 @@ stopped-same proxy = record {
   event = refl;
   request = refl;
   options = refl;
-  on = record { more = []; tried = sym (append-none proxy.tried); settled = λ is. refl; forwarded = λ is. refl };
+  on = record { more = []; tried = sym (append-nil proxy.tried); settled = λ is. refl; forwarded = λ is. refl };
 }
 
 then-same : (x y z : Proxy) → IsSameProxy x y → IsSameProxy y z → IsSameProxy x z

@@ -1,6 +1,6 @@
 -- The session that answered the INVITE of a way had its server transaction, so its serial was given by its host.
 use Rattle.std.proofs.Common.{◌≡◌, ◌≤◌, ◌<◌, ◌^◌, ℕ, Bool, true, false, Option, None, Some, List, [], ◌∷◌, refl, subst, arith}
-use Rattle.std.specs.Prelude.{◌==◌, ◌&&◌, cond, length, not, option_and_then, slice_get}
+use Rattle.std.specs.Prelude.{◌==◌, ◌&&◌, cond, length, not, slice_get}
 use Rattle.std.specs.List.{cons_option, filter_map, find}
 use Rattle.std.specs.Option.{option_map_or}
 use Rattle.sc_value.specs.declared.ids.AppId.{AppId}
@@ -14,6 +14,7 @@ use Rattle.sc_hosts.specs.Histories.{as_session}
 use Rattle.sc_hosts.specs.Nets.{host_at}
 use Rattle.sc_lasting.specs.Lasting.{All}
 use Rattle.sc_lasting.proofs.Began.{test-found}
+use Rattle.sc_lasting.proofs.Shared.{found-behind}
 use Rattle.sc_paths.specs.Moments.{Moment, began_with, first_server, is_first_of}
 use Rattle.sc_paths.specs.Pieces.{Piece, received}
 use Rattle.sc_keyed.proofs.Apart.{found-in}
@@ -38,16 +39,11 @@ first-both false b is = is
 
 -- ## Its server transaction
 
-through : {A B : Type 0} (next : A → Option B) (found : Option A) (b : B) → option_and_then next found ≡ Some b
-    → (a : A) × (found ≡ Some a) × (next a ≡ Some b)
-through next None b is = cc
-through {A = A} next (Some a) b is = (a, refl, is)
-
 server-small : (setup : Setup) (epoch : ℕ) (moment : Moment) (app : AppId) (server : Server) → epoch < 2 ^ 64 → IsFine setup epoch moment → AllKeyed as_session NoTurn 0 0 moment.after
     → first_server app moment.after ≡ Some server → IsOf64 epoch app 0
 unfolding first_server
 server-small setup epoch moment app server small fine keyed is =
-    let found = through (λ (host : Host Session). find (is_first_of app) host.servers) (host_at app.host moment.after) server is in
+    let found = found-behind (λ (host : Host Session). find (is_first_of app) host.servers) (host_at app.host moment.after) server is in
     let host : Host Session = found.0 in
     let same : server.app ≡ app = app-is server.app app (first-both _ _ (test-found (is_first_of app) host.servers server found.2)) in
     let serial : server.app.serial ≤ host.last = (keyed app.host host found.1).servers.given server (found-in (is_first_of app) host.servers server found.2) in (
@@ -58,7 +54,7 @@ server-small setup epoch moment app server small fine keyed is =
     )
 
 -- it was there in some moment of the run
-first-by : {B : Type 0} (found : Option B) (rest : List B) (b : B) → slice_get (cons_option found rest) 0 ≡ Some b → (P : Type 0) → (found ≡ Some b → P) → (slice_get rest 0 ≡ Some b → P) → P
+pub first-by : {B : Type 0} (found : Option B) (rest : List B) (b : B) → slice_get (cons_option found rest) 0 ≡ Some b → (P : Type 0) → (found ≡ Some b → P) → (slice_get rest 0 ≡ Some b → P) → P
 first-by None rest b is P one more = more is
 first-by (Some x) rest b is P one more = one is
 

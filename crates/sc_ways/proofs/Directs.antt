@@ -24,9 +24,11 @@ use Rattle.sc_hosts.specs.Looking.{is_session}
 use Rattle.sc_hosts.specs.Runs.{after_step}
 use Rattle.sc_hosts.specs.Steps.{live_at}
 use Rattle.sc_hosts.specs.Transacting.{is_same_app}
+use Rattle.sc_hosts.specs.Scripting.{is_refused}
 use Rattle.sc_lasting.specs.Lasting.{All, AreDirect, Directly, IsDirect}
 use Rattle.sc_lasting.proofs.Parts.{all-both, all-found}
-use Rattle.sc_lived.specs.Lived.{AreAccepted, Told, is_refused, told, told_by}
+use Rattle.sc_lasting.proofs.Shared.{all-front}
+use Rattle.sc_lived.specs.Lived.{AreAccepted, Told, told, told_by}
 use Rattle.sc_paths.specs.Moments.{Moment, moments_from, options_in, options_of, proxied_with}
 use Rattle.sc_ways.specs.Ways.{TakesNoProxy}
 
@@ -76,7 +78,7 @@ calls-direct (m ∷ made) none =
     let both = none-then (options_of m.call m.answer) (filter_map (λ (m : CallRecord). options_of m.call m.answer) made) none in
     ((λ accepted. one-direct m.call m.answer both.0 accepted), calls-direct made both.1)
 
-flipped : (a b : AppId) → is_same_app a b ≡ is_same_app b a
+pub flipped : (a b : AppId) → is_same_app a b ≡ is_same_app b a
 flipped a b = by a.host b.host a.serial b.serial
   where
     by : (a b c d : ℕ) → (a == b && c == d) ≡ (b == a && d == c)
@@ -102,11 +104,6 @@ both-none : (xs ys : List ProxyOptions) → xs ++ ys ≡ [] → (xs ≡ []) × (
 both-none [] ys is = (refl, is)
 both-none (x ∷ xs) ys is = cc
 
-front : {A : Type 0} (P : A → Type 0) (xs ys : List A) → All P (xs ++ ys) → All P xs
-unfolding All
-front P [] ys all = tt
-front P (x ∷ xs) ys all = (all.0, front P xs ys all.1)
-
 run-direct : (later : List Step) (setup : Setup) (net : Net Session) (app : AppId) → flat_map (λ (moment : Moment). options_in app moment.step) (moments_from setup net later) ≡ []
     → AreAccepted Directly (told app later)
 unfolding moments_from told All
@@ -120,7 +117,7 @@ unfolding told
 told-append [] later app = refl
 told-append (step ∷ before) later app = ap (λ ts. told_by app step ++ ts) (told-append before later app) ∙ sym (append_assoc (told_by app step) (told app before) (told app later))
 
-none-first : {A : Type 0} (xs : List A) → slice_get xs 0 ≡ None → xs ≡ []
+pub none-first : {A : Type 0} (xs : List A) → slice_get xs 0 ≡ None → xs ≡ []
 none-first [] is = refl
 none-first (x ∷ xs) is = cc
 
@@ -129,7 +126,7 @@ pub accepted-before : (setup : Setup) (net : Net Session) (before later : List S
     → AreAccepted Directly (told app before)
 unfolding proxied_with
 accepted-before setup net before later app none =
-    front (λ (turn : Told). All IsDirectCall turn.calls) (told app before) (told app later)
+    all-front (λ (turn : Told). All IsDirectCall turn.calls) (told app before) (told app later)
     (subst (λ (ts : List Told). AreAccepted Directly ts) (told-append before later app) (run-direct (before ++ later) setup net app (none-first _ none)))
 
 -- where no SipSession is a proxy's

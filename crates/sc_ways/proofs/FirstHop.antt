@@ -40,19 +40,20 @@ use Rattle.sc_hops.proofs.OneTurn.{unrouted-vias}
 use Rattle.sc_paths.specs.LaterRequests.{Occurrence, SetOut, carries, carries_by, has_vias, is_turn_of, later_vias, leads, set_out, set_out_by, visits, visits_from}
 use Rattle.sc_paths.specs.Moments.{Got, Moment, got_in, moments, same_vias, waiting_at}
 use Rattle.sc_paths.specs.Pieces.{Dialog, Direction, IsPiece, Piece, ahead, along, end_of, listed, recorders}
+use Rattle.sc_lasting.proofs.Shared.{all-at, found-behind}
 use Rattle.sc_ways.specs.Ways.{AreSmallDraws, AreSmallNames, IsApart, IsPrefix, VisitsFirst}
 use Rattle.sc_ways.proofs.Law.{prefix}
 use Rattle.sc_ways.proofs.OneHop.{IsFine}
 use Rattle.sc_ways.proofs.Outside.{at, none-claims}
 use Rattle.sc_ways.proofs.Popping.{comes, comes-at-end}
-use Rattle.sc_ways.proofs.Prefix.{IsCarried, carried, outside-by, through}
+use Rattle.sc_ways.proofs.Prefix.{IsCarried, carried, outside-by}
 use Rattle.sc_ways.proofs.Recorders.{found-small}
-use Rattle.sc_ways.proofs.Runs.{all-at, cut-at, run-fine}
+use Rattle.sc_ways.proofs.Runs.{cut-at, run-fine}
 use Rattle.sc_ways.proofs.Sending.{session-by}
 
 -- ## Lists
 
-in-left : {A : Type 0} (x : A) (xs ys : List A) → IsIn x xs → IsIn x (xs ++ ys)
+pub in-left : {A : Type 0} (x : A) (xs ys : List A) → IsIn x xs → IsIn x (xs ++ ys)
 unfolding IsIn
 in-left x [] ys there = absurd there
 in-left x (y ∷ xs) ys (inl is) = inl is
@@ -63,7 +64,7 @@ unfolding IsIn
 in-right x [] ys there = there
 in-right x (y ∷ xs) ys there = inr (in-right x xs ys there)
 
-in-last : {A : Type 0} (x : A) (xs : List A) → IsIn x (xs ++ x ∷ [])
+pub in-last : {A : Type 0} (x : A) (xs : List A) → IsIn x (xs ++ x ∷ [])
 unfolding IsIn
 in-last x [] = inl refl
 in-last x (y ∷ xs) = inr (in-last x xs)
@@ -311,7 +312,7 @@ module _ (setup : Setup) (epoch began : ℕ) (journal : List Step) (dialog : Dia
       → (app : AppId) (more : List AppId) → ahead Run direction piece ≡ app ∷ more → (live : Live Session) → live_at app out.moment.before ≡ Some live → is_full live ≡ false → found-of out ≡ None → ⊥
   unfolding set_out moments
   some-found out place set sender carries app more first live lives room none =
-      let by = through (λ (moment : Moment). set_out_by setup moment moment.step occurrence.order) (slice_get Run occurrence.step) out set in
+      let by = found-behind (λ (moment : Moment). set_out_by setup moment moment.step occurrence.order) (slice_get Run occurrence.step) out set in
       let came = came-by setup by.0 occurrence.order place out by.2 sender in
       let cut = cut-at journal setup (start setup epoch began) occurrence.step by.0 by.1 in
       let step-is : cut.step ≡ steps.In place (messages.Request came.request) = sym (ap (λ (m : Moment). m.step) cut.is) ∙ came.step_is in

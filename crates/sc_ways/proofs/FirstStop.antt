@@ -22,6 +22,7 @@ use Rattle.sc_hosts.specs.Taking.{own_uri}
 use Rattle.sc_hosts.specs.Words.{does_not_exist, unavailable}
 use Rattle.sc_hosts.proofs.Deliveries.{none-delivered}
 use Rattle.sc_lasting.specs.Lasting.{All}
+use Rattle.sc_lasting.proofs.Shared.{all-at, found-behind}
 use Rattle.sc_reached.specs.Reached.{IsLater}
 use Rattle.sc_stopped.specs.Stopped.{IsLaterTo, answered}
 use Rattle.sc_stopped.proofs.Stops.{full, gone, unled}
@@ -33,8 +34,8 @@ use Rattle.sc_ways.proofs.FirstHop.{ahead-comes, came-by, idle}
 use Rattle.sc_ways.proofs.Law.{ahead-small}
 use Rattle.sc_ways.proofs.OneHop.{IsFine}
 use Rattle.sc_ways.proofs.Outside.{at, none-claims}
-use Rattle.sc_ways.proofs.Prefix.{IsCarried, carried, through}
-use Rattle.sc_ways.proofs.Runs.{all-at, cut-at, run-fine}
+use Rattle.sc_ways.proofs.Prefix.{IsCarried, carried}
+use Rattle.sc_ways.proofs.Runs.{cut-at, run-fine}
 
 -- where none is ahead, no own URI leads it to a session
 alone-none : (apps : List AppId) (found : Option Uri) → (not (length apps == 0) || is_none found) ≡ true → apps ≡ [] → found ≡ None
@@ -103,7 +104,7 @@ module _ (setup : Setup) (epoch began : ℕ) (journal : List Step) (dialog : Dia
       → carries_by setup.config Run dialog direction piece out ≡ true → (code : ℕ) (reason : Bytes) → StopsBefore (ahead Run direction piece) out.moment.before code reason → IsEnd place code reason out
   unfolding set_out moments
   by-out piece-is out place set sender carries code reason stop =
-      let by = through (λ (moment : Moment). set_out_by setup moment moment.step occurrence.order) (slice_get Run occurrence.step) out set in
+      let by = found-behind (λ (moment : Moment). set_out_by setup moment moment.step occurrence.order) (slice_get Run occurrence.step) out set in
       let came = came-by setup by.0 occurrence.order place out by.2 sender in
       let cut = cut-at journal setup (start setup epoch began) occurrence.step by.0 by.1 in
       let step-is : cut.step ≡ steps.In place (messages.Request came.request) = sym (ap (λ (m : Moment). m.step) cut.is) ∙ came.step_is in

@@ -16,7 +16,7 @@ use Rattle.sc_hosts.specs.Inboxes.{is_live}
 use Rattle.sc_hosts.specs.Nets.{host_at}
 use Rattle.sc_hosts.specs.Steps.{inbox_of, live_at, live_of}
 use Rattle.sc_lasting.specs.Lasting.{All}
-use Rattle.sc_lasting.proofs.Parts.{all-flat, all-found}
+use Rattle.sc_lasting.proofs.Parts.{all-flat, all-found, all-map}
 use Rattle.sc_reached.specs.Reached.{AllSmall, AreSmall}
 use Rattle.sc_reached.proofs.Reaching.{serial-is}
 use Rattle.sc_paths.specs.Moments.{Got, Moment, got_in, waiting_at}
@@ -52,15 +52,10 @@ record Stands {A : Type 0} (xs : List A) (x : A) : Type 0 where
 later : {A : Type 0} (y : A) (xs : List A) (x : A) → Stands xs x → Stands (y ∷ xs) x
 later y xs x stands = record { first = y ∷ stands.first; rest = stands.rest; is = ap (λ zs. y ∷ zs) stands.is }
 
-all-weaker : {A : Type 0} (P Q : A → Type 0) (xs : List A) → ((x : A) → P x → Q x) → All P xs → All Q xs
-unfolding All
-all-weaker P Q [] each all = tt
-all-weaker P Q (x ∷ xs) each all = (each x all.0, all-weaker P Q xs each all.1)
-
 all-stand : {A : Type 0} (xs : List A) → All (λ (x : A). Stands xs x) xs
 unfolding All
 all-stand [] = tt
-all-stand {A = A} (x ∷ xs) = (record { first = []; rest = xs; is = refl }, all-weaker (λ (y : A). Stands xs y) (λ (y : A). Stands (x ∷ xs) y) xs (λ y stands. later x xs y stands) (all-stand xs))
+all-stand {A = A} (x ∷ xs) = (record { first = []; rest = xs; is = refl }, all-map (λ (y : A). Stands xs y) (λ (y : A). Stands (x ∷ xs) y) xs (λ y stands. later x xs y stands) (all-stand xs))
 
 all-and : {A : Type 0} (P Q : A → Type 0) (xs : List A) → All P xs → All Q xs → All (λ (x : A). P x × Q x) xs
 unfolding All
@@ -111,7 +106,7 @@ module _ (Fits : AppId → Queued → Type 0) (epoch base : ℕ) (small_epoch : 
       let less : live.serial < 2 ^ 64 = all-found (λ (live : Live Session). live.serial < 2 ^ 64) (is_live app.serial) host.sessions live found (all-small host.sessions (small-sessions net.hosts app.host host small at)) in
       let named : IsOf64 epoch app 0 = (small_epoch, under app.host _ _ (small-place net.hosts app.host host at) few, subst (λ (n : ℕ). n < 2 ^ 64) serial less, zero-small) in
       mapped (IsGot Fits epoch base net) (λ waiting. record { app = app; waiting = waiting }) live.inbox
-      (all-weaker (λ (waiting : Waiting). (base < waiting.number → Fits (record { host = app.host; serial = live.serial }) waiting.event) × Stands live.inbox waiting) (λ (waiting : Waiting). IsGot Fits epoch base net (record { app = app; waiting = waiting })) live.inbox
+      (all-map (λ (waiting : Waiting). (base < waiting.number → Fits (record { host = app.host; serial = live.serial }) waiting.event) × Stands live.inbox waiting) (λ (waiting : Waiting). IsGot Fits epoch base net (record { app = app; waiting = waiting })) live.inbox
       (λ waiting both. record {
         fits = fits-at app live.serial waiting serial both.0;
         held = record { first = both.1.first; rest = both.1.rest; is = events-live app net live lives ∙ both.1.is };

@@ -18,6 +18,7 @@ use Rattle.sc_hosts.specs.Runs.{IsLawful, chained, start}
 use Rattle.sc_lasting.specs.Lasting.{All, AreDirect, Directly}
 use Rattle.sc_lasting.proofs.Direct.{nothing-proxied}
 use Rattle.sc_lasting.proofs.Parts.{all-append, all-both}
+use Rattle.sc_lasting.proofs.Shared.{all-front}
 use Rattle.sc_lived.proofs.Since.{session-holds}
 use Rattle.sc_paths.specs.LaterRequests.{Occurrence, carries, visits}
 use Rattle.sc_paths.specs.Moments.{Moment, given_in, moments, moments_from, proxied_with}
@@ -37,11 +38,6 @@ use Rattle.sc_ways.proofs.Runs.{run-each, run-fine, run-next}
 
 -- ## Names of those ahead
 
-front : {A : Type 0} (P : A → Type 0) (xs ys : List A) → All P (xs ++ ys) → All P xs
-unfolding All
-front P [] ys all = tt
-front P (x ∷ xs) ys all = (all.0, front P xs ys all.1)
-
 back : {A : Type 0} (P : A → Type 0) (xs ys : List A) → All P (xs ++ ys) → All P ys
 unfolding All
 back P [] ys all = all
@@ -55,7 +51,7 @@ all-reverse P (x ∷ xs) all = rw (reverse-append (x ∷ []) xs) (all-append P (
 all-ahead : (P : AppId → Type 0) (run : List Moment) (direction : Direction) (piece : Piece) → All P (recorders run piece) → All P (listed piece.caller ++ listed piece.callee) → All P (ahead run direction piece)
 unfolding ahead along end_of
 all-ahead P run From_caller piece stayed ends = all-both P (recorders run piece) (listed piece.callee) stayed (back P (listed piece.caller) (listed piece.callee) ends)
-all-ahead P run From_callee piece stayed ends = all-both P _ (listed piece.caller) (all-reverse P (recorders run piece) stayed) (front P (listed piece.caller) (listed piece.callee) ends)
+all-ahead P run From_callee piece stayed ends = all-both P _ (listed piece.caller) (all-reverse P (recorders run piece) stayed) (all-front P (listed piece.caller) (listed piece.callee) ends)
 
 -- ## The end of the way
 

@@ -32,6 +32,7 @@ use Rattle.sc_hosts.specs.Steps.{live_at, live_of, outcome_by, turn_of}
 use Rattle.sc_hosts.specs.Transacting.{branch_of, same_top, same_via, top_via}
 use Rattle.sc_hosts.proofs.Deliveries.{same_bytes-equal}
 use Rattle.sc_lasting.specs.Lasting.{All}
+use Rattle.sc_lasting.proofs.Shared.{all-at, found-behind}
 use Rattle.sc_paths.specs.LaterRequests.{Occurrence, SetOut, later_in, set_out, set_out_by}
 use Rattle.sc_paths.specs.Moments.{Moment, given_in, moments_from, orders_by}
 use Rattle.sc_hops.specs.Hops.{AreOtherBranches, HasBranchOf, HasNoClient, IsOtherBranch}
@@ -45,7 +46,6 @@ use Rattle.sc_vias.proofs.RunVias.{Hold, after-kept, drawn-is, on-rises, turn-on
 use Rattle.sc_ways.proofs.Got.{small-place}
 use Rattle.sc_ways.proofs.OneHop.{IsFine, allowed-turn, orders-are}
 use Rattle.sc_ways.proofs.Recorders.{found-small}
-use Rattle.sc_ways.proofs.Runs.{all-at}
 use Rattle.sc_ways.proofs.Sending.{session-by}
 
 -- the request that set out has a Via, and in the step in which a turn sends it no other order of the turn and no client
@@ -69,7 +69,7 @@ Is64 n = n < 2 ^ 64
 pub with-branch : (epoch : ℕ) (app : AppId) (n : ℕ) → IsOf64 epoch app 0 → Is64 n → IsOf64 epoch app n
 with-branch epoch app n small less = (small.0, small.1, small.2, less)
 
-branch-is : (config : Config) (epoch : ℕ) (app : AppId) (branch : ℕ) → branch_of (own_via config epoch app branch) ≡ branch_text config.salt epoch app branch
+pub branch-is : (config : Config) (epoch : ℕ) (app : AppId) (branch : ℕ) → branch_of (own_via config epoch app branch) ≡ branch_text config.salt epoch app branch
 unfolding own_via param_value branch_name same_name
 branch-is config epoch app branch = refl
 
@@ -210,13 +210,13 @@ module _ (config : Config) (epoch : ℕ) (app : AppId) (small : IsOf64 epoch app
 
 -- ## Client transactions
 
-in-all : {A : Type 0} (P : A → Type 0) (xs : List A) (x : A) → All P xs → IsIn x xs → P x
+pub in-all : {A : Type 0} (P : A → Type 0) (xs : List A) (x : A) → All P xs → IsIn x xs → P x
 unfolding All IsIn
 in-all P [] x all is = absurd is
 in-all P (y ∷ xs) x all (inl same) = subst P (sym same) all.0
 in-all P (y ∷ xs) x all (inr later) = in-all P xs x all.1 later
 
-all-in : {A : Type 0} (P : A → Type 0) (xs : List A) → ((x : A) → IsIn x xs → P x) → All P xs
+pub all-in : {A : Type 0} (P : A → Type 0) (xs : List A) → ((x : A) → IsIn x xs → P x) → All P xs
 unfolding All IsIn
 all-in P [] each = tt
 all-in P (x ∷ xs) each = (each x (inl refl), all-in P xs (λ y within. each y (inr within)))
@@ -255,12 +255,7 @@ module _ (setup : Setup) (epoch : ℕ) (net : Net Session) (ready : IsReady setu
 
 -- ## One turn
 
-through : {A B : Type 0} (next : A → Option B) (found : Option A) (b : B) → option_and_then next found ≡ Some b
-    → (a : A) × (found ≡ Some a) × (next a ≡ Some b)
-through next None b is = cc
-through next (Some a) b is = (a, refl, is)
-
-has-via : (config : Config) (epoch : ℕ) (app : AppId) (branch : ℕ) (request : Request) → IsOn config epoch app branch request → 1 ≤ length request.head.via
+pub has-via : (config : Config) (epoch : ℕ) (app : AppId) (branch : ℕ) (request : Request) → IsOn config epoch app branch request → 1 ≤ length request.head.via
 unfolding IsOn
 has-via config epoch app branch request on = by request.head.via _ on
   where
@@ -288,7 +283,7 @@ turn-own setup epoch net app event now made end place request ready names allowe
     let most : Is64 done.session.view.counter = subst Is64 (drawn-is setup epoch Is64 net app event now made end live may.waiting may.live_is may.waiting_is) drawn in
     let small = names app live may.live_is in
     let on = turn-on setup.config epoch Is64 app net live may.waiting now made end may.live_is ready.kept in
-    let sent = through later_in (slice_get (orders_by setup net (steps.Turn app event now made end)) place) request is in
+    let sent = found-behind later_in (slice_get (orders_by setup net (steps.Turn app event now made end)) place) request is in
     let own = placed setup.config epoch app small request done.orders place live.session.view.counter done.session.view.counter sent.0 most on
     (subst (λ (given : List Order). slice_get given place ≡ Some sent.0) same sent.1) sent.2 in
     record {
@@ -339,5 +334,5 @@ pub own-branches : (setup : Setup) (epoch : ℕ) (run : List Moment) (occurrence
 unfolding HasOwnBranch set_out
 own-branches setup epoch run occurrence small ready =
     λ order out is sets.
-    let by = through (λ (moment : Moment). set_out_by setup moment moment.step occurrence.order) (slice_get run occurrence.step) out sets in
+    let by = found-behind (λ (moment : Moment). set_out_by setup moment moment.step occurrence.order) (slice_get run occurrence.step) out sets in
     own-by setup epoch by.0 occurrence.order order out small (all-at (IsReadyAt setup epoch) run occurrence.step by.0 by.1 ready) is by.2

@@ -28,6 +28,7 @@ use Rattle.sc_hosts.specs.Runs.{HasVia, IsAllowed, after_step}
 use Rattle.sc_hosts.specs.Taking.{names, own_uri, unrouted, server_for}
 use Rattle.sc_hosts.specs.Transacting.{method_of}
 use Rattle.sc_lasting.specs.Lasting.{All}
+use Rattle.sc_lasting.proofs.Shared.{all-at, found-behind}
 use Rattle.sc_paths.specs.LaterRequests.{Occurrence, SetOut, carries, carries_by, has_tags, has_vias, is_between, later_in, is_new, leads, set_out, set_out_by, visits, visits_from}
 use Rattle.sc_paths.specs.Moments.{Got, Moment, given_in, got_in, moments_from}
 use Rattle.sc_paths.specs.Pieces.{Dialog, Direction, From_caller, From_callee, Piece, ahead, along, end_of, listed, recorders}
@@ -42,7 +43,7 @@ use Rattle.sc_ways.proofs.OneHop.{IsFine, IsFirst, moment}
 use Rattle.sc_ways.proofs.Outside.{at, first-of}
 use Rattle.sc_ways.proofs.Sending.{sent-first, session-by}
 use Rattle.sc_ways.proofs.Popping.{comes, comes-at-end, leads-same}
-use Rattle.sc_ways.proofs.Runs.{all-at, all-behind, cut-at}
+use Rattle.sc_ways.proofs.Runs.{all-behind, cut-at}
 use Rattle.sc_ways.proofs.Waits.{Held}
 
 -- ## Booleans
@@ -251,11 +252,6 @@ module _ (setup : Setup) (epoch : ℕ) (small : epoch < 2 ^ 64) (run : List Mome
 
 -- ## A whole run
 
-pub through : {A B : Type 0} (next : A → Option B) (found : Option A) (b : B) → option_and_then next found ≡ Some b
-    → (a : A) × (found ≡ Some a) × (next a ≡ Some b)
-through next None b is = cc
-through next (Some a) b is = (a, refl, is)
-
 -- what is so of each request that sets out of a run, it may come from outside or by a turn
 module _ (setup : Setup) (net : Net Session) (given : List Step) (Goal : SetOut → List Moment → Type 0)
     (outside : (before : Net Session) (place : Place) (request : Request) (later : List Step)
@@ -323,7 +319,7 @@ module _ (setup : Setup) (epoch : ℕ) (small : epoch < 2 ^ 64) (net : Net Sessi
   unfolding set_out HasOwnBranch
   visits-by occurrence None is own carries fine ends all = cc
   visits-by occurrence (Some out) is own carries fine ends all =
-      let by = through (λ (moment : Moment). set_out_by setup moment moment.step occurrence.order) (slice_get Run occurrence.step) out is in
+      let by = found-behind (λ (moment : Moment). set_out_by setup moment moment.step occurrence.order) (slice_get Run occurrence.step) out is in
       out-by setup net given Goal (follows-outside setup epoch small Run dialog direction piece) (follows-turn setup epoch small Run dialog direction piece) occurrence.order occurrence.step by.0 out by.1 by.2
       (λ order at. own order out at is)
       (subst (λ (m : Moment). IsFine setup epoch m) (sym (moment-of setup by.0 by.0.step occurrence.order out by.2)) (all-at (IsFine setup epoch) Run occurrence.step by.0 by.1 fine))

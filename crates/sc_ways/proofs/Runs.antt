@@ -254,15 +254,6 @@ cut-at (step ∷ given) setup net (suc place) moment at =
     let cut = cut-at given setup (after_step as_session setup net step) place moment at in
     record { net = cut.net; step = cut.step; later = cut.later; is = cut.is; rest = drop-next place _ (moments_from setup (after_step as_session setup net step) given) ∙ cut.rest }
 
-pub all-at : {A : Type 0} (P : A → Type 0) (xs : List A) (place : ℕ) (x : A) → slice_get xs place ≡ Some x → All P xs → P x
-unfolding All
-all-at P [] place x at all = cc
-all-at P (y ∷ xs) zero x at all = subst P (some-is y x at) all.0
-  where
-    some-is : {A : Type 0} (y x : A) → Some y ≡ Some x → y ≡ x
-    some-is y x is = cc
-all-at P (y ∷ xs) (suc place) x at all = all-at P xs place x at all.1
-
 pub all-behind : {A : Type 0} (P : A → Type 0) (n : ℕ) (xs : List A) → All P xs → All P (drop n xs)
 unfolding All
 all-behind P zero xs all = all

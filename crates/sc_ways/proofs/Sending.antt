@@ -20,6 +20,7 @@ use Rattle.sc_state.specs.declared.queue.Queued.TheVariants as queued
 use Rattle.sc_state.specs.declared.session.Session.{Session}
 use Rattle.sc_hosts.specs.Transacting.{same_top, same_via}
 use Rattle.sc_lasting.proofs.Began.{test-found}
+use Rattle.sc_lasting.proofs.Shared.{found-behind}
 use Rattle.sc_paths.specs.LaterRequests.{SetOut, has_vias, later_in, set_out_by}
 use Rattle.sc_paths.specs.Moments.{Got, Moment, given_in, got_in, same_vias}
 use Rattle.sc_hops.specs.Hops.{AreOtherBranches, GoesAs, HasBranchOf, HasNoClient, Is_ack, Is_send, Sends}
@@ -54,11 +55,6 @@ record IsOrderedOut (setup : Setup) (moment : Moment) (place : ℕ) (request : R
   order : Order
   at : slice_get (given_in setup moment) place ≡ Some order
   sends : Sends request order
-
-through : {A B : Type 0} (next : A → Option B) (found : Option A) (b : B) → option_and_then next found ≡ Some b
-    → (a : A) × (found ≡ Some a) × (next a ≡ Some b)
-through next None b is = cc
-through next (Some a) b is = (a, refl, is)
 
 pub sends-by : (order : Order) (request : Request) → later_in order ≡ Some request → Sends request order
 unfolding later_in
@@ -109,7 +105,7 @@ session-by setup moment (steps.Withdraw app) place out is = cc
 
 ordered-out : (setup : Setup) (moment : Moment) (place : ℕ) (request : Request) → option_and_then later_in (slice_get (given_in setup moment) place) ≡ Some request → IsOrderedOut setup moment place request
 ordered-out setup moment place request is =
-    let found = through later_in (slice_get (given_in setup moment) place) request is in
+    let found = found-behind later_in (slice_get (given_in setup moment) place) request is in
     record { order = found.0; at = found.1; sends = sends-by found.0 request found.2 }
 
 -- ## The event that it brings
