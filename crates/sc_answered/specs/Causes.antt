@@ -1,4 +1,5 @@
--- Where what happens in a SipSession comes of what happened in another one.
+-- Where what happens in a SipSession comes of what happened in another one: of its link (JSR 289
+-- section 12), or of its request.
 use Rattle.std.specs.Prelude.{◌≡◌, List, Bool, true, false, not, ◌&&◌}
 use Rattle.std.specs.List.{list_any}
 use Rattle.sc_value.specs.declared.ids.SessId.{SessId}

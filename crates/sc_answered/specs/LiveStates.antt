@@ -1,4 +1,4 @@
--- The states of the SipSessions of a live application session.
+-- The states of the SipSessions of a live application session (JSR 289 section 6.2.1).
 use Rattle.std.specs.Prelude.{List}
 use Rattle.sc_value.specs.declared.ids.AppId.{AppId}
 use Rattle.sc_parts.specs.declared.setup.Setup.{Setup}

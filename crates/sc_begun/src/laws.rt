@@ -35,12 +35,15 @@ pub fn initial_requests_have_no_tag()
         → live_at app (chained as_session setup epoch began journal) ≡ Some live
         → slice_get live.inbox 0 ≡ Some waiting
         → All IsUntagged
-        (outcome_by as_session setup.config live.session (turn_of (chained as_session setup epoch began journal) app waiting now made end)).orders }
+        (outcome_by as_session setup.config live.session
+        (turn_of (chained as_session setup epoch began journal) app waiting now made end)).orders }
     ensures history { (setup : Setup) (epoch began : ℕ) (journal : List Step) (app : AppId)
         (live : Live History) (waiting : Waiting) (now : ℕ) (made : List CallRecord) (end : End)
         → IsLawful (as_history setup.config) setup epoch began journal
         → live_at app (chained (as_history setup.config) setup epoch began journal) ≡ Some live
         → slice_get live.inbox 0 ≡ Some waiting
         → All IsUntagged
-        (outcome_by (as_history setup.config) setup.config live.session (turn_of (chained (as_history setup.config) setup epoch began journal) app waiting now made end)).orders }
+        (outcome_by (as_history setup.config) setup.config live.session
+        (turn_of (chained (as_history setup.config) setup epoch began journal) app waiting now made
+        end)).orders }
 {}

@@ -46,7 +46,8 @@ ip_of text = if_whole (read_ipv4 text)
 -- the port that the text writes: a decimal from 1 to 65,535 without leading zeros
 unfoldable pub port_of : Bytes → Option ℕ
 port_of text =
-    if list_all is_ascii_digit text && nat_lt 0 (length text) && not (slice_index text 0 == 48) && nat_le 1 (digits_value 10 text) && nat_lt (digits_value 10 text) 65536
+    if list_all is_ascii_digit text && nat_lt 0 (length text) && not (slice_index text 0 == 48)
+    && nat_le 1 (digits_value 10 text) && nat_lt (digits_value 10 text) 65536
     then Some (digits_value 10 text) else None
 
 -- both, where both are there

@@ -1,4 +1,4 @@
--- What the console writes.
+-- What the console writes. The form is this project's own.
 use Rattle.std.specs.Prelude.{◌++◌, ◌∷◌, [], List, codes, decimal, length}
 use Rattle.std.specs.List.{flat_map}
 use Rattle.sc_tokens.specs.Bytes.{Bytes}

@@ -1,4 +1,4 @@
--- How the console answers a line.
+-- How the console answers a line. Its lines are this project's own.
 use Rattle.std.specs.Prelude.{◌≡◌, ◌++◌, ◌∷◌, [], codes}
 use Rattle.crossbeam_queue.specs.Fifo.{Held}
 use Rattle.sc_tokens.specs.Bytes.{Bytes}

@@ -1,4 +1,5 @@
--- What a line of the console asks for: `list`, or `drop H S` with decimals as in scripts.
+-- What a line of the console asks for: `list`, or `drop H S` with decimals as in scripts. Both are
+-- this project's own.
 use Rattle.std.specs.Prelude.{ℕ, Option, None, Some, codes, if◌then◌else◌}
 use Rattle.sc_tokens.specs.Bytes.{Bytes}
 use Rattle.sc_tokens.specs.Cuts.{before, after}

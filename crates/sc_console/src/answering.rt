@@ -15,10 +15,10 @@ use std::sync::Wait;
 
 /// Answers a line, which is without its line feed, and appends what it writes to `out`:
 ///
-/// - `list`: `list EPOCH STEPS LIVE WAITING`, and for each live session `app H S`, each with a line feed, from one
-///   listing;
-/// - `drop H S`: `posted`, where an order of the listing's epoch was posted, or `full`, only where the desk was full
-///   at that step. Whether the session lives isn't asked;
+/// - `list`: `list EPOCH STEPS LIVE WAITING`, and for each live session `app H S`, each with a line
+///   feed, from one listing;
+/// - `drop H S`: `posted`, where an order of the listing's epoch was posted, or `full`, only where
+///   the desk was full at that step. Whether the session lives isn't asked;
 /// - any other line: `?`.
 ///
 /// It may wait. The pass is a poster's of the desk.

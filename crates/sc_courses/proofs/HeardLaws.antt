@@ -21,11 +21,11 @@ use Rattle.sc_courses.specs.Marks.{HeardTo, HeardUpto, Hearing, HearingPart, Mar
 
 -- ## One answer more
 
-kept-same : (before before2 : Streams) (place : Place) (bytes : Bytes) (after : Streams) → AllKept before before2 → IsKept before2 place bytes after → IsKept before place bytes after
+pub kept-same : (before before2 : Streams) (place : Place) (bytes : Bytes) (after : Streams) → AllKept before before2 → IsKept before2 place bytes after → IsKept before place bytes after
 unfolding IsKept AllKept
 kept-same before before2 place bytes after same kept other = kept other ∙ ap (λ (x : Bytes). if same_place other place then bytes else x) (same other)
 
-makes-same : (kept kept2 : Streams) (answer : Polled) (made : List Step) (after : Streams) → AllKept kept kept2 → Makes kept2 answer made after → Makes kept answer made after
+pub makes-same : (kept kept2 : Streams) (answer : Polled) (made : List Step) (after : Streams) → AllKept kept kept2 → Makes kept2 answer made after → Makes kept answer made after
 unfolding Makes AllKept
 makes-same kept kept2 (answers.Bytes place text) made after same (rest, hears, is) = (rest, subst (λ (x : Bytes). Hears place (x ++ text) made rest) (same place) hears, kept-same kept kept2 place rest after same is)
 makes-same kept kept2 (answers.End place) made after same (e, is) = (e, kept-same kept kept2 place [] after same is)
@@ -34,7 +34,7 @@ makes-same kept kept2 answers.Closed made after same (e, is) = (e, λ place. is 
 makes-same kept kept2 answers.NotYet made after same (e, is) = (e, λ place. is place ∙ same place)
 makes-same kept kept2 answers.Fault made after same (e, is) = (e, λ place. is place ∙ same place)
 
-all-same : (kept : Streams) → AllKept kept kept
+pub all-same : (kept : Streams) → AllKept kept kept
 unfolding AllKept
 all-same kept place = refl
 
@@ -179,7 +179,7 @@ unfolding Makes
 fault_silent kept after same = (refl, same)
 
 -- nothing was heard yet
-tells-none : (told : Option (List Polled)) → TellsSo told told []
+pub tells-none : (told : Option (List Polled)) → TellsSo told told []
 unfolding TellsSo
 tells-none None = refl
 tells-none (Some items) = inl (ap (λ (xs : List Polled). Some xs) (sym (append-nil items)))

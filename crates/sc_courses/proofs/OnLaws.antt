@@ -107,11 +107,11 @@ open-hears : (place : Place) (bytes : Bytes) → front_behind bytes ≡ fronts.O
 unfolding Hears
 open-hears place bytes front = (front, refl)
 
-long-hears : (place : Place) (bytes : Bytes) → front_behind bytes ≡ fronts.Long → Hears place bytes (steps.Lost place ∷ []) []
+pub long-hears : (place : Place) (bytes : Bytes) → front_behind bytes ≡ fronts.Long → Hears place bytes (steps.Lost place ∷ []) []
 unfolding Hears
 long-hears place bytes front = (refl, front, refl)
 
-bad-hears : (place : Place) (bytes : Bytes) (bad : Bad) → IsBad bytes bad → Hears place bytes (steps.Bad place bad ∷ steps.Lost place ∷ []) []
+pub bad-hears : (place : Place) (bytes : Bytes) (bad : Bad) → IsBad bytes bad → Hears place bytes (steps.Bad place bad ∷ steps.Lost place ∷ []) []
 unfolding Hears
 bad-hears place bytes bad is = (refl, refl, is, refl)
 

@@ -33,7 +33,9 @@ AreUnknown config history (turn ∷ earlier) =
 unfoldable pub AreWhole : Config → History → List Turn → Type 0
 AreWhole config history [] = Unit {0}
 AreWhole config history (turn ∷ earlier) =
-    ((told : Event) (act : Act) → event_in config (session_after config history earlier) turn ≡ Some told → act_of (shown_in config (session_after config history earlier) turn) told ≡ Some act
+    ((told : Event) (act : Act)
+    → event_in config (session_after config history earlier) turn ≡ Some told
+    → act_of (shown_in config (session_after config history earlier) turn) told ≡ Some act
     → IsSound (begun (shown_in config (session_after config history earlier) turn)) act)
     × AreWhole config history earlier
 

@@ -19,7 +19,8 @@ ghost use Rattle.sc_early.specs.EarlyLives.{AreUnknown, AreWhole, HasActs, HasRo
 /// are that the calls of each turn are those of the kind's script, or none where nobody is called,
 /// and that numbers of requests have 64 bits. The contract is the law, and the call does nothing.
 pub fn nothing_is_remembered_early()
-    ensures { (config : Config) (history : History) → ArePlayed early_script config history history.turns
+    ensures { (config : Config) (history : History)
+        → ArePlayed early_script config history history.turns
         → HasRoom (session_of config history) → AreUnknown config history history.turns }
 {}
 

@@ -1,6 +1,6 @@
--- The answer at each stop of a later request of a proxied dialog: what its turn gives where it isn't
--- passed on, and what comes back where it is and the next session doesn't get it (RFC 3261 sections
--- 8.1.3, 12.2.2, 16.3, 21.4.19 and 21.5).
+-- The answer at each stop of a later request of a proxied dialog: what its turn gives where it
+-- isn't passed on, and what comes back where it is and the next session doesn't get it (RFC 3261
+-- sections 8.1.3, 12.2.2, 16.3, 21.4.19 and 21.5).
 use Rattle.std.specs.Option.{option_map_or}
 use Rattle.std.specs.Prelude.{◌++◌, ◌∷◌, ◌≡◌, ◌⊎◌, Bool, List, None, Some, [], false, slice_get, suc, true, zero, ℕ}
 use Rattle.sc_value.specs.declared.ids.AppId.{AppId}

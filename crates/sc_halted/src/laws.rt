@@ -80,19 +80,19 @@ pub fn later_requests_are_passed_on_or_answered()
 /// In each lawful run of the hosts: where a session turns to a later request whose next own URI
 /// names a session, that session has the request among its events in the same step, as it was
 /// passed on, or one of the stops that `IsHalted` lists is there with its answer. The turn answers
-/// it 481 where no SipSession has its dialog, 500 where its number is too low, 500 where an accepted
-/// call ends its SipSession, 483 where it may go no hop further; one of a SipSession that isn't a
-/// proxy's is shown to the application. Where the turn passes it on, and the session that it is to
-/// go to doesn't live before the step, the container answers it 481 at once; where as many events
-/// wait for that session, as the request comes to its host, as may, that host answers 503 to the
-/// host that sent the request. Both answers are among the events of the session that passed it on in
-/// the same step, on the branch of the request, where that session lives after the step; the 503
-/// where nobody guessed that branch, which is new (`IsUnguessed`). A request that names the very
-/// session that passes it on, which its turn ended, is answered 481 as it comes back to its host,
-/// and nobody is told. An ACK gets no answer. The premises are those of
+/// it 481 where no SipSession has its dialog, 500 where its number is too low, 500 where an
+/// accepted call ends its SipSession, 483 where it may go no hop further; one of a SipSession that
+/// isn't a proxy's is shown to the application. Where the turn passes it on, and the session that
+/// it is to go to doesn't live before the step, the container answers it 481 at once; where as many
+/// events wait for that session, as the request comes to its host, as may, that host answers 503 to
+/// the host that sent the request. Both answers are among the events of the session that passed it
+/// on in the same step, on the branch of the request, where that session lives after the step; the
+/// 503 where nobody guessed that branch, which is new (`IsUnguessed`). A request that names the
+/// very session that passes it on, which its turn ended, is answered 481 as it comes back to its
+/// host, and nobody is told. An ACK gets no answer. The premises are those of
 /// `later_requests_go_to_the_next` of `sc_onward`, and the numbers in the name of the session that
-/// it is to go to have 64 bits. The contract is the law, for a journal that is lawful in either form
-/// in which sessions are kept, and the call does nothing.
+/// it is to go to have 64 bits. The contract is the law, for a journal that is lawful in either
+/// form in which sessions are kept, and the call does nothing.
 pub fn later_requests_go_on_or_are_answered()
     ensures session { (setup : Setup) (epoch began : ℕ) (journal : List Step)
         → IsLawful as_session setup epoch began journal

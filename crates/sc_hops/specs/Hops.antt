@@ -176,7 +176,9 @@ pub record TakesLater (setup : Setup) (net : Net Session) (app : AppId) (number 
       ≡ Some (record { number = number; event = queued.Request request })
   pub below : Numbered live.session
   pub untagged : All IsUntagged
-      (outcome_by as_session setup.config live.session (turn_of (record net { sent = [] }) app (record { number = number; event = queued.Request request }) now made end)).orders
+      (outcome_by as_session setup.config live.session
+      (turn_of (record net { sent = [] }) app
+      (record { number = number; event = queued.Request request }) now made end)).orders
 
 -- where other Vias stand below the first of a later request, it is that one as it was passed on
 abbrev pub IsPassedWay : Config → Session → Request → Request → Type 0
@@ -235,10 +237,12 @@ pub record SendsLater (setup : Setup) (net : Net Session) (app : AppId) (now : �
   pub first : slice_get live.inbox 0 ≡ Some waiting
   pub order : Order
   pub at : slice_get
-      (outcome_by as_session setup.config live.session (turn_of (record net { sent = [] }) app waiting now made end)).orders
+      (outcome_by as_session setup.config live.session
+      (turn_of (record net { sent = [] }) app waiting now made end)).orders
       place ≡ Some order
   pub sends : Sends request order
   pub others : AreOtherBranches request
-      (outcome_by as_session setup.config live.session (turn_of (record net { sent = [] }) app waiting now made end)).orders
+      (outcome_by as_session setup.config live.session
+      (turn_of (record net { sent = [] }) app waiting now made end)).orders
       place
   pub clients : HasNoClient request net

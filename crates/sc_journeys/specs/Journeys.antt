@@ -16,8 +16,8 @@ use Rattle.sc_onward.specs.Onward.{TurnsTo}
 use Rattle.sc_halted.specs.Halted.{IsHalted}
 
 -- it stops in the session where it waits, or in one behind it: its turn doesn't come; or in its
--- turn there is one of the named stops, with its answer, before the session to which it is to go; or
--- it is passed on there, and stops further on
+-- turn there is one of the named stops, with its answer, before the session to which it is to go;
+-- or it is passed on there, and stops further on
 unfoldable pub Halts : Setup → Got → List Moment → Type 0
 Halts setup got [] = Unit {0}
 Halts setup got (moment ∷ later) =

@@ -13,9 +13,10 @@ ghost use Rattle.sc_journeys.specs.Journeys.{Ends};
 /// or a session sends it, visits all of the sessions that stayed on the way and are ahead of it; or
 /// the first of them doesn't take it, since it doesn't live or is full; or it stops in one of them:
 /// its turn doesn't come in the run, or in its turn there is one of the stops that `IsHalted` of
-/// `sc_halted` lists, with its answer. Nothing else becomes of it (RFC 3261 sections 12.2.2 and 16.12). The premises
-/// are those of `later_requests_keep_to_the_way` of `sc_ways`. The contract is the law, for a
-/// journal that is lawful in either form in which sessions are kept, and the call does nothing.
+/// `sc_halted` lists, with its answer. Nothing else becomes of it (RFC 3261 sections 12.2.2 and
+/// 16.12). The premises are those of `later_requests_keep_to_the_way` of `sc_ways`. The contract is
+/// the law, for a journal that is lawful in either form in which sessions are kept, and the call
+/// does nothing.
 pub fn later_requests_go_all_the_way_or_stop()
     ensures session { (setup : Setup) (epoch began : ℕ) (journal : List Step) (dialog : Dialog)
         (direction : Direction) (piece : Piece) (occurrence : Occurrence)

@@ -1,4 +1,4 @@
--- The charters of the applications that every container comes with.
+-- The charters of the applications that every container comes with, which are this project's own.
 use Rattle.sc_terms.specs.declared.charters.Charter.{Charter}
 use Rattle.sc_terms.specs.declared.charters.Charter.TheVariants as charters
 use Rattle.sc_kinds.specs.declared.built_in.BuiltIn.{BuiltIn}

@@ -23,7 +23,8 @@ const MOST_TURNS: u64 = 64;
 ///
 /// # Errors
 ///
-/// `JournalFull` where the journal has no room for a turn, and `NoMemory`. The steps before it stand.
+/// `JournalFull` where the journal has no room for a turn, and `NoMemory`. The steps before it
+/// stand.
 pub fn work_once<R: Wait, N: Notice<Journal<Step>>>(
     rt: &R,
     core: &mut Core,

@@ -119,7 +119,8 @@ unfoldable pub asked_of : Rule → Request → Asked
 asked_of rule request =
     if not (names_package rule request) then asked.BadEvent
     else
-    (if nat_lt 0 (asked_seconds rule request) && nat_lt (asked_seconds rule request) rule.least then asked.Brief
+    (if nat_lt 0 (asked_seconds rule request) && nat_lt (asked_seconds rule request) rule.least
+    then asked.Brief
     else asked.For (min (asked_seconds rule request) rule.longest))
 
 -- for no more than so many seconds

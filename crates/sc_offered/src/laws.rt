@@ -11,9 +11,10 @@ ghost use Rattle.sc_offered.specs.Acts.{prack_act};
 
 /// What `offer` of `sc_offers` calls, where it gives an RSeq, are the calls of the act `Offers` of
 /// `sc_promised`; what `late` calls are those of the act `Late`; and what `take_prack` calls, with
-/// 200 to the INVITE behind them where the PRACK named the offer, are those of the act `Pracks`. So the laws over every list of acts of an INVITE
-/// are those of these calls: the RSeq numbers are 1, 2, 3 and so on, and while an offer waits no
-/// other is made. The contract is the law, and the call does nothing.
+/// 200 to the INVITE behind them where the PRACK named the offer, are those of the act `Pracks`. So
+/// the laws over every list of acts of an INVITE are those of these calls: the RSeq numbers are 1,
+/// 2, 3 and so on, and while an offer waits no other is made. The contract is the law, and the call
+/// does nothing.
 #[tactic(auto, using(crate::proofs::ActLaws::offer_acts, crate::proofs::ActLaws::prack_acts, crate::proofs::ActLaws::late_acts))]
 pub fn calls_are_acts()
     ensures offer { (view : View) (req : ReqId) (request : Request) (code : ℕ) (reason body : Bytes)

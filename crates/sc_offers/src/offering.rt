@@ -240,13 +240,14 @@ fn offer_by(
 /// Offers a reliable provisional response to an INVITE (RFC 3262 section 3). Gives its RSeq: 1 for
 /// the first one to this INVITE, else one more than the last.
 ///
-/// `req` is the received INVITE's number, and `request` the INVITE itself; `code` is 101 to 199. It makes these calls,
-/// each where the one before was accepted: `respond` with that code, reason and body and the
-/// headers `Require: 100rel` and `RSeq`; `set_attribute` of `rel` with the INVITE's number to `P
-/// RSEQ CSEQ 0`, where CSEQ is the number in the INVITE's CSeq; `start_timer` of 32,000
-/// milliseconds whose information is that attribute's name; and `set_attribute` of the same with
-/// the timer's number in place of 0. It needs no turn of its own: other calls may stand before and
-/// behind it. The response isn't sent again before its PRACK comes, as all transport is reliable.
+/// `req` is the received INVITE's number, and `request` the INVITE itself; `code` is 101 to 199. It
+/// makes these calls, each where the one before was accepted: `respond` with that code, reason and
+/// body and the headers `Require: 100rel` and `RSeq`; `set_attribute` of `rel` with the INVITE's
+/// number to `P RSEQ CSEQ 0`, where CSEQ is the number in the INVITE's CSeq; `start_timer` of
+/// 32,000 milliseconds whose information is that attribute's name; and `set_attribute` of the same
+/// with the timer's number in place of 0. It needs no turn of its own: other calls may stand before
+/// and behind it. The response isn't sent again before its PRACK comes, as all transport is
+/// reliable.
 ///
 /// # Errors
 ///
@@ -254,8 +255,8 @@ fn offer_by(
 /// - `Unsupported`: no Supported or Require header of the INVITE has `100rel`.
 /// - `Pending`: the last offer waits for its PRACK.
 /// - `Exhausted`: the last offer has the RSeq 2,147,483,647.
-/// - `Turn`: the turn refuses one of the calls, and the ones before it were accepted. None is made behind it. What the
-///   accepted ones did stays: after the first the response is sent.
+/// - `Turn`: the turn refuses one of the calls, and the ones before it were accepted. None is made
+///   behind it. What the accepted ones did stays: after the first the response is sent.
 ///
 /// The first three make no call. For want of memory it is `Turn` with `NoMemory`; where a call of
 /// this turn wanted memory before, the turn is over, and nothing is said.

@@ -35,9 +35,8 @@ use std::alloc::Global;
 /// response it answers 200 `OK`, and then the INVITE so; another PRACK 481 `Call/Transaction Does
 /// Not Exist`. Where no PRACK has come after 32 seconds, it answers the INVITE 500 `Server Internal
 /// Error`. An INVITE without `100rel` it answers 180 `Ringing` and 200 `OK`, and each other request
-/// but an ACK 200
-/// `OK`. When the INVITE is cancelled it ends the timer. At all other events it makes no call. It has no
-/// parameters.
+/// but an ACK 200 `OK`. When the INVITE is cancelled it ends the timer. At all other events it
+/// makes no call. It has no parameters.
 #[derive(Clone, Copy, Debug)]
 pub struct Offers;
 

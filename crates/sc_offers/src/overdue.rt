@@ -167,9 +167,9 @@ fn end_offer(turn: &mut Turn, number: u64, id: TimerId) -> Result<bool, Stopped>
 ///
 /// # Errors
 ///
-/// `Turn` alone: the turn refuses one of the two calls. Where that is the second, the response is sent. For want of memory
-/// it is `Turn` with `NoMemory`; where a call of this turn wanted memory before, the turn is over,
-/// and nothing is said.
+/// `Turn` alone: the turn refuses one of the two calls. Where that is the second, the response is
+/// sent. For want of memory it is `Turn` with `NoMemory`; where a call of this turn wanted memory
+/// before, the turn is over, and nothing is said.
 #[tactic(auto, using(crate::proofs::CallLaws::carried_out, crate::proofs::CallLaws::carried_stop))]
 pub fn late(turn: &mut Turn, invite: ReqId, id: TimerId) -> Result<bool, OfferRefused>
     ensures same { turn.new.shown ≡ turn.old.shown }

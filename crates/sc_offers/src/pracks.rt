@@ -229,10 +229,10 @@ fn read_prack(turn: &mut Turn, invite: ReqId, req: ReqId, prack: &Request) -> Re
 ///
 /// # Errors
 ///
-/// `Turn` alone: the turn refuses one of the calls, and the ones before it were accepted. None is made behind it, and what
-/// the accepted ones did stays: after the first the PRACK is answered. For want of memory it is
-/// `Turn` with `NoMemory`; where a call of this turn wanted memory before, the turn is over, and
-/// nothing is said.
+/// `Turn` alone: the turn refuses one of the calls, and the ones before it were accepted. None is
+/// made behind it, and what the accepted ones did stays: after the first the PRACK is answered. For
+/// want of memory it is `Turn` with `NoMemory`; where a call of this turn wanted memory before, the
+/// turn is over, and nothing is said.
 #[tactic(auto, using(crate::proofs::CallLaws::carried_out, crate::proofs::CallLaws::carried_stop))]
 pub fn take_prack(
     turn: &mut Turn,

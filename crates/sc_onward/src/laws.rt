@@ -166,8 +166,9 @@ pub fn sent_requests_come_to_the_first()
 /// In each lawful run of the hosts: where a session turns to a later request whose next own URI
 /// names another session, that session has the request among its events in the same step, as it was
 /// passed on, or one of the stops that `Stops` lists, each with its answer, is there: nothing else
-/// stops it. The premises are those of `later_requests_go_to_the_next`. The contract is the law, for
-/// a journal that is lawful in either form in which sessions are kept, and the call does nothing.
+/// stops it. The premises are those of `later_requests_go_to_the_next`. The contract is the law,
+/// for a journal that is lawful in either form in which sessions are kept, and the call does
+/// nothing.
 pub fn later_requests_go_on_or_stop()
     ensures session { (setup : Setup) (epoch began : ℕ) (journal : List Step)
         → IsLawful as_session setup epoch began journal

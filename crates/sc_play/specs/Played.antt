@@ -1,4 +1,5 @@
--- How far a switch came in a recording, and what was written of it.
+-- How far a switch came in a recording, and what was written of it. Recordings are this project's
+-- own.
 use Rattle.std.specs.Prelude.{◌≡◌, ℕ, ◌++◌, List, [], ◌∷◌, Option, length, min}
 use Rattle.std.specs.List.{flat_map, sum_by}
 use Rattle.sc_terms.specs.declared.steps.Step.{Step}

@@ -34,9 +34,9 @@ const LONGEST: usize = 1_073_741_824;
 /// - `Done`: the recording was played to its end and all was put.
 /// - `Usage`: the words have another form.
 /// - `Config`, `Dar`: the settings are refused.
-/// - `Script`: the recording is refused at the row that begins at this byte: kinds 1 to 5 and 7 as of a script, before
-/// anything is put; 8 where another step is made than the one that stands there, or none, and then
-/// what the rows before it send is put.
+/// - `Script`: the recording is refused at the row that begins at this byte: kinds 1 to 5 and 7 as
+///   of a script, before anything is put; 8 where another step is made than the one that stands
+///   there, or none, and then what the rows before it send is put.
 /// - `JournalFull`: a step has more bytes than the journal takes.
 /// - `Read`, `Write`: a text couldn't be read, or the output not written.
 /// - `NoMemory`: want of memory, at any place.

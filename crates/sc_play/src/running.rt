@@ -320,7 +320,8 @@ fn is_text(alloc: Global, bytes: &[u8], step: &Step) -> Result<bool, NoMemory>
 ///
 /// # Errors
 ///
-/// `Refused` with [`APART`] where no epoch ends here, as something lives, or where another one does, and `NoMemory`.
+/// `Refused` with [`APART`] where no epoch ends here, as something lives, or where another one
+/// does, and `NoMemory`.
 #[tactic(auto, using(crate::proofs::PlayLaws::end_of))]
 pub fn end_epoch(alloc: Global, bytes: &[u8], switch: &mut Switch) -> Result<(), Unplayed>
     ensures { OnOk result (IsEnd switch.old switch.new bytes.now) }

@@ -235,7 +235,9 @@ pub record Given (play : Play) (req : ReqId) (r c code : ℕ) (reason body : Byt
       (calls.StartTimer 32000 Once (rel_name req.0))) ≡ false
   pub timer : ℕ
   pub timer_is : timer
-      ≡ (after_listed (after_listed play (offer_call req r code reason body)) (calls.SetAttribute (rel_name req.0) (offer_text r c 0))).view.next_timer
+      ≡ (after_listed
+      (after_listed play (offer_call req r code reason body))
+      (calls.SetAttribute (rel_name req.0) (offer_text r c 0))).view.next_timer
   pub named : is_refused
       (answer_of
       (after_listed

@@ -177,7 +177,11 @@ targets_of first events = drop (taken_since events) (added_since first events)
 -- the response, where it is the first final one of its branch and is to be among the candidates
 unfoldable pub counts : Proxy → List ProxyEvent → ℕ → Response → List Response
 counts first earlier number response =
-    if is_open_at number earlier && not (is_success response.code) && length (followed first (tried_of first earlier) (is_settled earlier) (is_open_at number earlier) response) == 0
+    if is_open_at number earlier && not (is_success response.code)
+    && length
+    (followed first (tried_of first earlier) (is_settled earlier) (is_open_at number earlier)
+    response)
+    == 0
     then response ∷ [] else []
 
 -- a final response of a branch but a 2xx, or one that gave further targets

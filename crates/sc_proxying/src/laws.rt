@@ -20,10 +20,11 @@ ghost use Rattle.sc_proxying.specs.Proxying.{HasItsList, HasLists, HaveLists};
 /// targets that they named and that they stopped it; then what followed from what it was by then,
 /// exactly: each target that was to be started got its branch, what waited was forwarded where it
 /// could go, then the best response once that could, and it rested; or nothing, where the
-/// application had ended its SipSession. Each branch that was started is a new one and took a target that waited, or is
-/// the one on which a later request was passed on. So it is in every history; and of a live session
-/// after a lawful journal it is so of the turns that the journal tells of it, for each form in
-/// which sessions are kept. The contract is the law, and the call does nothing.
+/// application had ended its SipSession. Each branch that was started is a new one and took a
+/// target that waited, or is the one on which a later request was passed on. So it is in every
+/// history; and of a live session after a lawful journal it is so of the turns that the journal
+/// tells of it, for each form in which sessions are kept. The contract is the law, and the call
+/// does nothing.
 pub fn proxied_requests_have_their_lists()
     ensures life { (config : Config) (history : History)
         → All (HasItsList config history history.turns) (session_of config history).known.proxies }

@@ -1,4 +1,4 @@
--- What a recorder's sink took.
+-- What a recorder's sink took. Recordings are this project's own.
 use Rattle.std.specs.Prelude.{◌≡◌, ℕ, List, [], ◌++◌, take, Option, None, Some, Result, Ok, Err, ⊤}
 use Rattle.std.specs.List.{flat_map}
 use Rattle.sc_grammar.specs.Written.{Bytes}

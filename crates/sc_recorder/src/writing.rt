@@ -25,8 +25,8 @@ pub enum Unrecorded {
 ///
 /// # Errors
 ///
-/// `Failed` only where the sink counted a fault, and `NoMemory`; the sink then took a part from the front of the
-/// steps' text.
+/// `Failed` only where the sink counted a fault, and `NoMemory`; the sink then took a part from the
+/// front of the steps' text.
 pub fn put_steps<K: Sink>(
     alloc: Global,
     journal: &Journal<Step>,

@@ -1,4 +1,5 @@
 -- The calls of a turn as text: a line for each call, its name, its arguments and what it answered.
+-- The form is this project's own.
 use Rattle.std.specs.Prelude.{ℕ, ℤ, pos, negsuc, ◌+◌, List, [], ◌∷◌, ◌++◌, Bool, true, false, Option, None, Some, codes, decimal, length}
 use Rattle.std.specs.List.{flat_map}
 use Rattle.sc_value.specs.declared.ids.ReqId.{ReqId}

@@ -1,4 +1,5 @@
--- The steps of a journal as text: a line for each, behind which stands what a line can't hold.
+-- The steps of a journal as text: a line for each, behind which stands what a line can't hold. The
+-- form is this project's own.
 use Rattle.std.specs.Prelude.{ℕ, List, [], ◌∷◌, ◌++◌, Option, None, Some, codes, length}
 use Rattle.std.specs.List.{flat_map}
 use Rattle.sc_tokens.specs.HeaderNames.{from_name, to_name, call_id_name, cseq_name}

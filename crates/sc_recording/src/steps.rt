@@ -18,14 +18,14 @@ use std::alloc::Global;
 /// The text of a step, its line and what stands behind it:
 ///
 /// - `in PLACE N`, the N bytes of a message and a line feed: the message came from the place.
-/// - `bad PLACE AT KIND N`, N bytes of headers and a line feed: a text came that is no message, which goes wrong at
-/// this byte of it, from 0, in this way; the headers are those from which it is answered, none
-/// where it isn't.
+/// - `bad PLACE AT KIND N`, N bytes of headers and a line feed: a text came that is no message,
+///   which goes wrong at this byte of it, from 0, in this way; the headers are those from which it
+///   is answered, none where it isn't.
 /// - `lost PLACE`: the place was lost.
 /// - `tick MS`: the clock reached this moment, in milliseconds.
-/// - `turn H S EVENT MS END N`, N bytes of lines and a line feed: the application session S of host H handled the
-/// event of this number, lent to it at this moment, and END is `fine` or `fault`; the lines are its
-/// calls.
+/// - `turn H S EVENT MS END N`, N bytes of lines and a line feed: the application session S of host
+///   H handled the event of this number, lent to it at this moment, and END is `fine` or `fault`;
+///   the lines are its calls.
 /// - `drop H S`: the application session was ended from outside.
 ///
 /// The one error is want of memory.
@@ -37,8 +37,8 @@ pub fn step_text(alloc: Global, step: &Step) -> Result<Text, NoMemory>
     Ok(text)
 }
 
-/// `epoch NUMBER BEGAN`: the epoch of this number, which began at this moment, ends behind the steps before. The one
-/// error is want of memory.
+/// `epoch NUMBER BEGAN`: the epoch of this number, which began at this moment, ends behind the
+/// steps before. The one error is want of memory.
 #[tactic(auto, unfolding(crate::specs::StepTexts::epoch_text))]
 pub fn epoch_text(alloc: Global, number: u32, began: u64) -> Result<Text, NoMemory>
     ensures { IfOk result (λ text. text ≡ epoch_text number began) }

@@ -1,4 +1,4 @@
--- Turns whose calls are those of a script, over the whole life of a session.
+-- Turns whose calls are those of a script, over the whole life of a session (JSR 289 section 6).
 use Rattle.std.specs.Prelude.{◌≡◌, ◌⊎◌, List, [], ◌∷◌, Option, None, Some}
 use Rattle.sc_terms.specs.declared.calls.CallRecord.{CallRecord}
 use Rattle.sc_terms.specs.declared.events.Event.{Event}

@@ -21,7 +21,8 @@ use std::alloc::Global;
 ///
 /// - `Done`: the whole script was put.
 /// - `Usage`: the words have another form; nothing was put.
-/// - `Write`: only where the sink's count of faults rose in this call; a part from the front was put.
+/// - `Write`: only where the sink's count of faults rose in this call; a part from the front was
+///   put.
 /// - `NoMemory`: want of memory; a part from the front was put.
 ///
 /// There is no journal.

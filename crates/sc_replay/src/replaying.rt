@@ -29,8 +29,8 @@ use std::alloc::Global;
 /// - `Usage`: the words have another form.
 /// - `Config`: the configuration is refused, with the first fault as `sc_config::read` tells it.
 /// - `Dar`: the routing table is refused, with the first fault as `sc_dar::read` tells it.
-/// - `JournalFull`: a step was due that the journal had no room for. The records are put without the
-///   last line.
+/// - `JournalFull`: a step was due that the journal had no room for. The records are put without
+///   the last line.
 /// - `Script`: the script is refused, with the first fault as `sc_script::read_lines` tells it.
 /// - `Read`, `Write`: only where the shelf's, the sink's count of faults rose in this call.
 /// - `NoMemory`: want of memory, at any place.

@@ -71,8 +71,8 @@ pub fn read_settings<F: Shelf>(
 ///
 /// # Errors
 ///
-/// `Config` where the configuration's text is refused so; else `Dar` where the routing table's text is
-/// refused so for its applications; and `NoMemory`.
+/// `Config` where the configuration's text is refused so; else `Dar` where the routing table's text
+/// is refused so for its applications; and `NoMemory`.
 pub fn settings_of(
     alloc: Global,
     config: &Text,

@@ -37,8 +37,8 @@ pub enum Came {
     Fault,
 }
 
-/// Takes the steps that an answer of the edge makes. It comes to `Broken` exactly where the place of
-/// its bytes is given up.
+/// Takes the steps that an answer of the edge makes. It comes to `Broken` exactly where the place
+/// of its bytes is given up.
 ///
 /// # Errors
 ///

@@ -59,10 +59,10 @@ pub fn searches_end_with_a_response()
 /// followed, and stopped the search in that same turn, so that the new targets were dropped
 /// (`was_dropped`); it can proxy the request to further targets then, or end its SipSession. So it
 /// is of each request that an application session proxies, a later one that it passes on too, by
-/// the list of all that happened to it (`HasItsList`): in every history, and of a live session after
-/// a lawful journal, for each form in which sessions are kept. Where hosts find the search exhausted
-/// (`is_exhausted`), which ends its SipSessions, it is over by its list. The contract is the law,
-/// and the call does nothing.
+/// the list of all that happened to it (`HasItsList`): in every history, and of a live session
+/// after a lawful journal, for each form in which sessions are kept. Where hosts find the search
+/// exhausted (`is_exhausted`), which ends its SipSessions, it is over by its list. The contract is
+/// the law, and the call does nothing.
 pub fn ended_searches_are_answered()
     ensures life { (config : Config) (history : History)
         → All (HasItsAnswer config history history.turns)

@@ -1,4 +1,4 @@
--- What a read and a write of a connection come to.
+-- What a read and a write of a connection come to, as the sockets of POSIX answer them.
 use Rattle.std.specs.Prelude.{ℕ, ◌<◌, ◌≤◌}
 use Rattle.sc_sockets.specs.declared.reading.Heard.{Heard}
 use Rattle.sc_sockets.specs.declared.reading.Heard.TheVariants as heard

@@ -1,4 +1,4 @@
--- What the parts of a poll and of a put do.
+-- What the parts of a poll and of a put do, as the sockets of POSIX answer them.
 use Rattle.std.specs.Prelude.{ℕ, ◌≡◌, ◌⊎◌, true}
 use Rattle.sc_value.specs.declared.ids.Place.{Place}
 use Rattle.sc_edge.specs.EdgeCalls.{Ends, Names, PollBlames}

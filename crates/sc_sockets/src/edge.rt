@@ -24,14 +24,14 @@ use std::time::Clock;
 /// 256 at once; one more is dropped at once, unless one of them has sent its end. To other
 /// addresses it connects at the first put, up to 512 at once; one more put to a new address fails.
 ///
-/// - `poll` reads once, from the connections that gave something in turn. A connection that ended is
-///   named once; a peer's is still written to, until it fails, until 64 s without a put, or until
-///   another peer needs its room.
-/// - `put` writes once. It fails where the connection failed, where a connect lasts longer than 10 s,
-///   and where the peer takes nothing and more than 1 MiB is to be put; the connection is dropped
-///   then. A number that no connection has yet takes nothing.
-/// - `close` drops the connection. A number that no connection has yet, and all below it, are given to
-///   none later.
+/// - `poll` reads once, from the connections that gave something in turn. A connection that ended
+///   is named once; a peer's is still written to, until it fails, until 64 s without a put, or
+///   until another peer needs its room.
+/// - `put` writes once. It fails where the connection failed, where a connect lasts longer than 10
+///   s, and where the peer takes nothing and more than 1 MiB is to be put; the connection is
+///   dropped then. A number that no connection has yet takes nothing.
+/// - `close` drops the connection. A number that no connection has yet, and all below it, are given
+///   to none later.
 /// - `rest` returns as soon as something comes. The first 32 rests after something came or was put
 ///   only look and return at once, so that what other threads make ready is put soon.
 ///
@@ -68,10 +68,9 @@ impl<'a, R: Net + Clock> MioEdge<'a, R> {
     /// Listens at an IPv4 address and a port, with which the peers' connections come; at all of the
     /// machine's addresses where `ip` is 0.0.0.0, and at a port that the system picks where `port`
     /// is 0. It fails where the system refuses that: `AddrInUse` where another program listens
-    /// there,
-    /// `AddrNotAvailable` where the address isn't one of the machine's, `PermissionDenied` where the
-    /// port is reserved, `OutOfMemory` where the memory is short; with other kinds where the system
-    /// has no room for one more descriptor, or its clock can't be read.
+    /// there, `AddrNotAvailable` where the address isn't one of the machine's, `PermissionDenied`
+    /// where the port is reserved, `OutOfMemory` where the memory is short; with other kinds where
+    /// the system has no room for one more descriptor, or its clock can't be read.
     pub fn new(rt: &'a R, alloc: Global, ip: [u8; 4], port: u16) -> io::Result<MioEdge<'a, R>>
         ensures { IfOk result (λ s. s ≡ made) }
     {

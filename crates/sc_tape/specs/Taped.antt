@@ -1,4 +1,4 @@
--- A run that is recorded, and what its recording has.
+-- A run that is recorded, and what its recording has. Recordings are this project's own.
 use Rattle.std.specs.Prelude.{◌≡◌, List, [], ◌++◌, Option, None, Some}
 use Rattle.sc_edge.specs.declared.notice.Noted.{Noted}
 use Rattle.sc_grammar.specs.Written.{Bytes}

@@ -58,7 +58,8 @@ pub record HasActs (config : Config) (history : History) (n : ℕ) (turns : List
 unfoldable pub HaveRoom : Config → History → List Turn → Type 0
 HaveRoom config history [] = Unit {0}
 HaveRoom config history (turn ∷ earlier) =
-    ((told : Event) (act : TimedAct) (sess : SessId) → event_in config (session_after config history earlier) turn ≡ Some told
+    ((told : Event) (act : TimedAct) (sess : SessId)
+    → event_in config (session_after config history earlier) turn ≡ Some told
     → act_of (shown_in config (session_after config history earlier) turn) told ≡ Some act
     → side_of (shown_in config (session_after config history earlier) turn) act ≡ Some sess
     → sess.0 < 2 ^ 64)

@@ -44,7 +44,8 @@ pub fn timed_acts_are_chained()
 /// SipSessions have 64 bits. The contract is the law, and the call does nothing.
 pub fn timed_lives_make_acts()
     ensures { (config : Config) (history : History) (n : ℕ) → n < 2 ^ 64
-        → ArePlayed timed_script config history history.turns → HaveRoom config history history.turns
+        → ArePlayed timed_script config history history.turns
+        → HaveRoom config history history.turns
         → HasActs config history n history.turns }
 {}
 

@@ -1,4 +1,5 @@
--- What was due as time passed has had its event.
+-- What was due as time passed has had its event (RFC 3261 sections 16.8 and 17, JSR 289 sections
+-- 6.1.2 and 8).
 use Rattle.std.specs.Prelude.{◌≡◌, ℕ, List, [], ◌∷◌, Bool, true, false, Option, Some, nat_le}
 use Rattle.std.specs.List.{list_any}
 use Rattle.sc_value.specs.declared.ids.AppId.{AppId}

@@ -20,11 +20,11 @@ use std::alloc::Global;
 
 /// Runs a script as `replay` does, or a recording as `play` does, and puts what happened as a
 /// ladder diagram in place of the records. The words are `trace CONFIG DAR SCRIPT`, or `trace
-/// --recording CONFIG DAR RECORDING`; with `--svg` behind
-/// `trace` the picture is a drawing. The status is that of `replay`, or of `play`, for the last three words: the same
-/// order of reading, the same refusals. Where the run ends before its last step, at `JournalFull`
-/// and where a recording is left (`Script` with kind 8), the picture is put without the last lines.
-/// Of the moments of a recording those are told at which something was due.
+/// --recording CONFIG DAR RECORDING`; with `--svg` behind `trace` the picture is a drawing. The
+/// status is that of `replay`, or of `play`, for the last three words: the same order of reading,
+/// the same refusals. Where the run ends before its last step, at `JournalFull` and where a
+/// recording is left (`Script` with kind 8), the picture is put without the last lines. Of the
+/// moments of a recording those are told at which something was due.
 pub fn trace<F: Shelf, K: Sink>(
     alloc: Global,
     words: &[String],

@@ -1,4 +1,5 @@
--- What waits in an application session, event by event, only grows at its end.
+-- What waits in an application session, event by event, only grows at its end. Inboxes are this
+-- project's own.
 use Rattle.std.specs.Prelude.{◌≡◌, ◌≤◌, ℕ, List, [], ◌++◌, false, Option, None, drop}
 use Rattle.std.specs.Option.{option_map_or}
 use Rattle.sc_value.specs.declared.ids.AppId.{AppId}

@@ -28,13 +28,15 @@ pub fn events_wait_in_order()
     ensures turn_session { (form : Form Session) (setup : Setup) (app : AppId) (net : Net Session)
         (live : Live Session) (waiting : Waiting) (event now : ℕ) (made : List CallRecord)
         (end : End) → live_at app net ≡ Some live → slice_get live.inbox 0 ≡ Some waiting
-        → (outcome_by form setup.config live.session (turn_of (record net { sent = [] }) app waiting now made end)).ends
+        → (outcome_by form setup.config live.session
+        (turn_of (record net { sent = [] }) app waiting now made end)).ends
         ≡ false
         → Follows app net (after_step form setup net (steps.Turn app event now made end)) }
     ensures turn_history { (form : Form History) (setup : Setup) (app : AppId) (net : Net History)
         (live : Live History) (waiting : Waiting) (event now : ℕ) (made : List CallRecord)
         (end : End) → live_at app net ≡ Some live → slice_get live.inbox 0 ≡ Some waiting
-        → (outcome_by form setup.config live.session (turn_of (record net { sent = [] }) app waiting now made end)).ends
+        → (outcome_by form setup.config live.session
+        (turn_of (record net { sent = [] }) app waiting now made end)).ends
         ≡ false
         → Follows app net (after_step form setup net (steps.Turn app event now made end)) }
 {}

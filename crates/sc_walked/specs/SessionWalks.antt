@@ -230,8 +230,9 @@ pub record SessionLaws (event : Queued) (Does : Call → Type 0)
       (came : Option Request) (tag : Bytes)
       → session_in x.view sess ≡ Some original
       → Q x (record {
-        view =
-            record x.view { sessions = x.view.sessions ++ derived_session x.view original tag ∷ [] };
+        view = record x.view {
+          sessions = x.view.sessions ++ derived_session x.view original tag ∷ [];
+        };
         known =
             record x.known {
               legs =

@@ -1,4 +1,4 @@
--- The rule under which a listing is shown.
+-- The rule under which a listing is shown, which is this project's own.
 use Rattle.std.specs.Prelude.{◌≡◌, ℕ, List, ◌∷◌}
 use Rattle.std.specs.Arc.{arc_value}
 use mathlib.Core.Option.{some}

@@ -1,4 +1,5 @@
--- Which listing is before which, and what a thread knows of those that were put.
+-- Which listing is before which, and what a thread knows of those that were put. Listings are this
+-- project's own.
 use Rattle.std.specs.Prelude.{◌≡◌, ◌<◌, ◌≤◌, ◌⊎◌, List, [], ◌∷◌, ◌++◌}
 use Rattle.std.specs.List.{AllByRecursion}
 use Rattle.sc_edge.specs.declared.listing.Listing.{Listing}

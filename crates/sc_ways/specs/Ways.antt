@@ -109,7 +109,8 @@ unfoldable pub IsFollowed : Setup → List Moment → Direction → Piece → Oc
 IsFollowed setup run direction piece occurrence place out =
     ((app : AppId) × (more : List AppId) × (ahead run direction piece ≡ app ∷ more)
     × VisitsFirst app more (visits setup run occurrence))
-    ⊎ ((code : ℕ) × (reason : Bytes) × StopsBefore (ahead run direction piece) out.moment.before code reason
+    ⊎ ((code : ℕ) × (reason : Bytes)
+    × StopsBefore (ahead run direction piece) out.moment.before code reason
     × (out.moment.after
     ≡ answered setup.config place code reason out.request
     (record out.moment.before { sent = [] })))

@@ -108,8 +108,8 @@ pub fn later_requests_pass_by_who_left()
 /// the first of the sessions that stayed on the way and are ahead of it, where that session lives
 /// and has room as the request comes; behind it, it visits a beginning of the others. So where one
 /// session alone is ahead, it visits the whole of the way. The premises are those of
-/// `later_requests_keep_to_the_way`. The contract is the law, for a journal that is lawful in either form in which sessions are
-/// kept, and the call does nothing.
+/// `later_requests_keep_to_the_way`. The contract is the law, for a journal that is lawful in
+/// either form in which sessions are kept, and the call does nothing.
 pub fn later_requests_come_to_the_first()
     ensures session { (setup : Setup) (epoch began : ℕ) (journal : List Step) (dialog : Dialog)
         (direction : Direction) (piece : Piece) (occurrence : Occurrence)
