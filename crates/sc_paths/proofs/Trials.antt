@@ -4,131 +4,38 @@ use Rattle.sc_value.specs.declared.parts.Uri.TheVariants as uris
 use Rattle.sc_terms.specs.declared.settings.Modifier.TheVariants as modifiers
 use Rattle.sc_parts.specs.declared.setup.Setup.{Setup}
 use Rattle.sc_grammar.specs.Written.{Bytes}
+use Rattle.sc_worked.proofs.ChainCases as ChainCases
 use Rattle.sc_worked.proofs.Trying.{app, tuple, set_up}
 
 unfoldable pub chain_bye_of_caller_setup : Setup
-chain_bye_of_caller_setup = set_up (app (codes "a0") 4 ([]) ∷ app (codes "a1") 2 ([]) ∷ app (codes "a2") 4 ([]) ∷ []) (record { method = (codes "INVITE"); tuples = (tuple 0 ∷ tuple 1 ∷ tuple 2 ∷ []) } ∷ record { method = (codes "OPTIONS"); tuples = (tuple 0 ∷ tuple 1 ∷ tuple 2 ∷ []) } ∷ record { method = (codes "MESSAGE"); tuples = (tuple 0 ∷ tuple 1 ∷ tuple 2 ∷ []) } ∷ [])
+chain_bye_of_caller_setup = ChainCases.chain_bye_of_caller.setup
 
 unfoldable pub chain_bye_of_caller_script : Bytes
-chain_bye_of_caller_script =
-    codes "in c1 254\nINVITE sip:bob@127.0.0.1:5070 SIP/2.0\r\nVia: SIP/2.0/TCP 127.0.0.1:5090;branch=z9hG4bKa1\r\n"
-    ++ codes "Max-Forwards: 70\r\nFrom: <sip:alice@home.test>;tag=a\r\nTo: <sip:bob@home.test>\r\nCall-ID: c5\r\nCSeq: 1 INVITE\r\n"
-    ++ codes "Contact: <sip:alice@127.0.0.1:5090>\r\nContent-Length: 0\r\n\r\n\nrun\nin 127.0.0.1:5070 511\nSIP/2.0 180 Ringing\r\n"
-    ++ codes "Via: SIP/2.0/TCP 127.0.0.1:5060;branch=z9hG4bKs1-2-1-2\r\n"
-    ++ codes "Via: SIP/2.0/TCP 127.0.0.1:5060;branch=z9hG4bKs1-1-1-2\r\n"
-    ++ codes "Via: SIP/2.0/TCP 127.0.0.1:5060;branch=z9hG4bKs1-0-1-2\r\nVia: SIP/2.0/TCP 127.0.0.1:5090;branch=z9hG4bKa1\r\n"
-    ++ codes "Record-Route: <sip:127.0.0.1:5060;transport=tcp;lr;ap=2-1>\r\n"
-    ++ codes "Record-Route: <sip:127.0.0.1:5060;transport=tcp;lr;ap=0-1>\r\nFrom: <sip:alice@home.test>;tag=a\r\n"
-    ++ codes "To: <sip:bob@home.test>;tag=t9\r\nCall-ID: c5\r\nCSeq: 1 INVITE\r\nContact: <sip:bob@127.0.0.1:5070>\r\n"
-    ++ codes "Content-Length: 0\r\n\r\n\nrun\nin 127.0.0.1:5070 506\nSIP/2.0 200 OK\r\n"
-    ++ codes "Via: SIP/2.0/TCP 127.0.0.1:5060;branch=z9hG4bKs1-2-1-2\r\n"
-    ++ codes "Via: SIP/2.0/TCP 127.0.0.1:5060;branch=z9hG4bKs1-1-1-2\r\n"
-    ++ codes "Via: SIP/2.0/TCP 127.0.0.1:5060;branch=z9hG4bKs1-0-1-2\r\nVia: SIP/2.0/TCP 127.0.0.1:5090;branch=z9hG4bKa1\r\n"
-    ++ codes "Record-Route: <sip:127.0.0.1:5060;transport=tcp;lr;ap=2-1>\r\n"
-    ++ codes "Record-Route: <sip:127.0.0.1:5060;transport=tcp;lr;ap=0-1>\r\nFrom: <sip:alice@home.test>;tag=a\r\n"
-    ++ codes "To: <sip:bob@home.test>;tag=t9\r\nCall-ID: c5\r\nCSeq: 1 INVITE\r\nContact: <sip:bob@127.0.0.1:5070>\r\n"
-    ++ codes "Content-Length: 0\r\n\r\n\nrun\nin c1 324\nACK sip:bob@127.0.0.1:5070 SIP/2.0\r\n"
-    ++ codes "Via: SIP/2.0/TCP 127.0.0.1:5090;branch=z9hG4bKa2\r\nRoute: <sip:127.0.0.1:5060;transport=tcp;lr;ap=0-1>\r\n"
-    ++ codes "Route: <sip:127.0.0.1:5060;transport=tcp;lr;ap=2-1>\r\nMax-Forwards: 70\r\nFrom: <sip:alice@home.test>;tag=a\r\n"
-    ++ codes "To: <sip:bob@home.test>;tag=t9\r\nCall-ID: c5\r\nCSeq: 1 ACK\r\nContent-Length: 0\r\n\r\n\nrun\nin c1 324\n"
-    ++ codes "BYE sip:bob@127.0.0.1:5070 SIP/2.0\r\nVia: SIP/2.0/TCP 127.0.0.1:5090;branch=z9hG4bKa3\r\n"
-    ++ codes "Route: <sip:127.0.0.1:5060;transport=tcp;lr;ap=0-1>\r\nRoute: <sip:127.0.0.1:5060;transport=tcp;lr;ap=2-1>\r\n"
-    ++ codes "Max-Forwards: 70\r\nFrom: <sip:alice@home.test>;tag=a\r\nTo: <sip:bob@home.test>;tag=t9\r\nCall-ID: c5\r\n"
-    ++ codes "CSeq: 2 BYE\r\nContent-Length: 0\r\n\r\n\nrun\nin 127.0.0.1:5070 292\nSIP/2.0 200 OK\r\n"
-    ++ codes "Via: SIP/2.0/TCP 127.0.0.1:5060;branch=z9hG4bKs1-2-1-4\r\n"
-    ++ codes "Via: SIP/2.0/TCP 127.0.0.1:5060;branch=z9hG4bKs1-0-1-4\r\nVia: SIP/2.0/TCP 127.0.0.1:5090;branch=z9hG4bKa3\r\n"
-    ++ codes "From: <sip:alice@home.test>;tag=a\r\nTo: <sip:bob@home.test>;tag=t9\r\nCall-ID: c5\r\nCSeq: 2 BYE\r\n"
-    ++ codes "Content-Length: 0\r\n\r\n\nrun\nend\n"
+chain_bye_of_caller_script = ChainCases.chain_bye_of_caller.script
 
 unfoldable pub chain_bye_of_callee_setup : Setup
-chain_bye_of_callee_setup = set_up (app (codes "a0") 4 ([]) ∷ app (codes "a1") 2 ([]) ∷ app (codes "a2") 4 ([]) ∷ []) (record { method = (codes "INVITE"); tuples = (tuple 0 ∷ tuple 1 ∷ tuple 2 ∷ []) } ∷ record { method = (codes "OPTIONS"); tuples = (tuple 0 ∷ tuple 1 ∷ tuple 2 ∷ []) } ∷ record { method = (codes "MESSAGE"); tuples = (tuple 0 ∷ tuple 1 ∷ tuple 2 ∷ []) } ∷ [])
+chain_bye_of_callee_setup = ChainCases.chain_bye_of_callee.setup
 
 unfoldable pub chain_bye_of_callee_script : Bytes
-chain_bye_of_callee_script =
-    codes "in c1 254\nINVITE sip:bob@127.0.0.1:5070 SIP/2.0\r\nVia: SIP/2.0/TCP 127.0.0.1:5090;branch=z9hG4bKa1\r\n"
-    ++ codes "Max-Forwards: 70\r\nFrom: <sip:alice@home.test>;tag=a\r\nTo: <sip:bob@home.test>\r\nCall-ID: c5\r\nCSeq: 1 INVITE\r\n"
-    ++ codes "Contact: <sip:alice@127.0.0.1:5090>\r\nContent-Length: 0\r\n\r\n\nrun\nin 127.0.0.1:5070 511\nSIP/2.0 180 Ringing\r\n"
-    ++ codes "Via: SIP/2.0/TCP 127.0.0.1:5060;branch=z9hG4bKs1-2-1-2\r\n"
-    ++ codes "Via: SIP/2.0/TCP 127.0.0.1:5060;branch=z9hG4bKs1-1-1-2\r\n"
-    ++ codes "Via: SIP/2.0/TCP 127.0.0.1:5060;branch=z9hG4bKs1-0-1-2\r\nVia: SIP/2.0/TCP 127.0.0.1:5090;branch=z9hG4bKa1\r\n"
-    ++ codes "Record-Route: <sip:127.0.0.1:5060;transport=tcp;lr;ap=2-1>\r\n"
-    ++ codes "Record-Route: <sip:127.0.0.1:5060;transport=tcp;lr;ap=0-1>\r\nFrom: <sip:alice@home.test>;tag=a\r\n"
-    ++ codes "To: <sip:bob@home.test>;tag=t9\r\nCall-ID: c5\r\nCSeq: 1 INVITE\r\nContact: <sip:bob@127.0.0.1:5070>\r\n"
-    ++ codes "Content-Length: 0\r\n\r\n\nrun\nin 127.0.0.1:5070 506\nSIP/2.0 200 OK\r\n"
-    ++ codes "Via: SIP/2.0/TCP 127.0.0.1:5060;branch=z9hG4bKs1-2-1-2\r\n"
-    ++ codes "Via: SIP/2.0/TCP 127.0.0.1:5060;branch=z9hG4bKs1-1-1-2\r\n"
-    ++ codes "Via: SIP/2.0/TCP 127.0.0.1:5060;branch=z9hG4bKs1-0-1-2\r\nVia: SIP/2.0/TCP 127.0.0.1:5090;branch=z9hG4bKa1\r\n"
-    ++ codes "Record-Route: <sip:127.0.0.1:5060;transport=tcp;lr;ap=2-1>\r\n"
-    ++ codes "Record-Route: <sip:127.0.0.1:5060;transport=tcp;lr;ap=0-1>\r\nFrom: <sip:alice@home.test>;tag=a\r\n"
-    ++ codes "To: <sip:bob@home.test>;tag=t9\r\nCall-ID: c5\r\nCSeq: 1 INVITE\r\nContact: <sip:bob@127.0.0.1:5070>\r\n"
-    ++ codes "Content-Length: 0\r\n\r\n\nrun\nin c1 324\nACK sip:bob@127.0.0.1:5070 SIP/2.0\r\n"
-    ++ codes "Via: SIP/2.0/TCP 127.0.0.1:5090;branch=z9hG4bKa2\r\nRoute: <sip:127.0.0.1:5060;transport=tcp;lr;ap=0-1>\r\n"
-    ++ codes "Route: <sip:127.0.0.1:5060;transport=tcp;lr;ap=2-1>\r\nMax-Forwards: 70\r\nFrom: <sip:alice@home.test>;tag=a\r\n"
-    ++ codes "To: <sip:bob@home.test>;tag=t9\r\nCall-ID: c5\r\nCSeq: 1 ACK\r\nContent-Length: 0\r\n\r\n\nrun\nin 127.0.0.1:5070 325\n"
-    ++ codes "BYE sip:alice@127.0.0.1:5090 SIP/2.0\r\nVia: SIP/2.0/TCP 127.0.0.1:5070;branch=z9hG4bKx\r\n"
-    ++ codes "Route: <sip:127.0.0.1:5060;transport=tcp;lr;ap=2-1>\r\nRoute: <sip:127.0.0.1:5060;transport=tcp;lr;ap=0-1>\r\n"
-    ++ codes "Max-Forwards: 70\r\nFrom: <sip:bob@home.test>;tag=t9\r\nTo: <sip:alice@home.test>;tag=a\r\nCall-ID: c5\r\n"
-    ++ codes "CSeq: 1 BYE\r\nContent-Length: 0\r\n\r\n\nrun\nend\n"
+chain_bye_of_callee_script = ChainCases.chain_bye_of_callee.script
 
 unfoldable pub spiral_setup : Setup
-spiral_setup = set_up (app (codes "a0") 4 ([]) ∷ app (codes "a1") 2 ([]) ∷ []) (record { method = (codes "INVITE"); tuples = (tuple 0 ∷ tuple 1 ∷ tuple 0 ∷ []) } ∷ [])
+spiral_setup = ChainCases.spiral.setup
 
 unfoldable pub spiral_script : Bytes
-spiral_script =
-    codes "in c1 254\nINVITE sip:bob@127.0.0.1:5070 SIP/2.0\r\nVia: SIP/2.0/TCP 127.0.0.1:5090;branch=z9hG4bKa1\r\n"
-    ++ codes "Max-Forwards: 70\r\nFrom: <sip:alice@home.test>;tag=a\r\nTo: <sip:bob@home.test>\r\nCall-ID: c5\r\nCSeq: 1 INVITE\r\n"
-    ++ codes "Contact: <sip:alice@127.0.0.1:5090>\r\nContent-Length: 0\r\n\r\n\nrun\nin 127.0.0.1:5070 506\nSIP/2.0 200 OK\r\n"
-    ++ codes "Via: SIP/2.0/TCP 127.0.0.1:5060;branch=z9hG4bKs1-0-2-2\r\n"
-    ++ codes "Via: SIP/2.0/TCP 127.0.0.1:5060;branch=z9hG4bKs1-1-1-2\r\n"
-    ++ codes "Via: SIP/2.0/TCP 127.0.0.1:5060;branch=z9hG4bKs1-0-1-2\r\nVia: SIP/2.0/TCP 127.0.0.1:5090;branch=z9hG4bKa1\r\n"
-    ++ codes "Record-Route: <sip:127.0.0.1:5060;transport=tcp;lr;ap=0-2>\r\n"
-    ++ codes "Record-Route: <sip:127.0.0.1:5060;transport=tcp;lr;ap=0-1>\r\nFrom: <sip:alice@home.test>;tag=a\r\n"
-    ++ codes "To: <sip:bob@home.test>;tag=t9\r\nCall-ID: c5\r\nCSeq: 1 INVITE\r\nContact: <sip:bob@127.0.0.1:5070>\r\n"
-    ++ codes "Content-Length: 0\r\n\r\n\nrun\nin c1 324\nBYE sip:bob@127.0.0.1:5070 SIP/2.0\r\n"
-    ++ codes "Via: SIP/2.0/TCP 127.0.0.1:5090;branch=z9hG4bKa3\r\nRoute: <sip:127.0.0.1:5060;transport=tcp;lr;ap=0-1>\r\n"
-    ++ codes "Route: <sip:127.0.0.1:5060;transport=tcp;lr;ap=0-2>\r\nMax-Forwards: 70\r\nFrom: <sip:alice@home.test>;tag=a\r\n"
-    ++ codes "To: <sip:bob@home.test>;tag=t9\r\nCall-ID: c5\r\nCSeq: 2 BYE\r\nContent-Length: 0\r\n\r\n\nrun\nend\n"
+spiral_script = ChainCases.spiral.script
 
 unfoldable pub ordinary_call_setup : Setup
-ordinary_call_setup = set_up (app (codes "a0") 1 ((codes "spam") ∷ []) ∷ app (codes "a1") 5 ([]) ∷ app (codes "a2") 4 ([]) ∷ []) (record { method = (codes "INVITE"); tuples = (tuple 0 ∷ tuple 1 ∷ tuple 2 ∷ []) } ∷ record { method = (codes "OPTIONS"); tuples = (tuple 0 ∷ tuple 1 ∷ tuple 2 ∷ []) } ∷ record { method = (codes "MESSAGE"); tuples = (tuple 0 ∷ tuple 1 ∷ tuple 2 ∷ []) } ∷ [])
+ordinary_call_setup = ChainCases.ordinary_call.setup
 
 unfoldable pub ordinary_call_script : Bytes
-ordinary_call_script =
-    codes "in c1 424\nINVITE sip:bob@127.0.0.1:5070 SIP/2.0\r\nVia: SIP/2.0/TCP 127.0.0.1:5090;rport;branch=z9hG4bKq7\r\n"
-    ++ codes "Max-Forwards: 70\r\nFrom: \"Alice\" <sip:alice@home.test>;tag=q1\r\nTo: <sip:bob@home.test>\r\n"
-    ++ codes "Contact: <sip:alice@127.0.0.1:5090;transport=tcp>\r\nCall-ID: 7f3a@127.0.0.1\r\nCSeq: 4711 INVITE\r\n"
-    ++ codes "Allow: INVITE, ACK, BYE, CANCEL, OPTIONS\r\nSupported: replaces\r\nUser-Agent: Softphone 4.2\r\n"
-    ++ codes "Content-Type: application/sdp\r\nContent-Length: 5\r\n\r\nv=0\r\n\nrun\nin 127.0.0.1:5070 376\nSIP/2.0 180 Ringing\r\n"
-    ++ codes "Via: SIP/2.0/TCP 127.0.0.1:5060;branch=z9hG4bKs1-2-1-2\r\n"
-    ++ codes "Via: SIP/2.0/TCP 127.0.0.1:5060;branch=z9hG4bKs1-1-1-4\r\n"
-    ++ codes "Record-Route: <sip:127.0.0.1:5060;transport=tcp;lr;ap=2-1>\r\nFrom: \"Alice\" <sip:alice@home.test>;tag=s1-1-1-3\r\n"
-    ++ codes "To: <sip:bob@home.test>;tag=t9\r\nCall-ID: s1-1-1-2@127.0.0.1\r\nCSeq: 1 INVITE\r\n"
-    ++ codes "Contact: <sip:bob@127.0.0.1:5070>\r\nContent-Length: 0\r\n\r\n\nrun\nin 127.0.0.1:5070 371\nSIP/2.0 200 OK\r\n"
-    ++ codes "Via: SIP/2.0/TCP 127.0.0.1:5060;branch=z9hG4bKs1-2-1-2\r\n"
-    ++ codes "Via: SIP/2.0/TCP 127.0.0.1:5060;branch=z9hG4bKs1-1-1-4\r\n"
-    ++ codes "Record-Route: <sip:127.0.0.1:5060;transport=tcp;lr;ap=2-1>\r\nFrom: \"Alice\" <sip:alice@home.test>;tag=s1-1-1-3\r\n"
-    ++ codes "To: <sip:bob@home.test>;tag=t9\r\nCall-ID: s1-1-1-2@127.0.0.1\r\nCSeq: 1 INVITE\r\n"
-    ++ codes "Contact: <sip:bob@127.0.0.1:5070>\r\nContent-Length: 0\r\n\r\n\nrun\nin c1 268\n"
-    ++ codes "ACK sip:127.0.0.1:5060;transport=tcp;lr;ap=1-1 SIP/2.0\r\nVia: SIP/2.0/TCP 127.0.0.1:5090;branch=z9hG4bKq8\r\n"
-    ++ codes "Max-Forwards: 70\r\nFrom: \"Alice\" <sip:alice@home.test>;tag=q1\r\nTo: <sip:bob@home.test>;tag=s1-1-1-1\r\n"
-    ++ codes "Call-ID: 7f3a@127.0.0.1\r\nCSeq: 4711 ACK\r\nContent-Length: 0\r\n\r\n\nrun\nin 127.0.0.1:5070 314\n"
-    ++ codes "BYE sip:127.0.0.1:5060;transport=tcp;lr;ap=1-1 SIP/2.0\r\nVia: SIP/2.0/TCP 127.0.0.1:5070;branch=z9hG4bKx9\r\n"
-    ++ codes "Route: <sip:127.0.0.1:5060;transport=tcp;lr;ap=2-1>\r\nMax-Forwards: 70\r\nFrom: <sip:bob@home.test>;tag=t9\r\n"
-    ++ codes "To: <sip:alice@home.test>;tag=s1-1-1-3\r\nCall-ID: s1-1-1-2@127.0.0.1\r\nCSeq: 7 BYE\r\nContent-Length: 0\r\n\r\n\nrun\n"
-    ++ codes "in 127.0.0.1:5090 205\nSIP/2.0 200 OK\r\nVia: SIP/2.0/TCP 127.0.0.1:5060;branch=z9hG4bKs1-1-1-6\r\n"
-    ++ codes "From: <sip:bob@home.test>;tag=s1-1-1-1\r\nTo: <sip:alice@home.test>;tag=q1\r\nCall-ID: 7f3a@127.0.0.1\r\n"
-    ++ codes "CSeq: 1 BYE\r\nContent-Length: 0\r\n\r\n\nrun\ndrop 0 1\ndrop 1 1\ndrop 2 1\nrun\nend\n"
+ordinary_call_script = ChainCases.ordinary_call.script
 
 unfoldable pub call_screened_setup : Setup
-call_screened_setup = set_up (app (codes "a0") 1 ((codes "spam") ∷ []) ∷ app (codes "a1") 5 ([]) ∷ app (codes "a2") 4 ([]) ∷ []) (record { method = (codes "INVITE"); tuples = (tuple 0 ∷ tuple 1 ∷ tuple 2 ∷ []) } ∷ record { method = (codes "OPTIONS"); tuples = (tuple 0 ∷ tuple 1 ∷ tuple 2 ∷ []) } ∷ record { method = (codes "MESSAGE"); tuples = (tuple 0 ∷ tuple 1 ∷ tuple 2 ∷ []) } ∷ [])
+call_screened_setup = ChainCases.call_screened.setup
 
 unfoldable pub call_screened_script : Bytes
-call_screened_script =
-    codes "in c1 423\nINVITE sip:bob@127.0.0.1:5070 SIP/2.0\r\nVia: SIP/2.0/TCP 127.0.0.1:5090;rport;branch=z9hG4bKq7\r\n"
-    ++ codes "Max-Forwards: 70\r\nFrom: \"Alice\" <sip:spam@home.test>;tag=q1\r\nTo: <sip:bob@home.test>\r\n"
-    ++ codes "Contact: <sip:alice@127.0.0.1:5090;transport=tcp>\r\nCall-ID: 7f3a@127.0.0.1\r\nCSeq: 4711 INVITE\r\n"
-    ++ codes "Allow: INVITE, ACK, BYE, CANCEL, OPTIONS\r\nSupported: replaces\r\nUser-Agent: Softphone 4.2\r\n"
-    ++ codes "Content-Type: application/sdp\r\nContent-Length: 5\r\n\r\nv=0\r\n\nrun\nend\n"
+call_screened_script = ChainCases.call_screened.script
 
 unfoldable pub called_side_dialog_setup : Setup
 called_side_dialog_setup = set_up (app (codes "a0") 0 ([]) ∷ []) (record { method = (codes "INVITE"); tuples = (tuple 0 ∷ []) } ∷ record { method = (codes "OPTIONS"); tuples = (tuple 0 ∷ []) } ∷ record { method = (codes "MESSAGE"); tuples = (tuple 0 ∷ []) } ∷ [])

@@ -96,6 +96,7 @@ use Rattle.sc_worked.proofs.Trying as Trying
 use Rattle.sc_paths.specs.Moments as Moments
 use Rattle.sc_paths.specs.Pieces as Pieces
 use Rattle.sc_paths.specs.LaterRequests as LaterRequests
+use Rattle.sc_worked.proofs.ChainCases as ChainCases
 use Rattle.sc_paths.proofs.Trials as Trials
 
 -- each is as it is to be
@@ -112,6 +113,7 @@ paths_are_right : (PathCases.chain_by_caller (Journals.run_of Trials.chain_bye_o
 unfolding digits read_ipv4 read_octet read_number Moments.moments_from Moments.moments Moments.waiting_at Moments.got_in Moments.orders_by Moments.first_server Moments.began_with Moments.options_of Moments.options_in Moments.proxied_with Moments.same_vias Pieces.sessions_of Pieces.makes Pieces.is_outside Pieces.left_by Pieces.left_from Pieces.answer_by Pieces.answers_of Pieces.received
     Pieces.vias_at Pieces.is_branch_of Pieces.is_sent_by Pieces.goes_from Pieces.goes_on Pieces.first_received Pieces.begins Pieces.heads_at_end Pieces.is_made Pieces.recorders Pieces.along Pieces.end_of Pieces.stayed Pieces.ahead Pieces.recorded Pieces.record_routed LaterRequests.later_in LaterRequests.set_out_by LaterRequests.set_out LaterRequests.is_new LaterRequests.is_between
     LaterRequests.has_tags LaterRequests.leads_to LaterRequests.leads LaterRequests.carries_by LaterRequests.carries LaterRequests.later_vias LaterRequests.has_vias LaterRequests.is_passed_on LaterRequests.is_turn_of LaterRequests.visits_from LaterRequests.visits Trials.chain_bye_of_caller_setup Trials.chain_bye_of_caller_script Trials.chain_bye_of_callee_setup Trials.chain_bye_of_callee_script
+    ChainCases.chain_bye_of_caller ChainCases.chain_bye_of_callee ChainCases.spiral ChainCases.ordinary_call ChainCases.call_screened
     Trials.spiral_setup Trials.spiral_script Trials.ordinary_call_setup Trials.ordinary_call_script Trials.call_screened_setup Trials.call_screened_script Trials.called_side_dialog_setup Trials.called_side_dialog_script Trials.came_back_setup Trials.came_back_script Trials.fork_setup Trials.fork_script Trials.passed_over_setup Trials.passed_over_script PathCases.came PathCases.sent PathCases.at
     PathCases.same_apps PathCases.is_carried PathCases.is_piece PathCases.is_recorded PathCases.is_right PathCases.chain_dialog PathCases.proxied_by PathCases.chain_path PathCases.from_caller PathCases.from_callee PathCases.chain_by_caller PathCases.chain_by_callee PathCases.called_path PathCases.called PathCases.fork_dialog PathCases.fork_path PathCases.fork PathCases.spiral_path PathCases.spiral
     PathCases.back_path PathCases.came_back PathCases.passed_over PathCases.first_leg PathCases.second_leg PathCases.ordinary_call PathCases.screened Journals.goes Journals.turns_on Journals.turns_by Journals.runs_on Journals.drops_by Journals.acts Journals.journal_of Journals.run_of sc_tokens_HeaderNames.via_name sc_tokens_HeaderNames.route_name sc_tokens_HeaderNames.record_route_name

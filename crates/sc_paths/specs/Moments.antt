@@ -1,5 +1,5 @@
 -- A run step by step: what each step queues, and what its turn gives to send; how an application
--- session began, and whether it proxied the request that began it.
+-- session began, and whether it proxied the request that began it (RFC 3261 section 16.6).
 use Rattle.std.specs.Prelude.{ℕ, List, [], ◌∷◌, Bool, ◌&&◌, Option, None, Some, is_none, option_and_then, nat_lt, if◌then◌else◌, map, filter, slice_get}
 use Rattle.std.specs.Cmp.Lexicographic.{pointwise}
 use Rattle.std.specs.List.{find, filter_map, flat_map}

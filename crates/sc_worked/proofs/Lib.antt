@@ -2,7 +2,7 @@ pub mod Playing
 pub mod Trying
 mod CallCases
 mod ProxyCases
-mod ChainCases
+pub mod ChainCases
 mod OfferCases
 mod TimerCases
 mod SubscriptionCases
