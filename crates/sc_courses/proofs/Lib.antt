@@ -7,3 +7,4 @@ pub mod ListingLaws
 pub mod OnLaws
 pub mod OrderingLaws
 pub mod ReportLaws
+pub mod SecondLaws

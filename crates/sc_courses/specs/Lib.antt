@@ -6,3 +6,4 @@ pub mod Listings
 pub mod Marks
 pub mod Ordering
 pub mod Reports
+pub mod Seconds

@@ -5,6 +5,7 @@ pub mod Listenings
 pub mod OftenGivings
 pub mod Overs
 pub mod Refusals
+pub mod Seconds
 pub mod Servings
 pub mod Steppings
 pub mod Timings

@@ -26,6 +26,7 @@ use Rattle.sc_rounds.specs.Moving.{AreAlmost, Breaks, BreaksBoth, BreaksOn, Brea
 use Rattle.sc_rounds.specs.Serving.{Ended, Ends, Same, SameAt, Serves, Stopped, Took, deed, moments_after, since, timed}
 use Rattle.sc_rounds.specs.Stepping.{Commits, Ordered, StoppedAt, Ticks, Unordered, Withdraws, order_at}
 use Rattle.sc_streams.specs.Streaming.{bytes_of}
+use Rattle.sc_rounds.proofs.Seconds.{seconds_end}
 
 pub same_moves : (old new : Core) (told told2 : Told) → Same old new told told2 → Moves old new told told2
 unfolding Same Moves
@@ -67,7 +68,7 @@ pub stands_breaks : (old new : Core) (told told2 : Told) → Moves old new told 
 unfolding Moves Breaks
 stands_breaks old new told told2 moves from edge streams s =
     let s2 : Serves from edge told2 new streams = moves from edge streams s in
-    record { deeds = s2.deeds; ends = record { runs = s2.stands.runs; cut = cut_of from.edge edge s2.deeds new.outs [] s2.stands.puts; ticked = ticked_part from.moments s2.deeds (net_of new.switch).moment s2.stands.ticked; counts = s2.stands.reports.counts }; hearing = hearing_part from.edge.polled edge.polled s2.deeds (bytes_of streams) s2.hearing }
+    record { deeds = s2.deeds; ends = record { runs = s2.stands.runs; cut = cut_of from.edge edge s2.deeds new.outs [] s2.stands.puts; ticked = ticked_part from.moments s2.deeds (net_of new.switch).moment s2.stands.ticked; counts = s2.stands.reports.counts; seconds = seconds_end from told2 new s2.stands.seconds }; hearing = hearing_part from.edge.polled edge.polled s2.deeds (bytes_of streams) s2.hearing }
 
 pub moves_then : (a b c : Core) (told told1 told2 : Told) → Moves a b told told1 → Moves b c told1 told2 → Moves a c told told2
 unfolding Moves

@@ -28,6 +28,7 @@ use Rattle.sc_courses.proofs.OnLaws.{emptied, emptied_kept}
 use Rattle.sc_rounds.specs.declared.stepping.Core.{Core}
 use Rattle.sc_streams.specs.declared.streams.Pending.{Pending}
 use Rattle.sc_rounds.specs.Polling.{Comes, Polls}
+use Rattle.sc_rounds.proofs.Seconds.{seconds_end}
 use Rattle.sc_rounds.specs.Serving.{Ended, Ends, Serves, Stands, Stopped, Took, deed}
 use Rattle.sc_streams.specs.Streaming.{bytes_of}
 
@@ -35,10 +36,10 @@ use Rattle.sc_streams.specs.Streaming.{bytes_of}
 
 -- no place took anything meanwhile
 pub stands_on : (from : Beginning) (old new : EdgeState) (told : Told) (core : Core) (deeds : List Deed) → ((place : Place) → new.took place ≡ old.took place) → Stands from old told core deeds → Stands from new told core deeds
-stands_on from old new told core deeds same s = record { runs = s.runs; left_is = s.left_is; puts = puts_stand from.edge old new deeds core.outs [] same s.puts; ticked = s.ticked; reports = s.reports; as_set = s.as_set }
+stands_on from old new told core deeds same s = record { runs = s.runs; left_is = s.left_is; puts = puts_stand from.edge old new deeds core.outs [] same s.puts; ticked = s.ticked; reports = s.reports; as_set = s.as_set; seconds = s.seconds }
 
 pub stands_ended : (from : Beginning) (edge : EdgeState) (told : Told) (core : Core) (deeds : List Deed) → Stands from edge told core deeds → Ends from edge told core.switch deeds
-stands_ended from edge told core deeds s = record { runs = s.runs; cut = cut_of from.edge edge deeds core.outs [] s.puts; ticked = ticked_part from.moments deeds (net_of core.switch).moment s.ticked; counts = s.reports.counts }
+stands_ended from edge told core deeds s = record { runs = s.runs; cut = cut_of from.edge edge deeds core.outs [] s.puts; ticked = ticked_part from.moments deeds (net_of core.switch).moment s.ticked; counts = s.reports.counts; seconds = seconds_end from told core s.seconds }
 
 -- ## The loss of a place
 
@@ -136,7 +137,7 @@ comes_ended from old new told core streams answer s comes = record {
 -- ## A put
 
 stands-tried : (from : Beginning) (old new : EdgeState) (told : Told) (core : Core) (outs : Owing) (deeds : List Deed) (to : Place) (answer : Put) → Tried old new to core.outs outs answer → Stands from old told core deeds → Stands from new told (record core { outs = outs }) deeds
-stands-tried from old new told core outs deeds to answer tried s = record { runs = s.runs; left_is = s.left_is; puts = puts_tried from.edge old new deeds core.outs outs to answer s.puts tried; ticked = s.ticked; reports = s.reports; as_set = s.as_set }
+stands-tried from old new told core outs deeds to answer tried s = record { runs = s.runs; left_is = s.left_is; puts = puts_tried from.edge old new deeds core.outs outs to answer s.puts tried; ticked = s.ticked; reports = s.reports; as_set = s.as_set; seconds = s.seconds }
 
 tried-on : (from : Beginning) (old new : EdgeState) (told : Told) (core : Core) (outs : Owing) (streams : List Pending) (to : Place) (answer : Put) → new.polled ≡ old.polled → Tried old new to core.outs outs answer
     → Serves from old told core streams → Serves from new told (record core { outs = outs }) streams

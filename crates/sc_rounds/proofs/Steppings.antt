@@ -46,8 +46,10 @@ use Rattle.sc_rounds.specs.declared.stepping.Turning.{Turning}
 use Rattle.sc_courses.proofs.AskingLaws.{ticked_early, ticked_part}
 use Rattle.sc_courses.specs.Reports.{Reports}
 use Rattle.sc_courses.proofs.ReportLaws.{counts_step, reports_listed, reports_part, reports_step, reports_turned, untold}
-use Rattle.sc_rounds.specs.Serving.{Counted, Ends, EndsAsSet, HasNoEnd, Reported, Runs, RunsOn, Same, SameAt, Settles, Stands, Stopped, Took, Unreported, deed, moments_after, running, timed}
+use Rattle.sc_courses.specs.Seconds.{part_in}
+use Rattle.sc_rounds.specs.Serving.{Counted, Ends, EndsAsSet, EndsInSeconds, HasNoEnd, IsInSecondsNext, Reported, Runs, RunsOn, Same, SameAt, Settles, Stands, Stopped, Took, Unreported, deed, moments_after, running, timed}
 use Rattle.sc_rounds.proofs.Overs.{long_ends}
+use Rattle.sc_rounds.proofs.Seconds.{IsInTimeAt, ends_at, next_end, seconds_at, seconds_end, seconds_handed, seconds_settled, seconds_step, seconds_told}
 use Rattle.sc_rounds.proofs.Timings.{IsLater, left_moment, lease_moment, none_withdrawn, runs_timed, taken_ticked, ticked_at, untaken_part, withdrawn_ticked}
 
 on_ok : {A E P Q : Type 0} (r : Result A E) → (P → Q) → OnOk r P → OnOk r Q
@@ -108,7 +110,7 @@ reported-at from told count count2 unlisted unlisted2 old new a b c d r =
 -- ## Where a run ends
 
 ends-of : (from : Beginning) (edge : EdgeState) (told : Told) (core : Core) (deeds : List Deed) → Stands from edge told core deeds → Ends from edge told core.switch deeds
-ends-of from edge told core deeds s = record { runs = s.runs; cut = cut_of from.edge edge deeds core.outs [] s.puts; ticked = ticked_part from.moments deeds (net_of core.switch).moment s.ticked; counts = s.reports.counts }
+ends-of from edge told core deeds s = record { runs = s.runs; cut = cut_of from.edge edge deeds core.outs [] s.puts; ticked = ticked_part from.moments deeds (net_of core.switch).moment s.ticked; counts = s.reports.counts; seconds = seconds_end from told core s.seconds }
 
 pub same_ends : (from : Beginning) (edge : EdgeState) (told : Told) (core : Core) (deeds : List Deed) → Stands from edge told core deeds → Ends from edge told core.switch deeds
 same_ends = ends-of
@@ -118,10 +120,10 @@ same_ends = ends-of
 abbrev stepped-core : Core → Known → Core
 stepped-core mid switch = record mid { switch = switch }
 
-step-stands : (step : Step) (mid : Core) (switch : Known) (new : Core) (told told2 : Told) → switch ≡ with_step mid.switch step → IsLater (net_of mid.switch).moment step → Settles (record mid { switch = switch }) new told told2
+step-stands : (step : Step) (mid : Core) (switch : Known) (new : Core) (told told2 : Told) → switch ≡ with_step mid.switch step → IsLater (net_of mid.switch).moment step → IsInTimeAt mid step → Settles (record mid { switch = switch }) new told told2
     → (from : Beginning) (edge : EdgeState) (deeds : List Deed) → (waits_for_end step ≡ true → HasToEnd from.setup (running mid.switch) → ⊥) → Stands from edge told mid deeds → (sent : List Sent) × Stands (timed step from) edge told2 new (deeds ++ deed step sent false ∷ [])
 unfolding Settles
-step-stands step mid switch new told told2 e later settles from edge deeds ready s =
+step-stands step mid switch new told told2 e later in_time settles from edge deeds ready s =
     let sent : List Sent = sends from mid.switch step in (
       sent,
       settles (timed step from) edge (deeds ++ deed step sent false ∷ [])
@@ -132,7 +134,8 @@ step-stands step mid switch new told told2 e later settles from edge deeds ready
           (puts_step from.edge edge deeds mid.outs (deed step sent false) refl s.puts))
           (taken_ticked step sent false from.moments deeds mid.switch switch e later s.ticked)
           (unreported from told mid switch step e s.reports)
-          s.as_set,
+          s.as_set
+          (seconds_step from told mid switch step e in_time s.seconds),
     )
 
 -- the epoch that runs has no end before this step
@@ -148,26 +151,27 @@ pub turn_ready : (done : Done) (old : Core) (told : Told) (known : Known) → Is
 unfolding step_of waits_for_end
 turn_ready done old told known waits = absurd (false≢true waits)
 
-pub took : (step : Step) (old mid : Core) (switch : Known) (new : Core) (told told1 told2 : Told) → Same old mid told told1 → switch ≡ with_step mid.switch step → IsLater (net_of mid.switch).moment step → IsReady step old told mid.switch → Settles (record mid { switch = switch }) new told1 told2
+pub took : (step : Step) (old mid : Core) (switch : Known) (new : Core) (told told1 told2 : Told) → Same old mid told told1 → switch ≡ with_step mid.switch step → IsLater (net_of mid.switch).moment step → IsInTimeAt mid step → IsReady step old told mid.switch → Settles (record mid { switch = switch }) new told1 told2
     → Took step false old new told told2
 unfolding Same Took
-took step old mid switch new told told1 told2 same e later ready settles from edge deeds s =
-    step-stands step mid switch new told1 told2 e later settles from edge deeds (ready-at step old told mid.switch ready from edge deeds s) (same from edge deeds s)
+took step old mid switch new told told1 told2 same e later in_time ready settles from edge deeds s =
+    step-stands step mid switch new told1 told2 e later in_time settles from edge deeds (ready-at step old told mid.switch ready from edge deeds s) (same from edge deeds s)
 
 pub took_ok : {A E : Type 0} (r : Result A E) (step : Step) (old mid : Core) (switch : Known) (new : Core) (told told1 told2 : Told) → Same old mid told told1 → switch ≡ with_step mid.switch step
-    → IsLater (net_of mid.switch).moment step → IsReady step old told mid.switch → OnOk r (Settles (record mid { switch = switch }) new told1 told2) → OnOk r (Took step false old new told told2)
-took_ok r step old mid switch new told told1 told2 same e later ready = on_ok r (took step old mid switch new told told1 told2 same e later ready)
+    → IsLater (net_of mid.switch).moment step → IsInTimeAt mid step → IsReady step old told mid.switch → OnOk r (Settles (record mid { switch = switch }) new told1 told2) → OnOk r (Took step false old new told told2)
+took_ok r step old mid switch new told told1 told2 same e later in_time ready = on_ok r (took step old mid switch new told told1 told2 same e later in_time ready)
 
 -- the step was taken, and the run ended behind it
-pub cut_behind : (step : Step) (old mid : Core) (switch : Known) (new : Core) (told told1 told2 : Told) → Same old mid told told1 → switch ≡ with_step mid.switch step → IsLater (net_of mid.switch).moment step → IsReady step old told mid.switch → RunsOn (record mid { switch = switch }) new told1 told2
+pub cut_behind : (step : Step) (old mid : Core) (switch : Known) (new : Core) (told told1 told2 : Told) → Same old mid told told1 → switch ≡ with_step mid.switch step → IsLater (net_of mid.switch).moment step → IsInTimeAt mid step → IsReady step old told mid.switch → RunsOn (record mid { switch = switch }) new told1 told2
     → Stopped step false old new told told2
 unfolding Same Stopped RunsOn
-cut_behind step old mid switch new told told1 told2 same e later ready on from edge deeds s =
+cut_behind step old mid switch new told told1 told2 same e later in_time ready on from edge deeds s =
     let s1 : Stands from edge told1 mid deeds = same from edge deeds s in
     let sent : List Sent = sends from mid.switch step in
-    let on1 : Runs from told2 new.switch (deeds ++ deed step sent false ∷ []) × Counted from told2 new.switch =
+    let on1 : Runs from told2 new.switch (deeds ++ deed step sent false ∷ []) × Counted from told2 new.switch × EndsInSeconds from told2 new.switch =
     on from (deeds ++ deed step sent false ∷ []) (subst (λ (known : Known). Runs from told1 known (deeds ++ deed step sent false ∷ [])) (sym e) (runs-step from told1 mid.switch deeds step false (none_withdrawn (net_of mid.switch).moment step later) (ready-at step old told mid.switch ready from edge deeds s) s1.runs))
     (unreported from told1 mid switch step e s1.reports)
+    (seconds_step from told1 mid switch step e in_time s1.seconds)
     in
     inr (
       sent,
@@ -176,12 +180,13 @@ cut_behind step old mid switch new told told1 told2 same e later ready on from e
         cut = cut_more from.edge edge deeds (deed step sent false) (cut_of from.edge edge deeds mid.outs [] s1.puts);
         ticked = ticked_part (moments_after step from.moments) (deeds ++ deed step sent false ∷ []) (net_of switch).moment (taken_ticked step sent false from.moments deeds mid.switch switch e later s1.ticked);
         counts = on1.1;
+        seconds = on1.2;
       },
     )
 
 pub took_err : {A E : Type 0} (r : Result A E) (step : Step) (old mid : Core) (switch : Known) (new : Core) (told told1 told2 : Told) → Same old mid told told1 → switch ≡ with_step mid.switch step
-    → IsLater (net_of mid.switch).moment step → IsReady step old told mid.switch → RunsOn (record mid { switch = switch }) new told1 told2 → OnErr r (Stopped step false old new told told2)
-took_err r step old mid switch new told told1 told2 same e later ready on = on_err r (cut_behind step old mid switch new told told1 told2 same e later ready on)
+    → IsLater (net_of mid.switch).moment step → IsInTimeAt mid step → IsReady step old told mid.switch → RunsOn (record mid { switch = switch }) new told1 told2 → OnErr r (Stopped step false old new told told2)
+took_err r step old mid switch new told told1 told2 same e later in_time ready on = on_err r (cut_behind step old mid switch new told told1 told2 same e later in_time ready on)
 
 -- no step was taken
 pub none_taken : (step : Step) (failed : Bool) (old mid new : Core) (told told1 : Told) → Same old mid told told1 → new.switch ≡ mid.switch → Stopped step failed old new told told1
@@ -193,6 +198,7 @@ none_taken step failed old mid new told told1 same e from edge deeds s =
       cut = cut_of from.edge edge deeds mid.outs [] s1.puts;
       ticked = untaken_part step from.moments deeds (net_of mid.switch).moment s1.ticked;
       counts = counted-at from told1 mid.switch new.switch e s1.reports.counts;
+      seconds = ends_at from told1 mid.switch new.switch e (seconds_end from told1 mid s1.seconds);
     })
 
 -- ## An order
@@ -224,7 +230,8 @@ withdraw-stands app mid switch new told told2 e lives settles from edge deeds s 
           (puts_step from.edge edge deeds mid.outs (deed step sent false) refl s.puts))
           (withdrawn_ticked app sent from.moments deeds mid.switch switch e s.ticked)
           (unreported from told mid switch step e s.reports)
-          s.as_set,
+          s.as_set
+          (seconds_step from told mid switch step e (λ recording. tt) s.seconds),
     )
 
 -- at another core of the same epoch
@@ -250,15 +257,17 @@ withdrew_behind app old mid switch new told told1 told2 same epoch e lives on fr
       sent,
       subst (λ (order : Order). Ends (ordered from (Some order ∷ [])) edge told2 new.switch (deeds ++ deed step sent false ∷ [])) (order-same old mid app epoch)
           (let from2 : Beginning = ordered from (Some (order_at mid app) ∷ []) in
-          let on1 : Runs from2 told2 new.switch (deeds ++ deed step sent false ∷ []) × Counted from2 told2 new.switch =
+          let on1 : Runs from2 told2 new.switch (deeds ++ deed step sent false ∷ []) × Counted from2 told2 new.switch × EndsInSeconds from2 told2 new.switch =
           on from2 (deeds ++ deed step sent false ∷ []) (subst (λ (known : Known). Runs from2 told1 known (deeds ++ deed step sent false ∷ [])) (sym e) (runs-withdrawn from told1 mid.switch deeds app lives s1.runs))
           (unreported from told1 mid switch step e s1.reports)
+          (seconds_step from told1 mid switch step e (λ recording. tt) s1.seconds)
           in
           record {
             runs = on1.0;
             cut = cut_more from.edge edge deeds (deed step sent false) (cut_of from.edge edge deeds mid.outs [] s1.puts);
             ticked = ticked_part from.moments (deeds ++ deed step sent false ∷ []) (net_of switch).moment (withdrawn_ticked app sent from.moments deeds mid.switch switch e s1.ticked);
             counts = on1.1;
+            seconds = on1.2;
           }),
     )
 
@@ -272,6 +281,7 @@ none_withdrew app old mid new told told1 same e from edge deeds s =
       cut = cut_of from.edge edge deeds mid.outs [] s1.puts;
       ticked = ticked_part from.moments deeds (net_of mid.switch).moment s1.ticked;
       counts = counted-at from told1 mid.switch new.switch e s1.reports.counts;
+      seconds = ends_at from told1 mid.switch new.switch e (seconds_end from told1 mid s1.seconds);
     })
 
 -- an order that names no session which lives in the epoch that runs
@@ -284,6 +294,7 @@ unordered-by order core told none from edge deeds s = record {
   ticked = s.ticked;
   reports = s.reports;
   as_set = s.as_set;
+  seconds = s.seconds;
 }
 
 -- it is of another epoch
@@ -315,6 +326,7 @@ no_order core told from edge deeds s = record {
   ticked = s.ticked;
   reports = s.reports;
   as_set = s.as_set;
+  seconds = s.seconds;
 }
 
 -- ## A place that failed
@@ -332,7 +344,8 @@ fall-stands at mid switch outs new told told2 e lost settles from edge deeds rea
           (puts_failed from.edge edge deeds mid.outs outs at sent s.puts lost))
           (taken_ticked (steps.Lost at) sent true from.moments deeds mid.switch switch e tt s.ticked)
           (unreported from told mid switch (steps.Lost at) e s.reports)
-          s.as_set,
+          s.as_set
+          (seconds_step from told mid switch (steps.Lost at) e (λ recording. tt) s.seconds),
     )
 
 fell : (at : Place) (old mid : Core) (switch : Known) (outs : Owing) (new : Core) (told told1 told2 : Told) → Same old mid told told1 → switch ≡ with_step mid.switch (steps.Lost at) → IsLostAt at mid.outs outs
@@ -351,9 +364,10 @@ unfolding Same Stopped RunsOn
 fell_behind at old mid switch outs new told told1 told2 same e ready on from edge deeds s =
     let s1 : Stands from edge told1 mid deeds = same from edge deeds s in
     let sent : List Sent = sends from mid.switch (steps.Lost at) in
-    let on1 : Runs from told2 new.switch (deeds ++ deed (steps.Lost at) sent true ∷ []) × Counted from told2 new.switch =
+    let on1 : Runs from told2 new.switch (deeds ++ deed (steps.Lost at) sent true ∷ []) × Counted from told2 new.switch × EndsInSeconds from told2 new.switch =
     on from (deeds ++ deed (steps.Lost at) sent true ∷ []) (subst (λ (known : Known). Runs from told1 known (deeds ++ deed (steps.Lost at) sent true ∷ [])) (sym e) (runs-step from told1 mid.switch deeds (steps.Lost at) true refl (ready-at (steps.Lost at) old told mid.switch ready from edge deeds s) s1.runs))
     (unreported from told1 mid switch (steps.Lost at) e s1.reports)
+    (seconds_step from told1 mid switch (steps.Lost at) e (λ recording. tt) s1.seconds)
     in
     inr (
       sent,
@@ -362,6 +376,7 @@ fell_behind at old mid switch outs new told told1 told2 same e ready on from edg
         cut = cut_more from.edge edge deeds (deed (steps.Lost at) sent true) (cut_of from.edge edge deeds mid.outs [] s1.puts);
         ticked = ticked_part from.moments (deeds ++ deed (steps.Lost at) sent true ∷ []) (net_of switch).moment (taken_ticked (steps.Lost at) sent true from.moments deeds mid.switch switch e tt s1.ticked);
         counts = on1.1;
+        seconds = on1.2;
       },
     )
 
@@ -383,9 +398,10 @@ set-as from old new same as_set = ap (λ (turning : Turning). turning.epoch_step
 
 pub settled : (old new : Core) (told told2 : Told) (count : ℕ) → Notes told told2 (noted.Step count) → count ≡ min (old.handed + length old.switch.journal) 18446744073709551615 → new.switch ≡ record old.switch { left = new.switch.left } → new.switch.left ≡ []
     → new.handed ≡ old.handed → new.unlisted ≡ min (old.unlisted + 1) 18446744073709551615 → new.turning ≡ old.turning
+    → (length old.switch.journal ≡ 1 → new.kept_since ≡ (net_of old.switch).moment) → ((length old.switch.journal ≡ 1 → ⊥) → new.kept_since ≡ old.kept_since)
     → ((first now : EdgeState) (deeds : List Deed) → Puts first now deeds old.outs old.switch.left → Puts first now deeds new.outs []) → Settles old new told told2
 unfolding Settles
-settled old new told told2 count notes count_is same all handed unlisted turning keeps from edge deeds runs puts ticked last as_set = record {
+settled old new told told2 count notes count_is same all handed unlisted turning first later keeps from edge deeds runs puts ticked last as_set seconds = record {
   runs = runs-left from told2 old.switch new.switch deeds same (told-runs from told told2 old.switch deeds count notes runs);
   left_is = all;
   puts = keeps from.edge edge deeds puts;
@@ -393,6 +409,7 @@ settled old new told told2 count notes count_is same all handed unlisted turning
   reports = reported-at from told2 old.handed new.handed new.unlisted new.unlisted old.switch new.switch handed refl (ap (λ (known : Known). known.handed) same) (ap (λ (known : Known). running known) same)
       (reports_step from.setup from.told told told2 old.handed old.unlisted new.unlisted old.switch.epoch old.switch.began old.switch.handed old.switch.journal unlisted last (count-notes told told2 count _ count_is notes));
   as_set = set-as from old new turning as_set;
+  seconds = seconds_settled from told told2 old new count notes same turning first later seconds;
 }
 
 counted-left : (from : Beginning) (told : Told) (old new : Known) → new ≡ record old { left = new.left } → Counted from told old → Counted from told new
@@ -400,10 +417,11 @@ counted-left from told old new same counts = subst (λ (known : Known). Counted 
 
 pub settled_runs : (old new : Core) (told told2 : Told) (count : ℕ) → Notes told told2 (noted.Step count) → count ≡ min (old.handed + length old.switch.journal) 18446744073709551615 → new.switch ≡ record old.switch { left = new.switch.left } → RunsOn old new told told2
 unfolding RunsOn
-settled_runs old new told told2 count notes count_is same from deeds runs last = (
+settled_runs old new told told2 count notes count_is same from deeds runs last seconds = (
   runs-left from told2 old.switch new.switch deeds same (told-runs from told told2 old.switch deeds count notes runs),
   counted-left from told2 old.switch new.switch same
       (counts_step from.told told told2 old.handed old.switch.epoch old.switch.began old.switch.handed old.switch.journal last (count-notes told told2 count _ count_is notes)),
+  next_end from told told2 old new count notes same seconds,
 )
 
 pub owed_on : (outs outs2 : Owing) (sent : Sent) (before left : List Sent) → before ≡ sent ∷ left → IsOwed sent outs outs2
@@ -446,7 +464,7 @@ turned-reported from told told2 count unlisted old new ended turned notes r =
 
 pub turned_same : (old : Core) (switch : Known) (told told2 : Told) (ended : Ended) → IsTurned old.switch switch ended → old.switch.epoch < 4294967295 → ((handed : ℕ) → old.handed ≡ min handed 18446744073709551615 → IsLong old handed)
     → Notes told told2 (noted.Epoch ended.number ended.began ended.journal) → Same old (record old { switch = switch; handed = 0 }) told told2
-unfolding Same
+unfolding Same part_in
 turned_same old switch told told2 ended turned number long notes from edge deeds s = record {
   runs = runs-turned from told told2 old.switch switch deeds ended turned notes (long_ends from edge told old deeds s long turned.idle number) s.runs;
   left_is = ap (λ (known : Known). known.left) turned.new_is;
@@ -454,6 +472,7 @@ turned_same old switch told told2 ended turned number long notes from edge deeds
   ticked = ticked_at from.moments deeds (net_of old.switch).moment (net_of switch).moment (turned_moment old.switch switch ended turned) s.ticked;
   reports = turned-reported from told told2 old.handed old.unlisted old.switch switch ended turned notes s.reports;
   as_set = s.as_set;
+  seconds = seconds_handed from told told2 old (record old { switch = switch; handed = 0 }) (noted.Epoch ended.number ended.began ended.journal) (ap (λ (kept : List Step). Some kept) turned.journal_is) notes refl (turned_moment old.switch switch ended turned) (ap (λ (known : Known). known.journal) turned.new_is) s.seconds;
 }
 
 runs-handed : (from : Beginning) (told told2 : Told) (old : Known) (deeds : List Deed) (journal : Kept Step) → journal.items ≡ old.journal → Notes told told2 (noted.Part journal) → Runs from told old deeds → Runs from told2 (handing old) deeds
@@ -479,7 +498,7 @@ handed-reported from told told2 count count2 unlisted old journal e items notes 
 
 pub handed_same : (old new : Core) (told told2 : Told) (journal : Kept Step) → new.switch ≡ handing old.switch → new.turning ≡ old.turning → new.outs ≡ old.outs → new.unlisted ≡ old.unlisted → new.handed ≡ min (old.handed + length journal.items) 18446744073709551615
     → journal.items ≡ old.switch.journal → Notes told told2 (noted.Part journal) → Same old new told told2
-unfolding Same
+unfolding Same part_in
 handed_same old new told told2 journal e turning outs unlisted handed items notes from edge deeds s = record {
   runs = subst (λ (known : Known). Runs from told2 known deeds) (sym e) (runs-handed from told told2 old.switch deeds journal items notes s.runs);
   left_is = ap (λ (known : Known). known.left) e ∙ s.left_is;
@@ -488,6 +507,7 @@ handed_same old new told told2 journal e turning outs unlisted handed items note
   reports = reported-at from told2 new.handed new.handed old.unlisted new.unlisted (handing old.switch) new.switch refl unlisted (ap (λ (known : Known). known.handed) e) (ap (λ (known : Known). running known) e)
       (handed-reported from told told2 old.handed new.handed old.unlisted old.switch journal handed items notes s.reports);
   as_set = set-as from old new turning s.as_set;
+  seconds = seconds_handed from told told2 old new (noted.Part journal) (ap (λ (kept : List Step). Some kept) items) notes turning (ap (λ (known : Known). (net_of known).moment) e ∙ handing-moment old.switch) (ap (λ (known : Known). known.journal) e) s.seconds;
 }
 
 -- what the switch lists is of the point to which its run came
@@ -501,7 +521,7 @@ unfolding listing_of
 some_listed known listing is some none = some (is.steps_is ∙ (ap (λ (steps : List Step). min (length steps) 18446744073709551615) none ∙ zero-min 18446744073709551615))
 
 pub listed_same : (core : Core) (told told2 : Told) (listing : Listing) → IsListing core.switch listing → (listing.steps ≡ 0 → ⊥) → Notes told told2 (noted.List listing) → Same core (record core { unlisted = 0 }) told told2
-unfolding Same
+unfolding Same part_in
 listed_same core told told2 listing is some notes from edge deeds s = record {
   runs = record {
     setup_is = s.runs.setup_is;
@@ -513,30 +533,33 @@ listed_same core told told2 listing is some notes from edge deeds s = record {
   reports = reports_listed from.setup from.told told told2 core.handed core.unlisted s.runs.course.ended core.switch.handed (running core.switch) listing (listing-at core.switch from.setup listing s.runs.setup_is is [])
       (some_listed core.switch listing is some) s.runs.course.tells notes s.reports;
   as_set = s.as_set;
+  seconds = seconds_told from told told2 core (noted.List listing) refl notes s.seconds;
 }
 
 -- only leases changed
-pub leased_same : (old new : Core) (told : Told) → new.switch ≡ record old.switch { kept = new.switch.kept; leases = new.switch.leases } → new.turning ≡ old.turning → new.outs ≡ old.outs → new.handed ≡ old.handed → new.unlisted ≡ old.unlisted → Same old new told told
+pub leased_same : (old new : Core) (told : Told) → new.switch ≡ record old.switch { kept = new.switch.kept; leases = new.switch.leases } → new.turning ≡ old.turning → new.outs ≡ old.outs → new.handed ≡ old.handed → new.unlisted ≡ old.unlisted → new.kept_since ≡ old.kept_since → Same old new told told
 unfolding Same
-leased_same old new told e turning outs handed unlisted from edge deeds s = record {
+leased_same old new told e turning outs handed unlisted since from edge deeds s = record {
   runs = subst (λ (known : Known). Runs from told known deeds) (sym e) (record { setup_is = s.runs.setup_is; course = s.runs.course });
   left_is = ap (λ (known : Known). known.left) e ∙ s.left_is;
   puts = subst (λ (o : Owing). Puts from.edge edge deeds o []) (sym outs) s.puts;
   ticked = ticked_at from.moments deeds (net_of old.switch).moment (net_of new.switch).moment (lease_moment old.switch new.switch e) s.ticked;
   reports = reported-at from told old.handed new.handed old.unlisted new.unlisted old.switch new.switch handed unlisted (ap (λ (known : Known). known.handed) e) (ap (λ (known : Known). running known) e) s.reports;
   as_set = set-as from old new turning s.as_set;
+  seconds = seconds_at from told old new turning since (lease_moment old.switch new.switch e) (ap (λ (known : Known). known.journal) e) s.seconds;
 }
 
 -- nothing changed
-pub moved_same : (old new : Core) (told : Told) → new.switch ≡ old.switch → new.turning ≡ old.turning → new.outs ≡ old.outs → new.handed ≡ old.handed → new.unlisted ≡ old.unlisted → Same old new told told
+pub moved_same : (old new : Core) (told : Told) → new.switch ≡ old.switch → new.turning ≡ old.turning → new.outs ≡ old.outs → new.handed ≡ old.handed → new.unlisted ≡ old.unlisted → new.kept_since ≡ old.kept_since → Same old new told told
 unfolding Same
-moved_same old new told e turning outs handed unlisted from edge deeds s = record {
+moved_same old new told e turning outs handed unlisted since from edge deeds s = record {
   runs = subst (λ (known : Known). Runs from told known deeds) (sym e) s.runs;
   left_is = ap (λ (known : Known). known.left) e ∙ s.left_is;
   puts = subst (λ (o : Owing). Puts from.edge edge deeds o []) (sym outs) s.puts;
   ticked = ticked_at from.moments deeds (net_of old.switch).moment (net_of new.switch).moment (ap (λ (known : Known). (net_of known).moment) e) s.ticked;
   reports = reported-at from told old.handed new.handed old.unlisted new.unlisted old.switch new.switch handed unlisted (ap (λ (known : Known). known.handed) e) (ap (λ (known : Known). running known) e) s.reports;
   as_set = set-as from old new turning s.as_set;
+  seconds = seconds_at from told old new turning since (ap (λ (known : Known). (net_of known).moment) e) (ap (λ (known : Known). known.journal) e) s.seconds;
 }
 
 -- the clock answered a moment that is no later one
@@ -549,6 +572,7 @@ same_at now core told early from edge deeds s = record {
   ticked = ticked_early from.moments deeds (net_of core.switch).moment now early s.ticked;
   reports = s.reports;
   as_set = s.as_set;
+  seconds = s.seconds;
 }
 
 -- ## What the switch answers

@@ -61,12 +61,15 @@ untaken_part (steps.Withdraw app) moments deeds now ticked = ticked_part moments
 pub ticked_at : (moments : List ℕ) (deeds : List Deed) (now now2 : ℕ) → now2 ≡ now → Ticked moments deeds now → Ticked moments deeds now2
 ticked_at moments deeds now now2 same ticked = subst (λ (n : ℕ). Ticked moments deeds n) (sym same) ticked
 
+-- the moment once the switch took the step
+pub taken_moment : (step : Step) (old new : Known) → new ≡ with_step old step → (net_of new).moment ≡ moment_of (net_of old).moment step
+taken_moment step old new e = ap (λ (known : Known). (net_of known).moment) e ∙ (ap (λ net. net.moment) (net-step old step) ∙ after_step-moment as_session old.setup (net_of old) step)
+
 -- the switch took the step
 pub taken_ticked : (step : Step) (sent : List Sent) (failed : Bool) (moments : List ℕ) (deeds : List Deed) (old new : Known) → new ≡ with_step old step → IsLater (net_of old).moment step → Ticked moments deeds (net_of old).moment
     → Ticked (moments_after step moments) (deeds ++ deed step sent failed ∷ []) (net_of new).moment
 taken_ticked step sent failed moments deeds old new e later ticked =
-    ticked_at (moments_after step moments) (deeds ++ deed step sent failed ∷ []) (moment_of (net_of old).moment step) (net_of new).moment
-    (ap (λ (known : Known). (net_of known).moment) e ∙ (ap (λ net. net.moment) (net-step old step) ∙ after_step-moment as_session old.setup (net_of old) step))
+    ticked_at (moments_after step moments) (deeds ++ deed step sent failed ∷ []) (moment_of (net_of old).moment step) (net_of new).moment (taken_moment step old new e)
     (ticked-step step sent failed moments deeds (net_of old).moment later ticked)
 
 -- a withdrawal takes no time
@@ -74,8 +77,7 @@ pub withdrawn_ticked : (app : AppId) (sent : List Sent) (moments : List ℕ) (de
     → Ticked moments (deeds ++ deed (steps.Withdraw app) sent false ∷ []) (net_of new).moment
 unfolding moment_of tick_of
 withdrawn_ticked app sent moments deeds old new e ticked =
-    ticked_at moments (deeds ++ deed (steps.Withdraw app) sent false ∷ []) (net_of old).moment (net_of new).moment
-    (ap (λ (known : Known). (net_of known).moment) e ∙ (ap (λ net. net.moment) (net-step old (steps.Withdraw app)) ∙ after_step-moment as_session old.setup (net_of old) (steps.Withdraw app)))
+    ticked_at moments (deeds ++ deed (steps.Withdraw app) sent false ∷ []) (net_of old).moment (net_of new).moment (taken_moment (steps.Withdraw app) old new e)
     (ticked_same moments deeds (deed (steps.Withdraw app) sent false) (net_of old).moment (net_of old).moment refl refl ticked)
 
 pub runs_timed : (from : Beginning) (moments : List ℕ) (told : Told) (known : Known) (deeds : List Deed) → Runs from told known deeds → Runs (record from { moments = moments }) told known deeds

@@ -1,5 +1,6 @@
 -- Where a server stands: between two steps, within an answer of its edge, and where its run ends.
 use Rattle.std.specs.Prelude.{◌≡◌, ◌⊎◌, ℕ, Bool, true, false, List, [], ◌∷◌, ◌++◌, length}
+use Rattle.std.specs.Option.{is_some}
 use Rattle.sc_tokens.specs.Bytes.{Bytes}
 use Rattle.sc_value.specs.declared.ids.Place.{Place}
 use Rattle.sc_value.specs.declared.message.Sent.{Sent}
@@ -15,6 +16,7 @@ use Rattle.sc_courses.specs.Courses.{Beginning, Course, Told}
 use Rattle.sc_courses.specs.Endings.{HasToEnd}
 use Rattle.sc_courses.specs.Marks.{Hearing, HearingPart, HearsOn}
 use Rattle.sc_courses.specs.Reports.{Counts, Reports, TellsSuch, Untold}
+use Rattle.sc_courses.specs.Seconds.{HandsInTime, Keeps, KeepsNext}
 use Rattle.sc_rounds.specs.declared.stepping.Core.{Core}
 use Rattle.sc_streams.specs.declared.streams.Pending.{Pending}
 use Rattle.sc_streams.specs.Streaming.{bytes_of}
@@ -62,6 +64,29 @@ pub record Runs (from : Beginning) (told : Told) (known : Known) (deeds : List D
 abbrev pub EndsAsSet : Beginning → Core → Type 0
 EndsAsSet from core = core.turning.epoch_steps ≡ from.setup.config.epoch_steps
 
+-- where steps are recorded, those that are kept are of a second, and so was each part that was handed
+-- on
+abbrev pub IsInSeconds : Beginning → Told → Core → Type 0
+IsInSeconds from told core =
+    is_some from.setup.config.recording ≡ true
+    → (core.turning.recording ≡ true)
+    × TellsSuch from.told told
+    (Keeps core.kept_since (net_of core.switch).moment core.switch.journal)
+
+-- the same, once a step was taken of which the notice isn't told yet
+abbrev pub IsInSecondsNext : Beginning → Told → Core → Type 0
+IsInSecondsNext from told core =
+    is_some from.setup.config.recording ≡ true
+    → (core.turning.recording ≡ true)
+    × TellsSuch from.told told
+    (KeepsNext core.kept_since (net_of core.switch).moment core.switch.journal)
+
+-- the same, where the run ends
+abbrev pub EndsInSeconds : Beginning → Told → Known → Type 0
+EndsInSeconds from told known =
+    is_some from.setup.config.recording ≡ true
+    → TellsSuch from.told told (HandsInTime known.journal)
+
 -- between two steps all that was sent was taken from the switch, and was put or is left to be put
 pub record Stands (from : Beginning) (edge : EdgeState) (told : Told) (core : Core)
     (deeds : List Deed) : Type 0 where
@@ -71,6 +96,7 @@ pub record Stands (from : Beginning) (edge : EdgeState) (told : Told) (core : Co
   pub ticked : Ticked from.moments deeds (net_of core.switch).moment
   pub reports : Reported from told core.handed core.unlisted core.switch
   pub as_set : EndsAsSet from core
+  pub seconds : IsInSeconds from told core
 
 -- where a run ends, whatever is left to be put
 pub record Ends (from : Beginning) (edge : EdgeState) (told : Told) (known : Known)
@@ -79,6 +105,7 @@ pub record Ends (from : Beginning) (edge : EdgeState) (told : Told) (known : Kno
   pub cut : IsCut from.edge edge deeds
   pub ticked : TickedPart from.moments deeds
   pub counts : Counted from told known
+  pub seconds : EndsInSeconds from told known
 
 -- ## What a step does
 
@@ -126,14 +153,15 @@ Settles old new told told2 =
     → Puts from.edge edge deeds old.outs old.switch.left
     → Ticked from.moments deeds (net_of old.switch).moment
     → Unreported from told old.handed old.switch → EndsAsSet from old
-    → Stands from edge told2 new deeds
+    → IsInSecondsNext from told old → Stands from edge told2 new deeds
 
 -- the switch goes on in the same course, and the notice was told of its last step
 unfoldable pub RunsOn : Core → Core → Told → Told → Type 0
 RunsOn old new told told2 =
     (from : Beginning) (deeds : List Deed) → Runs from told old.switch deeds
-    → Unreported from told old.handed old.switch
+    → Unreported from told old.handed old.switch → IsInSecondsNext from told old
     → Runs from told2 new.switch deeds × Counted from told2 new.switch
+    × EndsInSeconds from told2 new.switch
 
 -- ## With what was heard
 

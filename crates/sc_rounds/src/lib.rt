@@ -11,4 +11,4 @@ mod turning;
 pub use polling::{Came, take_got};
 pub use putting::{Went, put_place};
 pub use stepping::{Core, Turning};
-pub use turning::{end_epoch, hand_old, list, take_moment, take_order};
+pub use turning::{end_epoch, list, take_moment, take_order};

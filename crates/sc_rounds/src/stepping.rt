@@ -8,6 +8,7 @@ ghost use Rattle.sc_switch.specs.Standing.{net_of, step_of};
 ghost use Rattle.sc_outs.specs.Deeds.{Deed};
 ghost use Rattle.sc_outs.specs.Owing.{nothing};
 ghost use Rattle.sc_courses.specs.Courses.{Told};
+ghost use Rattle.sc_courses.specs.Seconds.{IsInTime};
 ghost use Rattle.sc_outs.specs.Puts.{Puts};
 ghost use Rattle.sc_rounds.specs.Dues.{HasDue};
 ghost use Rattle.sc_rounds.specs.Serving.{HasNoEnd, RunsOn, Same, Settles, Stopped, Took, running};
@@ -29,11 +30,12 @@ pub struct Turning {
     pub epoch_steps: Within<0, 1_000_000>,
     /// Whether it hands on what it has, once its journal is half full.
     pub parts: bool,
-    /// Whether it hands on each second what it has.
+    /// Whether it hands on what it has before that is a second old.
     pub recording: bool,
 }
 
-/// After so many milliseconds the steps that are kept are handed on, where they are recorded.
+/// Of steps that are recorded those are kept that were taken less than so many milliseconds after
+/// the first of them.
 const RECORD_EVERY: u64 = 1_000;
 
 /// A switch, and what is left to be put of what it sent. Between two steps nothing is left in the
@@ -46,8 +48,8 @@ pub struct Core {
     pub outs: Outs,
     /// How many steps of the epoch were handed on; it stays at its greatest value.
     pub handed: u64,
-    /// At which moment steps were handed on last, 0 where none were.
-    pub handed_at: u64,
+    /// At which moment the first of the steps was taken that are kept; of no meaning where none is.
+    pub kept_since: u64,
     /// How many steps were taken since the notice was told what lives; it stays at its greatest
     /// value.
     pub unlisted: u64,
@@ -68,7 +70,7 @@ impl Core {
             switch,
             outs: Outs::new(alloc),
             handed: 0,
-            handed_at: 0,
+            kept_since: 0,
             unlisted: 0,
         }
     }
@@ -136,30 +138,14 @@ impl Core {
         self.turning.parts && is_half_full(self.switch.journal())
     }
 
-    /// Hands on the steps that are kept, where they are recorded and steps were handed on a second
-    /// ago or before.
-    pub fn hand_old<N: Notice<Journal<Step>>>(&mut self, notice: &mut N)
-        ensures { Same self.old self.new (N.noted notice.old) (N.noted notice.new) }
-    {
-        if self.is_record_due() {
-            self.hand_all(notice);
-        }
-    }
-
-    fn is_record_due(&self) -> bool {
-        self.turning.recording
-            && !self.switch.journal().is_empty()
-            && self.switch.now().saturating_sub(self.handed_at) >= RECORD_EVERY
-    }
-
     /// Hands on the steps that are kept.
     fn hand_all<N: Notice<Journal<Step>>>(&mut self, notice: &mut N)
         ensures same { Same self.old self.new (N.noted notice.old) (N.noted notice.new) }
         ensures moment { (net_of self.new.switch).moment ≡ (net_of self.old.switch).moment }
         ensures epoch { self.new.switch.epoch ≡ self.old.switch.epoch }
         ensures running { running self.new.switch ≡ running self.old.switch }
+        ensures none { self.new.switch.journal ≡ [] }
     {
-        self.handed_at = self.switch.now();
         let journal = self.switch.hand_on();
         self.handed = self.handed.saturating_add(journal.len());
         notice.part(journal);
@@ -175,6 +161,55 @@ impl Core {
         self.hand_on(notice);
     }
 
+    /// Makes room for the step of this moment: hands on also what would be a second old by then,
+    /// where it is recorded.
+    fn make_room_at<N: Notice<Journal<Step>>>(&mut self, notice: &mut N, now: u64)
+        ensures same { Same self.old self.new (N.noted notice.old) (N.noted notice.new) }
+        ensures over { HasNoEnd self.old (N.noted notice.old) self.new.switch }
+        ensures moment { (net_of self.new.switch).moment ≡ (net_of self.old.switch).moment }
+        ensures young { self.new.turning.recording ≡ true
+            → IsInTime self.new.kept_since self.new.switch.journal (Step.Tick now) }
+    {
+        self.make_room(notice);
+        if !self.is_record_due(now) {
+            return;
+        }
+        self.hand_all(notice);
+    }
+
+    /// Whether steps are recorded, and the first one that is kept will be a second old at this
+    /// moment.
+    fn is_record_due(&self, now: u64) -> bool
+        ensures { result ≡ false → self.now.turning.recording ≡ true
+            → IsInTime self.now.kept_since self.now.switch.journal (Step.Tick now) }
+    {
+        self.turning.recording && self.is_kept_long(now)
+    }
+
+    /// Whether a step is kept, and the first one will be a second old at this moment.
+    fn is_kept_long(&self, now: u64) -> bool
+        ensures { result ≡ false
+            → IsInTime self.now.kept_since self.now.switch.journal (Step.Tick now) }
+    {
+        if self.switch.journal().is_empty() {
+            return false;
+        }
+        now.saturating_sub(self.kept_since) >= RECORD_EVERY
+    }
+
+    /// At which moment the first of the steps was taken that are kept: now, where that is the last
+    /// one.
+    fn since(&self) -> u64
+        ensures first { length self.now.switch.journal ≡ 1
+            → result ≡ (net_of self.now.switch).moment }
+        ensures later { (length self.now.switch.journal ≡ 1 → ⊥) → result ≡ self.now.kept_since }
+    {
+        if self.switch.journal().len() == 1 {
+            return self.switch.now();
+        }
+        self.kept_since
+    }
+
     /// Tells the notice of a step, and takes what it sent.
     fn settle<N: Notice<Journal<Step>>>(&mut self, notice: &mut N) -> Result<(), StepRefused>
         ensures ok { OnOk result
@@ -182,6 +217,7 @@ impl Core {
         ensures err { RunsOn self.old self.new (N.noted notice.old) (N.noted notice.new) }
         ensures due { IfErr result (λ cause. HasDue self.new.switch cause) }
     {
+        self.kept_since = self.since();
         self.unlisted = self.unlisted.saturating_add(1);
         notice.step(self.steps());
         match self.drain() {
@@ -196,6 +232,7 @@ impl Core {
         ensures same { self.new.switch ≡ record self.old.switch { left = self.new.switch.left } }
         ensures turning { self.new.turning ≡ self.old.turning }
         ensures handed { self.new.handed ≡ self.old.handed }
+        ensures since { self.new.kept_since ≡ self.old.kept_since }
         ensures unlisted { self.new.unlisted ≡ self.old.unlisted }
         ensures all { OnOk result (self.new.switch.left ≡ []) }
         ensures keeps { OnOk result
@@ -362,7 +399,7 @@ impl Core {
             (N.noted notice.new)) }
         ensures due { IfErr result (λ cause. HasDue self.new.switch cause) }
     {
-        self.make_room(notice);
+        self.make_room_at(notice, now);
         match self.switch.tick(self.alloc, now) {
             Ok(()) => self.settle(notice),
             Err(cause) => Err(cause),

@@ -80,14 +80,6 @@ pub fn list<N: Notice<Journal<Step>>>(core: &mut Core, notice: &mut N) -> Result
     }
 }
 
-/// Hands on the steps that are kept, where they are recorded and steps were handed on a second ago
-/// or before.
-pub fn hand_old<N: Notice<Journal<Step>>>(core: &mut Core, notice: &mut N)
-    ensures { Moves core.old core.new (N.noted notice.old) (N.noted notice.new) }
-{
-    core.hand_old(notice);
-}
-
 /// Ends the epoch, where that is due.
 pub fn end_epoch<N: Notice<Journal<Step>>>(core: &mut Core, notice: &mut N)
     ensures moves { Moves core.old core.new (N.noted notice.old) (N.noted notice.new) }

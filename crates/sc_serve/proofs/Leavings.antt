@@ -1,6 +1,7 @@
 -- What a run leaves, from where its last round ended.
 use Rattle.std.specs.Prelude.{Result, Ok, Err, IfErr, OnOk, OnErr, length}
-use Rattle.std.proofs.Common.{◌≡◌, ℕ, List, [], ◌∷◌, ◌++◌, Option, None, Some, refl, sym, ap, subst, ◌∙◌, inl, inr}
+use Rattle.std.proofs.Common.{◌≡◌, ℕ, List, [], ◌∷◌, ◌++◌, Option, None, Some, true, refl, sym, ap, subst, ◌∙◌, inl, inr}
+use Rattle.std.specs.Option.{is_some}
 use Rattle.sc_value.specs.declared.ids.Place.{Place}
 use Rattle.sc_terms.specs.declared.steps.Step.{Step}
 use Rattle.sc_parts.specs.declared.setup.Setup.{Setup}
@@ -29,11 +30,14 @@ use Rattle.sc_courses.specs.Marks.{Hearing, HearingPart}
 use Rattle.sc_courses.proofs.CourseLaws.{course_begin, course_deeds, course_lawful}
 use Rattle.sc_courses.proofs.HeardLaws.{hearing_begin, hearing_part}
 use Rattle.sc_courses.specs.Reports.{Shows, TellsLast, TellsLengths, TellsSuch}
-use Rattle.sc_courses.proofs.ReportLaws.{last_told, lengths_told, reports_begin}
+use Rattle.sc_courses.specs.Seconds.{HandsInTime, Keeps}
+use Rattle.sc_courses.proofs.ReportLaws.{last_told, lengths_told, reports_begin, such_none}
+use Rattle.sc_courses.proofs.SecondLaws.{keeps_hands, keeps_none}
 use Rattle.sc_rounds.specs.declared.stepping.Core.{Core}
 use Rattle.sc_streams.specs.declared.streams.Pending.{Pending}
 use Rattle.sc_rounds.specs.Moving.{AreAlmost}
-use Rattle.sc_rounds.specs.Serving.{Counted, Ended, Ends, Reported, Runs, Serves, running}
+use Rattle.sc_rounds.proofs.Seconds.{seconds_end}
+use Rattle.sc_rounds.specs.Serving.{Counted, Ended, Ends, IsInSeconds, Reported, Runs, Serves, running}
 use Rattle.sc_streams.specs.Streaming.{bytes_in, bytes_of}
 use Rattle.sc_serve.specs.declared.server.Server.{Server}
 use Rattle.sc_serve.specs.declared.stop.Stop.{Stop}
@@ -126,6 +130,7 @@ leaves-of from obeyed now told known ran journal deeds almost all ends heard epo
   listings = listings-last from told ran known journal ends.runs.course.ended epoch began items ends.runs.course.listings;
   listed = λ done. listed-last from told ran known journal ends.runs.course.ended epoch began items ends.runs.course.tells (shows done);
   lengths = lengths-last from told known journal ends.runs.course.ended items ends.runs.course.tells ends.counts;
+  seconds = λ recorded. subst (λ (kept : List Step). TellsSuch from.told told (HandsInTime kept)) (sym items) (ends.seconds recorded);
   due = λ full. due-at from known ran journal epoch began items (due full);
   in_time = in-time-last from ran known journal ends.runs.course.ended epoch began items ends.runs.course.in_time;
   asked = asked;
@@ -172,7 +177,7 @@ served_done from now told core streams ran s none listed over asked often closes
     record {
       journal = journal;
       journal_is = journal_is;
-      leaves = leaves-of from from.orders now told core.switch ran journal s.deeds (inl refl) (λ done. refl) (record { runs = s.stands.runs; cut = cut_of from.edge now s.deeds core.outs [] s.stands.puts; ticked = ticked_part from.moments s.deeds (net_of core.switch).moment s.stands.ticked; counts = s.stands.reports.counts })
+      leaves = leaves-of from from.orders now told core.switch ran journal s.deeds (inl refl) (λ done. refl) (record { runs = s.stands.runs; cut = cut_of from.edge now s.deeds core.outs [] s.stands.puts; ticked = ticked_part from.moments s.deeds (net_of core.switch).moment s.stands.ticked; counts = s.stands.reports.counts; seconds = seconds_end from told core s.stands.seconds })
           (hearing_part from.edge.polled now.polled s.deeds (bytes_of streams) s.hearing) epoch began items lawful (done-comes from now s.deeds ran.status core streams status s.hearing s.stands.puts none) (λ done. s.stands.ticked.ticks) (done-full ran.status status) (λ done. s.stands.reports.shows listed) (λ done. over) (even_almost (answers from) asked) (λ done. asked) often closes (λ done. (bytes_of streams, closes_all));
     }
 
@@ -200,8 +205,16 @@ begun-reports setup told edge count unlisted known switch handed none =
     subst (λ (k : Known). Reported (beginning setup told edge) told count unlisted k) (sym switch)
     (subst (λ (n : ℕ). Reported (beginning setup told edge) told n unlisted (fresh setup)) (sym handed) (subst (λ (n : ℕ). Reported (beginning setup told edge) told 0 n (fresh setup)) (sym none) (fresh-reports setup told edge)))
 
-pub begun : (setup : Setup) (told : Told) (edge : EdgeState) (core : Core) (streams : List Pending) → core.switch ≡ fresh setup → core.outs ≡ nothing → core.handed ≡ 0 → core.unlisted ≡ 0 → core.turning.epoch_steps ≡ setup.config.epoch_steps → streams ≡ [] → Serves (beginning setup told edge) edge told core streams
-begun setup told edge core streams switch outs handed unlisted as_set none = record {
+-- nothing is kept yet
+begun-seconds : (setup : Setup) (told : Told) (edge : EdgeState) (core : Core) → core.switch ≡ fresh setup → core.turning.recording ≡ is_some setup.config.recording → IsInSeconds (beginning setup told edge) told core
+begun-seconds setup told edge core switch recording recorded = (
+  recording ∙ recorded,
+  subst (λ (known : Known). TellsSuch told told (Keeps core.kept_since (net_of known).moment known.journal)) (sym switch)
+      (subst (λ (moment : ℕ). TellsSuch told told (Keeps core.kept_since moment [])) (sym (fresh-moment setup)) (such_none told (Keeps core.kept_since 0 []) (keeps_none core.kept_since))),
+)
+
+pub begun : (setup : Setup) (told : Told) (edge : EdgeState) (core : Core) (streams : List Pending) → core.switch ≡ fresh setup → core.outs ≡ nothing → core.handed ≡ 0 → core.unlisted ≡ 0 → core.turning.epoch_steps ≡ setup.config.epoch_steps → core.turning.recording ≡ is_some setup.config.recording → streams ≡ [] → Serves (beginning setup told edge) edge told core streams
+begun setup told edge core streams switch outs handed unlisted as_set recording none = record {
   deeds = [];
   stands = record {
     runs = subst (λ (known : Known). Runs (beginning setup told edge) told known []) (sym switch) (fresh-runs setup told edge);
@@ -210,15 +223,16 @@ begun setup told edge core streams switch outs handed unlisted as_set none = rec
     ticked = subst (λ (n : ℕ). Ticked [] [] n) (sym (ap (λ (known : Known). (net_of known).moment) switch ∙ fresh-moment setup)) ticked_begin;
     reports = begun-reports setup told edge core.handed core.unlisted core.switch switch handed unlisted;
     as_set = as_set;
+    seconds = begun-seconds setup told edge core switch recording;
   };
   hearing = hearing_begin edge.polled (bytes_of streams) (none-kept streams none);
 }
 
 -- a server that took no step
-holds-begun : (old : Server) (told : Told) (edge : EdgeState) → old.core.switch ≡ fresh old.core.switch.setup → old.core.outs ≡ nothing → old.core.handed ≡ 0 → old.core.unlisted ≡ 0 → old.core.turning.epoch_steps ≡ old.core.switch.setup.config.epoch_steps → old.streams ≡ [] → old.broken ≡ []
+holds-begun : (old : Server) (told : Told) (edge : EdgeState) → old.core.switch ≡ fresh old.core.switch.setup → old.core.outs ≡ nothing → old.core.handed ≡ 0 → old.core.unlisted ≡ 0 → old.core.turning.epoch_steps ≡ old.core.switch.setup.config.epoch_steps → old.core.turning.recording ≡ is_some old.core.switch.setup.config.recording → old.streams ≡ [] → old.broken ≡ []
     → Holds (beginning old.core.switch.setup told edge) edge told old
-holds-begun old told edge switch outs handed unlisted as_set streams broken = record {
-  serves = begun old.core.switch.setup told edge old.core old.streams switch outs handed unlisted as_set streams;
+holds-begun old told edge switch outs handed unlisted as_set recording streams broken = record {
+  serves = begun old.core.switch.setup told edge old.core old.streams switch outs handed unlisted as_set recording streams;
   closes = closes_begin edge old.broken broken;
   closes_all = all_begin edge (bytes_of old.streams) old.broken (none-kept old.streams streams) broken;
 }
@@ -248,7 +262,7 @@ never_started setup told edge ran status epoch began has =
     served_cut (beginning setup told edge) [] edge told (fresh setup) ran (inl refl)
     (record {
       deeds = [];
-      ends = record { runs = fresh-runs setup told edge; cut = cut_of edge edge [] nothing [] (puts_begin edge); ticked = ticked_part [] [] 0 ticked_begin; counts = (fresh-reports setup told edge).counts };
+      ends = record { runs = fresh-runs setup told edge; cut = cut_of edge edge [] nothing [] (puts_begin edge); ticked = ticked_part [] [] 0 ticked_begin; counts = (fresh-reports setup told edge).counts; seconds = λ recorded. such_none told (HandsInTime []) (keeps_hands 0 0 [] [] (keeps_none 0)) };
       hearing = hearing_part edge.polled edge.polled [] (bytes_of []) (hearing_begin edge.polled (bytes_of []) no-bytes);
     }) epoch began has (none-lawful setup) (starved_comes edge edge ran.status status) (starved-done ran.status status) (λ same. starved-full ran.status status) (even_almost (answers (beginning setup told edge)) refl) (often_none edge) (closes_begin edge [] refl)
 
@@ -259,23 +273,23 @@ abbrev pub IsServedOn : Setup → Told → EdgeState → EdgeState → Told → 
 IsServedOn setup told edge now told2 sources sources2 ran = (given : Given) × Asked sources sources2 given × IsServed (record { setup = setup; told = told; edge = edge; moments = given.moments; orders = given.orders }) now told2 ran
 
 -- the run was over
-pub done_served : (old new : Server) (e e1 : EdgeState) (t t1 : Told) (k k1 : Sources) (ran : Ran) → old.core.switch ≡ fresh old.core.switch.setup → old.core.outs ≡ nothing → old.core.handed ≡ 0 → old.core.unlisted ≡ 0 → old.core.turning.epoch_steps ≡ old.core.switch.setup.config.epoch_steps → old.streams ≡ [] → old.broken ≡ [] → old.unpolled ≡ 0 → FinishesOn old new e e1 t t1 k k1 → ran.status ≡ statuses.Done
+pub done_served : (old new : Server) (e e1 : EdgeState) (t t1 : Told) (k k1 : Sources) (ran : Ran) → old.core.switch ≡ fresh old.core.switch.setup → old.core.outs ≡ nothing → old.core.handed ≡ 0 → old.core.unlisted ≡ 0 → old.core.turning.epoch_steps ≡ old.core.switch.setup.config.epoch_steps → old.core.turning.recording ≡ is_some old.core.switch.setup.config.recording → old.streams ≡ [] → old.broken ≡ [] → old.unpolled ≡ 0 → FinishesOn old new e e1 t t1 k k1 → ran.status ≡ statuses.Done
     → ran.epoch ≡ new.core.switch.epoch → ran.began ≡ new.core.switch.began → HasItems ran.journal new.core.switch.journal → IsLawful as_session new.core.switch.setup new.core.switch.epoch new.core.switch.began (whole new.core.switch)
     → IsServedOn old.core.switch.setup t e e1 t1 k k1 ran
 unfolding FinishesOn GoesOn
-done_served old new e e1 t t1 k k1 ran switch outs handed unlisted as_set streams broken unpolled ((given, (even, polls), asked, goes), none, closed, listed, over) status epoch began has lawful =
-    let s0 : Holds (beginning old.core.switch.setup t e) e t old = holds-begun old t e switch outs handed unlisted as_set streams broken in
+done_served old new e e1 t t1 k k1 ran switch outs handed unlisted as_set recording streams broken unpolled ((given, (even, polls), asked, goes), none, closed, listed, over) status epoch began has lawful =
+    let s0 : Holds (beginning old.core.switch.setup t e) e t old = holds-begun old t e switch outs handed unlisted as_set recording streams broken in
     let s : Holds (after (beginning old.core.switch.setup t e) given) e1 t1 new = goes (beginning old.core.switch.setup t e) s0 in
     (given, asked, served_done (after (beginning old.core.switch.setup t e) given) e1 t1 new.core new.streams ran s.serves none listed (over (beginning old.core.switch.setup t e) s0) even (often_of old e e1 (length given.orders) unpolled (part_of old new e e1 (length given.orders) polls)) (none_waits e e1 new.broken s.closes) (all_waits e e1 (bytes_of new.streams) new.broken [] (sym closed) s.closes_all) status epoch began has lawful)
 
 -- the run couldn't go on
-pub halt_served : (old new : Server) (e e1 : EdgeState) (t t1 : Told) (k k1 : Sources) (ran : Ran) → old.core.switch ≡ fresh old.core.switch.setup → old.core.outs ≡ nothing → old.core.handed ≡ 0 → old.core.unlisted ≡ 0 → old.core.turning.epoch_steps ≡ old.core.switch.setup.config.epoch_steps → old.streams ≡ [] → old.broken ≡ [] → old.unpolled ≡ 0 → HaltsOn old new e e1 t t1 k k1 → ((deeds : List Deed) → ComesAt e e1 deeds ran.status)
+pub halt_served : (old new : Server) (e e1 : EdgeState) (t t1 : Told) (k k1 : Sources) (ran : Ran) → old.core.switch ≡ fresh old.core.switch.setup → old.core.outs ≡ nothing → old.core.handed ≡ 0 → old.core.unlisted ≡ 0 → old.core.turning.epoch_steps ≡ old.core.switch.setup.config.epoch_steps → old.core.turning.recording ≡ is_some old.core.switch.setup.config.recording → old.streams ≡ [] → old.broken ≡ [] → old.unpolled ≡ 0 → HaltsOn old new e e1 t t1 k k1 → ((deeds : List Deed) → ComesAt e e1 deeds ran.status)
     → (ran.status ≡ statuses.Done → ⊥) → (new.core.switch.setup ≡ old.core.switch.setup → ran.status ≡ statuses.JournalFull → IsDue old.core.switch.setup (running new.core.switch) new.core.switch.journal)
     → ran.epoch ≡ new.core.switch.epoch → ran.began ≡ new.core.switch.began → HasItems ran.journal new.core.switch.journal → IsLawful as_session new.core.switch.setup new.core.switch.epoch new.core.switch.began (whole new.core.switch)
     → IsServedOn old.core.switch.setup t e e1 t1 k k1 ran
 unfolding HaltsOn
-halt_served old new e e1 t t1 k k1 ran switch outs handed unlisted as_set streams broken unpolled (given, (even, polls), asked, halts) comes undone due epoch began has lawful =
-    let halted : HaltedAfter (beginning old.core.switch.setup t e) given e1 t1 new.core.switch = halts (beginning old.core.switch.setup t e) (holds-begun old t e switch outs handed unlisted as_set streams broken) in
+halt_served old new e e1 t t1 k k1 ran switch outs handed unlisted as_set recording streams broken unpolled (given, (even, polls), asked, halts) comes undone due epoch began has lawful =
+    let halted : HaltedAfter (beginning old.core.switch.setup t e) given e1 t1 new.core.switch = halts (beginning old.core.switch.setup t e) (holds-begun old t e switch outs handed unlisted as_set recording streams broken) in
     let (obeyed, almost, ended) = halted.ended in
     (given, asked, served_cut (after (beginning old.core.switch.setup t e) given) obeyed e1 t1 new.core.switch ran almost ended epoch began has lawful comes undone due even (often_of old e e1 (length given.orders) unpolled polls) halted.closes)
 
@@ -306,6 +320,6 @@ pub ran_served : {A : Type 0} (r : Result A Stop) (old new : Server) (e e1 : Edg
     → ran.epoch ≡ new.core.switch.epoch → ran.began ≡ new.core.switch.began → HasItems ran.journal new.core.switch.journal → IsLawful as_session new.core.switch.setup new.core.switch.epoch new.core.switch.began (whole new.core.switch)
     → IsServedOn old.core.switch.setup t e e1 t1 k k1 ran
 ran_served (Ok x) old new e e1 t t1 k k1 status ran is_new finishes halts blames right due done stop status_is epoch began has lawful =
-    done_served old new e e1 t t1 k k1 ran is_new.switch is_new.outs is_new.handed is_new.unlisted is_new.as_set is_new.streams is_new.broken is_new.unpolled finishes (status_is ∙ done) epoch began has lawful
+    done_served old new e e1 t t1 k k1 ran is_new.switch is_new.outs is_new.handed is_new.unlisted is_new.as_set is_new.recording is_new.streams is_new.broken is_new.unpolled finishes (status_is ∙ done) epoch began has lawful
 ran_served (Err cause) old new e e1 t t1 k k1 status ran is_new finishes halts blames right due done stop status_is epoch began has lawful =
-    halt_served old new e e1 t t1 k k1 ran is_new.switch is_new.outs is_new.handed is_new.unlisted is_new.as_set is_new.streams is_new.broken is_new.unpolled halts (stop_comes e e1 ran.status cause (status_is ∙ stop) blames) (stop-done ran.status cause (status_is ∙ stop)) (stop-due old.core.switch.setup new.core.switch ran.status cause (status_is ∙ stop) right due) epoch began has lawful
+    halt_served old new e e1 t t1 k k1 ran is_new.switch is_new.outs is_new.handed is_new.unlisted is_new.as_set is_new.recording is_new.streams is_new.broken is_new.unpolled halts (stop_comes e e1 ran.status cause (status_is ∙ stop) blames) (stop-done ran.status cause (status_is ∙ stop)) (stop-due old.core.switch.setup new.core.switch ran.status cause (status_is ∙ stop) right due) epoch began has lawful

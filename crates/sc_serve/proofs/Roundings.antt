@@ -21,6 +21,7 @@ use Rattle.sc_rounds.specs.declared.stepping.Core.{Core}
 use Rattle.sc_streams.specs.declared.streams.Pending.{Pending}
 use Rattle.sc_rounds.specs.Moving.{Breaks, BreaksBoth, EndedAfter, Moves, MovesBoth}
 use Rattle.sc_rounds.proofs.Movings.{ended_more}
+use Rattle.sc_rounds.proofs.Seconds.{seconds_end}
 use Rattle.sc_rounds.specs.Polling.{GivesOn, Polls, TellsOn}
 use Rattle.sc_rounds.specs.GivingUp.{GaveUp}
 use Rattle.sc_runs.specs.Following.{Streams}
@@ -85,7 +86,7 @@ halts_then a b c e e1 e2 t t1 t2 first later from s = later from (first from s)
 ended-of : (from : Beginning) (edge : EdgeState) (told : Told) (core : Core) (streams : List Pending) → Serves from edge told core streams → Ended from edge told core.switch
 ended-of from edge told core streams s = record {
   deeds = s.deeds;
-  ends = record { runs = s.stands.runs; cut = cut_of from.edge edge s.deeds core.outs [] s.stands.puts; ticked = ticked_part from.moments s.deeds (net_of core.switch).moment s.stands.ticked; counts = s.stands.reports.counts };
+  ends = record { runs = s.stands.runs; cut = cut_of from.edge edge s.deeds core.outs [] s.stands.puts; ticked = ticked_part from.moments s.deeds (net_of core.switch).moment s.stands.ticked; counts = s.stands.reports.counts; seconds = seconds_end from told core s.stands.seconds };
   hearing = hearing_part from.edge.polled edge.polled s.deeds (bytes_of streams) s.hearing;
 }
 
@@ -137,7 +138,7 @@ fault_blames old new answer is blames = rw is at blames
 serves-rests : (from : Beginning) (old new : EdgeState) (told : Told) (core : Core) (streams : List Pending) → Rests old new → Serves from old told core streams → Serves from new told core streams
 serves-rests from old new told core streams rests s = record {
   deeds = s.deeds;
-  stands = record { runs = s.stands.runs; left_is = s.stands.left_is; puts = puts_stand from.edge old new s.deeds core.outs [] rests.took s.stands.puts; ticked = s.stands.ticked; reports = s.stands.reports; as_set = s.stands.as_set };
+  stands = record { runs = s.stands.runs; left_is = s.stands.left_is; puts = puts_stand from.edge old new s.deeds core.outs [] rests.took s.stands.puts; ticked = s.stands.ticked; reports = s.stands.reports; as_set = s.stands.as_set; seconds = s.stands.seconds };
   hearing = subst (λ polled. Hearing from.edge.polled polled s.deeds (bytes_of streams)) (sym rests.polled) s.hearing;
 }
 

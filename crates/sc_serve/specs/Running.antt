@@ -1,5 +1,6 @@
 -- A server between its rounds, and where they end.
 use Rattle.std.specs.Prelude.{◌≡◌, ◌≤◌, ◌+◌, ◌*◌, ◌⊎◌, ℕ, List, [], Option, None, Some, length}
+use Rattle.std.specs.Option.{is_some}
 use Rattle.sc_journal.specs.Kept.{Kept}
 use Rattle.sc_terms.specs.declared.steps.Step.{Step}
 use Rattle.sc_parts.specs.declared.setup.Setup.{Setup}
@@ -163,6 +164,8 @@ fresh setup =
 pub record IsNew (server : Server) : Type 0 where
   pub switch : server.core.switch ≡ fresh server.core.switch.setup
   pub as_set : server.core.turning.epoch_steps ≡ server.core.switch.setup.config.epoch_steps
+  pub recording : server.core.turning.recording
+      ≡ is_some server.core.switch.setup.config.recording
   pub outs : server.core.outs ≡ nothing
   pub handed : server.core.handed ≡ 0
   pub unlisted : server.core.unlisted ≡ 0

@@ -1,6 +1,7 @@
 -- What `serve` promises: when each status comes, and what was heard, taken, put and told until
 -- then.
-use Rattle.std.specs.Prelude.{◌≡◌, List, [], ◌∷◌, ◌++◌, Option, None, Some, codes, if◌then◌else◌, length}
+use Rattle.std.specs.Prelude.{◌≡◌, List, [], ◌∷◌, ◌++◌, Option, None, Some, true, codes, if◌then◌else◌, length}
+use Rattle.std.specs.Option.{is_some}
 use Rattle.sc_tokens.specs.Names.{same_bytes}
 use Rattle.sc_terms.specs.declared.steps.Step.{Step}
 use Rattle.sc_parts.specs.declared.setup.Setup.{Setup}
@@ -24,7 +25,8 @@ use Rattle.sc_courses.specs.Ordering.{Obeys, ObeysPart, beginning_point}
 use Rattle.sc_courses.specs.Due.{IsDue}
 use Rattle.sc_courses.specs.Endings.{AreInTime, HasToEnd}
 use Rattle.sc_courses.specs.Marks.{Hearing, HearingPart}
-use Rattle.sc_courses.specs.Reports.{TellsLast, TellsLengths}
+use Rattle.sc_courses.specs.Reports.{TellsLast, TellsLengths, TellsSuch}
+use Rattle.sc_courses.specs.Seconds.{HandsInTime}
 use Rattle.sc_serve.specs.Closing.{Closes, ClosesAll, ClosesEach}
 use Rattle.sc_serve.specs.Polls.{PollsOften}
 
@@ -76,8 +78,9 @@ last_epoch ran handed journal =
 -- of what each step sends parts were taken, place by place; each moment of the clock that was later
 -- than all before is a Tick step, and each order for a session that lived then is its withdrawal,
 -- at `Done` the last ones too, and no other is; at `Done` the last listing that was told is of the
--- last step; each length of each epoch's journal was told once, in order; at `JournalFull` a step
--- is due that the journal has no room for; and each epoch ended where it had to and no later, at
+-- last step; each length of each epoch's journal was told once, in order; where steps are recorded,
+-- each part that was handed on was taken within a second, and so was what is left (`seconds`); at
+-- `JournalFull` a step is due that the journal has no room for; and each epoch ended where it had to and no later, at
 -- `Done` the last one hasn't to; the clock and the orders were asked equally often, but in the last
 -- round maybe the orders alone, at `Done` not so; and the edge was polled at most once more than
 -- orders were asked for, and they at most 16 times for each poll and 15 times besides; and, where
@@ -107,6 +110,8 @@ pub record Leaves (from : Beginning) (now : EdgeState) (told : Told) (ran : Ran)
   pub listed : ran.status ≡ statuses.Done
       → TellsLast from.setup from.told told (ended ++ last_epoch ran handed journal ∷ [])
   pub lengths : TellsLengths from.told told ended (length (handed ++ journal.items))
+  pub seconds : is_some from.setup.config.recording ≡ true
+      → TellsSuch from.told told (HandsInTime journal.items)
   pub due : ran.status ≡ statuses.JournalFull
       → IsDue from.setup (last_epoch ran handed journal) journal.items
   pub in_time : AreInTime from.setup

@@ -12,7 +12,7 @@ use crate::stop::{Stop, stop_of};
 use sc_edge::{Clock, Edge, Got, Notice, Orders};
 use sc_journal::Journal;
 use sc_lending::{Seat, work_once};
-use sc_rounds::{Went, hand_old, list, put_place, take_got, take_moment, take_order};
+use sc_rounds::{Went, list, put_place, take_got, take_moment, take_order};
 use sc_servlets::Catalogue;
 use sc_terms::Step;
 use sc_value::NoMemory;
@@ -283,8 +283,7 @@ fn put_at<E: Edge, N: Notice<Journal<Step>>>(
     }
 }
 
-/// Hands on the steps that are recorded, and tells the notice what lives, each where it is due.
-/// `busy` is whether anything came, was lent, was taken or was put.
+/// Tells the notice what lives, where that is due. `busy` is whether anything came, was lent, was taken or was put.
 fn tell_once<N: Notice<Journal<Step>>>(
     server: &mut Server,
     notice: &mut N,
@@ -300,7 +299,6 @@ fn tell_once<N: Notice<Journal<Step>>>(
     ensures blames { IfErr result (λ cause. (edge : EdgeState) → Blames edge edge cause) }
     ensures unpolled { server.new.unpolled ≡ server.old.unpolled }
 {
-    hand_old(&mut server.core, notice);
     let is_put_off = server.puts_off_listing(busy);
     if !server.core.is_list_due(is_put_off) {
         return Ok(());

@@ -3,10 +3,10 @@ use Rattle.sc_rounds.proofs.Steppings.{none_taken, took_err, took_ok}
 use Rattle.sc_rounds.proofs.stepping.Core.arrive.Goals as goal
 
 pub returns-in-Ok-clause-ok : goal.returns-in-Ok-clause-ok
-returns-in-Ok-clause-ok g c = took_ok _ _ _ _ _ _ _ _ _ c.make_room.ensures.same c.in-Ok.ensures.ok tt (λ waits. c.make_room.ensures.over) c.settle.ensures.ok
+returns-in-Ok-clause-ok g c = took_ok _ _ _ _ _ _ _ _ _ c.make_room.ensures.same c.in-Ok.ensures.ok tt (λ recording. tt) (λ waits. c.make_room.ensures.over) c.settle.ensures.ok
 
 pub returns-in-Ok-clause-err : goal.returns-in-Ok-clause-err
-returns-in-Ok-clause-err g c = took_err _ _ _ _ _ _ _ _ _ c.make_room.ensures.same c.in-Ok.ensures.ok tt (λ waits. c.make_room.ensures.over) c.settle.ensures.err
+returns-in-Ok-clause-err g c = took_err _ _ _ _ _ _ _ _ _ c.make_room.ensures.same c.in-Ok.ensures.ok tt (λ recording. tt) (λ waits. c.make_room.ensures.over) c.settle.ensures.err
 
 pub returns-in-Err-clause-err : goal.returns-in-Err-clause-err
 returns-in-Err-clause-err g c = none_taken _ _ _ _ _ _ _ c.make_room.ensures.same c.in-Err.ensures.err

@@ -11,6 +11,7 @@ invariant-loop-sent l =
     × (l.self.handed ≡ l.fn.self.handed)
     × (l.self.unlisted ≡ l.fn.self.unlisted)
     × (l.self.turning ≡ l.fn.self.turning)
+    × (l.self.kept_since ≡ l.fn.self.kept_since)
 
 abbrev pub decreases-loop-sent : goal.decreases-loop-sent
 decreases-loop-sent l = length l.self.switch.left

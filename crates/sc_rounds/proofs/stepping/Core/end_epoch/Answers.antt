@@ -13,7 +13,7 @@ pub returns-in-Ok-clause-moment : goal.returns-in-Ok-clause-moment
 returns-in-Ok-clause-moment g c = turned_moment _ _ _ c.in-Ok.ensures.turned
 
 pub returns-in-Err-clause-same : goal.returns-in-Err-clause-same
-returns-in-Err-clause-same g c = moved_same _ _ _ c.in-Err.ensures.err refl refl refl refl
+returns-in-Err-clause-same g c = moved_same _ _ _ c.in-Err.ensures.err refl refl refl refl refl
 
 pub returns-then-not-is_epoch_due-clause-over : goal.returns-then-not-is_epoch_due-clause-over
 returns-then-not-is_epoch_due-clause-over g c = undue_over _ _ (c.is_epoch_due.ensures.lives c.if-not-is_epoch_due.true)

@@ -19,7 +19,7 @@ pub returns-in-Ok-false-clause-ok : goal.returns-in-Ok-false-clause-ok
 unfolding Withdraws
 returns-in-Ok-false-clause-ok g c =
     let gone = withdrew_false _ _ _ _ c.in-Ok-false.field-0-test c.in-Ok-false.ensures.ok in
-    gone_order _ _ _ _ _ _ c.hand_on.ensures.same c.hand_on.ensures.epoch gone.0 (moved_same _ _ _ gone.1 refl refl refl refl)
+    gone_order _ _ _ _ _ _ c.hand_on.ensures.same c.hand_on.ensures.epoch gone.0 (moved_same _ _ _ gone.1 refl refl refl refl refl)
 
 pub returns-in-Err-clause-err : goal.returns-in-Err-clause-err
 returns-in-Err-clause-err g c = none_withdrew _ _ _ _ _ _ c.hand_on.ensures.same c.in-Err.ensures.err
