@@ -30,7 +30,7 @@ use Rattle.sc_apps.specs.Scripted.{IsMade, IsTold, IsPlayed, ended}
 -- ## One call
 
 -- the play after a listed call
-played_on : (call : Call) (old : Working) → play_of (after_made call old) ≡ after_listed (play_of old) call
+pub played_on : (call : Call) (old : Working) → play_of (after_made call old) ≡ after_listed (play_of old) call
 unfolding play_of after_made after_calls record_of
 played_on call old = fold-append (λ play made. after_listed play made.call) (begun old.shown) old.calls (record_of (play_of old) call ∷ [])
 

@@ -1,51 +1,21 @@
 -- Calls of a turn that were accepted are those of a script of which none is refused.
-use Rattle.std.proofs.Common.{◌≡◌, false, None, [], ◌∷◌, refl, sym, ap, subst, ◌∙◌}
-use Rattle.std.proofs.lemmas.List.Sums.{fold-append}
+use Rattle.std.proofs.Common.{◌≡◌, None, refl, sym, ap, subst, ◌∙◌}
 use Rattle.sc_terms.specs.declared.calls.Call.{Call}
-use Rattle.sc_terms.specs.declared.calls.Call.TheVariants as calls
 use Rattle.sc_terms.specs.declared.calls.CallAnswer.{CallAnswer}
 use Rattle.sc_state.specs.declared.working.Play.{Play}
-use Rattle.sc_hosts.specs.Effects.{accepted, after_calls, after_listed, answer_by, answer_of, begun}
+use Rattle.sc_hosts.specs.Effects.{accepted, after_listed, answer_by, answer_of}
 use Rattle.sc_hosts.specs.Refusals.{refusal}
 use Rattle.sc_hosts.specs.Scripting.{Script, Done, Make, is_refused}
-use Rattle.sc_turn.specs.Working.{Working, play_of, record_of, after_made, IsAccepted as IsTaken}
+use Rattle.sc_turn.specs.Working.{Working, play_of, after_made, IsAccepted as IsTaken}
 use Rattle.sc_promised.specs.Refreshing.{IsAccepted}
 use Rattle.sc_promised.specs.Reliable.{play_after}
+use Rattle.sc_promised.proofs.Attributes.{accepted-stands}
+use Rattle.sc_apps.proofs.Playing.{played_on}
 use Rattle.sc_helpers.specs.Stopping.{GoesThrough}
 
--- the play after a listed call
-play_on : (call : Call) (old : Working) → play_of (after_made call old) ≡ after_listed (play_of old) call
-unfolding play_of after_made after_calls record_of
-play_on call old = fold-append (λ play made. after_listed play made.call) (begun old.shown) old.calls (record_of (play_of old) call ∷ [])
-
-answer_is : (play : Play) (call : Call) → refusal play call ≡ None → answer_of play call ≡ accepted play call
+pub answer_is : (play : Play) (call : Call) → refusal play call ≡ None → answer_of play call ≡ accepted play call
 unfolding answer_of answer_by
 answer_is play call none = rw none refl
-
-accepted_stands : (play : Play) (call : Call) → is_refused (accepted play call) ≡ false
-unfolding accepted is_refused
-accepted_stands play (calls.ProxyTo req uris how) = refl
-accepted_stands play (calls.Respond req answer) = refl
-accepted_stands play (calls.CreateRequest ask) = refl
-accepted_stands play (calls.CreateInDialog sess ask) = refl
-accepted_stands play (calls.B2bCreate req uri) = refl
-accepted_stands play (calls.SetDirective draft directive origin) = refl
-accepted_stands play (calls.Send draft) = refl
-accepted_stands play (calls.Discard draft) = refl
-accepted_stands play (calls.Ack sess body) = refl
-accepted_stands play (calls.Cancel req) = refl
-accepted_stands play (calls.ProxyCancel req) = refl
-accepted_stands play (calls.B2bRespond sess answer) = refl
-accepted_stands play (calls.Link a b) = refl
-accepted_stands play (calls.Unlink a) = refl
-accepted_stands play (calls.StartTimer delay period info) = refl
-accepted_stands play (calls.CancelTimer id) = refl
-accepted_stands play (calls.SetAttribute name value) = refl
-accepted_stands play (calls.RemoveAttribute name) = refl
-accepted_stands play (calls.SetExpires minutes) = refl
-accepted_stands play (calls.SetReadyFlag target flag) = refl
-accepted_stands play (calls.InvalidateSession sess) = refl
-accepted_stands play calls.InvalidateApplication = refl
 
 taken_answer : (call : Call) (old new : Working) (answer : CallAnswer) → IsTaken call old answer new → answer_of (play_of old) call ≡ accepted (play_of old) call
 unfolding IsTaken
@@ -58,8 +28,8 @@ through_accepted (Make call next) old new (made, rest) =
     let has : answer_of (play_of old) call ≡ accepted (play_of old) call = taken_answer call old _ _ made in
     let more = through_accepted (next (accepted (play_of old) call)) (after_made call old) new rest in (
       (
-        ap is_refused has ∙ accepted_stands (play_of old) call,
-        subst (λ (p : Play). IsAccepted p (next (answer_of (play_of old) call))) (play_on call old) (subst (λ (a : CallAnswer). IsAccepted (play_of (after_made call old)) (next a)) (sym has) more.0),
+        ap is_refused has ∙ accepted-stands (play_of old) call,
+        subst (λ (p : Play). IsAccepted p (next (answer_of (play_of old) call))) (played_on call old) (subst (λ (a : CallAnswer). IsAccepted (play_of (after_made call old)) (next a)) (sym has) more.0),
       ),
-      more.1 ∙ ap (λ (p : Play). play_after p (next (accepted (play_of old) call))) (play_on call old) ∙ ap (λ (a : CallAnswer). play_after (after_listed (play_of old) call) (next a)) (sym has),
+      more.1 ∙ ap (λ (p : Play). play_after p (next (accepted (play_of old) call))) (played_on call old) ∙ ap (λ (a : CallAnswer). play_after (after_listed (play_of old) call) (next a)) (sym has),
     )

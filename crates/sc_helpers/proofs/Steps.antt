@@ -51,9 +51,6 @@ goes_done before old x = refl
 
 -- ## Calls that answer nothing
 
-abbrev fine : Unit {0} → CallAnswer
-fine x = answers.Fine
-
 led_accepted : (call : Call) (before : ℕ) (old mid : Working) → IsAccepted call old answers.Fine mid → Leads (accepted_then call) before old (Ok (before + 1)) mid
 unfolding Leads accepted_then is_refused
 led_accepted call before old mid is = λ script result last rest. went_on call _ before old mid last answers.Fine result is rest

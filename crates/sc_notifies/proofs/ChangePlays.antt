@@ -1,6 +1,5 @@
 -- A new state that is told behind the answer to the request that brought it.
-use Rattle.std.proofs.Common.{◌≡◌, ◌<◌, ℕ, ◌+◌, false, Option, None, Some, [], ◌∷◌, Result, Ok, Err, OnOk, inl, inr, refl, ap, subst, ◌∙◌, arith}
-use Rattle.std.proofs.lemmas.List.Sums.{fold-append}
+use Rattle.std.proofs.Common.{◌≡◌, ◌<◌, ℕ, ◌+◌, false, Option, None, Some, [], Result, Ok, Err, OnOk, inl, inr, refl, ap, subst, ◌∙◌, arith}
 use Rattle.sc_value.specs.declared.ids.ReqId.{ReqId}
 use Rattle.sc_value.specs.declared.ids.SessId.{SessId}
 use Rattle.sc_value.specs.declared.no_memory.NoMemory as no
@@ -13,16 +12,16 @@ use Rattle.sc_terms.specs.declared.views.RequestView.{RequestView}
 use Rattle.sc_terms.specs.declared.views.View.{View}
 use Rattle.sc_state.specs.declared.working.Play.{Play}
 use Rattle.sc_grammar.specs.Written.{Bytes}
-use Rattle.sc_hosts.specs.Effects.{after_call, after_calls, after_listed, begun, played_by}
+use Rattle.sc_hosts.specs.Effects.{after_call, after_listed, played_by}
 use Rattle.sc_hosts.specs.Looking.{request_in}
 use Rattle.sc_hosts.specs.RefusalParts.{MOST_CALLS}
 use Rattle.sc_hosts.specs.Refusals.{refusal}
 use Rattle.sc_hosts.specs.Scripting.{Script, attribute, reply, then_make, where_some}
 use Rattle.sc_hosts.specs.Subscriptions.{Subscription, changes, event_of, subscription_of}
 use Rattle.sc_hosts.specs.ViewChanges.{answered, answered_in, tidy}
-use Rattle.sc_turn.specs.Working.{Working, play_of, record_of, after_made}
+use Rattle.sc_turn.specs.Working.{Working, play_of, after_made}
 use Rattle.sc_apps.specs.Scripted.{IsMade, IsPlayed}
-use Rattle.sc_apps.proofs.Playing.{begun_view, played_done, played_then}
+use Rattle.sc_apps.proofs.Playing.{begun_view, played_done, played_then, played_on}
 use Rattle.sc_helpers.proofs.Shorts.{Short, through_played}
 use Rattle.sc_notifies.specs.Notifying.{IsCarriedOut, IsOfSubscription, IsRefusedAs, IsTold}
 use Rattle.sc_notifies.specs.declared.refused.NotifyRefused.{NotifyRefused}
@@ -59,11 +58,6 @@ change_told sess body answer old new refused out room fed carried told =
     told_from (play_of old).view sess body answer (subscription_of (play_of old).view sess) old new refused out room (carried fed) told
 
 -- ## Behind the answer
-
--- the play after a listed call
-play_on : (call : Call) (old : Working) → play_of (after_made call old) ≡ after_listed (play_of old) call
-unfolding play_of after_made after_calls record_of
-play_on call old = fold-append (λ play made. after_listed play made.call) (begun old.shown) old.calls (record_of (play_of old) call ∷ [])
 
 pub answered_fed : (call : Call) (given : CallAnswer) (old mid : Working) → old.starved ≡ false → IsMade call old given mid → mid.starved ≡ false
 unfolding IsMade after_made
@@ -104,7 +98,7 @@ mid_view : (req : ReqId) (code : ℕ) (reason : Bytes) (given : CallAnswer) (old
     → ((play_of mid).view.attributes ≡ old.shown.attributes) × ((play_of mid).view.now ≡ old.shown.now)
 unfolding IsMade
 mid_view req code reason given old mid none (after, is) =
-    let on : play_of mid ≡ after_listed (play_of old) (reply req code reason) = ap play_of after ∙ play_on (reply req code reason) old in
+    let on : play_of mid ≡ after_listed (play_of old) (reply req code reason) = ap play_of after ∙ played_on (reply req code reason) old in
     let left = answered_same (play_of old) req code reason in
     let first : (play_of old).view ≡ old.shown = begun_view old none in
     (ap (λ (p : Play). p.view.attributes) on ∙ left.0 ∙ ap (λ (v : View). v.attributes) first, ap (λ (p : Play). p.view.now) on ∙ left.1 ∙ ap (λ (v : View). v.now) first)

@@ -8,7 +8,7 @@ use Rattle.sc_value.specs.declared.ids.SessId.{SessId}
 use Rattle.sc_value.specs.declared.ids.TimerId.{TimerId}
 use Rattle.sc_value.specs.declared.message.Request.{Request}
 use Rattle.sc_value.specs.declared.parts.Field.{Field}
-use Rattle.sc_tokens.specs.Cuts.{pieces, onto_first, has}
+use Rattle.sc_tokens.specs.Cuts.{pieces, has}
 use Rattle.sc_tokens.specs.Names.{same_bytes}
 use Rattle.sc_terms.specs.declared.calls.Answer.{Answer}
 use Rattle.sc_terms.specs.declared.calls.Call.TheVariants as calls
@@ -18,7 +18,6 @@ use Rattle.sc_terms.specs.declared.views.RequestView.{RequestView}
 use Rattle.sc_terms.specs.declared.views.View.{View}
 use Rattle.sc_state.specs.declared.working.Play.{Play}
 use Rattle.sc_grammar.specs.Written.{Bytes}
-use Rattle.sc_syntax.proofs.DecimalLaws.{decimal_is_read}
 use Rattle.sc_hosts.specs.Effects.{accepted, after_call, after_listed, played_by}
 use Rattle.sc_hosts.specs.HelperParts.{accepted_then, answer_with, send_in, strict_number}
 use Rattle.sc_hosts.specs.Looking.{request_in}
@@ -29,9 +28,9 @@ use Rattle.sc_hosts.specs.ViewChanges.{answered, answered_in, tidy}
 use Rattle.sc_helpers.specs.Leading.{cancel_some}
 use Rattle.sc_promised.specs.Reliable.{play_after}
 use Rattle.sc_promised.specs.Refreshing.{IsAccepted}
-use Rattle.sc_promised.proofs.Attributes.{same-self, set-attribute}
+use Rattle.sc_promised.proofs.Attributes.{set-attribute}
 use Rattle.sc_promised.proofs.Endings.{strict-fits}
-use Rattle.sc_promised.proofs.Texts.{decimal-lacks}
+use Rattle.sc_promised.proofs.Texts.{decimal-lacks, word-piece, last-piece, strict-decimal}
 use Rattle.sc_notifies.specs.Notifying.{IsAtMost, accepted_by, activates, asked_of, ends, fired_of, is_active, read_by, read_of, seconds_in}
 use Rattle.sc_notifies.specs.States.{Accepts, Absent, Act, Activates, Active, Changes, Ends, Fails, Fires, Happened, IsOf, IsOnce, IsSound, IsTrace, Pending, State, activated, activates_by, last_state, next_state, over, renewed, script_of, settles, state_at, state_by, state_of, subscribed, table_state, unsubscribes, view_after}
 use Rattle.sc_notifies.specs.SubScripts.{begun_noted, begun_timed, begun_told, cleared, standing_of, subscribed_by, unnamed}
@@ -54,26 +53,12 @@ either_second : (a b : Bool) → (a || b) ≡ false → b ≡ false
 either_second true b is = cc
 either_second false b is = is
 
-word_piece : (word rest : Bytes) → has 32 word ≡ false → pieces 32 (word ++ 32 ∷ rest) ≡ word ∷ pieces 32 rest
-unfolding pieces has onto_first
-word_piece [] rest lacks = refl
-word_piece (b ∷ bs) rest lacks = rw (either_first (b == 32) (list_any (λ b. b == 32) bs) lacks, word_piece bs rest (either_second (b == 32) (list_any (λ b. b == 32) bs) lacks)) refl
-
-last_piece : (word : Bytes) → has 32 word ≡ false → pieces 32 word ≡ word ∷ []
-unfolding pieces has onto_first
-last_piece [] lacks = refl
-last_piece (b ∷ bs) lacks = rw (either_first (b == 32) (list_any (λ b. b == 32) bs) lacks, last_piece bs (either_second (b == 32) (list_any (λ b. b == 32) bs) lacks)) refl
-
-strict_decimal : (n : ℕ) → n < 2 ^ 64 → strict_number (decimal n) ≡ Some n
-unfolding strict_number
-strict_decimal n within = rw (decimal_is_read n (2 ^ 64) (omega arith) within, same-self (decimal n)) refl
-
 words_pieces : (letter due t : ℕ) → has 32 (letter ∷ []) ≡ false → due < 2 ^ 64 → t < 2 ^ 64
     → pieces 32 (letter ∷ 32 ∷ (decimal due ++ codes " " ++ decimal t)) ≡ (letter ∷ []) ∷ decimal due ∷ decimal t ∷ []
 words_pieces letter due t plain d_in t_in =
-    word_piece (letter ∷ []) (decimal due ++ codes " " ++ decimal t) plain
-    ∙ ap (λ ps. (letter ∷ []) ∷ ps) (ap (pieces 32) (append_assoc (decimal due) (codes " ") (decimal t)) ∙ word_piece (decimal due) (decimal t) (decimal-lacks due d_in)
-    ∙ ap (λ ps. decimal due ∷ ps) (last_piece (decimal t) (decimal-lacks t t_in)))
+    word-piece (letter ∷ []) (decimal due ++ codes " " ++ decimal t) plain
+    ∙ ap (λ ps. (letter ∷ []) ∷ ps) (ap (pieces 32) (append_assoc (decimal due) (codes " ") (decimal t)) ∙ word-piece (decimal due) (decimal t) (decimal-lacks due d_in)
+    ∙ ap (λ ps. decimal due ∷ ps) (last-piece (decimal t) (decimal-lacks t t_in)))
 
 a_plain : has 32 (65 ∷ []) ≡ false
 unfolding has
@@ -86,8 +71,8 @@ p_plain = refl
 words_read : (active : Bool) (due t : ℕ) → due < 2 ^ 64 → t < 2 ^ 64
     → subscription_in (pieces 32 (sub_text active due t)) ≡ Some (record { active = active; due = due; timer = t })
 unfolding subscription_in letter_of sub_text letter_word
-words_read true due t d_in t_in = ap subscription_in (words_pieces 65 due t a_plain d_in t_in) ∙ rw (strict_decimal due d_in, strict_decimal t t_in) refl
-words_read false due t d_in t_in = ap subscription_in (words_pieces 80 due t p_plain d_in t_in) ∙ rw (strict_decimal due d_in, strict_decimal t t_in) refl
+words_read true due t d_in t_in = ap subscription_in (words_pieces 65 due t a_plain d_in t_in) ∙ rw (strict-decimal due d_in, strict-decimal t t_in) refl
+words_read false due t d_in t_in = ap subscription_in (words_pieces 80 due t p_plain d_in t_in) ∙ rw (strict-decimal due d_in, strict-decimal t t_in) refl
 
 -- ## The state by the attribute
 
