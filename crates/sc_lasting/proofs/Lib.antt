@@ -1,5 +1,6 @@
 pub mod Shared
 pub mod Parts
+pub mod LaterRequests
 pub mod Numbers
 pub mod Held
 pub mod Direct

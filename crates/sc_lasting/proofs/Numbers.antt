@@ -10,18 +10,16 @@ use Rattle.sc_terms.specs.declared.calls.ProxyOptions.{ProxyOptions}
 use Rattle.sc_terms.specs.declared.settings.Config.{Config}
 use Rattle.sc_terms.specs.declared.views.RequestView.{RequestView}
 use Rattle.sc_terms.specs.declared.views.View.{View}
-use Rattle.sc_terms.specs.declared.views.SessionView.{SessionView}
 use Rattle.sc_state.specs.declared.queue.Queued.{Queued}
 use Rattle.sc_state.specs.declared.session.Kept.{Kept}
 use Rattle.sc_state.specs.declared.session.Known.{Known}
 use Rattle.sc_state.specs.declared.session.Session.{Session}
 use Rattle.sc_state.specs.declared.working.Play.{Play}
-use Rattle.sc_state.specs.declared.working.Prepared.{Prepared}
 use Rattle.sc_hosts.specs.Effects.{created_leg, proxied, proxied_request, sent_view, with_draft}
 use Rattle.sc_hosts.specs.Histories.{History, session_of}
-use Rattle.sc_hosts.specs.Legs.{new_leg, fresh, first_view, first_known, is_low, leg_of}
-use Rattle.sc_hosts.specs.Looking.{is_request, unlinked, removed, session_in}
-use Rattle.sc_hosts.specs.PreparingRequests.{request_view, next_id, prepared_request, showing, silent, taken, taken_in, too_low}
+use Rattle.sc_hosts.specs.Legs.{new_leg, fresh, first_view, first_known}
+use Rattle.sc_hosts.specs.Looking.{is_request, unlinked, removed}
+use Rattle.sc_hosts.specs.PreparingRequests.{request_view}
 use Rattle.sc_hosts.specs.ViewChanges.{linked, new_session, with_own_session}
 use Rattle.sc_hosts.specs.Working.{proxies, proxies_first}
 use Rattle.sc_walked.specs.SessionWalks.{Each, IsSameRequest, IsShownAgain, SessionLaws, with_legs}
@@ -157,31 +155,3 @@ numbers-law event = record {
 pub numbers-hold : (config : Config) (history : History) → Numbered (session_of config history)
 unfolding fresh first_view first_known All
 numbers-hold config history = life-keeps Numbered config history numbers-law (tt, tt)
-
--- ## The number of the request that came
-
-some-next : (a b : ReqId) → Some a ≡ Some b → b.0 ≡ a.0
-some-next a b is = cc
-
-if-next : (b : Bool) (x y : Prepared) (r : ReqId) (number : ℕ) → (x.req ≡ Some r → r.0 ≡ number) → (y.req ≡ Some r → r.0 ≡ number) → (cond b x y).req ≡ Some r → r.0 ≡ number
-if-next true x y r number p q is = p is
-if-next false x y r number p q is = q is
-
-low-next : (x : Session) (number : ℕ) (sess : SessId) (request : Request) (r : ReqId) → (too_low x number sess request).req ≡ Some r → r.0 ≡ x.view.next_request
-unfolding too_low silent
-low-next x number sess request r is = cc
-
-taken-next : (x : Session) (number : ℕ) (found : SessionView) (request : Request) (r : ReqId) → (taken x number found request).req ≡ Some r → r.0 ≡ x.view.next_request
-unfolding taken showing
-taken-next x number found request r is = some-next (next_id x) r is
-
-in-next : (x : Session) (number : ℕ) (sess : SessId) (found : Option SessionView) (request : Request) (r : ReqId) → (taken_in x number sess found request).req ≡ Some r → r.0 ≡ x.view.next_request
-unfolding taken_in silent
-in-next x number sess None request r is = cc
-in-next x number sess (Some found) request r is =
-    if-next (is_low (leg_of x.known sess) request) (too_low x number sess request) (taken x number found request) r x.view.next_request (low-next x number sess request r) (taken-next x number found request r) is
-
-pub request-next : (x : Session) (number : ℕ) (request : Request) (sess : Option SessId) (r : ReqId) → (prepared_request x number request sess).req ≡ Some r → r.0 ≡ x.view.next_request
-unfolding prepared_request silent
-request-next x number request None r is = cc
-request-next x number request (Some sess) r is = in-next x number sess (session_in x.view sess) request r is

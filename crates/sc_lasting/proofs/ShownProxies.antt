@@ -15,11 +15,12 @@ use Rattle.sc_state.specs.declared.session.Session.{Session}
 use Rattle.sc_state.specs.declared.working.Prepared.{Prepared}
 use Rattle.sc_model.specs.Transactions.{is_failure}
 use Rattle.sc_hosts.specs.DerivedSessions.{Derives, Handling, In, Takes, handled_in, handling, overtaken, without_derived}
-use Rattle.sc_hosts.specs.Legs.{change_leg, is_low, leg_of}
-use Rattle.sc_hosts.specs.Looking.{is_proxy, session_in}
+use Rattle.sc_hosts.specs.Legs.{change_leg}
+use Rattle.sc_hosts.specs.Looking.{session_in}
 use Rattle.sc_hosts.specs.Preparing.{has_expired, prepared_expiry, prepared_timer, terminated}
-use Rattle.sc_hosts.specs.PreparingRequests.{prepared_request, received, showing, showing_in, silent, taken, taken_in, too_low}
+use Rattle.sc_hosts.specs.PreparingRequests.{prepared_request, received, showing, showing_in, silent}
 use Rattle.sc_hosts.specs.PreparingResponses.{accepts_invite, branch_placed, is_first_success, noted_final, placed, prepared_own, responded, responded_again, responded_in, settled_legs, shown_again}
+use Rattle.sc_lasting.proofs.LaterRequests.{later-session}
 use Rattle.sc_lasting.proofs.Parts.{received-holds}
 
 -- both branches have it
@@ -39,24 +40,9 @@ placed-of at = at.1.known.proxies
 pub received-same : (x : Session) (number : ℕ) (sess : SessId) (initial passed : Bool) (request : Request) → (received x number sess initial passed request).known.proxies ≡ x.known.proxies
 received-same x number sess initial passed request = received-holds (λ v k. k.proxies ≡ x.known.proxies) x number sess initial passed request (λ invited. refl)
 
-too_low-same : (x : Session) (number : ℕ) (sess : SessId) (request : Request) → (too_low x number sess request).known.proxies ≡ x.known.proxies
-unfolding too_low silent
-too_low-same x number sess request = received-same x number sess false false request
-
-taken-same : (x : Session) (number : ℕ) (found : SessionView) (request : Request) → (taken x number found request).known.proxies ≡ x.known.proxies
-unfolding taken showing change_leg
-taken-same x number found request = received-same x number found.id false (is_proxy found.role) request
-
-taken_in-same : (x : Session) (number : ℕ) (sess : SessId) (found : Option SessionView) (request : Request) → (taken_in x number sess found request).known.proxies ≡ x.known.proxies
-unfolding taken_in silent
-taken_in-same x number sess None request = refl
-taken_in-same x number sess (Some found) request =
-    if-same known-of (is_low (leg_of x.known sess) request) (too_low x number sess request) (taken x number found request) x.known.proxies (too_low-same x number sess request) (taken-same x number found request)
-
 pub request-same : (x : Session) (number : ℕ) (request : Request) (sess : Option SessId) → (prepared_request x number request sess).known.proxies ≡ x.known.proxies
-unfolding prepared_request silent
-request-same x number request None = refl
-request-same x number request (Some sess) = taken_in-same x number sess (session_in x.view sess) request
+request-same x number request = later-session (λ view known. known.proxies ≡ x.known.proxies) x number request refl (λ sess passed. received-same x number sess false passed request)
+    (λ came view known same. same) (λ view known legs same. same)
 
 -- ## Responses
 

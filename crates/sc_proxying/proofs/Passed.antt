@@ -26,8 +26,8 @@ use Rattle.sc_hosts.specs.Working.{next_branch}
 use Rattle.sc_walked.proofs.WalkCalls.{answering-known}
 use Rattle.sc_lasting.specs.Lasting.{All}
 use Rattle.sc_lasting.proofs.Began.{same-number, test-found}
+use Rattle.sc_lasting.proofs.LaterRequests.{request-next}
 use Rattle.sc_lasting.proofs.Parts.{all-found}
-use Rattle.sc_lasting.proofs.Numbers.{request-next}
 use Rattle.sc_proxying.proofs.Requests.{IsKeptAs}
 
 -- nothing more is proxied, or this request of this number, on the next branch

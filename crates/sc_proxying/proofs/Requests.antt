@@ -1,11 +1,10 @@
 -- What is kept under the number of a later request is that request, as long as its turn lasts.
-use Rattle.std.proofs.Common.{◌≡◌, ◌<◌, ℕ, ◌+◌, ◌++◌, Bool, true, false, Option, None, Some, List, [], ◌∷◌, refl, sym, subst, ◌∙◌, arith}
-use Rattle.std.specs.Prelude.{cond, length}
+use Rattle.std.proofs.Common.{◌≡◌, ◌<◌, ℕ, ◌+◌, ◌++◌, Bool, false, Option, None, Some, List, [], ◌∷◌, refl, sym, subst, ◌∙◌, arith}
+use Rattle.std.specs.Prelude.{length}
 use Rattle.sc_value.specs.declared.ids.SessId.{SessId}
 use Rattle.sc_value.specs.declared.message.Request.{Request}
 use Rattle.sc_terms.specs.declared.settings.Config.{Config}
 use Rattle.sc_terms.specs.declared.views.RequestView.{RequestView}
-use Rattle.sc_terms.specs.declared.views.SessionView.{SessionView}
 use Rattle.sc_terms.specs.declared.views.View.{View}
 use Rattle.sc_state.specs.declared.queue.Queued.{Queued}
 use Rattle.sc_state.specs.declared.queue.Queued.TheVariants as queued
@@ -15,14 +14,15 @@ use Rattle.sc_state.specs.declared.session.Session.{Session}
 use Rattle.sc_state.specs.declared.working.Play.{Play}
 use Rattle.sc_state.specs.declared.working.Prepared.{Prepared}
 use Rattle.sc_hosts.specs.Effects.{created_leg, proxied, with_draft}
-use Rattle.sc_hosts.specs.Legs.{change_leg, is_low, leg_of, new_leg, session_for}
-use Rattle.sc_hosts.specs.Looking.{removed, session_in, unlinked}
+use Rattle.sc_hosts.specs.Legs.{new_leg, session_for}
+use Rattle.sc_hosts.specs.Looking.{removed, unlinked}
 use Rattle.sc_hosts.specs.Preparing.{prepared_for}
-use Rattle.sc_hosts.specs.PreparingRequests.{prepared_request, received, showing, silent, taken, taken_in, too_low}
+use Rattle.sc_hosts.specs.PreparingRequests.{prepared_request, received}
 use Rattle.sc_hosts.specs.ViewChanges.{answered, answered_in, linked, new_session, tidy, with_own_session}
 use Rattle.sc_hosts.specs.Working.{proxies}
 use Rattle.sc_walked.specs.SessionWalks.{SessionLaws, sent_kept, with_legs}
 use Rattle.sc_lasting.specs.Lasting.{All}
+use Rattle.sc_lasting.proofs.LaterRequests.{later-session}
 use Rattle.sc_lasting.proofs.Numbers.{proxies-kept}
 use Rattle.sc_lasting.proofs.Parts.{all-append, all-filter, all-map, received-holds, removed-only, unlinked-only}
 use Rattle.sc_proxying.proofs.Rising.{IsNumbered}
@@ -148,29 +148,9 @@ answered-keeps number request (Some came) code view known keeps = keeps
 abbrev pub ShowsKept : Session → Request → Prepared → Type 0
 ShowsKept x request shown = Keeps x.view.next_request request shown.view shown.known
 
-if-kept : (x : Session) (request : Request) (b : Bool) (y z : Prepared) → ShowsKept x request y → ShowsKept x request z → ShowsKept x request (cond b y z)
-if-kept x request true y z p q = p
-if-kept x request false y z p q = q
-
-low-keeps : (x : Session) (number : ℕ) (sess : SessId) (request : Request) → IsNumbered x → ShowsKept x request (too_low x number sess request)
-unfolding too_low silent
-low-keeps x number sess request ok =
-    answered-keeps x.view.next_request request _ 500 (received x number sess false false request).view (received x number sess false false request).known (received-keeps x number sess false false request ok)
-
-taken-keeps : (x : Session) (number : ℕ) (found : SessionView) (request : Request) → IsNumbered x → ShowsKept x request (taken x number found request)
-unfolding taken showing change_leg
-taken-keeps x number found request ok = received-keeps x number found.id false _ request ok
-
-taken_in-keeps : (x : Session) (number : ℕ) (sess : SessId) (found : Option SessionView) (request : Request) → IsNumbered x → ShowsKept x request (taken_in x number sess found request)
-unfolding taken_in silent
-taken_in-keeps x number sess None request ok = (own-drawn x.view.next_request, olds-other x request ok)
-taken_in-keeps x number sess (Some found) request ok =
-    if-kept x request (is_low (leg_of x.known sess) request) (too_low x number sess request) (taken x number found request) (low-keeps x number sess request ok) (taken-keeps x number found request ok)
-
 request-keeps : (x : Session) (number : ℕ) (request : Request) (sess : Option SessId) → IsNumbered x → ShowsKept x request (prepared_request x number request sess)
-unfolding prepared_request silent
-request-keeps x number request None ok = (own-drawn x.view.next_request, olds-other x request ok)
-request-keeps x number request (Some sess) ok = taken_in-keeps x number sess (session_in x.view sess) request ok
+request-keeps x number request sess ok = later-session (Keeps x.view.next_request request) x number request (own-drawn x.view.next_request, olds-other x request ok)
+    (λ s passed. received-keeps x number s false passed request ok) (λ came. answered-keeps x.view.next_request request came 500) (λ view known legs keeps. keeps) sess
 
 pub shown-keeps-it : (config : Config) (ringing : List ℕ) (x : Session) (number : ℕ) (request : Request) → IsNumbered x
     → ShowsKept x request (prepared_for config ringing x number (queued.Request request))

@@ -9,7 +9,6 @@ use Rattle.sc_value.specs.declared.message.Response.{Response}
 use Rattle.sc_terms.specs.declared.events.Event.TheVariants as events
 use Rattle.sc_terms.specs.declared.settings.Config.{Config}
 use Rattle.sc_terms.specs.declared.views.RequestView.{RequestView}
-use Rattle.sc_terms.specs.declared.views.SessionView.{SessionView}
 use Rattle.sc_terms.specs.declared.views.TimerView.{TimerView}
 use Rattle.sc_state.specs.declared.orders.Order.{Order}
 use Rattle.sc_state.specs.declared.orders.Order.TheVariants as orders
@@ -25,11 +24,11 @@ use Rattle.sc_grammar.specs.Written.{Bytes}
 use Rattle.sc_model.specs.BestResponses.{server_error}
 use Rattle.sc_model.specs.SessionStates.{ack}
 use Rattle.sc_hosts.specs.Branches.{has_branch, heard, is_supervised, is_timed_out}
-use Rattle.sc_hosts.specs.Legs.{FIRST_SESSION, change_leg, is_low, leg_of, session_for, with_answer}
-use Rattle.sc_hosts.specs.Looking.{is_gone_in, is_proxy, request_in, same_request, session_in, timer_in}
+use Rattle.sc_hosts.specs.Legs.{FIRST_SESSION, change_leg, session_for, with_answer}
+use Rattle.sc_hosts.specs.Looking.{is_gone_in, request_in, same_request, session_in, timer_in}
 use Rattle.sc_hosts.specs.Messages.{makes_dialog}
 use Rattle.sc_hosts.specs.Preparing.{cancelled_proxy, cancelled_request, has_expired, is_invited, kept_of, own_tag_of, prepared, prepared_branch_timer, prepared_cancel, prepared_expiry, prepared_for, prepared_timer, proxy_of, terminated, timed_out}
-use Rattle.sc_hosts.specs.PreparingRequests.{next_id, prepared_request, received, refused, showing, showing_in, silent, taken, taken_in, too_low}
+use Rattle.sc_hosts.specs.PreparingRequests.{prepared_request, refused, showing, showing_in, silent, taken, too_low}
 use Rattle.sc_hosts.specs.PreparingResponses.{accepts_invite, branch_placed, change_proxy, heard_in, is_invalid, is_sent_on, is_watched, noted_final, placed, prepared_branch, prepared_own, prepared_response, responded, responded_again, responded_in, shown_again, told, with_branches, with_request_again}
 use Rattle.sc_hosts.specs.Words.{does_not_exist, request_terminated}
 use Rattle.sc_walked.specs.SessionWalks.{Brings, SessionLaws}
@@ -37,6 +36,7 @@ use Rattle.sc_walked.proofs.WalkParts.{answered-walks}
 use Rattle.sc_walked.proofs.WalkShown.{prepared-walks}
 use Rattle.sc_lasting.specs.Lasting.{All}
 use Rattle.sc_lasting.proofs.Began.{same-number, test-found}
+use Rattle.sc_lasting.proofs.LaterRequests.{later-request, later-session}
 use Rattle.sc_lasting.proofs.Parts.{all-found}
 use Rattle.sc_replies.specs.Fields.{Incoming, incoming}
 use Rattle.sc_replies.proofs.AnswerEvents.{AllInvited, AreOf, GoesOn, InvitedOf, events-law, numbered-of, received-of}
@@ -50,10 +50,6 @@ module _ (By : ℕ → Incoming → Type 0) where
   abbrev pub OfShown : Prepared → Type 0
   OfShown shown = AreOf By shown.view shown.known
 
-  if-of : (b : Bool) (y z : Prepared) → OfShown y → OfShown z → OfShown (cond b y z)
-  if-of true y z p q = p
-  if-of false y z p q = q
-
   ready-law : SessionLaws queued.Ready (λ call. Unit {0}) (GoesOn By)
   unfolding Brings
   ready-law = events-law By queued.Ready (λ x sess initial passed request brings. brings)
@@ -61,26 +57,10 @@ module _ (By : ℕ → Incoming → Type 0) where
   -- ## What is shown
 
   -- a later request
-  module _ (x : Session) (number : ℕ) (request : Request) (by : By number (record { initial = false; request = request })) (ok : AreOf By x.view x.known) where
-    low-of : (sess : SessId) → OfShown (too_low x number sess request)
-    unfolding too_low silent
-    low-of sess =
-        let after : Session = received x number sess false false request in
-        answered-walks queued.Ready (λ call. Unit {0}) (GoesOn By) ready-law after (request_in after.view (next_id x)) 500 (received-of By x number sess false false request by ok)
-
-    taken-of : (found : SessionView) → OfShown (taken x number found request)
-    unfolding taken showing change_leg
-    taken-of found = received-of By x number found.id false (is_proxy found.role) request by ok
-
-    in-of : (sess : SessId) (found : Option SessionView) → OfShown (taken_in x number sess found request)
-    unfolding taken_in silent
-    in-of sess None = numbered-of By x.view x.known ok
-    in-of sess (Some found) = if-of (is_low (leg_of x.known sess) request) (too_low x number sess request) (taken x number found request) (low-of sess) (taken-of found)
-
-    request-of : (sess : Option SessId) → OfShown (prepared_request x number request sess)
-    unfolding prepared_request silent
-    request-of None = numbered-of By x.view x.known ok
-    request-of (Some sess) = in-of sess (session_in x.view sess)
+  request-of : (x : Session) (number : ℕ) (request : Request) → By number (record { initial = false; request = request }) → AreOf By x.view x.known
+      → (sess : Option SessId) → OfShown (prepared_request x number request sess)
+  request-of x number request by ok = later-session (AreOf By) x number request (numbered-of By x.view x.known ok) (λ sess passed. received-of By x number sess false passed request by ok)
+      (λ came view known ok. answered-walks queued.Ready (λ call. Unit {0}) (GoesOn By) ready-law (record { view = view; known = known }) came 500 ok) (λ view known legs ok. ok)
 
   pub shown-of : (config : Config) (ringing : List ℕ) (x : Session) (waiting : Waiting) (now : ℕ) (event : Queued) → event ≡ waiting.event
       → ((came : Incoming) → incoming event ≡ Some came → By waiting.number came) → AreOf By x.view x.known → OfShown (prepared config ringing x waiting now)
@@ -124,25 +104,10 @@ module _ (By : ℕ → Incoming → Type 0) where
     refused-gives number code reason request is by =
         if-given (same_bytes request.method ack) (orders.Respond number _ ∷ []) (inl (record { initial = false; request = request }, by, own-answers [] code reason false request is), tt)
 
-    low-gives : (x : Session) (number : ℕ) (sess : SessId) (request : Request) → By number (record { initial = false; request = request }) → FirstGive (too_low x number sess request)
-    unfolding too_low silent
-    low-gives x number sess request by = refused-gives number 500 server_error request refl by
-
-    taken-gives : (x : Session) (number : ℕ) (found : SessionView) (request : Request) → FirstGive (taken x number found request)
-    unfolding taken showing All
-    taken-gives x number found request = tt
-
-    in-gives : (x : Session) (number : ℕ) (sess : SessId) (found : Option SessionView) (request : Request) → By number (record { initial = false; request = request })
-        → FirstGive (taken_in x number sess found request)
-    unfolding taken_in silent All
-    in-gives x number sess None request by = tt
-    in-gives x number sess (Some found) request by =
-        if-give (is_low (leg_of x.known sess) request) (too_low x number sess request) (taken x number found request) (low-gives x number sess request by) (taken-gives x number found request)
-
     request-gives : (x : Session) (number : ℕ) (request : Request) (sess : Option SessId) → By number (record { initial = false; request = request }) → FirstGive (prepared_request x number request sess)
-    unfolding prepared_request silent
-    request-gives x number request None by = refused-gives number 481 does_not_exist request refl by
-    request-gives x number request (Some sess) by = in-gives x number sess (session_in x.view sess) request by
+    unfolding silent too_low taken showing All
+    request-gives x number request sess by = later-request FirstGive x number request (refused-gives number 481 does_not_exist request refl by) tt
+        (λ s. refused-gives number 500 server_error request refl by) (λ found. tt) sess
 
     -- a response gives nothing
 

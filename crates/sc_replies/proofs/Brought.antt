@@ -35,10 +35,10 @@ use Rattle.sc_hosts.specs.Effects.{begun, created_leg, proxied, with_draft}
 use Rattle.sc_hosts.specs.Finishing.{finished, is_ended, is_session_ready, lightened, outcome, outcome_of, session_in_play, swept, swept_one, without_acks}
 use Rattle.sc_hosts.specs.Giving.{answering}
 use Rattle.sc_hosts.specs.Histories.{History, after_turn, session_after}
-use Rattle.sc_hosts.specs.Legs.{FIRST_SESSION, change_leg, first_known, fresh, is_low, leg_of, new_leg, session_for}
-use Rattle.sc_hosts.specs.Looking.{is_proxy, removed, same_request, session_in, unlinked}
+use Rattle.sc_hosts.specs.Legs.{FIRST_SESSION, first_known, fresh, new_leg, session_for}
+use Rattle.sc_hosts.specs.Looking.{removed, same_request, unlinked}
 use Rattle.sc_hosts.specs.Preparing.{kept_of, prepared, prepared_for, proxy_of}
-use Rattle.sc_hosts.specs.PreparingRequests.{next_id, prepared_request, received, showing, silent, taken, taken_in, too_low, with_invited}
+use Rattle.sc_hosts.specs.PreparingRequests.{next_id, prepared_request, received, showing, with_invited}
 use Rattle.sc_hosts.specs.PreparingResponses.{change_proxy}
 use Rattle.sc_hosts.specs.Sessions.{Turn}
 use Rattle.sc_hosts.specs.ViewChanges.{answered, answered_in, is_owed, linked, new_session, tidy, with_own_session}
@@ -49,6 +49,7 @@ use Rattle.sc_walked.proofs.WalkEnds.{all_act-goes, done-any, drafts_ended-goes,
 use Rattle.sc_walked.proofs.WalkShown.{prepared-walks}
 use Rattle.sc_lasting.specs.Lasting.{All}
 use Rattle.sc_lasting.proofs.Began.{same-number, test-found}
+use Rattle.sc_lasting.proofs.LaterRequests.{later-session}
 use Rattle.sc_lasting.proofs.Parts.{all-append, all-each, all-filter, all-first, all-found, all-map, removed-only, unlinked-only}
 use Rattle.sc_replies.specs.Came.{AreSingle, Came, brought, came_of}
 
@@ -416,33 +417,13 @@ module _ (came : List Came) where
 
 -- ## The event of a turn
 
-if-shown : (came : List Came) (b : Bool) (y z : Prepared) → FitsShown came y → FitsShown came z → FitsShown came (cond b y z)
-if-shown came true y z p q = p
-if-shown came false y z p q = q
-
 module _ (came : List Came) (x : Session) (number : ℕ) (request : Request) (fit : FitsAt came x) where
   abbrev now_came : List Came
   now_came = came ++ one_of x number request ∷ []
 
-  low-fits : (sess : SessId) → FitsShown now_came (too_low x number sess request)
-  unfolding too_low silent
-  low-fits sess =
-      let after : Session = received x number sess false false request in
-      answered-on now_came _ 500 after.view after.known (received-fits came x number sess false false request fit)
-
-  taken-fits : (found : SessionView) → FitsShown now_came (taken x number found request)
-  unfolding taken showing change_leg
-  taken-fits found = received-fits came x number found.id false (is_proxy found.role) request fit
-
-  in-fits : (sess : SessId) (found : Option SessionView) → FitsShown now_came (taken_in x number sess found request)
-  unfolding taken_in silent
-  in-fits sess None = all-more x.view.next_request came (one_of x number request) x.known refl fit
-  in-fits sess (Some found) = if-shown now_came (is_low (leg_of x.known sess) request) (too_low x number sess request) (taken x number found request) (low-fits sess) (taken-fits found)
-
   later-shown : (sess : Option SessId) → FitsShown now_came (prepared_request x number request sess)
-  unfolding prepared_request silent
-  later-shown None = all-more x.view.next_request came (one_of x number request) x.known refl fit
-  later-shown (Some sess) = in-fits sess (session_in x.view sess)
+  later-shown = later-session (λ view known. AllFit view.next_request now_came known) x number request (all-more x.view.next_request came (one_of x number request) x.known refl fit)
+      (λ sess passed. received-fits came x number sess false passed request fit) (λ request. answered-on now_came request 500) (λ view known legs fit. fit)
 
 none-brought : (came : List Came) (shown : Prepared) → FitsShown came shown → FitsShown (came ++ []) shown
 none-brought came shown fit = subst (λ (all : List Came). FitsShown all shown) (sym (append-nil came)) fit

@@ -3,7 +3,6 @@ use Rattle.std.proofs.Common.{◌≡◌, ℕ, ◌==◌, ◌++◌, Bool, true, fa
 use Rattle.std.specs.Prelude.{cond}
 use Rattle.std.specs.List.{find}
 use Rattle.sc_value.specs.declared.ids.ReqId.{ReqId}
-use Rattle.sc_value.specs.declared.message.Request.{Request}
 use Rattle.sc_terms.specs.declared.calls.CallRecord.{CallRecord}
 use Rattle.sc_terms.specs.declared.calls.End.{End}
 use Rattle.sc_terms.specs.declared.settings.Config.{Config}
@@ -23,8 +22,8 @@ use Rattle.sc_hosts.specs.Sessions.{Turn}
 use Rattle.sc_hosts.specs.Working.{starts, worked_all}
 use Rattle.sc_lasting.specs.Lasting.{All}
 use Rattle.sc_lasting.proofs.Began.{same-number, test-found}
+use Rattle.sc_lasting.proofs.LaterRequests.{request-next}
 use Rattle.sc_lasting.proofs.Parts.{all-found, all-map}
-use Rattle.sc_lasting.proofs.Numbers.{request-next}
 use Rattle.sc_replies.specs.Came.{Came, IsAmong, brought, brought_by, came_of}
 use Rattle.sc_replies.proofs.Brought.{FitsAt, FitsIn, FitsShown, GoesBy, acted-fit, calls-fit, drafts-fit, faulted-fit, lives-fit, shown-fits}
 use Rattle.sc_replies.proofs.BroughtProxies.{acted-came}

@@ -9,7 +9,6 @@ use Rattle.sc_value.specs.declared.parts.Uri.{Uri}
 use Rattle.sc_terms.specs.declared.calls.ProxyOptions.{ProxyOptions}
 use Rattle.sc_terms.specs.declared.settings.Config.{Config}
 use Rattle.sc_terms.specs.declared.views.RequestView.{RequestView}
-use Rattle.sc_terms.specs.declared.views.SessionView.{SessionView}
 use Rattle.sc_terms.specs.declared.views.View.{View}
 use Rattle.sc_state.specs.declared.queue.Queued.{Queued}
 use Rattle.sc_state.specs.declared.queue.Queued.TheVariants as queued
@@ -28,10 +27,9 @@ use Rattle.sc_hosts.specs.Effects.{begun}
 use Rattle.sc_hosts.specs.Finishing.{finished, is_ended, lightened, outcome, outcome_of, session_in_play, swept}
 use Rattle.sc_hosts.specs.Giving.{answering}
 use Rattle.sc_hosts.specs.Histories.{History, after_turn, session_after, session_of}
-use Rattle.sc_hosts.specs.Legs.{change_leg, first_known, fresh, is_low, leg_of, session_for}
-use Rattle.sc_hosts.specs.Looking.{session_in}
+use Rattle.sc_hosts.specs.Legs.{first_known, fresh, session_for}
 use Rattle.sc_hosts.specs.Preparing.{kept_of, prepared, prepared_for}
-use Rattle.sc_hosts.specs.PreparingRequests.{next_id, prepared_request, received, showing, silent, taken, taken_in, too_low, with_invited}
+use Rattle.sc_hosts.specs.PreparingRequests.{next_id, prepared_request, received, showing, with_invited}
 use Rattle.sc_hosts.specs.Sessions.{Turn}
 use Rattle.sc_hosts.specs.ViewChanges.{is_owed}
 use Rattle.sc_hosts.specs.Working.{proxies, proxies_first, worked_all}
@@ -40,6 +38,7 @@ use Rattle.sc_walked.proofs.WalkCalls.{worked_all-walks}
 use Rattle.sc_walked.proofs.WalkEnds.{all_act-goes, done-any, drafts_ended-goes, faulted-goes}
 use Rattle.sc_walked.proofs.WalkShown.{prepared-walks}
 use Rattle.sc_lasting.specs.Lasting.{All}
+use Rattle.sc_lasting.proofs.LaterRequests.{later-session}
 use Rattle.sc_lasting.proofs.Parts.{all-append, all-filter, all-map}
 use Rattle.sc_replies.specs.Came.{AreAsTheyCame, Came, IsAmong, IsInvitedAsCame, IsKeptAsCame, brought, came_of}
 
@@ -154,28 +153,10 @@ module _ (came : List Came) where
       (kept, all-append (IsInvitedAsCame came) x.known.invited (record { event = number; req = next_id x; sess = sess }) keeps.1 (request, among))
       (kept, keeps.1)
 
-  if-prepared : (b : Bool) (y z : Prepared) → Keeps y.known → Keeps z.known → Keeps (cond b y z).known
-  if-prepared true y z p q = p
-  if-prepared false y z p q = q
-
-  module _ (x : Session) (number : ℕ) (request : Request) (among : IsAmong (record { id = next_id x; event = number; request = request }) came) (keeps : Keeps x.known) where
-    low-keeps : (sess : SessId) → Keeps (too_low x number sess request).known
-    unfolding too_low silent
-    low-keeps sess = received-keeps x number sess false false request among keeps
-
-    taken-keeps : (found : SessionView) → Keeps (taken x number found request).known
-    unfolding taken showing change_leg
-    taken-keeps found = received-keeps x number found.id false _ request among keeps
-
-    in-keeps : (sess : SessId) (found : Option SessionView) → Keeps (taken_in x number sess found request).known
-    unfolding taken_in silent
-    in-keeps sess None = keeps
-    in-keeps sess (Some found) = if-prepared (is_low (leg_of x.known sess) request) (too_low x number sess request) (taken x number found request) (low-keeps sess) (taken-keeps found)
-
-    request-keeps : (sess : Option SessId) → Keeps (prepared_request x number request sess).known
-    unfolding prepared_request silent
-    request-keeps None = keeps
-    request-keeps (Some sess) = in-keeps sess (session_in x.view sess)
+  request-keeps : (x : Session) (number : ℕ) (request : Request) → IsAmong (record { id = next_id x; event = number; request = request }) came → Keeps x.known
+      → (sess : Option SessId) → Keeps (prepared_request x number request sess).known
+  request-keeps x number request among keeps = later-session (λ view known. Keeps known) x number request keeps (λ sess passed. received-keeps x number sess false passed request among keeps)
+      (λ answered view known keeps. keeps) (λ view known legs keeps. keeps)
 
   shown-keeps : (config : Config) (ringing : List ℕ) (x : Session) (waiting : Waiting) (now : ℕ) (event : Queued) → event ≡ waiting.event
       → ((one : Came) → IsAmong one (brought x waiting.number event) → IsAmong one came) → Keeps x.known → Keeps (prepared config ringing x waiting now).known

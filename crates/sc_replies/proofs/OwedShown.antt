@@ -23,13 +23,14 @@ use Rattle.sc_model.specs.Transactions.{is_failure}
 use Rattle.sc_hosts.specs.Branches.{added_targets, is_supervised}
 use Rattle.sc_hosts.specs.DerivedSessions.{Derives, Handling, In, Takes, handled_in, overtaken, without_derived}
 use Rattle.sc_hosts.specs.Finishing.{lacks_final}
-use Rattle.sc_hosts.specs.Legs.{FIRST_SESSION, change_leg, is_low, leg_of, session_for}
-use Rattle.sc_hosts.specs.Looking.{is_gone_in, is_proxy, is_request, request_in, session_in, timer_in}
+use Rattle.sc_hosts.specs.Legs.{FIRST_SESSION, change_leg, session_for}
+use Rattle.sc_hosts.specs.Looking.{is_gone_in, is_request, request_in, session_in, timer_in}
 use Rattle.sc_hosts.specs.Preparing.{cancelled_proxy, cancelled_request, fired, has_expired, is_invited, kept_of, prepared, prepared_branch_timer, prepared_cancel, prepared_expiry, prepared_for, prepared_timer, proxy_of, terminated, timed_out}
-use Rattle.sc_hosts.specs.PreparingRequests.{prepared_request, received, showing, showing_in, silent, taken, taken_in, too_low}
+use Rattle.sc_hosts.specs.PreparingRequests.{prepared_request, received, showing, showing_in, silent}
 use Rattle.sc_hosts.specs.PreparingResponses.{accepts_invite, branch_placed, heard_in, is_first_success, is_sent_on, is_watched, noted_final, placed, prepared_branch, prepared_own, prepared_response, responded, responded_again, responded_in, settled_legs, shown_again, insert_session, with_branches, with_request_again, with_success}
 use Rattle.sc_hosts.specs.ViewChanges.{answered_in, with_answer as with_final}
 use Rattle.sc_walked.proofs.WalkParts.{if-is}
+use Rattle.sc_lasting.proofs.LaterRequests.{later-session}
 use Rattle.sc_lasting.proofs.Parts.{all-found}
 use Rattle.sc_replies.proofs.Owed.{Holds, IsAfter, IsBelow, after-same, again-holds, unacked-after, answered-holds, answered_in-holds, changed-holds, comes-holds, final-after, numbered-holds, still, tidy-holds}
 
@@ -57,25 +58,9 @@ showing_in-holds x sess event req given ok = ok
 
 -- ## Requests
 
-low-holds : (x : Session) (number : ℕ) (sess : SessId) (request : Request) → At x → Shown (too_low x number sess request)
-unfolding too_low silent
-low-holds x number sess request ok =
-    answered-holds _ 500 (received x number sess false false request).view (received x number sess false false request).known (comes-holds x number sess false false request ok)
-
-taken-holds : (x : Session) (number : ℕ) (found : SessionView) (request : Request) → At x → Shown (taken x number found request)
-unfolding taken showing change_leg
-taken-holds x number found request ok = comes-holds x number found.id false (is_proxy found.role) request ok
-
-taken_in-holds : (x : Session) (number : ℕ) (sess : SessId) (found : Option SessionView) (request : Request) → At x → Shown (taken_in x number sess found request)
-unfolding taken_in silent
-taken_in-holds x number sess None request ok = numbered-holds x.view x.known ok
-taken_in-holds x number sess (Some found) request ok =
-    if-shown (is_low (leg_of x.known sess) request) (too_low x number sess request) (taken x number found request) (low-holds x number sess request ok) (taken-holds x number found request ok)
-
 request-holds : (x : Session) (number : ℕ) (request : Request) (sess : Option SessId) → At x → Shown (prepared_request x number request sess)
-unfolding prepared_request silent
-request-holds x number request None ok = numbered-holds x.view x.known ok
-request-holds x number request (Some sess) ok = taken_in-holds x number sess (session_in x.view sess) request ok
+request-holds x number request sess ok = later-session Holds x number request (numbered-holds x.view x.known ok) (λ s passed. comes-holds x number s false passed request ok)
+    (λ came. answered-holds came 500) (λ view known legs ok. ok) sess
 
 -- ## Responses
 

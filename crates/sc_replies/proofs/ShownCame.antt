@@ -23,10 +23,10 @@ use Rattle.sc_state.specs.declared.working.Working.{Working}
 use Rattle.sc_hosts.specs.Acting.{all_act, drafts_ended, faulted, hops_spent, is_request_event, passed_later, passed_on, passed_request_of, passes_later}
 use Rattle.sc_hosts.specs.Effects.{begun, created_leg, proxied, proxied_request, sent_view, with_draft}
 use Rattle.sc_hosts.specs.Finishing.{is_ended, is_session_ready, lightened, outcome_of, session_in_play, swept, swept_one, without_acks}
-use Rattle.sc_hosts.specs.Legs.{FIRST_SESSION, is_low, leg_of, session_for}
-use Rattle.sc_hosts.specs.Looking.{is_proxy, is_request, removed, session_in, unlinked}
+use Rattle.sc_hosts.specs.Legs.{FIRST_SESSION, session_for}
+use Rattle.sc_hosts.specs.Looking.{is_request, removed, unlinked}
 use Rattle.sc_hosts.specs.Preparing.{kept_of, prepared, prepared_for}
-use Rattle.sc_hosts.specs.PreparingRequests.{next_id, prepared_request, received, request_view, showing, silent, taken, taken_in, too_low}
+use Rattle.sc_hosts.specs.PreparingRequests.{next_id, prepared_request, received, request_view, showing}
 use Rattle.sc_hosts.specs.ViewChanges.{answered, answered_in, is_owed, linked, stands, tidy, with_answer, with_own_session, with_there}
 use Rattle.sc_hosts.specs.Working.{worked_all}
 use Rattle.sc_walked.specs.SessionWalks.{Brings, Each, IsSameRequest, SessionLaws}
@@ -35,6 +35,7 @@ use Rattle.sc_walked.proofs.WalkEnds.{all_act-goes, done-any, drafts_ended-goes,
 use Rattle.sc_walked.proofs.WalkParts.{each-first, each-map}
 use Rattle.sc_walked.proofs.WalkShown.{prepared-walks}
 use Rattle.sc_lasting.specs.Lasting.{All}
+use Rattle.sc_lasting.proofs.LaterRequests.{later-session}
 use Rattle.sc_lasting.proofs.Parts.{all-append, all-each, all-filter, all-first, all-insert, all-map, removed-only, unlinked-only}
 use Rattle.sc_lasting.proofs.Began.{sent-own}
 use Rattle.sc_replies.specs.Came.{Came, brought}
@@ -249,10 +250,6 @@ view-number : (next : ReqId) (sess : SessId) (initial passed : Bool) (request : 
 unfolding request_view
 view-number next sess initial passed request = refl
 
-if-shown : (came : List Came) (b : Bool) (y z : Prepared) → AllCame came y.view → AllCame came z.view → AllCame came (cond b y z).view
-if-shown came true y z p q = p
-if-shown came false y z p q = q
-
 module _ (came : List Came) (x : Session) (number : ℕ) (request : Request) (come : AllCame came x.view) where
   abbrev now_came : List Came
   now_came = came ++ one_of x number request ∷ []
@@ -263,26 +260,9 @@ module _ (came : List Came) (x : Session) (number : ℕ) (request : Request) (co
       all-append (IsCome now_came) x.view.requests (request_view (next_id x) sess initial passed request) (more-come came (one_of x number request ∷ []) x.view come)
       (λ received. last-has came (one_of x number request) _ (view-number (next_id x) sess initial passed request))
 
-  low-come : (sess : SessId) → AllCame now_came (too_low x number sess request).view
-  unfolding too_low silent
-  low-come sess = answered-come now_came _ 500 (received x number sess false false request).view (received-come sess false false)
-
-  taken-come : (found : SessionView) → AllCame now_came (taken x number found request).view
-  unfolding taken showing
-  taken-come found = received-come found.id false (is_proxy found.role)
-
-  old-come : AllCame now_came x.view
-  old-come = more-come came (one_of x number request ∷ []) x.view come
-
-  taken_in-come : (sess : SessId) (found : Option SessionView) → AllCame now_came (taken_in x number sess found request).view
-  unfolding taken_in silent
-  taken_in-come sess None = old-come
-  taken_in-come sess (Some found) = if-shown now_came (is_low (leg_of x.known sess) request) (too_low x number sess request) (taken x number found request) (low-come sess) (taken-come found)
-
   later-shown : (sess : Option SessId) → AllCame now_came (prepared_request x number request sess).view
-  unfolding prepared_request silent
-  later-shown None = old-come
-  later-shown (Some sess) = taken_in-come sess (session_in x.view sess)
+  later-shown = later-session (λ view known. AllCame now_came view) x number request (more-come came (one_of x number request ∷ []) x.view come) (λ sess. received-come sess false)
+      (λ request view known. answered-come now_came request 500 view) (λ view known legs come. come)
 
 abbrev now_at : ℕ → Session → Session
 now_at now x = record x { view = record x.view { now = now } }
