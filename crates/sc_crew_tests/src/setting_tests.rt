@@ -116,11 +116,11 @@ const PART_ROWS: [Row; 1] = [Row {
 
 const RECORD_ROWS: [Row; 2] = [
     Row {
-        name: "each second what is kept is handed on, while a session lives",
+        name: "what is kept is handed on before it is a second old, while a session lives",
         settings: b"record = \"steps\"\n",
         coming: &[All(1, Invite), NotYet, NotYet, NotYet, NotYet],
         moments: &[10, 999, 1_000, 1_500, 2_100],
-        told: b"Done epoch 0 from 0 steps 0\n\
+        told: b"Done epoch 0 from 0 steps 1\n\
               polls 6\n\
               c1 100 of c5; 200 of c5 by 0-1;\n\
               step 1\n\
@@ -129,13 +129,13 @@ const RECORD_ROWS: [Row; 2] = [
               list of epoch 0 steps 3 live 1 waiting 0\n\
               step 4\n\
               list of epoch 0 steps 4 live 1 waiting 0\n\
+              part of 4\n\
               step 5\n\
-              part of 5\n\
               list of epoch 0 steps 5 live 1 waiting 0\n\
               step 6\n\
               list of epoch 0 steps 6 live 1 waiting 0\n\
-              step 7\n\
               part of 2\n\
+              step 7\n\
               list of epoch 0 steps 7 live 1 waiting 0\n",
         ..EMPTY
     },
