@@ -12,6 +12,7 @@ use Rattle.sc_terms.specs.RoutingTables.{IsMethodList, AreMethodLists, is_listed
 use Rattle.sc_tokens.specs.Bytes.{Bytes}
 use Rattle.sc_tokens.specs.Hosts.{begins}
 use Rattle.sc_tokens.specs.Quoted.{token_end}
+use Rattle.sc_syntax.proofs.ClassLaws.{not_true}
 use Rattle.sc_dar.specs.Lines.{Line, drop_blanks, is_comment}
 use Rattle.sc_dar.specs.Tuples.{BAD_TUPLE, TupleTexts, then_read, parts, tuple_at, tuples_in}
 use Rattle.sc_dar.specs.Tables.{NO_SEPARATOR, DOUBLE_METHOD, method_in, behind_method, has_separator, list_in, list_of, judged}
@@ -120,10 +121,6 @@ some_tuples apps a (s ∷ g ∷ r ∷ m ∷ o ∷ more) tuples h =
 not_not : (t : Bool) → not t ≡ false → t ≡ true
 not_not true h = refl
 not_not false h = absurd (false≢true (sym h))
-
-not_true : (t : Bool) → not t ≡ true → t ≡ false
-not_true true h = absurd (false≢true h)
-not_true false h = refl
 
 some_method : (line : Bytes) → has_separator line ≡ true → (in_token line == 0) ≡ false
 unfolding has_separator

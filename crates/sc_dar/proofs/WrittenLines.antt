@@ -1,11 +1,11 @@
 -- The written line of a method is one line, and is read as its list.
-use Rattle.std.proofs.Common.{◌≡◌, ℕ, suc, true, false, cond, List, [], ◌∷◌, ◌++◌, ◌||◌, ◌==◌, ◌+◌, ◌-◌, ◌≤◌, length, refl, ap, ◌∙◌, arith}
+use Rattle.std.proofs.Common.{◌≡◌, ℕ, suc, true, false, cond, List, [], ◌∷◌, ◌++◌, ◌==◌, ◌+◌, ◌-◌, ◌≤◌, length, refl, ap, ◌∙◌, arith}
 use Rattle.std.specs.List.{slice_get}
 use Rattle.std.specs.Option.{option_map_or}
-use Rattle.std.proofs.lemmas.List.Folds.{list_any-append}
 use Rattle.sc_terms.specs.declared.settings.Tuple.{Tuple}
 use Rattle.sc_tokens.specs.Bytes.{Bytes}
 use Rattle.sc_tokens.specs.Cuts.{has, onto_first, pieces}
+use Rattle.sc_syntax.proofs.SpelledUriLaws.{lacks_joined}
 use Rattle.sc_dar.specs.Lines.{ends, without_cr, ended, rows, onto_next, before_lines, joined, lines}
 use Rattle.sc_dar.specs.Tuples.{TupleTexts}
 use Rattle.sc_dar.specs.WrittenTables.{tuple_text, tuples_text}
@@ -15,10 +15,6 @@ use Rattle.sc_dar.proofs.WrittenParts.{ArePlain, first_lacks, rest_lacks, in_par
 use Rattle.sc_dar.proofs.WrittenTuples.{texts_of, texts_plain, text_is, no_text, next_text, first_rule, room, room_on, fits_64}
 
 -- ## No line break in a line
-
-pub both_lack : (sign : ℕ) (a b : Bytes) → has sign a ≡ false → has sign b ≡ false → has sign (a ++ b) ≡ false
-unfolding has
-both_lack sign a b g h = list_any-append (λ c. c == sign) a b ∙ ap (λ t. t || has sign b) g ∙ h
 
 quote_lacks : (rest : Bytes) → has 10 rest ≡ false → has 10 (34 ∷ rest) ≡ false
 unfolding has
@@ -34,11 +30,11 @@ bracket_lacks rest h = h
 
 in_part_lacks : (text rest : Bytes) → IsPlain text → has 10 rest ≡ false → has 10 (in_part text rest) ≡ false
 unfolding has
-in_part_lacks text rest h g = both_lack 10 text (34 ∷ rest) h.lf (quote_lacks rest g)
+in_part_lacks text rest h g = lacks_joined 10 text (34 ∷ rest) h.lf (quote_lacks rest g)
 
 in_first_lacks : (text rest : Bytes) → IsPlain text → has 10 rest ≡ false → has 10 (in_first text rest) ≡ false
 unfolding has
-in_first_lacks text rest h g = both_lack 10 text (34 ∷ rest) h.lf (quote_lacks rest g)
+in_first_lacks text rest h g = lacks_joined 10 text (34 ∷ rest) h.lf (quote_lacks rest g)
 
 six_lack : (t : TupleTexts) (rest : Bytes) → ArePlain t → has 10 rest ≡ false → has 10 (six_text t rest) ≡ false
 six_lack t rest h g =

@@ -1,13 +1,12 @@
 -- The parts of a written tuple are read as its texts.
-use Rattle.std.proofs.Common.{◌≡◌, ℕ, Bool, true, false, cond, not, Option, Some, None, List, [], ◌∷◌, ◌++◌, ◌||◌, ◌&&◌, ◌==◌, refl, sym, ap, ◌∙◌, append_assoc, arith}
+use Rattle.std.proofs.Common.{◌≡◌, ℕ, Bool, true, false, cond, not, Option, Some, None, List, [], ◌∷◌, ◌++◌, ◌||◌, ◌&&◌, ◌==◌, refl, sym, ap, ◌∙◌, append_assoc}
 use Rattle.std.proofs.lemmas.Bool.{false≢true}
-use Rattle.std.proofs.lemmas.Bool.Decides.{nat_tests}
 use Rattle.std.specs.Option.{option_map_or, option_map, option_and_then}
 use Rattle.sc_tokens.specs.Tokens.{is_blank}
 use Rattle.sc_tokens.specs.Bytes.{Bytes}
-use Rattle.sc_tokens.specs.Cuts.{has, before, after, onto_first}
+use Rattle.sc_tokens.specs.Cuts.{has, after, onto_first}
 use Rattle.sc_tokens.specs.Hosts.{begins}
-use Rattle.sc_syntax.proofs.CutLaws.{before_here, before_on, after_here, after_on}
+use Rattle.sc_syntax.proofs.ClassLaws.{before_joined, after_joined}
 use Rattle.sc_dar.specs.Lines.{drop_blanks, is_blank_text}
 use Rattle.sc_dar.specs.Tuples.{TupleTexts, parts, behind, closed, quoted, is_closing, behind_tuple, is_parted, opening, unquoted}
 use Rattle.sc_dar.specs.Rules.{IsPlain}
@@ -22,18 +21,6 @@ first_lacks false b h = refl
 pub rest_lacks : (a b : Bool) → (a || b) ≡ false → b ≡ false
 rest_lacks true b h = absurd (false≢true (sym h))
 rest_lacks false b h = h
-
-pub before_at : (sign : ℕ) (text rest : Bytes) → has sign text ≡ false → before sign (text ++ sign ∷ rest) ≡ text
-unfolding has
-before_at sign [] rest h = before_here sign sign rest (grind (arith, nat_tests))
-before_at sign (b ∷ bs) rest h =
-    before_on sign b (bs ++ sign ∷ rest) (first_lacks (b == sign) (has sign bs) h) ∙ ap (λ t. b ∷ t) (before_at sign bs rest (rest_lacks (b == sign) (has sign bs) h))
-
-pub after_at : (sign : ℕ) (text rest : Bytes) → has sign text ≡ false → after sign (text ++ sign ∷ rest) ≡ Some rest
-unfolding has
-after_at sign [] rest h = after_here sign sign rest (grind (arith, nat_tests))
-after_at sign (b ∷ bs) rest h =
-    after_on sign b (bs ++ sign ∷ rest) (first_lacks (b == sign) (has sign bs) h) ∙ after_at sign bs rest (rest_lacks (b == sign) (has sign bs) h)
 
 -- ## Parts
 
@@ -175,8 +162,8 @@ behind_first rest = refl
 closed_is : (is_end : Bytes → Bool) (text p : Bytes) → IsPlain text → is_end p ≡ true → closed is_end (text ++ 34 ∷ p) ≡ Some text
 unfolding closed
 closed_is is_end text p h e =
-    ap (λ f. cond (option_map_or is_end (after 34 (text ++ 34 ∷ p)) false && not (has 13 f)) (Some f) None) (before_at 34 text p h.quote)
-    ∙ ap (λ a. cond (option_map_or is_end a false && not (has 13 text)) (Some text) None) (after_at 34 text p h.quote)
+    ap (λ f. cond (option_map_or is_end (after 34 (text ++ 34 ∷ p)) false && not (has 13 f)) (Some f) None) (before_joined 34 text p h.quote)
+    ∙ ap (λ a. cond (option_map_or is_end a false && not (has 13 text)) (Some text) None) (after_joined 34 text p h.quote)
     ∙ ap (λ t. cond (t && not (has 13 text)) (Some text) None) e
     ∙ ap (λ t. cond (not t) (Some text) None) h.cr
 
@@ -207,7 +194,7 @@ pub parted_is : (text : Bytes) → IsPlain text → is_parted (in_part text (41 
 unfolding is_parted behind_tuple
 parted_is text h =
     ap (λ o. option_map_or is_blank_text (option_and_then (behind 41) (option_and_then (after 34) o)) false) (behind_quote (text ++ 34 ∷ 41 ∷ []))
-    ∙ ap (λ o. option_map_or is_blank_text (option_and_then (behind 41) o) false) (after_at 34 text (41 ∷ []) h.quote)
+    ∙ ap (λ o. option_map_or is_blank_text (option_and_then (behind 41) o) false) (after_joined 34 text (41 ∷ []) h.quote)
     ∙ none_behind
 
 by_texts : Option Bytes → Option Bytes → Option Bytes → Option Bytes → Option Bytes → Option Bytes → Option TupleTexts

@@ -14,6 +14,7 @@ use Rattle.sc_tokens.specs.Bytes.{Bytes}
 use Rattle.sc_tokens.specs.Cuts.{has}
 use Rattle.sc_tokens.specs.Hosts.{begins}
 use Rattle.sc_tokens.specs.Quoted.{token_end}
+use Rattle.sc_syntax.proofs.SpelledUriLaws.{lacks_joined}
 use Rattle.sc_dar.specs.Lines.{Line, drop_blanks, ends, lines, is_comment}
 use Rattle.sc_dar.specs.Tuples.{then_read, parts, tuples_in}
 use Rattle.sc_terms.specs.RoutingTables.{IsMethodList, AreMethodLists, IsDar, is_listed}
@@ -22,7 +23,7 @@ use Rattle.sc_dar.specs.WrittenTables.{lead, tuple_text, tuples_text, list_text,
 use Rattle.sc_dar.specs.Rules.{AreNames, AreTuples, AreLists, IsTable}
 use Rattle.sc_dar.proofs.Rows.{no_more}
 use Rattle.sc_dar.proofs.WrittenTuples.{tuples_again}
-use Rattle.sc_dar.proofs.WrittenLines.{both_lack, from_tuple, tuples_lack, ends_behind, ends_on, tuples_end, line_is}
+use Rattle.sc_dar.proofs.WrittenLines.{from_tuple, tuples_lack, ends_behind, ends_on, tuples_end, line_is}
 
 -- ## The bytes of a token
 
@@ -207,7 +208,7 @@ zero_room more h = omega (arith, h)
 
 line_lacks : (apps : List Bytes) (first : ℕ) (others : Bytes) (tuple : Tuple) (more : List Tuple) → IsMethod first others → AreNames apps → AreTuples apps (tuple ∷ more) → length more < 64 → has 10 (text_of apps first others tuple more) ≡ false
 line_lacks apps first others tuple more m names h few =
-    both_lack 10 (first ∷ others) (58 ∷ from_tuple apps 0 tuple more) (token_lacks (first ∷ others) m.bytes) (colon_lacks (from_tuple apps 0 tuple more) (tuples_lack apps 0 tuple more names h (zero_room more few)))
+    lacks_joined 10 (first ∷ others) (58 ∷ from_tuple apps 0 tuple more) (token_lacks (first ∷ others) m.bytes) (colon_lacks (from_tuple apps 0 tuple more) (tuples_lack apps 0 tuple more names h (zero_room more few)))
 
 line_ends : (sign : ℕ) (apps : List Bytes) (first : ℕ) (others : Bytes) (tuple : Tuple) (more : List Tuple) → ends sign (text_of apps first others tuple more) ≡ (41 == sign)
 line_ends sign apps first others tuple more =

@@ -85,7 +85,14 @@ parts_after (Some text) = parts false text
 unfoldable pub first_six : List Bytes → Option (TupleTexts × List Bytes)
 first_six (app ∷ subscriber ∷ region ∷ route ∷ modifier ∷ order ∷ more) =
     Some (
-      record { app = app; subscriber = subscriber; region = region; route = route; modifier = modifier; order = order },
+      record {
+        app = app;
+        subscriber = subscriber;
+        region = region;
+        route = route;
+        modifier = modifier;
+        order = order;
+      },
       more,
     )
 first_six fewer = None
@@ -127,10 +134,25 @@ opening text = option_and_then (quoted is_blank_text) (behind 40 text)
 unfoldable pub unquoted : TupleTexts → Option TupleTexts
 unquoted t =
     option_and_then
-    (λ app. option_and_then (λ subscriber. option_and_then (λ region. option_and_then (λ route. option_and_then (λ modifier. option_map (λ order.
-    record { app = app; subscriber = subscriber; region = region; route = route; modifier = modifier; order = order })
-    (quoted is_closing t.order)) (quoted is_blank_text
-    t.modifier)) (quoted is_blank_text t.route)) (quoted is_blank_text t.region)) (quoted is_blank_text t.subscriber)) (opening t.app)
+    (λ app. option_and_then
+    (λ subscriber. option_and_then
+    (λ region. option_and_then
+    (λ route. option_and_then
+    (λ modifier. option_map
+    (λ order. record {
+      app = app;
+      subscriber = subscriber;
+      region = region;
+      route = route;
+      modifier = modifier;
+      order = order;
+    })
+    (quoted is_closing t.order))
+    (quoted is_blank_text t.modifier))
+    (quoted is_blank_text t.route))
+    (quoted is_blank_text t.region))
+    (quoted is_blank_text t.subscriber))
+    (opening t.app)
 
 -- ## What they say
 
@@ -196,7 +218,13 @@ tuple_of apps order t =
     then_read (given UNKNOWN_APPLICATION (app_of apps t.app)) (λ app.
     then_read (given BAD_ROUTE (route_of t.route)) (λ route.
     Ok
-    (record { app = app; subscriber = t.subscriber; region = region; route = route; modifier = modifier }))))))
+    (record {
+      app = app;
+      subscriber = t.subscriber;
+      region = region;
+      route = route;
+      modifier = modifier;
+    }))))))
 
 -- a method has at most 64 tuples
 unfoldable pub counted : ℕ → Tuple → Result Tuple ℕ

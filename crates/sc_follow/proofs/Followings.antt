@@ -87,7 +87,7 @@ followed setup all known kept is = record {
 }
 
 -- nothing is a beginning of what any line makes
-part-none : (setup : Setup) (net : Net Session) (kept : Streams) (line : Line) → DoesPart as_session setup net kept line []
+pub part-none : (setup : Setup) (net : Net Session) (kept : Streams) (line : Line) → DoesPart as_session setup net kept line []
 unfolding DoesPart HearsPart IsPartRun
 part-none setup net kept (lines.In place text) = tt
 part-none setup net kept (lines.Turn app) = refl

@@ -1,7 +1,7 @@
 -- How the calls of a switch move it on in a recording.
-use Rattle.std.proofs.Common.{◌≡◌, ◌≤◌, ◌<◌, ◌+◌, ℕ, List, [], ◌∷◌, ◌++◌, refl, sym, ap, subst, ◌∙◌, append_assoc, length-append, take, drop, length, map, zero, suc, true, arith}
+use Rattle.std.proofs.Common.{◌≡◌, ◌≤◌, ◌+◌, ℕ, List, [], ◌∷◌, ◌++◌, refl, sym, ap, subst, ◌∙◌, append_assoc, length-append, take, drop, length, true, arith}
 use Rattle.std.proofs.Math.Seq.{take-add, take-length}
-use Rattle.std.specs.Prelude.{Option, None, Some, get_or}
+use Rattle.std.specs.Prelude.{Option, None, Some}
 use Rattle.std.proofs.lemmas.Grind.{flat_map-append}
 use Rattle.std.proofs.lemmas.List.{append-nil}
 use Rattle.std.proofs.lemmas.List.Sums.{sum_by_push}
@@ -12,23 +12,22 @@ use Rattle.sc_grammar.specs.Written.{Bytes}
 use Rattle.sc_value.specs.declared.ids.AppId.{AppId}
 use Rattle.sc_servlets.specs.declared.lease.Lease.{Lease}
 use Rattle.sc_hosts.specs.Histories.{as_session}
-use Rattle.sc_state.specs.declared.net.Net.{Net}
-use Rattle.sc_state.specs.declared.session.Session.{Session}
 use Rattle.sc_edge.specs.Taking.{Takes, Takes_none, Takes_then}
-use Rattle.sc_model.specs.Records.{end_text, record_text, records}
+use Rattle.sc_model.specs.Records.{end_text, records}
 use Rattle.sc_hosts.specs.Runs.{AreLawful, Epoch, IsLawful, IsLawfulAfter, after_step, all_sent, all_sent_by, all_sent_from, chained, is_idle, live_count, net_of as net_after}
-use Rattle.sc_hosts.proofs.RunLaws.{sent-of-beginning}
 use Rattle.sc_recording.specs.StepTexts.{epoch_text, step_text, steps_text}
 use Rattle.sc_switch.specs.declared.refused.Epoch.{Epoch as Ended}
 use Rattle.sc_switch.specs.declared.ran.Status.{Status}
 use Rattle.sc_switch.specs.declared.ran.Status.TheVariants as statuses
 use Rattle.sc_switch.specs.Standing.{Known, net_of, whole}
 use Rattle.sc_switch.specs.Answers.{IsTurned, LeasedOf, handing, with_step}
+use Rattle.sc_switch.proofs.Standings.{sent-step}
 use Rattle.sc_terms.specs.declared.settings.Config.{Config}
 use Rattle.sc_terms.specs.declared.settings.Dar.{Dar}
 use Rattle.sc_edge.specs.Shelving.{GivesAll}
 use Rattle.sc_model.specs.Settings.{Charters}
 use Rattle.sc_replay.specs.Replaying.{IsUnset, TellsConfig, TellsTable, app_names}
+use Rattle.sc_replay.proofs.Writings.{records-append}
 use Rattle.sc_play.specs.declared.running.Counts.{Counts}
 use Rattle.sc_play.specs.Played.{IsEnd, IsPlayed, IsRecorded, IsRecording, IsRow, Lent, PlaysBack, Took, TookStep, counted, ended_text, run_output, running, steps_in, uncounted, whole_text}
 
@@ -99,27 +98,12 @@ whole-next old mid step took =
 
 -- ## What they send
 
-records-then : (first rest : List Sent) → records (first ++ rest) ≡ records first ++ records rest
-unfolding records
-records-then first rest = flat_map-append record_text first rest
-
 -- what epochs send, and then one more
 sent-next : (setup : Setup) (ended : List Epoch) (epoch : Epoch) → all_sent_by as_session setup (ended ++ epoch ∷ []) ≡ all_sent_by as_session setup ended ++ all_sent as_session setup epoch.number epoch.began epoch.journal
 unfolding all_sent_by
 sent-next setup ended epoch =
     flat_map-append (λ (e : Epoch). all_sent as_session setup e.number e.began e.journal) ended (epoch ∷ [])
     ∙ ap (λ (l : List Sent). all_sent_by as_session setup ended ++ l) (append-nil (all_sent as_session setup epoch.number epoch.began epoch.journal))
-
-sent-one : (setup : Setup) (net : Net Session) (step : Step) → all_sent_from as_session setup net (step ∷ []) ≡ (after_step as_session setup net step).sent
-unfolding all_sent_from
-sent-one setup net step = append-nil ((after_step as_session setup net step).sent)
-
--- what an epoch sends, and then one step more
-sent-step : (setup : Setup) (epoch began : ℕ) (journal : List Step) (step : Step)
-    → all_sent as_session setup epoch began (journal ++ step ∷ []) ≡ all_sent as_session setup epoch began journal ++ (after_step as_session setup (chained as_session setup epoch began journal) step).sent
-sent-step setup epoch began journal step =
-    sent-of-beginning as_session setup epoch began journal (step ∷ [])
-    ∙ ap (λ (l : List Sent). all_sent as_session setup epoch began journal ++ l) (sent-one setup (chained as_session setup epoch began journal) step)
 
 -- an epoch without steps sends nothing
 sent-none : (setup : Setup) (epoch began : ℕ) → all_sent as_session setup epoch began [] ≡ []
@@ -234,7 +218,7 @@ row-text text bytes ended old mid step text_is took bytes_is =
 -- records, and then those of more
 put-more : (first a b : Option Bytes) (before more all : List Sent) → all ≡ before ++ more → Takes first a (records before) → Takes a b (records more) → Takes first b (records all)
 put-more first a b before more all is old new =
-    subst (λ (bytes : Bytes). Takes first b bytes) (sym (ap records is ∙ records-then before more)) (Takes_then first a b (records before) (records more) old new)
+    subst (λ (bytes : Bytes). Takes first b bytes) (sym (ap records is ∙ records-append before more)) (Takes_then first a b (records before) (records more) old new)
 
 -- what was sent of a step was put, and both were counted
 put-row : (setup : Setup) (text bytes : Bytes) (old mid : Known) (step : Step) (counts next : Counts) (first a b : Option Bytes) → IsPlayed setup text old counts first a → TookStep old mid step
@@ -387,12 +371,6 @@ rows_all text at start known counts first a b within past before lawful last set
     played_all setup text known counts first a b (subst (λ (t : Bytes). IsPlayed setup t known counts first a) (ap (λ (n : ℕ). take n text) is ∙ take-length text) (before setup played)) lawful last
 
 -- ## The texts of a command
-
--- a word of the command line names a text
-pub words_text : {S : Type 0} (f : S → Bytes) (words : List S) (word : S) (at : ℕ) → at < length words → word ≡ get_or words at word → f word ≡ get_or (map f words) at []
-words_text f [] word at within is = absurd (omega (arith, within))
-words_text f (a ∷ more) word zero within is = ap f is
-words_text f (a ∷ more) word (suc at) within is = words_text f more word at (omega (arith, within)) is
 
 -- the text that is told is a recording
 pub recorded : (setup : Setup) (text : Bytes) (told first now : Option Bytes) → GivesAll text told → IsRecording setup text first now → IsRecorded setup told first now

@@ -1,2 +1,2 @@
 mod RecordLaws
-mod StepLists
+pub mod StepLists

@@ -1,7 +1,7 @@
 -- The text of the first steps of a journal.
 use Rattle.std.proofs.Common.{◌≡◌, ◌<◌, ◌+◌, ℕ, List, [], ◌∷◌, ◌++◌, take, drop, length, suc, sym, ap, subst, ◌∙◌, append_assoc, arith}
 use Rattle.std.specs.Prelude.{Option, None, Some, Result, Ok, Err, OnErr, slice_get, get_or}
-use Rattle.std.proofs.Math.Seq.{take-append_seam, take-suc}
+use Rattle.std.proofs.Math.Seq.{take-suc}
 use Rattle.std.proofs.lemmas.Grind.{flat_map-append}
 use Rattle.std.proofs.lemmas.List.{append-nil, take-append-drop}
 use Rattle.std.proofs.lemmas.Option.{none-some, slice_get-get_or, slice_get_within, get_or_from_slice_get}
@@ -9,7 +9,7 @@ use Rattle.sc_terms.specs.declared.steps.Step.{Step}
 use Rattle.sc_edge.specs.Taking.{Takes, TakesPart, Takes_none, Takes_then, TakesPart_then, TakesPart_front}
 use Rattle.sc_recording.specs.StepTexts.{step_text, steps_text}
 
-steps-append : (first rest : List Step) → steps_text (first ++ rest) ≡ steps_text first ++ steps_text rest
+pub steps-append : (first rest : List Step) → steps_text (first ++ rest) ≡ steps_text first ++ steps_text rest
 unfolding steps_text
 steps-append first rest = flat_map-append step_text first rest
 
@@ -50,14 +50,6 @@ pub steps_part : (a b c : Option (List ℕ)) (items : List Step) (at : ℕ) (ste
 steps_part a b c items at step there before now =
     subst (λ (bytes : List ℕ). TakesPart a c bytes) (sym (whole-text items at step there))
     (TakesPart_then a b c (steps_text (take at items)) (step_text step ++ steps_text (drop (suc at) items)) before (TakesPart_front b c (step_text step) (steps_text (drop (suc at) items)) now))
-
--- all items
-take_all : (items : List Step) → take (length items) items ≡ items
-take_all items = ap (λ (l : List Step). take (length items) l) (sym (append-nil items)) ∙ take-append_seam items []
-
--- all were put
-pub steps_all : (a b : Option (List ℕ)) (items : List Step) → Takes a b (steps_text (take (length items) items)) → Takes a b (steps_text items)
-steps_all a b items takes = subst (λ (l : List Step). Takes a b (steps_text l)) (take_all items) takes
 
 -- a place below the length has a step
 pub is_there : (items : List Step) (at : ℕ) → at < length items → None ≡ slice_get items at → ⊥

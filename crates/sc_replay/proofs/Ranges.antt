@@ -1,9 +1,8 @@
 -- The settings of a configuration are in range, and with a table for its applications they are a set-up.
-use Rattle.std.proofs.Common.{◌≡◌, ◌<◌, ◌≤◌, ◌&&◌, ◌||◌, ◌+◌, ℕ, suc, ℤ, pos, negsuc, Bool, true, false, not, cond, Option, None, Some, Result, Ok, Err, List, [], ◌∷◌, map, codes, length, refl, sym, ap, subst, arith}
+use Rattle.std.proofs.Common.{◌≡◌, ◌<◌, ◌≤◌, ◌&&◌, ◌||◌, ◌+◌, ℕ, suc, ℤ, pos, negsuc, Bool, true, false, not, cond, Option, None, Some, Result, Ok, Err, List, [], ◌∷◌, map, codes, length, refl, sym, subst, arith}
 use Rattle.std.specs.Prelude.{nat_le, nat_lt, option_map, option_and_then, is_some}
 use Rattle.std.specs.List.{All, find, position_or_len, list_any, list_all}
 use Rattle.std.specs.Option.{unwrap_or}
-use Rattle.std.specs.Result.{is_ok, result_unwrap_or}
 use Rattle.std.proofs.lemmas.Bool.{false≢true}
 use Rattle.std.proofs.lemmas.Bool.Decides.{nat_tests}
 use Rattle.std.proofs.lemmas.List.{length-map}
@@ -19,6 +18,7 @@ use Rattle.sc_config.specs.Documents.{document}
 use Rattle.sc_config.specs.KeyValues.{number_within, number_in}
 use Rattle.sc_config.specs.Faults.{Fault, RANGE, LONG, fault_if, are_some_tables, apps_in, app_text, is_kind, first_fault, top_fault, table_fault, wrong_apps, unknown_kind, first_refusal}
 use Rattle.sc_config.specs.ReadSettings.{settings_of, settings_in, unless_refused, config_of, app_entry, kind_place, number_at}
+use Rattle.sc_dar.proofs.Kept.{err_ok, ok_same}
 
 -- ## Numbers
 
@@ -160,12 +160,6 @@ made_in_range names top none =
       apps = subst (λ (n : ℕ). n ≤ 64) (sym (length-map (apps_in top) (app_entry names))) few;
       kinds = all_kinds names (apps_in top) (map_none _ _ kinds);
     }
-
-ok_same : {A E : Type 0} (a b : A) → ◌≡◌ {A = Result A E} (Ok a) (Ok b) → a ≡ b
-ok_same a b e = ap (λ r. result_unwrap_or r a) e
-
-err_ok : {A E : Type 0} (fault : E) (a : A) → ¬ (◌≡◌ {A = Result A E} (Err fault) (Ok a))
-err_ok fault a e = false≢true (ap is_ok e)
 
 unrefused : (names : List Bytes) (top : Members) (refusal : Option Fault) (config : Config) → first_refusal names top ≡ refusal → unless_refused refusal (config_of names top) ≡ Ok config → IsInRange names config
 unfolding unless_refused

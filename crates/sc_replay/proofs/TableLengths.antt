@@ -1,7 +1,6 @@
 -- A routing table of a text that isn't too long has few lists.
 use Rattle.std.proofs.Common.{◌≡◌, ℕ, Bool, true, false, cond, Option, Some, None, Result, Ok, Err, List, [], ◌∷◌, ◌++◌, ◌+◌, ◌<◌, ◌≤◌, ◌^◌, length, subst, refl, ap, take, get_or, ◌∙◌, arith}
 use Rattle.std.specs.Prelude.{◌==◌, nat_lt, sum_by}
-use Rattle.std.specs.Result.{is_ok, result_unwrap_or}
 use Rattle.std.specs.List.{All}
 use Rattle.std.specs.Option.{option_to_list}
 use Rattle.std.proofs.lemmas.Bool.{false≢true, lt-ltb}
@@ -12,13 +11,8 @@ use Rattle.sc_terms.specs.declared.settings.MethodList.{MethodList}
 use Rattle.sc_tokens.specs.Bytes.{Bytes}
 use Rattle.sc_tokens.specs.Cuts.{pieces, onto_first}
 use Rattle.sc_dar.specs.Lines.{Line, lines, joined, before_lines, onto_next, ended, rows, ends, drop_blanks}
-use Rattle.sc_dar.specs.Tables.{LONG, Fault, list_of, then_line, judged, table_with, table_of}
-
-ok_same : {A E : Type 0} (a b : A) → ◌≡◌ {A = Result A E} (Ok a) (Ok b) → a ≡ b
-ok_same a b e = ap (λ r. result_unwrap_or r a) e
-
-err_ok : {A E : Type 0} (fault : E) (a : A) → ¬ (◌≡◌ {A = Result A E} (Err fault) (Ok a))
-err_ok fault a e = false≢true (ap is_ok e)
+use Rattle.sc_dar.specs.Tables.{LONG, Fault, list_of, judged, table_with, table_of}
+use Rattle.sc_dar.proofs.Kept.{err_ok, ok_same, then_line_ok}
 
 -- ## Lines
 
@@ -70,11 +64,6 @@ lines_length text =
     omega (arith, a, b, c)
 
 -- ## Lists
-
-then_line_ok : {A B : Type 0} (number : ℕ) (r : Result A ℕ) (next : A → Result B Fault) (b : B) → then_line number r next ≡ Ok b → (a : A) × (r ≡ Ok a) × (next a ≡ Ok b)
-unfolding then_line
-then_line_ok number (Ok a) next b h = (a, refl, h)
-then_line_ok number (Err kind) next b h = absurd (err_ok (record { line = number; kind = kind }) b h)
 
 one_more : (earlier : List MethodList) (found : Option MethodList) → length (earlier ++ option_to_list found) ≤ length earlier + 1
 one_more earlier None = let same = length-append earlier [] in omega (arith, same)

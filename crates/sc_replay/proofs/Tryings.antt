@@ -4,7 +4,6 @@ use Rattle.std.specs.Prelude.{is_some, IfSome, Result}
 use Rattle.std.specs.Result.{is_ok}
 use Rattle.std.proofs.lemmas.Bool.{false≢true}
 use Rattle.sc_terms.specs.declared.steps.Line.{Line}
-use Rattle.sc_terms.specs.declared.steps.Line.TheVariants as lines
 use Rattle.sc_terms.specs.declared.steps.Step.{Step}
 use Rattle.sc_parts.specs.declared.setup.Setup.{Setup}
 use Rattle.sc_grammar.specs.Written.{Bytes}
@@ -12,16 +11,14 @@ use Rattle.sc_journal.specs.Kept.{Kept}
 use Rattle.sc_model.specs.Generated.{generated}
 use Rattle.sc_model.specs.Settings.{Charters}
 use Rattle.sc_edge.specs.Taking.{TakesPart_none}
-use Rattle.sc_state.specs.declared.net.Net.{Net}
-use Rattle.sc_state.specs.declared.session.Session.{Session}
 use Rattle.sc_hosts.specs.Histories.{as_session}
 use Rattle.sc_hosts.specs.Runs.{IsLawful, IsLawfulFrom, live_count, start}
-use Rattle.sc_runs.specs.Following.{DoesPart, Follows, IsPartRun, Streams, Upto, UptoFrom, no_bytes}
-use Rattle.sc_runs.specs.Hearing.{HearsPart}
+use Rattle.sc_runs.specs.Following.{Follows, Upto, UptoFrom, no_bytes}
 use Rattle.sc_moments.proofs.FollowTicks.{follows-ticks}
 use Rattle.sc_script.specs.ScriptTexts.{script_of}
 use Rattle.sc_follow.specs.Leading.{IsStoppedIn}
 use Rattle.sc_follow.specs.Moving.{IsUntaken}
+use Rattle.sc_follow.proofs.Followings.{part-none}
 use Rattle.sc_switch.specs.declared.ran.Ran.{Ran}
 use Rattle.sc_switch.specs.declared.ran.Status.{Status}
 use Rattle.sc_switch.specs.declared.ran.Status.TheVariants as statuses
@@ -50,20 +47,10 @@ never_refused n at kind text few text_is fault =
 
 -- ## What is left
 
-nothing_of : (setup : Setup) (net : Net Session) (kept : Streams) (line : Line) → DoesPart as_session setup net kept line []
-unfolding DoesPart HearsPart IsPartRun
-nothing_of setup net kept (lines.In place text) = tt
-nothing_of setup net kept (lines.Turn app) = refl
-nothing_of setup net kept lines.Run = tt
-nothing_of setup net kept (lines.Tick now) = refl
-nothing_of setup net kept (lines.Lost place) = refl
-nothing_of setup net kept (lines.Drop app) = refl
-nothing_of setup net kept lines.End = refl
-
 upto_none : (setup : Setup) (said : List Line) → Upto as_session setup said []
 unfolding Upto UptoFrom
 upto_none setup [] = refl
-upto_none setup (line ∷ later) = inl (nothing_of setup (start setup 0 0) no_bytes line)
+upto_none setup (line ∷ later) = inl (part-none setup (start setup 0 0) no_bytes line)
 
 -- all was followed, and the line was put
 left_put : (setup : Setup) (n : ℕ) (write : Type 0) (a b : Option Bytes) (said : List Line) (journal : List Step) (status : Status) → script_of (generated n) ≡ Ok said → Follows as_session setup said journal → IsPut write a b (trial_line setup n journal) status

@@ -12,7 +12,7 @@ use Rattle.sc_runs.specs.Outputs.{output, journal_records, end_line}
 use Rattle.sc_switch.specs.Standing.{Known, net_of}
 use Rattle.sc_follow.specs.Moving.{IsUntaken}
 
-records-append : (first rest : List Sent) → records (first ++ rest) ≡ records first ++ records rest
+pub records-append : (first rest : List Sent) → records (first ++ rest) ≡ records first ++ records rest
 unfolding records
 records-append first rest = flat_map-append record_text first rest
 

@@ -71,8 +71,8 @@ trial_line setup n journal =
 
 -- ## How it ends
 
--- what is left at each status, in the journal and of the line in the sink: `old` and `new` are what it
--- took before and after, and `write` says that its count of faults rose
+-- what is left at each status, in the journal and of the line in the sink: `old` and `new` are what
+-- it took before and after, and `write` says that its count of faults rose
 unfoldable pub TrialLeaves : Setup → ℕ → Type 0 → Option Bytes → Option Bytes → Status → List Step
     → Type 0
 TrialLeaves setup n write old new statuses.Done journal =
@@ -91,8 +91,8 @@ TrialLeaves setup n write old new statuses.Write journal =
     write × Replays setup (Some (generated n)) journal
     × TakesPart old new (trial_line setup n journal)
 
--- of n calls: the journal is there exactly where the settings were accepted, and it is that of a run
--- with them; else the sink took nothing
+-- of n calls: the journal is there exactly where the settings were accepted, and it is that of a
+-- run with them; else the sink took nothing
 unfoldable pub Trials : List Bytes → List Charters → ℕ → Type 0 → Option Bytes → Option Bytes
     → Status → Option (Kept Step) → Type 0
 Trials names kinds n write old new status None =

@@ -1,37 +1,16 @@
 -- The places that the answers of an edge give up, with one answer more.
-use Rattle.std.proofs.Common.{List, [], ◌∷◌, ◌++◌, refl, ap, sym, ◌∙◌, subst, append_assoc, if◌then◌else◌}
+use Rattle.std.proofs.Common.{List, [], ◌∷◌, ◌++◌, refl, sym, ◌∙◌, append_assoc}
 use Rattle.std.proofs.lemmas.List.{append-nil}
-use Rattle.sc_tokens.specs.Bytes.{Bytes}
 use Rattle.sc_value.specs.declared.ids.Place.{Place}
-use Rattle.sc_value.specs.Places.{same_place}
-use Rattle.sc_terms.specs.declared.steps.Step.{Step}
 use Rattle.sc_edge.specs.declared.edge.Polled.{Polled}
-use Rattle.sc_edge.specs.declared.edge.Polled.TheVariants as answers
-use Rattle.sc_runs.specs.Following.{IsKept, Streams}
-use Rattle.sc_runs.specs.Heard.{AllKept, Makes}
-use Rattle.sc_runs.specs.Hearing.{Hears}
+use Rattle.sc_runs.specs.Following.{Streams}
+use Rattle.sc_runs.specs.Heard.{AllKept}
+use Rattle.sc_courses.proofs.HeardLaws.{makes-same, all-same}
 use Rattle.sc_rounds.specs.GivingUp.{AllGiveUp, GivesUp}
-
-kept-same : (before before2 : Streams) (place : Place) (bytes : Bytes) (after : Streams) → AllKept before before2 → IsKept before2 place bytes after → IsKept before place bytes after
-unfolding IsKept AllKept
-kept-same before before2 place bytes after same kept other = kept other ∙ ap (λ (x : Bytes). if same_place other place then bytes else x) (same other)
-
-makes-same : (kept kept2 : Streams) (answer : Polled) (made : List Step) (after : Streams) → AllKept kept kept2 → Makes kept2 answer made after → Makes kept answer made after
-unfolding Makes AllKept
-makes-same kept kept2 (answers.Bytes place text) made after same (rest, hears, is) = (rest, subst (λ (x : Bytes). Hears place (x ++ text) made rest) (same place) hears, kept-same kept kept2 place rest after same is)
-makes-same kept kept2 (answers.End place) made after same (e, is) = (e, kept-same kept kept2 place [] after same is)
-makes-same kept kept2 (answers.Failed place) made after same (e, is) = (e, kept-same kept kept2 place [] after same is)
-makes-same kept kept2 answers.Closed made after same (e, is) = (e, λ place. is place ∙ same place)
-makes-same kept kept2 answers.NotYet made after same (e, is) = (e, λ place. is place ∙ same place)
-makes-same kept kept2 answers.Fault made after same (e, is) = (e, λ place. is place ∙ same place)
 
 gives-same : (kept kept2 : Streams) (answer : Polled) (places : List Place) (after : Streams) → AllKept kept kept2 → GivesUp kept2 answer places after → GivesUp kept answer places after
 unfolding GivesUp
 gives-same kept kept2 answer places after same (made, makes, is) = (made, makes-same kept kept2 answer made after same makes, is)
-
-all-same : (kept : Streams) → AllKept kept kept
-unfolding AllKept
-all-same kept place = refl
 
 pub give_up_more : (kept : Streams) (given : List Polled) (answer : Polled) (places mine : List Place) (mid after : Streams) → AllGiveUp kept given places mid → GivesUp mid answer mine after → AllGiveUp kept (given ++ answer ∷ []) (places ++ mine) after
 unfolding AllGiveUp

@@ -7,8 +7,6 @@ use Rattle.sc_value.specs.declared.ids.Place.{Place}
 use Rattle.sc_terms.specs.declared.steps.Bad.{Bad}
 use Rattle.sc_terms.specs.declared.steps.Step.{Step}
 use Rattle.sc_terms.specs.declared.steps.Step.TheVariants as steps
-use Rattle.sc_syntax.specs.declared.front.Front.TheVariants as fronts
-use Rattle.sc_stream.specs.Frames.{front_behind}
 use Rattle.sc_stream.specs.Hearing.{Hears as HearsNext}
 use Rattle.sc_stream.specs.declared.streams.Heard.{Heard}
 use Rattle.sc_stream.specs.declared.streams.Heard.TheVariants as heard
@@ -24,6 +22,7 @@ use Rattle.sc_outs.specs.Owing.{Owing, Tried}
 use Rattle.sc_courses.specs.Courses.{Beginning, Told}
 use Rattle.sc_courses.specs.Marks.{TellsSo}
 use Rattle.sc_courses.proofs.HeardLaws.{notes_of, tells_more}
+use Rattle.sc_courses.proofs.OnLaws.{long-hears, bad-hears}
 use Rattle.sc_rounds.specs.declared.polling.Came.{Came}
 use Rattle.sc_rounds.specs.declared.polling.Came.TheVariants as came
 use Rattle.sc_rounds.specs.declared.stepping.Core.{Core}
@@ -49,11 +48,7 @@ gave-of from edge told core streams place text made hears s = record {
   breaks = subst (λ (all : List Step). Hears place (s.on.mid place ++ text) all []) (sym (append_assoc s.on.done made (steps.Lost place ∷ []))) (s.on.on (made ++ steps.Lost place ∷ []) [] hears);
 }
 
-bad-hears : (place : Place) (bytes : Bytes) (bad : Bad) → IsBad bytes bad → Hears place bytes (steps.Bad place bad ∷ steps.Lost place ∷ []) []
-unfolding Hears
-bad-hears place bytes bad is = (refl, refl, is, refl)
-
-bad-before : (bad : Bad) (before after : Bytes) → HearsNext (heard.Bad bad) before after → IsBad before bad
+pub bad-before : (bad : Bad) (before after : Bytes) → HearsNext (heard.Bad bad) before after → IsBad before bad
 unfolding IsBad
 bad-before bad before after (front, same) = front
 
@@ -63,10 +58,6 @@ pub gave_bad : (from : Beginning) (edge : EdgeState) (told : Told) (core : Core)
 gave_bad from edge told core streams place text after bad h is hears s =
     let next : HearsNext (heard.Bad bad) (bytes_of streams place) after = rw is at hears in
     gave-of from edge told core streams place text (steps.Bad place bad ∷ []) (bad-hears place (bytes_of streams place) bad (bad-before bad (bytes_of streams place) after next)) s
-
-long-hears : (place : Place) (bytes : Bytes) → front_behind bytes ≡ fronts.Long → Hears place bytes (steps.Lost place ∷ []) []
-unfolding Hears
-long-hears place bytes front = (refl, front, refl)
 
 -- one that is too long
 pub gave_long : (from : Beginning) (edge : EdgeState) (told : Told) (core : Core) (streams : List Pending) (place : Place) (text after : Bytes) (h : Heard) → h ≡ heard.Long → HearsNext h (bytes_of streams place) after → ServesOn from edge told core streams place text

@@ -22,17 +22,18 @@ use Rattle.sc_edge.specs.declared.edge.Polled.TheVariants as answers
 use Rattle.sc_edge.specs.declared.edge.Put.{Put}
 use Rattle.sc_edge.specs.declared.edge.Put.TheVariants as put
 use Rattle.sc_runs.specs.Following.{IsKept, Streams}
-use Rattle.sc_runs.specs.Heard.{AllKept, Makes}
+use Rattle.sc_runs.specs.Heard.{Makes}
 use Rattle.sc_runs.specs.Hearing.{Hears, IsBad}
 use Rattle.sc_outs.specs.Owing.{Owing, Tried}
 use Rattle.sc_outs.specs.Stretches.{is_lost}
-use Rattle.sc_courses.proofs.HeardLaws.{notes_of}
+use Rattle.sc_courses.proofs.HeardLaws.{notes_of, all-same}
 use Rattle.sc_courses.proofs.OnLaws.{kept_here}
 use Rattle.sc_rounds.specs.declared.polling.Came.{Came}
 use Rattle.sc_rounds.specs.declared.polling.Came.TheVariants as came
 use Rattle.sc_rounds.specs.GivingUp.{GivesUp, HearsFrom, HearsOne, HearsOut, broken_by, given_up, losses, place_if}
 use Rattle.sc_rounds.specs.Polling.{GivesOn, Polls}
 use Rattle.sc_rounds.proofs.Servings.{comes_of}
+use Rattle.sc_rounds.proofs.GivingUps.{bad-before}
 
 -- ## What is kept
 
@@ -44,10 +45,6 @@ kept-by before mid after bytes rest false first later = later ∙ first
 kept-then : (before mid after : Streams) (place : Place) (bytes rest : Bytes) → IsKept before place bytes mid → IsKept mid place rest after → IsKept before place rest after
 unfolding IsKept
 kept-then before mid after place bytes rest first later other = kept-by (before other) (mid other) (after other) bytes rest (same_place other place) (first other) (later other)
-
-kept-all : (kept : Streams) → AllKept kept kept
-unfolding AllKept
-kept-all kept place = refl
 
 -- ## One message, or the last
 
@@ -93,16 +90,12 @@ unfolding HearsOne
 open_one place kept after broken h is hears still none =
     let (front, same) = rw is at hears in rw none (open-out place kept after front same still)
 
-bad-is : (bad : Bad) (before after : Bytes) → HearsNext (heard.Bad bad) before after → IsBad before bad
-unfolding IsBad
-bad-is bad before after (front, same) = front
-
 pub bad_one : {E : Type 0} (r : Result Bool E) (place : Place) (kept mid after : Streams) (bad : Bad) (h : Heard) → h ≡ heard.Bad bad → HearsNext h (kept place) (mid place) → IsKept kept place (mid place) mid → IsKept mid place [] after
     → IfOk r (λ more. more ≡ false) → IfOk r (λ more. HearsOne place kept true after more)
 unfolding HearsOne
 bad_one (Ok more) place kept mid after bad h is hears still emptied last =
     let next : HearsNext (heard.Bad bad) (kept place) (mid place) = rw is at hears in
-    rw last (bad-out place kept after bad (bad-is bad (kept place) (mid place) next) (kept-then kept mid after place (mid place) [] still emptied))
+    rw last (bad-out place kept after bad (bad-before bad (kept place) (mid place) next) (kept-then kept mid after place (mid place) [] still emptied))
 bad_one (Err cause) place kept mid after bad h is hears still emptied last = tt
 
 pub long_one : {E : Type 0} (r : Result Bool E) (place : Place) (kept mid after : Streams) (h : Heard) → h ≡ heard.Long → HearsNext h (kept place) (mid place) → IsKept kept place (mid place) mid → IsKept mid place [] after
@@ -161,15 +154,15 @@ failed_gives at kept after still = (steps.Lost at ∷ [], (refl, still), refl)
 
 closed-gives : (kept : Streams) → GivesUp kept answers.Closed [] kept
 unfolding GivesUp Makes given_up
-closed-gives kept = ([], (refl, kept-all kept), refl)
+closed-gives kept = ([], (refl, all-same kept), refl)
 
 not-yet-gives : (kept : Streams) → GivesUp kept answers.NotYet [] kept
 unfolding GivesUp Makes given_up
-not-yet-gives kept = ([], (refl, kept-all kept), refl)
+not-yet-gives kept = ([], (refl, all-same kept), refl)
 
 fault-gives : (kept : Streams) → GivesUp kept answers.Fault [] kept
 unfolding GivesUp Makes given_up
-fault-gives kept = ([], (refl, kept-all kept), refl)
+fault-gives kept = ([], (refl, all-same kept), refl)
 
 -- ## What is told of it
 
@@ -191,7 +184,7 @@ fault_on old new answer room kept is polls = told-gives old new answer got.Fault
 
 closed-by : (old new : EdgeState) (room : List ℕ) (kept : Streams) (closed : Bool) → old.is_closed ≡ closed → Polls old new got.Closed room → GivesOn old new kept [] kept
 unfolding GivesOn
-closed-by old new room kept true closed polls = inl (polls.told.1 closed, kept-all kept, refl)
+closed-by old new room kept true closed polls = inl (polls.told.1 closed, all-same kept, refl)
 closed-by old new room kept false closed polls = inr (answers.Closed, notes_of old.polled new.polled answers.Closed (polls.told.0 closed), closed-gives kept)
 
 -- after the first `Closed` none is told
@@ -202,11 +195,11 @@ closed_on old new answer room kept is polls = closed-by old new room kept old.is
 
 pub wrote_on : (old new : EdgeState) (to : Place) (before after : Owing) (answer : Put) (count : ℕ) (kept : Streams) → answer ≡ put.Wrote count → Tried old new to before after answer → GivesOn old new kept [] kept
 unfolding GivesOn
-wrote_on old new to before after answer count kept is tried = let wrote : Tried old new to before after (put.Wrote count) = rw is at tried in inl (wrote.tells, kept-all kept, refl)
+wrote_on old new to before after answer count kept is tried = let wrote : Tried old new to before after (put.Wrote count) = rw is at tried in inl (wrote.tells, all-same kept, refl)
 
 pub unwritten_on : (old new : EdgeState) (to : Place) (before after : Owing) (answer : Put) (kept : Streams) → answer ≡ put.NotYet → Tried old new to before after answer → GivesOn old new kept [] kept
 unfolding GivesOn
-unwritten_on old new to before after answer kept is tried = let none : Tried old new to before after put.NotYet = rw is at tried in inl (none.tells, kept-all kept, refl)
+unwritten_on old new to before after answer kept is tried = let none : Tried old new to before after put.NotYet = rw is at tried in inl (none.tells, all-same kept, refl)
 
 pub failed_on : (old new : EdgeState) (to : Place) (before after : Owing) (answer : Put) (kept later : Streams) → answer ≡ put.Failed → Tried old new to before after answer → IsKept kept to [] later → GivesOn old new kept [] later
 unfolding GivesOn

@@ -40,7 +40,7 @@ refused-none old (epochs.Busy n) none refuses idle number = no-least n (busy_cou
 refused-none old (epochs.Unsent n) none refuses idle number = no-more n (length old.left) refuses.2 refuses.3 (ap length none)
 refused-none old epochs.Last none refuses idle number = let last : old.epoch ≡ 4294967295 = refuses.3 in omega (arith, last, number)
 
-net-at : (known : Known) (setup : Setup) → known.setup ≡ setup → net_of known ≡ net_after as_session setup (running known)
+pub net-at : (known : Known) (setup : Setup) → known.setup ≡ setup → net_of known ≡ net_after as_session setup (running known)
 unfolding net_of net_after
 net-at known setup e = ap (λ (s : Setup). chained as_session s known.epoch known.began (whole known)) e
 

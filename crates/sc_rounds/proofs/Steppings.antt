@@ -48,7 +48,7 @@ use Rattle.sc_courses.specs.Reports.{Reports}
 use Rattle.sc_courses.proofs.ReportLaws.{counts_step, reports_listed, reports_part, reports_step, reports_turned, untold}
 use Rattle.sc_courses.specs.Seconds.{part_in}
 use Rattle.sc_rounds.specs.Serving.{Counted, Ends, EndsAsSet, EndsInSeconds, HasNoEnd, IsInSecondsNext, Reported, Runs, RunsOn, Same, SameAt, Settles, Stands, Stopped, Took, Unreported, deed, moments_after, running, timed}
-use Rattle.sc_rounds.proofs.Overs.{long_ends}
+use Rattle.sc_rounds.proofs.Overs.{long_ends, net-at}
 use Rattle.sc_rounds.proofs.Seconds.{IsInTimeAt, ends_at, next_end, seconds_at, seconds_end, seconds_handed, seconds_settled, seconds_step, seconds_told}
 use Rattle.sc_rounds.proofs.Timings.{IsLater, left_moment, lease_moment, none_withdrawn, runs_timed, taken_ticked, ticked_at, untaken_part, withdrawn_ticked}
 
@@ -109,16 +109,7 @@ reported-at from told count count2 unlisted unlisted2 old new a b c d r =
 
 -- ## Where a run ends
 
-ends-of : (from : Beginning) (edge : EdgeState) (told : Told) (core : Core) (deeds : List Deed) → Stands from edge told core deeds → Ends from edge told core.switch deeds
-ends-of from edge told core deeds s = record { runs = s.runs; cut = cut_of from.edge edge deeds core.outs [] s.puts; ticked = ticked_part from.moments deeds (net_of core.switch).moment s.ticked; counts = s.reports.counts; seconds = seconds_end from told core s.seconds }
-
-pub same_ends : (from : Beginning) (edge : EdgeState) (told : Told) (core : Core) (deeds : List Deed) → Stands from edge told core deeds → Ends from edge told core.switch deeds
-same_ends = ends-of
-
 -- ## A step
-
-abbrev stepped-core : Core → Known → Core
-stepped-core mid switch = record mid { switch = switch }
 
 step-stands : (step : Step) (mid : Core) (switch : Known) (new : Core) (told told2 : Told) → switch ≡ with_step mid.switch step → IsLater (net_of mid.switch).moment step → IsInTimeAt mid step → Settles (record mid { switch = switch }) new told told2
     → (from : Beginning) (edge : EdgeState) (deeds : List Deed) → (waits_for_end step ≡ true → HasToEnd from.setup (running mid.switch) → ⊥) → Stands from edge told mid deeds → (sent : List Sent) × Stands (timed step from) edge told2 new (deeds ++ deed step sent false ∷ [])
@@ -300,10 +291,6 @@ unordered-by order core told none from edge deeds s = record {
 -- it is of another epoch
 pub other_epoch : (order : Order) (core : Core) (told : Told) → order.epoch ≢ core.switch.epoch → Unordered (Some order) core core told told
 other_epoch order core told other = unordered-by order core told (λ setup point _ is. is_for_later setup point order (λ same. other (same ∙ ap (λ (epoch : Epoch). epoch.number) is)))
-
-net-at : (known : Known) (setup : Setup) → known.setup ≡ setup → net_of known ≡ net_after as_session setup (running known)
-unfolding net_of net_after
-net-at known setup e = ap (λ (s : Setup). chained as_session s known.epoch known.began (whole known)) e
 
 gone-order : (core : Core) (told : Told) (app : AppId) → is_some (live_at app (net_of core.switch)) ≡ false → Unordered (Some (order_at core app)) core core told told
 gone-order core told app gone = unordered-by (order_at core app) core told (λ setup point e is. is_for_gone setup point (order_at core app)

@@ -1,5 +1,5 @@
 -- Each place that is given up is closed, as a server goes on.
-use Rattle.std.proofs.Common.{◌≡◌, ◌==◌, ◌<◌, ◌-◌, ℕ, Bool, true, Option, None, Some, List, [], ◌∷◌, ◌++◌, append_assoc, refl, sym, ap, ◌∙◌, subst, inl, inr, arith}
+use Rattle.std.proofs.Common.{◌≡◌, ◌==◌, ◌<◌, ◌-◌, ℕ, Bool, true, Option, List, [], ◌∷◌, ◌++◌, append_assoc, sym, ap, ◌∙◌, subst, inl, inr, arith}
 use Rattle.std.specs.Prelude.{IsPermutation, length, slice_index_or}
 use Rattle.std.specs.List.{swap_remove}
 use Rattle.std.proofs.lemmas.Bool.Decides.{nat_tests}
@@ -13,7 +13,7 @@ use Rattle.sc_edge.specs.declared.edge.Polled.{Polled}
 use Rattle.sc_runs.specs.Following.{Streams, no_bytes}
 use Rattle.sc_runs.specs.Heard.{AllKept}
 use Rattle.sc_courses.specs.Marks.{TellsSo}
-use Rattle.sc_courses.proofs.HeardLaws.{tells_more}
+use Rattle.sc_courses.proofs.HeardLaws.{tells_more, tells-none}
 use Rattle.sc_rounds.specs.GivingUp.{broken_by}
 use Rattle.sc_rounds.specs.Polling.{GivesOn}
 use Rattle.sc_rounds.specs.declared.polling.Came.{Came}
@@ -24,11 +24,6 @@ use Rattle.sc_serve.proofs.Closings.{closed_more, closed_none}
 
 -- ## Where a run begins
 
-told-none : (told : Option (List Polled)) → TellsSo told told []
-unfolding TellsSo
-told-none None = refl
-told-none (Some items) = inl (ap (λ (xs : List Polled). Some xs) (sym (append-nil items)))
-
 none-kept : (streams : Streams) → ((place : Place) → streams place ≡ []) → AllKept no_bytes streams
 unfolding AllKept
 none-kept streams none place = none place
@@ -36,7 +31,7 @@ none-kept streams none place = none place
 pub all_begin : (edge : EdgeState) (streams : Streams) (waiting : List Place) → ((place : Place) → streams place ≡ []) → waiting ≡ [] → ClosesAll edge edge streams waiting
 all_begin edge streams waiting empty none = subst (λ (places : List Place). ClosesAll edge edge streams places) (sym none) (record {
   given = [];
-  told = told-none edge.polled;
+  told = tells-none edge.polled;
   places = [];
   gave = give_up_none no_bytes streams (none-kept streams empty);
   closed = [];

@@ -1,6 +1,6 @@
 -- What the parts of a round do, one after the other.
 use Rattle.std.proofs.Common.{◌≡◌, ◌≤◌, ℕ, suc, Option, List, [], ◌∷◌, ◌++◌, append_assoc, refl, sym, ap, ◌∙◌, subst, inl, inr, arith}
-use Rattle.std.specs.Prelude.{◌⊎◌, Result, Ok, Err, IfErr, length}
+use Rattle.std.specs.Prelude.{◌⊎◌, Result, Ok, length}
 use Rattle.std.proofs.lemmas.List.{append-nil, length-append}
 use Rattle.std.proofs.lemmas.List.Elements.{All-append}
 use Rattle.std.specs.List.{All}
@@ -63,10 +63,6 @@ unfolding Blames
 blames_after a b c stops.JournalFull counts is = tt
 blames_after a b c stops.Edge counts is = Rose_after a.faults b.faults c.faults counts.0 is
 blames_after a b c stops.NoMemory counts is = tt
-
-pub if_blames_after : {A : Type 0} (r : Result A Stop) (a b c : EdgeState) → CountsOn a b → IfErr r (λ cause. Blames b c cause) → IfErr r (λ cause. Blames a c cause)
-if_blames_after (Ok x) a b c counts is = tt
-if_blames_after (Err cause) a b c counts is = blames_after a b c cause counts is
 
 -- ## One after the other
 

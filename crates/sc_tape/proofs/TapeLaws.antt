@@ -13,7 +13,8 @@ use Rattle.sc_hosts.specs.Runs.{Epoch}
 use Rattle.sc_play.specs.Played.{ended_text, whole_text}
 use Rattle.sc_recorder.specs.Recorded.{IsRecorded, noted_text, told_text}
 use Rattle.sc_recorder.specs.declared.writing.Unrecorded.{Unrecorded}
-use Rattle.sc_recording.specs.StepTexts.{epoch_text, step_text, steps_text}
+use Rattle.sc_recorder.proofs.StepLists.{steps-append}
+use Rattle.sc_recording.specs.StepTexts.{epoch_text, steps_text}
 use Rattle.sc_switch.specs.declared.ran.Ran.{Ran}
 use Rattle.sc_switch.specs.declared.ran.Status.{Status}
 use Rattle.sc_tape.specs.Taped.{IsRecordingOf, IsTaped, kept_text, status_after}
@@ -21,10 +22,6 @@ use Rattle.sc_tape.specs.Taped.{IsRecordingOf, IsTaped, kept_text, status_after}
 -- the text of epochs that ended, and of steps of the one that runs
 abbrev telling-text : Telling → Bytes
 telling-text telling = ended_text telling.ended ++ steps_text telling.handed
-
-steps-append : (xs ys : List Step) → steps_text (xs ++ ys) ≡ steps_text xs ++ steps_text ys
-unfolding steps_text
-steps-append xs ys = flat_map-append step_text xs ys
 
 ended-one : (ended : List Epoch) (epoch : Epoch) → ended_text (ended ++ epoch ∷ []) ≡ ended_text ended ++ (steps_text epoch.journal ++ epoch_text epoch.number epoch.began)
 unfolding ended_text whole_text

@@ -1,6 +1,6 @@
 use Rattle.std.proofs.Common.{arith}
 use Rattle.std.specs.Prelude.{string_bytes}
-use Rattle.sc_play.proofs.PlayLaws.{words_text}
+use Rattle.sc_replay.proofs.Words.{words_text}
 use Rattle.sc_play.proofs.playing.texts_of.Goals as goal
 
 pub returns-then-is_play-clause-config : goal.returns-then-is_play-clause-config
