@@ -3,6 +3,7 @@ use Rattle.std.proofs.Common.{◌≡◌, ◌⊎◌, inl, inr, ℕ, ◌++◌, ◌
 use Rattle.std.specs.Prelude.{◌&&◌, ◌||◌, cond, filter, is_none, is_some, map, not, option_and_then, unwrap_or}
 use Rattle.std.specs.List.{find, flat_map, fold}
 use Rattle.std.specs.Option.{option_map_or}
+use Rattle.std.proofs.lemmas.Bool.{and_parts}
 use Rattle.sc_tokens.specs.Names.{same_bytes}
 use Rattle.sc_value.specs.declared.ids.ReqId.{ReqId}
 use Rattle.sc_value.specs.declared.ids.SessId.{SessId}
@@ -64,18 +65,10 @@ unfoldable pub Gives : (ℕ → Incoming → Type 0) → (ℕ → Type 0) → Or
 Gives By Passed (orders.Respond number response) = ((came : Incoming) × By number came × IsAnswerTo came response) ⊎ Passed number
 Gives By Passed order = Unit {0}
 
-left-true : (a b : Bool) → (a && b) ≡ true → a ≡ true
-left-true true b is = refl
-left-true false b is = cc
-
-right-true : (a b : Bool) → (a && b) ≡ true → b ≡ true
-right-true true b is = is
-right-true false b is = cc
-
 owed-received : (request : RequestView) → is_owed request ≡ true → request.received ≡ true
 unfolding is_owed
 owed-received request owed =
-    left-true request.received (is_none request.answered) (left-true (request.received && is_none request.answered) (not (same_bytes request.method ack)) owed)
+    (and_parts request.received (is_none request.answered) (and_parts (request.received && is_none request.answered) (not (same_bytes request.method ack)) owed).0).0
 
 module _ (By : ℕ → Incoming → Type 0) (Passed : ℕ → Type 0) where
   abbrev pub AllGive : List Order → Type 0
@@ -150,7 +143,7 @@ module _ (By : ℕ → Incoming → Type 0) (Passed : ℕ → Type 0) where
   unfolding goodbyes
   goodbyes-give config view known test of =
       all-both (Gives By Passed) (flat_map (owed_answer config view known) (filter (λ (r : RequestView). test r.sess && is_owed r) view.requests)) _
-      (owed-give config view known (λ (r : RequestView). test r.sess && is_owed r) view.requests (λ r is. owed-received r (right-true (test r.sess) (is_owed r) is)) of)
+      (owed-give config view known (λ (r : RequestView). test r.sess && is_owed r) view.requests (λ r is. owed-received r (and_parts (test r.sess) (is_owed r) is).1) of)
       (ended-give (in_order (invite_branches test known)))
 
   -- ## Other calls respond nothing
@@ -256,7 +249,7 @@ module _ (By : ℕ → Incoming → Type 0) (Passed : ℕ → Type 0) where
   fault-gives config test None working is ok all = all
   fault-gives config test (Some request) working is ok all =
       if-gives (is_owed request && not request.proxied) (in_view (answered (Some request) 500 working.play.view) (answering config (Some request) (bare_answer 500 server_error) working)) working
-      (λ owed. answering-gives config request (bare_answer 500 server_error) working (owed-received request (left-true (is_owed request) (not request.proxied) owed)) (shown-of test working request is ok) all)
+      (λ owed. answering-gives config request (bare_answer 500 server_error) working (owed-received request (and_parts (is_owed request) (not request.proxied) owed).0) (shown-of test working request is ok) all)
       (λ not. all)
 
   event-gives : (config : Config) (req : Option ReqId) (working : Working) → OfIn working → AllGive working.orders → AllGive (fault_at config (option_and_then (request_in working.play.view) req) working).orders

@@ -2,6 +2,7 @@
 use Rattle.std.proofs.Common.{◌≡◌, ℕ, ◌==◌, ◌++◌, Bool, true, false, Option, None, Some, List, [], ◌∷◌, refl, subst, sym}
 use Rattle.std.specs.Prelude.{◌&&◌, ◌||◌, cond, filter, is_none, is_some, map, not, option_and_then}
 use Rattle.std.specs.List.{find, fold}
+use Rattle.std.proofs.lemmas.Bool.{and_from, and_parts}
 use Rattle.sc_tokens.specs.Names.{same_bytes}
 use Rattle.sc_value.specs.declared.ids.ReqId.{ReqId}
 use Rattle.sc_value.specs.declared.ids.SessId.{SessId}
@@ -58,28 +59,16 @@ orders_at working = working.orders
 
 -- ## After a fault
 
-left-true : (a b : Bool) → (a && b) ≡ true → a ≡ true
-left-true true b is = refl
-left-true false b is = cc
-
-right-true : (a b : Bool) → (a && b) ≡ true → b ≡ true
-right-true true b is = is
-right-true false b is = cc
-
-both-true : (a b : Bool) → a ≡ true → b ≡ true → (a && b) ≡ true
-both-true true b p q = q
-both-true false b p q = cc
-
 -- what is owed is kept
 owed-is : (came : List Came) (test : RequestView → Bool) (working : Working) (request : RequestView) → find test working.play.view.requests ≡ Some request → is_owed request ≡ true → InTurn working → FineIn came working
     → IsKept working.known.kept request.id × HasCome came request.id.0
 unfolding is_owed lacks_final
 owed-is came test working request is owed ok fine =
-    let open_one = left-true (request.received && is_none request.answered) (not (same_bytes request.method ack)) owed in (
-      owed-kept working.known.kept request (found-held test working request is ok) (left-true request.received (is_none request.answered) open_one)
-          (both-true (is_none request.answered) (not (same_bytes request.method ack)) (right-true request.received (is_none request.answered) open_one)
-          (right-true (request.received && is_none request.answered) (not (same_bytes request.method ack)) owed)),
-      all-found (IsCome came) test working.play.view.requests request is fine.1 (left-true request.received (is_none request.answered) open_one),
+    let open_one = (and_parts (request.received && is_none request.answered) (not (same_bytes request.method ack)) owed).0 in (
+      owed-kept working.known.kept request (found-held test working request is ok) (and_parts request.received (is_none request.answered) open_one).0
+          (and_from (is_none request.answered) (not (same_bytes request.method ack)) (and_parts request.received (is_none request.answered) open_one).1
+          (and_parts (request.received && is_none request.answered) (not (same_bytes request.method ack)) owed).1),
+      all-found (IsCome came) test working.play.view.requests request is fine.1 (and_parts request.received (is_none request.answered) open_one).0,
     )
 
 answered-sends : (came : List Came) (config : Config) (request : RequestView) (code : ℕ) (answer : Answer) (working : Working) → answer.code ≡ code → IsKept working.known.kept request.id × HasCome came request.id.0 → FineIn came working
@@ -97,7 +86,7 @@ fault-sends came config test None working is ok fit = sends-same came working.or
 fault-sends came config test (Some request) working is ok fit =
     if-sends came orders_at (is_owed request && not request.proxied) working.orders (answer_to working.play.view (Some request) 500) []
     (in_view (answered (Some request) 500 working.play.view) (answering config (Some request) (bare_answer 500 server_error) working)) working
-    (λ owed. answered-sends came config request 500 (bare_answer 500 server_error) working (bare-code 500 server_error) (owed-is came test working request is (left-true (is_owed request) _ owed) ok fit) fit)
+    (λ owed. answered-sends came config request 500 (bare_answer 500 server_error) working (bare-code 500 server_error) (owed-is came test working request is (and_parts (is_owed request) _ owed).0 ok fit) fit)
     (λ not. sends-same came working.orders)
 
 event-sends : (came : List Came) (config : Config) (req : Option ReqId) (working : Working) → InTurn working → FineIn came working
