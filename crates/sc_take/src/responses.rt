@@ -2,7 +2,7 @@
 
 ghost use Rattle.std.specs.Prelude.{◌≡◌, IfOk};
 ghost use Rattle.sc_value.specs.declared.message.Message.{Message};
-ghost use Rattle.sc_hosts.specs.Messages.{cancel_of};
+ghost use Rattle.sc_hosts.specs.Messages.{cancel_of, without_via};
 ghost use Rattle.sc_hosts.specs.Inboxes.{replying};
 ghost use Rattle.sc_hosts.specs.TakingResponses.{told, told_by, cancelling, with_reply, response_for, response_to, take_response};
 ghost use Rattle.sc_hosts.specs.Transacting.{client_for, with_client};
@@ -14,8 +14,45 @@ use sc_parts::{ClientItem, ClientOut};
 use sc_state::{Client, Host, Peer, Queued, Session};
 use sc_terms::Config;
 use sc_transact::{client_for, is_cancel_client, out_of_client, pass_client, with_client};
-use sc_value::{CloneIn, List, NoMemory, Response, Shared};
+use sc_value::{CloneIn, Head, List, NoMemory, Response, Same, Shared};
 use std::alloc::Global;
+
+// What is the same as a transaction's own has the transaction's owner from now on. Where the count
+// of its owners is full, nothing is changed.
+fn share<T: Same + CloneIn>(alloc: Global, own: &T, item: &mut T)
+    ensures { item.new ≡ item.old }
+{
+    if own.same(item) {
+        match own.clone_in(alloc) {
+            Ok(copy) => *item = copy,
+            Err(NoMemory) => {}
+        }
+    }
+}
+
+// A response repeats its request's From, Call-ID and Record-Route (RFC 3261 sections 8.2.6.2 and
+// 12.1.1), which are kept once.
+fn share_head(alloc: Global, own: &Head, head: &mut Head)
+    ensures { head.new ≡ head.old }
+{
+    share(alloc, &own.from, &mut head.from);
+    share(alloc, &own.call_id, &mut head.call_id);
+    share(alloc, &own.record_route, &mut head.record_route);
+}
+
+// The response as its session gets it: without the own Via, whose room goes too. One from outside
+// was read anew; one of another host has the owners of its request already.
+fn told_response(alloc: Global, client: &Client, response: &Response) -> Result<Response, NoMemory>
+    ensures { IfOk result (λ r. r ≡ without_via response.now) }
+{
+    let mut copy = without_via(alloc, response)?;
+    copy.head.via.items.shrink_to_fit();
+    match client.peer {
+        Peer::Outside(_) => share_head(alloc, &client.request.get().head, &mut copy.head),
+        Peer::Inside(_) | Peer::Nowhere => {}
+    }
+    Ok(copy)
+}
 
 // A provisional response finds no room in a full inbox, and the answer to a CANCEL tells nobody
 // anything.
@@ -34,7 +71,7 @@ fn told(
     if is_cancel_client(client) || (response.code <= 199 && is_full_at(client.app.serial, host)) {
         return Ok(quiet(count));
     }
-    let response = Shared::new(alloc, without_via(alloc, response)?)?;
+    let response = Shared::new(alloc, told_response(alloc, client, response)?)?;
     let event = Queued::Response {
         branch: client.branch,
         response,
