@@ -1,13 +1,17 @@
 //! The two sides of a dialog, as later requests write them (RFC 3261 section 12.2.1.1).
 
-ghost use Rattle.std.specs.Prelude.{◌≡◌, [], ◌∷◌, None, Some, IfOk, true};
+ghost use Rattle.std.specs.Prelude.{◌≡◌, ◌&&◌, [], ◌∷◌, None, Some, IfOk, IsTrue, is_some, true};
 ghost use Rattle.sc_tokens.specs.HeaderTokens.{is_param_text};
+ghost use Rattle.sc_tokens.specs.Names.{same_bytes};
 ghost use Rattle.sc_tokens.specs.Tokens.{is_one_line};
 ghost use Rattle.sc_value.specs.ParamRules.{AreHeaderParams};
-ghost use Rattle.sc_model.specs.Dialogs.{bare, tag_of};
+ghost use Rattle.sc_value.specs.Params.{param_value, tag_name};
+ghost use Rattle.sc_model.specs.Dialogs.{bare, tag_of, tag_params};
 ghost use Rattle.sc_model.specs.Responses.{tag_param};
 
-use sc_value::{Address, CloneIn, Head, List, NoMemory, Param, Shared, Text, Uri, is_token, tag};
+use sc_value::{
+    Address, CloneIn, Head, List, NoMemory, Param, Same, Shared, Text, Uri, is_token, tag,
+};
 use std::alloc::Global;
 
 /// Both sides of a dialog.
@@ -34,7 +38,7 @@ pub fn called_sides(alloc: Global, head: &Head, tag: &[u8]) -> Result<Sides, NoM
         return Err(NoMemory);
     }
     let local = Shared::new(alloc, tagged_side(alloc, &head.to.uri, tag)?)?;
-    let remote = Shared::new(alloc, side_of(alloc, &head.from.uri, &head.from)?)?;
+    let remote = own_side(alloc, &head.from)?;
     Ok(Sides { local, remote })
 }
 
@@ -48,9 +52,65 @@ pub fn calling_sides(alloc: Global, own: &Head, peer: &Head) -> Result<Sides, No
           remote = bare own.now.to.uri (tag_of peer.now.to);
         }) }
 {
-    let local = Shared::new(alloc, side_of(alloc, &own.from.uri, &own.from)?)?;
-    let remote = Shared::new(alloc, side_of(alloc, &own.to.uri, &peer.to)?)?;
+    let local = own_side(alloc, &own.from)?;
+    let remote = peer_side(alloc, &own.to, &peer.to)?;
     Ok(Sides { local, remote })
+}
+
+/// The side of an address with its own tag. Where the address is written so already, it gets one
+/// owner more.
+fn own_side(alloc: Global, address: &Shared<Address>) -> Result<Shared<Address>, NoMemory>
+    ensures { IfOk result (λ a. a ≡ bare address.now.uri (tag_of address.now)) }
+{
+    if is_bare(address.get()) {
+        return address.clone_in(alloc);
+    }
+    let side = side_of(alloc, &address.get().uri, address.get())?;
+    Shared::new(alloc, side)
+}
+
+/// The side of a peer that is asked by one address, and gives its tag in another. Where the other
+/// is written so already, it gets one owner more.
+#[tactic(auto, using(crate::proofs::BareSides::bare_at))]
+fn peer_side(
+    alloc: Global,
+    asked: &Shared<Address>,
+    given: &Shared<Address>,
+) -> Result<Shared<Address>, NoMemory>
+    ensures { IfOk result (λ a. a ≡ bare asked.now.uri (tag_of given.now)) }
+{
+    if is_bare(given.get()) && given.get().uri.same(&asked.get().uri) {
+        return given.clone_in(alloc);
+    }
+    let side = side_of(alloc, &asked.get().uri, given.get())?;
+    Shared::new(alloc, side)
+}
+
+/// Whether the address has no display, and no parameter but a tag that has a value: it is then
+/// written as later requests write it.
+#[tactic(auto, using(crate::proofs::BareSides::bare_address))]
+fn is_bare(address: &Address) -> bool
+    ensures { IsTrue result → address.now ≡ bare address.now.uri (tag_of address.now) }
+{
+    address.display.is_none() && is_tag_alone(address.params.as_slice())
+}
+
+#[tactic(auto, using(crate::proofs::BareSides::tag_alone))]
+fn is_tag_alone(params: &[Param]) -> bool
+    ensures { IsTrue result → params.now ≡ tag_params (param_value tag_name params.now) }
+{
+    match params.first() {
+        Some(param) => params.len() == 1 && is_plain_tag(param),
+        None => false,
+    }
+}
+
+/// Whether it is a tag with a value, and its name has small letters alone.
+#[tactic(auto, unfolding(sc_value::specs::Params::tag_name))]
+fn is_plain_tag(param: &Param) -> bool
+    ensures { result ≡ (same_bytes param.now.name tag_name && is_some param.now.value) }
+{
+    param.name.as_bytes() == b"tag".as_slice() && param.value.is_some()
 }
 
 /// `<URI>;tag=..`, with the tag of this address, without one where that has none.
