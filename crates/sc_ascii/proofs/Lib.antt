@@ -1,2 +1,3 @@
+pub mod BlankSteps
 pub mod DigitSteps
 pub mod Closings

@@ -1,26 +1,12 @@
 //! Texts cut at a sign, and blanks.
 
-ghost use Rattle.std.specs.Prelude.{◌≡◌, ◌≤◌, ◌<◌, ◌==◌, ◌+◌, IfSome, IsTrue, None, length};
-ghost use Rattle.std.specs.List.{position_or_len};
+ghost use Rattle.std.specs.Prelude.{◌≡◌, ◌≤◌, ◌<◌, IfSome, IsTrue, None, length};
 ghost use Rattle.std.specs.Option.{option_copied};
-ghost use Rattle.sc_tokens.specs.Tokens.{is_blank};
-ghost use Rattle.sc_tokens.specs.Cuts.{has, before, after};
-ghost use Rattle.sc_tokens.specs.Hosts.{begins};
+ghost use Rattle.sc_tokens.specs.Cuts.{before, after};
 ghost use Rattle.sc_dar.specs.Lines.{drop_blanks, is_blank_text, ends, without_last};
 ghost use Rattle.sc_dar.specs.Tuples.{behind};
 
-// The first place of the sign, or the length.
-fn place_or_len(text: &[u8], sign: u8) -> usize
-    ensures exact { result ≡ position_or_len (λ b. b == sign) text.now }
-    ensures within { result ≤ length text.now }
-{
-    for i in 0..text.len() {
-        if text[i] == sign {
-            return i;
-        }
-    }
-    text.len()
-}
+use sc_ascii::{begins, is_blank, place_or_len};
 
 // What stands before the first such sign, or all, and what stands after it, where there is one.
 #[tactic(auto, unfolding(sc_tokens::specs::Cuts::before, sc_tokens::specs::Cuts::after))]
@@ -35,24 +21,6 @@ pub fn cut(text: &[u8], sign: u8) -> (&[u8], Option<&[u8]>)
         (text, None)
     } else {
         (&text[..place], Some(&text[place + 1..]))
-    }
-}
-
-#[tactic(auto, unfolding(sc_tokens::specs::Cuts::has))]
-pub fn has(text: &[u8], sign: u8) -> bool
-    ensures { result ≡ has sign text.now }
-{
-    text.contains(&sign)
-}
-
-#[tactic(auto, unfolding(sc_tokens::specs::Hosts::begins))]
-pub fn begins(text: &[u8], sign: u8) -> bool
-    ensures exact { result ≡ begins sign text.now }
-    ensures within { IsTrue result → 0 < length text.now }
-{
-    match text.first() {
-        Some(first) => *first == sign,
-        None => false,
     }
 }
 
@@ -95,13 +63,6 @@ pub fn is_blank_text(text: &[u8]) -> bool
     ensures { result ≡ is_blank_text text.now }
 {
     text.iter().all(|b| is_blank(*b))
-}
-
-#[tactic(auto, unfolding(sc_tokens::specs::Tokens::is_blank))]
-fn is_blank(b: u8) -> bool
-    ensures { result ≡ is_blank b }
-{
-    b == b' ' || b == b'\t'
 }
 
 // What stands behind the sign at the front of the text, past blanks.

@@ -4,7 +4,8 @@ ghost use Rattle.std.specs.Prelude.{◌≡◌, ◌≤◌, ◌<◌, ◌+◌, ◌+
 ghost use Rattle.sc_tokens.specs.Hosts.{begins};
 ghost use Rattle.sc_dar.specs.Lines.{without_cr, rows, lines, is_comment};
 
-use crate::cuts::{begins, cut, drop_blanks, ends, without_last};
+use crate::cuts::{cut, drop_blanks, ends, without_last};
+use sc_ascii::begins;
 use sc_value::{NoMemory, Text};
 use std::alloc::Global;
 

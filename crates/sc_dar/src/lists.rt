@@ -7,11 +7,11 @@ ghost use Rattle.sc_terms.specs.RoutingTables.{is_listed};
 ghost use Rattle.sc_dar.specs.Tables.{has_separator, list_in, list_of};
 ghost use Rattle.sc_dar.specs.Answers.{IsRead};
 
-use crate::cuts::{begins, drop_blanks};
+use crate::cuts::drop_blanks;
 use crate::lines::is_comment;
 use crate::tuples::tuples_in;
 use crate::unread::{DOUBLE_METHOD, NO_SEPARATOR, Unread};
-use sc_ascii::token_end;
+use sc_ascii::{begins, token_end};
 use sc_terms::MethodList;
 use sc_value::Text;
 use std::alloc::Global;

@@ -5,7 +5,8 @@ ghost use Rattle.std.specs.Option.{option_copied};
 ghost use Rattle.sc_dar.specs.Lines.{is_blank_text};
 ghost use Rattle.sc_dar.specs.Tuples.{parts, parts_after, first_six, closed, quoted, is_closing, behind_tuple, is_parted, opening, unquoted};
 
-use crate::cuts::{behind, cut, has, is_blank_text};
+use crate::cuts::{behind, cut, is_blank_text};
+use sc_ascii::has;
 use std::marker::Model;
 
 // The six texts of a tuple, with or without their quotes.

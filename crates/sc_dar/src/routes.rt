@@ -6,8 +6,9 @@ ghost use Rattle.sc_syntax.specs.Uris.{uri_of};
 ghost use Rattle.sc_dar.specs.Tuples.{BAD_ROUTE as bad_route, given, sip_route, unbracketed, route_of};
 ghost use Rattle.sc_dar.specs.Answers.{IsRead};
 
-use crate::cuts::{begins, cut};
+use crate::cuts::cut;
 use crate::unread::{BAD_ROUTE, Unread};
+use sc_ascii::begins;
 use sc_uri_text::UriRefused;
 use sc_value::{Address, Discard, List, Uri};
 use std::alloc::Global;

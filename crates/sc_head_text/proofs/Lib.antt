@@ -1,5 +1,4 @@
 pub mod PartSteps
-pub mod BlankSteps
 pub mod LineParts
 pub mod ValueSteps
 pub mod ReadValues

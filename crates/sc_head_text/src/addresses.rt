@@ -14,10 +14,10 @@ ghost use Rattle.sc_value.specs.ContactRules.{IsContact};
 ghost use Rattle.sc_head_text.specs.Seen.{seen};
 
 use crate::Unread;
-use crate::blanks::trim;
 use crate::named::{Named, split_named};
 use crate::params::read_params;
 use crate::parts::{Readable, read_parts, split_part};
+use sc_ascii::trim;
 use sc_syntax::Scan;
 use sc_uri_text::copy_of;
 use sc_value::{Address, Contact, List, Param};

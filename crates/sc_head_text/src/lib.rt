@@ -4,7 +4,6 @@
 #![tactic(auto)]
 
 mod addresses;
-mod blanks;
 mod laws;
 mod named;
 mod params;
@@ -13,6 +12,7 @@ mod scanning;
 mod sequences;
 mod unread;
 mod vias;
+mod words;
 
 pub use addresses::{read_address, read_addresses, read_contacts};
 pub use laws::written_is_read;

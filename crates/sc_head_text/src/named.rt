@@ -7,9 +7,7 @@ ghost use Rattle.sc_tokens.specs.HeaderTokens.{is_display_byte};
 ghost use Rattle.sc_syntax.specs.Addresses.{enclosed, in_brackets, named_in, quoted_named, token_named, unless_empty};
 ghost use Rattle.sc_head_text.specs.Seen.{seen};
 
-use crate::blanks::{is_blank, trim};
-use sc_ascii::{is_token_byte, quoted_end};
-use sc_uri_text::{begins, cut};
+use sc_ascii::{begins, cut, is_blank, is_token_byte, quoted_end, trim};
 
 // The display, where there is one, and the text of the URI.
 #[derive(Clone, Copy)]

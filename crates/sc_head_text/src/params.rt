@@ -11,11 +11,10 @@ ghost use Rattle.sc_head_text.specs.Answers.{Gives};
 ghost use Rattle.sc_head_text.specs.Parts.{parts_behind};
 
 use crate::Unread;
-use crate::blanks::trim;
 use crate::parts::{Readable, read_parts};
-use sc_ascii::{is_token_byte, quoted_end};
+use sc_ascii::{cut, is_token_byte, quoted_end, trim};
 use sc_syntax::Scan;
-use sc_uri_text::{copy_of, cut};
+use sc_uri_text::copy_of;
 use sc_value::{List, Param, Text, is_token};
 use std::alloc::Global;
 

@@ -3,7 +3,7 @@
 ghost use Rattle.std.specs.Prelude.{◌≡◌};
 ghost use Rattle.sc_syntax.specs.Scanning.{in_string, is_outside, is_part_end, past, past_bracketed, past_front, past_params, past_word};
 
-use crate::blanks::is_blank;
+use sc_ascii::is_blank;
 use sc_syntax::Scan;
 
 // Where the scan stands behind the byte.

@@ -8,8 +8,8 @@ ghost use Rattle.sc_head_text.specs.Answers.{Gives, GivesSpelled};
 ghost use Rattle.sc_value.specs.SequenceValues.{IsCSeq};
 
 use crate::Unread;
-use crate::blanks::{split_word, trim};
-use sc_ascii::read_u64;
+use crate::words::split_word;
+use sc_ascii::{read_u64, trim};
 use sc_value::{CSeq, Token, is_token};
 use std::alloc::Global;
 

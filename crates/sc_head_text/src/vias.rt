@@ -14,11 +14,12 @@ ghost use Rattle.sc_value.specs.ParamRules.{AreHeaderParams};
 ghost use Rattle.sc_value.specs.ViaValues.{IsVia};
 
 use crate::Unread;
-use crate::blanks::{split_word, trim};
 use crate::params::read_params;
 use crate::parts::{Readable, read_parts, split_part};
+use crate::words::split_word;
+use sc_ascii::{cut, trim};
 use sc_syntax::Scan;
-use sc_uri_text::{cut, read_sent};
+use sc_uri_text::read_sent;
 use sc_value::{List, NoMemory, Param, Text, Via, is_token};
 use std::alloc::Global;
 

@@ -1,9 +1,8 @@
 -- Parts of texts and of heads, as the code reads them.
-use Rattle.std.specs.Prelude.{ℕ, List, [], ◌∷◌, Bool, true, false, ◌&&◌, ◌||◌, Option, None, Some, drop}
-use Rattle.std.specs.List.{list_any, prefix_len}
+use Rattle.std.specs.Prelude.{ℕ, List, [], ◌∷◌, Bool, true, false, ◌&&◌, ◌||◌, Option, None, Some}
+use Rattle.std.specs.List.{list_any}
 use Rattle.sc_value.specs.declared.parts.Field.{Field}
 use Rattle.sc_tokens.specs.Names.{same_name}
-use Rattle.sc_tokens.specs.Tokens.{is_blank}
 use Rattle.sc_grammar.specs.Written.{Bytes}
 use Rattle.sc_tokens.specs.Cuts.{pieces}
 use Rattle.sc_hosts.specs.HelperParts.{items_of, require_word, supported_word}
@@ -12,10 +11,6 @@ use Rattle.sc_hosts.specs.HelperParts.{items_of, require_word, supported_word}
 unfoldable pub more_pieces : ℕ → Option Bytes → List Bytes
 more_pieces sign None = []
 more_pieces sign (Some rest) = pieces sign rest
-
--- what stands behind the blanks at the front
-unfoldable pub unindented : Bytes → Bytes
-unindented text = drop (prefix_len is_blank text) text
 
 -- the field has this name
 abbrev pub is_called : Bytes → Field → Bool

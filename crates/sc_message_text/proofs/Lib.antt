@@ -1,4 +1,3 @@
-mod BlankSteps
 mod EndSteps
 mod FinishSteps
 mod FoldSteps

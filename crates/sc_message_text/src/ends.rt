@@ -8,8 +8,8 @@ ghost use Rattle.sc_syntax.specs.Lines.{begins_break, behind_start, end_of, is_e
 ghost use Rattle.sc_message_text.specs.Pieces.{pieces_behind};
 
 use memchr::memchr;
+use sc_ascii::begins;
 use sc_syntax::Ending;
-use sc_uri_text::begins;
 
 /// Whether CR LF stands at the front.
 #[tactic(auto, unfolding(sc_syntax::specs::Lines::begins_break))]

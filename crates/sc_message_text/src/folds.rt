@@ -8,8 +8,8 @@ ghost use Rattle.sc_tokens.specs.Blanks.{trimmed_back};
 ghost use Rattle.sc_syntax.specs.Folds.{continued, joined};
 ghost use Rattle.sc_message_text.specs.Pieces.{pieces_behind};
 
-use crate::blanks::{front_len, trim_front};
 use crate::ends::split_piece;
+use sc_ascii::{front_len, trim_front};
 use sc_syntax::Ending;
 use sc_value::NoMemory;
 use std::alloc::Global;

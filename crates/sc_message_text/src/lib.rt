@@ -3,7 +3,6 @@
 #![tactic(auto)]
 
 mod addresses;
-mod blanks;
 mod ends;
 mod finishing;
 mod folds;
@@ -21,11 +20,11 @@ mod taking;
 mod uris;
 mod whole;
 
-pub use blanks::{trim, trim_back};
 pub use ends::{begins_break, end_of, split_piece, split_start};
 pub use finishing::{lacking, put_together};
 pub use folds::join;
 pub use messages::{text_of, write};
 pub use refused::MessageRefused;
+pub use sc_ascii::{trim, trim_back};
 pub use uris::uri_text;
 pub use whole::{read_head, read_message, read_parts};

@@ -3,17 +3,15 @@
 ghost use Rattle.std.specs.Prelude.{◌≡◌, take};
 ghost use Rattle.std.specs.Result.{result_ok};
 ghost use Rattle.sc_head_text.specs.Answers.{Gives};
-ghost use Rattle.sc_tokens.specs.Cuts.{has};
 ghost use Rattle.sc_tokens.specs.Numbers.{number_below};
 ghost use Rattle.sc_syntax.specs.StartLines.{at_least_100, code_of, is_broken, is_status_line, is_version, request_behind, request_in, request_of, start_of, status_behind, status_in, status_of};
 ghost use Rattle.sc_syntax.specs.Uris.{uri_of};
 ghost use Rattle.sc_message_text.specs.Answers.{ReadsLine};
 
 use crate::refused::LineRefused;
-use sc_ascii::read_u64;
+use sc_ascii::{cut, has, read_u64};
 use sc_head_text::Unread;
 use sc_syntax::Start;
-use sc_uri_text::cut;
 use sc_value::{Reason, Token, Uri, is_one_line, is_token, same_name};
 use std::alloc::Global;
 
@@ -38,13 +36,6 @@ fn is_broken(line: &[u8]) -> bool
     ensures { result ≡ is_broken line.now }
 {
     has(line, b'\r') || has(line, b'\n')
-}
-
-#[tactic(auto, unfolding(sc_tokens::specs::Cuts::has))]
-fn has(text: &[u8], sign: u8) -> bool
-    ensures { result ≡ has sign text.now }
-{
-    text.iter().any(|b| *b == sign)
 }
 
 #[tactic(auto, unfolding(sc_syntax::specs::StartLines::is_status_line))]

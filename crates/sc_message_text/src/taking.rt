@@ -12,14 +12,13 @@ ghost use Rattle.sc_syntax.specs.Sequences.{cseq_of, hops_of};
 ghost use Rattle.sc_syntax.specs.Vias.{vias_of};
 ghost use Rattle.sc_message_text.specs.Answers.{Takes};
 
-use crate::blanks::{trim, trim_back};
 use crate::refused::LineRefused;
 use crate::{keeping, names};
+use sc_ascii::{cut, trim, trim_back};
 use sc_head_text::{
     read_address, read_addresses, read_contacts, read_cseq, read_hops, read_length, read_vias,
 };
 use sc_syntax::{Header, Left};
-use sc_uri_text::cut;
 use sc_value::{Field, HeaderValue, Text, is_one_line, is_token, long_name, same_name};
 use std::alloc::Global;
 

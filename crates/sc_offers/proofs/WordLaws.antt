@@ -5,10 +5,10 @@ use Rattle.std.specs.List.{position_or_len, prefix_len}
 use Rattle.std.proofs.lemmas.Bool.{false≢true}
 use Rattle.std.proofs.lemmas.Bool.Decides.{nat_tests}
 use Rattle.sc_tokens.specs.Tokens.{is_blank}
+use Rattle.sc_tokens.specs.Blanks.{trimmed_front}
 use Rattle.sc_grammar.specs.Written.{Bytes}
 use Rattle.sc_tokens.specs.Cuts.{onto_first, pieces}
 use Rattle.sc_hosts.specs.HelperParts.{words_of}
-use Rattle.sc_helpers.specs.Parts.{unindented}
 
 -- a tab as a space
 abbrev spaced : ℕ → ℕ
@@ -116,12 +116,12 @@ unfolding words_of pieces
 nothing [] none = refl
 nothing (b ∷ bs) none = absurd (omega (arith, none))
 
-pub no_word : (text rest : Bytes) → rest ≡ unindented text → length rest ≡ 0 → words_of text ≡ []
-unfolding unindented
+pub no_word : (text rest : Bytes) → rest ≡ trimmed_front text → length rest ≡ 0 → words_of text ≡ []
+unfolding trimmed_front
 no_word text rest is none = skipped text ∙ ap words_of (sym is) ∙ nothing rest none
 
-pub a_word : (text rest word behind : Bytes) → rest ≡ unindented text → (length rest ≡ 0 → ⊥) → word ≡ take (position_or_len is_blank rest) rest → behind ≡ drop (position_or_len is_blank rest) rest
+pub a_word : (text rest word behind : Bytes) → rest ≡ trimmed_front text → (length rest ≡ 0 → ⊥) → word ≡ take (position_or_len is_blank rest) rest → behind ≡ drop (position_or_len is_blank rest) rest
     → words_of text ≡ word ∷ words_of behind
-unfolding unindented
+unfolding trimmed_front
 a_word text rest word behind is some word_is behind_is =
     skipped text ∙ ap words_of (sym is) ∙ kept rest some (ap (prefix_len is_blank) is ∙ past text) ∙ rw (word_is, behind_is) refl

@@ -1,50 +1,12 @@
 //! The words of a text, between blanks.
 
-ghost use Rattle.std.specs.Prelude.{◌≡◌, ◌≤◌, [], ◌∷◌, false, IfSome, IfNone, length, drop, take};
-ghost use Rattle.std.specs.List.{position_or_len, prefix_len};
+ghost use Rattle.std.specs.Prelude.{◌≡◌, [], ◌∷◌, false, IfSome, IfNone, drop, take};
+ghost use Rattle.std.specs.List.{position_or_len};
 ghost use Rattle.sc_tokens.specs.Tokens.{is_blank};
 ghost use Rattle.sc_hosts.specs.HelperParts.{words_of};
-ghost use Rattle.sc_helpers.specs.Parts.{is_three, unindented};
+ghost use Rattle.sc_helpers.specs.Parts.{is_three};
 
-#[tactic(auto, unfolding(sc_tokens::specs::Tokens::is_blank))]
-fn is_blank(b: u8) -> bool
-    ensures { result ≡ is_blank b }
-{
-    b == b' ' || b == b'\t'
-}
-
-// How many blanks stand at the front.
-fn blanks_len(text: &[u8]) -> usize
-    ensures exact { result ≡ prefix_len is_blank text.now }
-    ensures within { result ≤ length text.now }
-{
-    for i in 0..text.len() {
-        if !is_blank(text[i]) {
-            return i;
-        }
-    }
-    text.len()
-}
-
-// How many bytes stand before the first blank.
-fn word_len(text: &[u8]) -> usize
-    ensures exact { result ≡ position_or_len is_blank text.now }
-    ensures within { result ≤ length text.now }
-{
-    for i in 0..text.len() {
-        if is_blank(text[i]) {
-            return i;
-        }
-    }
-    text.len()
-}
-
-#[tactic(auto, unfolding(sc_helpers::specs::Parts::unindented))]
-fn unindented(text: &[u8]) -> &[u8]
-    ensures { result.now ≡ unindented text.now }
-{
-    &text[blanks_len(text)..]
-}
+use sc_ascii::{trim_front, word_len};
 
 fn split_word(text: &[u8]) -> (&[u8], &[u8])
     ensures word { result.0.now ≡ take (position_or_len is_blank text.now) text.now }
@@ -60,7 +22,7 @@ pub fn next_word(text: &[u8]) -> Option<(&[u8], &[u8])>
     ensures word { IfSome result (λ cut. words_of text.now ≡ cut.0.now ∷ words_of cut.1.now) }
     ensures none { IfNone result (words_of text.now ≡ []) }
 {
-    let rest = unindented(text);
+    let rest = trim_front(text);
     if rest.is_empty() {
         return None;
     }

@@ -1,39 +1,9 @@
 //! Texts cut at a sign.
 
-ghost use Rattle.std.specs.Prelude.{◌≡◌, ◌≤◌, ◌==◌, ◌+◌, ◌∷◌, IfSome, length};
-ghost use Rattle.std.specs.List.{position_or_len};
+ghost use Rattle.std.specs.Prelude.{◌≡◌, ◌+◌, ◌∷◌, IfSome, length};
 ghost use Rattle.std.specs.Option.{option_copied};
 ghost use Rattle.sc_tokens.specs.Cuts.{before, after, pieces};
 ghost use Rattle.sc_script.specs.Reading.{more_pieces};
-
-// The first place of the sign, or the length.
-fn place_or_len(text: &[u8], sign: u8) -> usize
-    ensures exact { result ≡ position_or_len (λ b. b == sign) text.now }
-    ensures within { result ≤ length text.now }
-{
-    for i in 0..text.len() {
-        if text[i] == sign {
-            return i;
-        }
-    }
-    text.len()
-}
-
-// What stands before the first such sign, or all, and what stands after it, where there is one.
-#[tactic(auto, unfolding(sc_tokens::specs::Cuts::before, sc_tokens::specs::Cuts::after))]
-fn parted(text: &[u8], sign: u8) -> (&[u8], Option<&[u8]>)
-    ensures front { result.0.now ≡ before sign text.now }
-    ensures rest { option_copied result.1 ≡ after sign text.now }
-    ensures less { IfSome result.1
-        (λ rest. length result.0.now + length rest.now + 1 ≡ length text.now) }
-{
-    let place = place_or_len(text, sign);
-    if place == text.len() {
-        (text, None)
-    } else {
-        (&text[..place], Some(&text[place + 1..]))
-    }
-}
 
 /// The first piece of a text between such signs, and what stands behind it, where there is more.
 #[tactic(auto, using(crate::proofs::Cutting::cut_at))]
@@ -45,5 +15,5 @@ pub fn cut(text: &[u8], sign: u8) -> (&[u8], Option<&[u8]>)
     ensures less { IfSome result.1
         (λ rest. length result.0.now + length rest.now + 1 ≡ length text.now) }
 {
-    parted(text, sign)
+    sc_ascii::cut(text, sign)
 }

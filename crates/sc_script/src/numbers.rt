@@ -1,10 +1,9 @@
 //! The numbers of scripts: decimals without leading zero.
 
 ghost use Rattle.std.specs.Prelude.{◌≡◌, ◌≤◌, ◌&&◌, nat_le, if◌then◌else◌, Some, None, IfSome};
-ghost use Rattle.sc_tokens.specs.Hosts.{begins};
 ghost use Rattle.sc_script.specs.ScriptTexts.{decimal_upto, is_plain};
 
-use sc_ascii::read_u64;
+use sc_ascii::{begins, read_u64};
 
 /// The number of a decimal without leading zero, at most so great.
 #[tactic(auto, using(crate::proofs::Decimals::upto_none, crate::proofs::Decimals::upto_some))]
@@ -35,14 +34,4 @@ fn is_plain(text: &[u8]) -> bool
     ensures { result ≡ is_plain text.now }
 {
     text.len() == 1 || !begins(text, b'0')
-}
-
-#[tactic(auto, unfolding(sc_tokens::specs::Hosts::begins))]
-fn begins(text: &[u8], sign: u8) -> bool
-    ensures { result ≡ begins sign text.now }
-{
-    match text.first() {
-        Some(first) => *first == sign,
-        None => false,
-    }
 }

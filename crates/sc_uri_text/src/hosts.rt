@@ -8,8 +8,7 @@ ghost use Rattle.sc_tokens.specs.Cuts.{pieces};
 ghost use Rattle.sc_tokens.specs.Hosts.{begins_gap, gap_of, groups, groups_in, groups_of, host_len, is_group, is_host, is_ipv4, is_ipv6, is_literal_end, is_octet};
 
 use crate::classes::is_host_name;
-use crate::cuts::{begins, cut, place_or_len};
-use sc_ascii::read_u64;
+use sc_ascii::{begins, cut, place_or_len, read_u64};
 
 /// Whether the text is a host: a name of letters, digits, `-` and `.`, or an IPv6 literal in its
 /// brackets (RFC 3261 section 25.1).

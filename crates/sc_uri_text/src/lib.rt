@@ -3,7 +3,6 @@
 
 mod classes;
 mod copies;
-mod cuts;
 mod hosts;
 mod params;
 mod pieces;
@@ -13,10 +12,10 @@ mod sent;
 mod writing;
 
 pub use copies::copy_of;
-pub use cuts::{begins, cut};
 pub use hosts::is_host;
 pub use pieces::{put_byte, put_ended, put_port, put_signed};
 pub use reading::read;
 pub use refused::UriRefused;
+pub use sc_ascii::{begins, cut};
 pub use sent::read_sent;
 pub use writing::{put_params, put_uri, write};

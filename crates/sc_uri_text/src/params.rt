@@ -10,7 +10,7 @@ ghost use Rattle.sc_uri_text.specs.Answers.{IsRead};
 use crate::UriRefused;
 use crate::classes::{has_param_bytes, is_param_name};
 use crate::copies::copy_of;
-use crate::cuts::cut;
+use sc_ascii::cut;
 use sc_value::{List, NoMemory, Param, Text};
 use std::alloc::Global;
 

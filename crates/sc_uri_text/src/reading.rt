@@ -14,10 +14,9 @@ ghost use Rattle.sc_uri_text.specs.Answers.{IsRead, IsReadAs};
 use crate::UriRefused;
 use crate::classes::{is_open, is_scheme};
 use crate::copies::copy_of;
-use crate::cuts::cut;
 use crate::params::read_params;
 use crate::sent::read_sent;
-use sc_ascii::same_name;
+use sc_ascii::{cut, same_name};
 use sc_value::{List, NoMemory, OtherUri, Param, SipUri, Text, Uri};
 use std::alloc::Global;
 

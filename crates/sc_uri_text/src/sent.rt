@@ -5,9 +5,8 @@ ghost use Rattle.sc_syntax.specs.UriParts.{is_port_start, port_in, sent_at};
 ghost use Rattle.sc_uri_text.specs.Answers.{IsRead, IsReadAs};
 
 use crate::UriRefused;
-use crate::cuts::begins;
 use crate::hosts::{host_len, is_host};
-use sc_ascii::read_port;
+use sc_ascii::{begins, read_port};
 
 /// A host with or without port, 0 to 65535, and no more (RFC 3261 section 25.1). The text's first
 /// byte stands at place `at`, in bytes, and the error is the place and the kind of the first part

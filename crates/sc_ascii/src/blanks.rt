@@ -3,8 +3,9 @@
 ghost use Rattle.std.specs.Prelude.{◌≡◌, ◌≤◌, ◌-◌, length};
 ghost use Rattle.std.specs.List.{prefix_len, suffix_len, position_or_len};
 ghost use Rattle.sc_tokens.specs.Tokens.{is_blank};
-ghost use Rattle.sc_tokens.specs.Blanks.{trimmed, trimmed_back, trimmed_front, first_word, behind_word};
+ghost use Rattle.sc_tokens.specs.Blanks.{trimmed, trimmed_back, trimmed_front};
 
+/// Whether the byte is a blank: a space or a tab (RFC 3261 section 25.1).
 #[tactic(auto, unfolding(sc_tokens::specs::Tokens::is_blank))]
 pub fn is_blank(b: u8) -> bool
     ensures { result ≡ is_blank b }
@@ -12,7 +13,7 @@ pub fn is_blank(b: u8) -> bool
     b == b' ' || b == b'\t'
 }
 
-// The text without the blanks at its ends.
+/// The text without the blanks at its ends.
 #[tactic(auto, unfolding(sc_tokens::specs::Blanks::trimmed))]
 pub fn trim(text: &[u8]) -> &[u8]
     ensures { result.now ≡ trimmed text.now }
@@ -20,13 +21,15 @@ pub fn trim(text: &[u8]) -> &[u8]
     trim_back(trim_front(text))
 }
 
+/// The text without the blanks at its front.
 #[tactic(auto, unfolding(sc_tokens::specs::Blanks::trimmed_front))]
-fn trim_front(text: &[u8]) -> &[u8]
+pub fn trim_front(text: &[u8]) -> &[u8]
     ensures { result.now ≡ trimmed_front text.now }
 {
     &text[blanks_len(text)..]
 }
 
+// How many blanks stand at the front.
 fn blanks_len(text: &[u8]) -> usize
     ensures exact { result ≡ prefix_len is_blank text.now }
     ensures within { result ≤ length text.now }
@@ -39,16 +42,17 @@ fn blanks_len(text: &[u8]) -> usize
     text.len()
 }
 
+/// The text without the blanks at its back.
 #[tactic(auto, unfolding(sc_tokens::specs::Blanks::trimmed_back))]
-fn trim_back(text: &[u8]) -> &[u8]
+pub fn trim_back(text: &[u8]) -> &[u8]
     ensures { result.now ≡ trimmed_back text.now }
 {
     &text[..front_len(text)]
 }
 
-// How many bytes there are up to the last that is no blank.
+/// How many bytes there are up to the last that is no blank.
 #[tactic(auto, using(crate::proofs::BlankSteps::back_yes, crate::proofs::BlankSteps::back_no))]
-fn front_len(text: &[u8]) -> usize
+pub fn front_len(text: &[u8]) -> usize
     ensures exact { result ≡ length text.now - suffix_len is_blank text.now }
     ensures within { result ≤ length text.now }
 {
@@ -59,17 +63,8 @@ fn front_len(text: &[u8]) -> usize
     len
 }
 
-// The first word, and what stands behind it without blanks.
-#[tactic(auto, unfolding(sc_tokens::specs::Blanks::first_word, sc_tokens::specs::Blanks::behind_word))]
-pub fn split_word(text: &[u8]) -> (&[u8], &[u8])
-    ensures first { result.0.now ≡ first_word text.now }
-    ensures behind { result.1.now ≡ behind_word text.now }
-{
-    let (word, rest) = text.split_at(word_len(text));
-    (word, trim(rest))
-}
-
-fn word_len(text: &[u8]) -> usize
+/// How many bytes stand before the first blank.
+pub fn word_len(text: &[u8]) -> usize
     ensures exact { result ≡ position_or_len is_blank text.now }
     ensures within { result ≤ length text.now }
 {

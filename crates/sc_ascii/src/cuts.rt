@@ -3,10 +3,10 @@
 ghost use Rattle.std.specs.Prelude.{◌≡◌, ◌≤◌, ◌<◌, ◌==◌, ◌+◌, IfSome, IsTrue, length};
 ghost use Rattle.std.specs.List.{position_or_len};
 ghost use Rattle.std.specs.Option.{option_copied};
-ghost use Rattle.sc_tokens.specs.Cuts.{before, after};
+ghost use Rattle.sc_tokens.specs.Cuts.{before, after, has};
 ghost use Rattle.sc_tokens.specs.Hosts.{begins};
 
-// The first place of the sign, or the length.
+/// The first place of the sign, or the length.
 pub fn place_or_len(text: &[u8], sign: u8) -> usize
     ensures exact { result ≡ position_or_len (λ b. b == sign) text.now }
     ensures within { result ≤ length text.now }
@@ -34,6 +34,14 @@ pub fn cut(text: &[u8], sign: u8) -> (&[u8], Option<&[u8]>)
     } else {
         (&text[..place], Some(&text[place + 1..]))
     }
+}
+
+/// Whether the sign stands in the text.
+#[tactic(auto, unfolding(sc_tokens::specs::Cuts::has))]
+pub fn has(text: &[u8], sign: u8) -> bool
+    ensures { result ≡ has sign text.now }
+{
+    text.contains(&sign)
 }
 
 /// Whether the text begins with this byte.
