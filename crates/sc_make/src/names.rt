@@ -10,6 +10,7 @@ ghost use Rattle.sc_value.specs.declared.parts.Uri.{Uri};
 ghost use Rattle.sc_model.specs.Generated.{local, caller, valued, session_text, user_uri, session_param, session_uri, mark, answer_tag, cookie, branch_of, call_of};
 ghost use Rattle.sc_model.specs.Names.{loose_param, tcp_param};
 
+use sc_names::{loose_param, tcp_param};
 use sc_value::{HeaderValue, List, NoMemory, Param, SipUri, Text, Uri, write_u64};
 use std::alloc::Global;
 
@@ -73,22 +74,6 @@ fn session_params(alloc: Global, host: u64, i: u64) -> Result<List<Param>, NoMem
     params.push(lr)?;
     params.push(session)?;
     Ok(params)
-}
-
-#[tactic(auto, unfolding(sc_model::specs::Names::tcp_param, sc_model::specs::Generated::valued))]
-fn tcp_param(alloc: Global) -> Result<Param, NoMemory>
-    ensures { IfOk result (λ p. p ≡ tcp_param) }
-{
-    let value = Text::from_slice(alloc, b"tcp")?;
-    valued(alloc, b"transport", value)
-}
-
-#[tactic(auto, unfolding(sc_model::specs::Names::loose_param))]
-fn loose_param(alloc: Global) -> Result<Param, NoMemory>
-    ensures { IfOk result (λ p. p ≡ loose_param) }
-{
-    let name = Text::from_slice(alloc, b"lr")?;
-    Ok(Param { name, value: None })
 }
 
 #[tactic(auto, unfolding(sc_model::specs::Generated::session_param))]

@@ -8,7 +8,7 @@ mod requests;
 mod responses;
 mod sides;
 
-pub use own::{ip_text, own_address};
+pub use own::own_address;
 pub use requests::{
     ack_of, asked_request, begins_dialog, cancel_of, from_here, leg_request, on_branch,
     passed_request, proxied_request,

@@ -6,31 +6,12 @@ ghost use Rattle.sc_tokens.specs.Hosts.{is_host};
 ghost use Rattle.sc_value.specs.Params.{branch_name};
 ghost use Rattle.sc_value.specs.ParamRules.{AreHeaderParams, AreUriParams};
 ghost use Rattle.sc_model.specs.Names.{ap_name, ap_value, branch_text, loose_param, session_uri, tcp_param};
-ghost use Rattle.sc_model.specs.Records.{ip_text};
 ghost use Rattle.sc_hosts.specs.Messages.{own_address, own_via};
 
-use sc_names::{put_ap_value, put_ip};
+use sc_names::{ip_text, loose_param, put_ap_value, tcp_param};
 use sc_terms::Config;
 use sc_value::{Address, AppId, List, NoMemory, Param, SipUri, Text, Token, Uri, Via};
 use std::alloc::Global;
-
-/// The text of an address, `a.b.c.d`.
-pub fn ip_text(alloc: Global, ip: [u8; 4]) -> Result<Text, NoMemory>
-    ensures { IfOk result (λ t. t ≡ ip_text ip) }
-{
-    let mut text = Text::new(alloc);
-    put_ip(ip, &mut text)?;
-    Ok(text)
-}
-
-// The same, which is a host.
-#[tactic(auto, using(sc_model::proofs::HostFacts::ip_is_host))]
-fn own_host(alloc: Global, ip: [u8; 4]) -> Result<Text, NoMemory>
-    ensures host { IfOk result (λ t. is_host t ≡ true) }
-    ensures exact { IfOk result (λ t. t ≡ ip_text ip) }
-{
-    ip_text(alloc, ip)
-}
 
 /// The Via of a branch (RFC 3261 section 8.1.1.7).
 #[tactic(auto, unfolding(sc_hosts::specs::Messages::own_via, sc_hosts::specs::Messages::tcp, sc_tokens::specs::Tokens::is_token, sc_tokens::specs::Tokens::is_token_byte))]
@@ -44,7 +25,7 @@ pub fn own_via(
     ensures { IfOk result (λ v. v ≡ own_via config.now epoch app branch) }
 {
     let transport = Text::from_slice(alloc, b"TCP")?;
-    let host = own_host(alloc, config.listen.0)?;
+    let host = ip_text(alloc, config.listen.0)?;
     let params = branch_params(alloc, &config.salt, epoch, app, branch)?;
     Ok(Via {
         transport,
@@ -106,7 +87,7 @@ pub fn own_address(
 ) -> Result<Address, NoMemory>
     ensures { IfOk result (λ a. a ≡ own_address config.now epoch app) }
 {
-    let host = own_host(alloc, config.listen.0)?;
+    let host = ip_text(alloc, config.listen.0)?;
     let uri = session_uri(alloc, host, config.listen.1.get(), epoch, app)?;
     Ok(Address {
         display: None,
@@ -150,26 +131,6 @@ fn session_params(alloc: Global, epoch: u32, app: AppId) -> Result<List<Param>, 
     params.push(loose_param(alloc)?)?;
     params.push(ap_param(alloc, epoch, app)?)?;
     Ok(params)
-}
-
-#[tactic(auto, unfolding(sc_model::specs::Names::tcp_param))]
-fn tcp_param(alloc: Global) -> Result<Param, NoMemory>
-    ensures { IfOk result (λ p. p ≡ tcp_param) }
-{
-    let name = Text::from_slice(alloc, b"transport")?;
-    let value = Text::from_slice(alloc, b"tcp")?;
-    Ok(Param {
-        name,
-        value: Some(value),
-    })
-}
-
-#[tactic(auto, unfolding(sc_model::specs::Names::loose_param))]
-fn loose_param(alloc: Global) -> Result<Param, NoMemory>
-    ensures { IfOk result (λ p. p ≡ loose_param) }
-{
-    let name = Text::from_slice(alloc, b"lr")?;
-    Ok(Param { name, value: None })
 }
 
 #[tactic(auto, unfolding(sc_model::specs::Names::ap_name))]

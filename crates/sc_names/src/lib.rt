@@ -2,10 +2,14 @@
 //! readers.
 #![tactic(auto)]
 
+mod addresses;
 mod laws;
+mod params;
 mod reading;
 mod writing;
 
+pub use addresses::{ip_text, put_ip, put_place};
 pub use laws::names_are_apart;
+pub use params::{ar_value, loose_param, tcp_param};
 pub use reading::{read_ap, read_ar, read_branch};
-pub use writing::{ap_uri, ar_uri, branch, call_id, edge_tag, put_ap_value, put_ip, tag};
+pub use writing::{ap_uri, ar_uri, branch, call_id, edge_tag, put_ap_value, tag};

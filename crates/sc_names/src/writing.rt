@@ -1,11 +1,12 @@
 //! Names as text. The one error of each call is want of memory, and then the text is as before.
 
-ghost use Rattle.std.specs.Prelude.{◌≡◌, ◌++◌, ◌∷◌, [], decimal, OnOk, OnErr};
+ghost use Rattle.std.specs.Prelude.{◌≡◌, ◌++◌, ◌∷◌, [], OnOk, OnErr};
 ghost use Rattle.sc_grammar.specs.Written.{scheme, sip_uri_text};
 ghost use Rattle.sc_model.specs.Names.{mark_text, counted_text, tag_text, branch_cookie, branch_text, call_id_text, edge_word, edge_tag as edge_tag_text, app_text, ap_value, ar_value, region_letter, own_uri, session_uri, return_uri};
 ghost use Rattle.sc_model.specs.Records.{ip_text};
 ghost use Rattle.sc_names.specs.OwnUris.{listen_text, fixed_params, named_value};
 
+use crate::addresses::put_ip;
 use sc_value::{AppId, NoMemory, Region, Text, write_u64};
 use std::alloc::Global;
 
@@ -167,25 +168,6 @@ fn put_edge_word(out: &mut Text) -> Result<(), NoMemory>
     out.append(b"-edge")
 }
 
-/// Appends the text of an address, `a.b.c.d`. For want of memory `out` may hold a part of it.
-#[tactic(auto, unfolding(sc_model::specs::Records::ip_text))]
-pub fn put_ip(ip: [u8; 4], out: &mut Text) -> Result<(), NoMemory>
-    ensures { OnOk result (out.new ≡ out.old ++ ip_text ip) }
-{
-    put_pair(ip[0], ip[1], out)?;
-    out.append(b".")?;
-    put_pair(ip[2], ip[3], out)
-}
-
-// `a.b`
-fn put_pair(a: u8, b: u8, out: &mut Text) -> Result<(), NoMemory>
-    ensures { OnOk result (out.new ≡ out.old ++ (decimal a ++ 46 ∷ [] ++ decimal b)) }
-{
-    write_u64(u64::from(a), out)?;
-    out.append(b".")?;
-    write_u64(u64::from(b), out)
-}
-
 #[tactic(auto, unfolding(sc_model::specs::Names::session_uri, sc_model::specs::Names::ap_name))]
 fn put_session_uri(
     alloc: Global,
@@ -246,7 +228,7 @@ fn put_app(app: AppId, out: &mut Text) -> Result<(), NoMemory>
 }
 
 #[tactic(auto, unfolding(sc_model::specs::Names::ar_value))]
-fn put_ar_value(n: u32, region: Region, out: &mut Text) -> Result<(), NoMemory>
+pub fn put_ar_value(n: u32, region: Region, out: &mut Text) -> Result<(), NoMemory>
     ensures { OnOk result (out.new ≡ out.old ++ ar_value n region) }
 {
     write_u64(u64::from(n), out)?;

@@ -1,8 +1,8 @@
 //! The steps of a journal.
 
-ghost use Rattle.std.specs.Prelude.{◌≡◌, ◌++◌, ◌∷◌, [], codes, decimal, IfOk, OnOk};
+ghost use Rattle.std.specs.Prelude.{◌≡◌, ◌++◌, ◌∷◌, [], codes, IfOk, OnOk};
 ghost use Rattle.sc_grammar.specs.Written.{written};
-ghost use Rattle.sc_model.specs.Records.{ip_text, place_text};
+ghost use Rattle.sc_model.specs.Records.{place_text};
 ghost use Rattle.sc_recording.specs.CallTexts.{calls_text, numbered};
 ghost use Rattle.sc_recording.specs.StepTexts.{app_text, bad_text, ending_text, epoch_text, followed_by, heads_or, step_text, turn_text};
 
@@ -10,9 +10,10 @@ use crate::calls::calls_text;
 use crate::heads::heads_text;
 use crate::parts::put_number;
 use sc_message_text::text_of;
+use sc_names::put_place;
 use sc_terms::{Bad, CallRecord, End, Step};
 use sc_uri_text::put_byte;
-use sc_value::{AppId, List, Message, NoMemory, Place, Text, write_u64};
+use sc_value::{AppId, List, Message, NoMemory, Place, Text};
 use std::alloc::Global;
 
 /// The text of a step, its line and what stands behind it:
@@ -187,39 +188,4 @@ fn put_followed(text: &[u8], out: &mut Text) -> Result<(), NoMemory>
     put_byte(b'\n', out)?;
     out.append(text)?;
     put_byte(b'\n', out)
-}
-
-#[tactic(auto, unfolding(sc_model::specs::Records::place_text))]
-fn put_place(place: Place, out: &mut Text) -> Result<(), NoMemory>
-    ensures { OnOk result (out.new ≡ out.old ++ place_text place) }
-{
-    match place {
-        Place::Back(number) => {
-            put_byte(b'c', out)?;
-            write_u64(number, out)
-        }
-        Place::To(ip, port) => {
-            put_ip(ip, out)?;
-            put_byte(b':', out)?;
-            write_u64(u64::from(port), out)
-        }
-    }
-}
-
-#[tactic(auto, unfolding(sc_model::specs::Records::ip_text))]
-fn put_ip(ip: [u8; 4], out: &mut Text) -> Result<(), NoMemory>
-    ensures { OnOk result (out.new ≡ out.old ++ ip_text ip) }
-{
-    put_pair(ip[0], ip[1], out)?;
-    put_byte(b'.', out)?;
-    put_pair(ip[2], ip[3], out)
-}
-
-// `a.b`
-fn put_pair(a: u8, b: u8, out: &mut Text) -> Result<(), NoMemory>
-    ensures { OnOk result (out.new ≡ out.old ++ (decimal a ++ 46 ∷ [] ++ decimal b)) }
-{
-    write_u64(u64::from(a), out)?;
-    put_byte(b'.', out)?;
-    write_u64(u64::from(b), out)
 }

@@ -8,7 +8,7 @@ mod returning;
 mod routing;
 mod subscriber;
 
-pub use own::{ip_text, is_own};
+pub use own::is_own;
 pub use routing::next;
 pub use sc_parts::Choice;
 pub use sc_value::Directive;

@@ -1,39 +1,12 @@
 //! Which URIs lead to the container, and which it is responsible for.
 
-ghost use Rattle.std.specs.Prelude.{◌≡◌, ◌++◌, ◌∷◌, [], ◌==◌, decimal, unwrap_or, IfOk, OnOk};
-ghost use Rattle.sc_model.specs.Records.{ip_text};
+ghost use Rattle.std.specs.Prelude.{◌≡◌, IfOk};
 ghost use Rattle.sc_model.specs.OwnHosts.{is_at, is_of, is_own, is_home};
 
+use sc_names::ip_text;
 use sc_terms::Config;
-use sc_value::{NoMemory, Text, Uri, same_name, write_u64};
+use sc_value::{NoMemory, Uri, same_name};
 use std::alloc::Global;
-
-/// The text of an address, `a.b.c.d`.
-pub fn ip_text(alloc: Global, ip: [u8; 4]) -> Result<Text, NoMemory>
-    ensures { IfOk result (λ t. t ≡ ip_text ip) }
-{
-    let mut text = Text::new(alloc);
-    put_ip(ip, &mut text)?;
-    Ok(text)
-}
-
-#[tactic(auto, unfolding(sc_model::specs::Records::ip_text))]
-fn put_ip(ip: [u8; 4], out: &mut Text) -> Result<(), NoMemory>
-    ensures { OnOk result (out.new ≡ out.old ++ ip_text ip) }
-{
-    put_pair(ip[0], ip[1], out)?;
-    out.append(b".")?;
-    put_pair(ip[2], ip[3], out)
-}
-
-// `a.b`
-fn put_pair(a: u8, b: u8, out: &mut Text) -> Result<(), NoMemory>
-    ensures { OnOk result (out.new ≡ out.old ++ (decimal a ++ 46 ∷ [] ++ decimal b)) }
-{
-    write_u64(u64::from(a), out)?;
-    out.append(b".")?;
-    write_u64(u64::from(b), out)
-}
 
 // Whether the URI leads to this host and port.
 #[tactic(auto, unfolding(sc_model::specs::OwnHosts::is_at))]

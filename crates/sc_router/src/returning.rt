@@ -1,61 +1,17 @@
 //! The own route by which a request comes back to the router.
 
-ghost use Rattle.std.specs.Prelude.{◌≡◌, ◌++◌, ◌∷◌, [], Some, None, IfOk, OnOk, true};
-ghost use Rattle.sc_tokens.specs.Hosts.{is_host};
+ghost use Rattle.std.specs.Prelude.{◌≡◌, ◌∷◌, [], Some, None, IfOk};
 ghost use Rattle.sc_value.specs.ParamRules.{AreUriParams};
 ghost use Rattle.sc_value.specs.declared.parts.Param.{Param};
 ghost use Rattle.sc_value.specs.declared.parts.Uri.TheVariants.{Sip};
-ghost use Rattle.sc_model.specs.Names.{region_letter, ar_value, ar_name, tcp_param, loose_param, return_uri};
-ghost use Rattle.sc_model.specs.Records.{ip_text};
+ghost use Rattle.sc_model.specs.Names.{ar_value, ar_name, tcp_param, loose_param, return_uri};
 ghost use Rattle.sc_model.specs.OwnHosts.{listen_host};
 ghost use Rattle.sc_model.specs.Choices.{way_back};
 
-use crate::own::ip_text;
+use sc_names::{ar_value, ip_text, loose_param, tcp_param};
 use sc_terms::Config;
-use sc_value::{Address, List, NoMemory, Param, Region, SipUri, Text, Uri, write_u64};
+use sc_value::{Address, List, NoMemory, Param, Region, SipUri, Text, Uri};
 use std::alloc::Global;
-
-fn region_letter(region: Region) -> &'static [u8]
-    ensures { result.now ≡ region_letter region ∷ [] }
-{
-    match region {
-        Region::Originating => b"O",
-        Region::Terminating => b"T",
-        Region::Neutral => b"N",
-    }
-}
-
-// `n-R`
-#[tactic(auto, unfolding(sc_model::specs::Names::ar_value))]
-fn ar_value(alloc: Global, order: u32, region: Region) -> Result<Text, NoMemory>
-    ensures { IfOk result (λ t. t ≡ ar_value order region) }
-{
-    let mut value = Text::new(alloc);
-    write_u64(u64::from(order), &mut value)?;
-    value.append(b"-")?;
-    value.append(region_letter(region))?;
-    Ok(value)
-}
-
-#[tactic(auto, unfolding(sc_model::specs::Names::tcp_param))]
-fn tcp_param(alloc: Global) -> Result<Param, NoMemory>
-    ensures { IfOk result (λ p. p ≡ tcp_param) }
-{
-    let name = Text::from_slice(alloc, b"transport")?;
-    let value = Text::from_slice(alloc, b"tcp")?;
-    Ok(Param {
-        name,
-        value: Some(value),
-    })
-}
-
-#[tactic(auto, unfolding(sc_model::specs::Names::loose_param))]
-fn loose_param(alloc: Global) -> Result<Param, NoMemory>
-    ensures { IfOk result (λ p. p ≡ loose_param) }
-{
-    let name = Text::from_slice(alloc, b"lr")?;
-    Ok(Param { name, value: None })
-}
 
 #[tactic(auto, unfolding(sc_model::specs::Names::ar_name))]
 fn ar_param(alloc: Global, order: u32, region: Region) -> Result<Param, NoMemory>
@@ -70,15 +26,6 @@ fn ar_param(alloc: Global, order: u32, region: Region) -> Result<Param, NoMemory
     })
 }
 
-fn put_param(params: &mut List<Param>, param: Param) -> Result<(), NoMemory>
-    ensures { OnOk result (params.new ≡ params.old ++ param ∷ []) }
-{
-    match params.push(param) {
-        Ok(()) => Ok(()),
-        Err(_) => Err(NoMemory),
-    }
-}
-
 // `transport=tcp;lr;ar=n-R`
 #[tactic(auto, using(sc_model::proofs::HostFacts::return_kept))]
 fn return_params(alloc: Global, order: u32, region: Region) -> Result<List<Param>, NoMemory>
@@ -90,19 +37,10 @@ fn return_params(alloc: Global, order: u32, region: Region) -> Result<List<Param
     ensures kept { IfOk result (λ ps. AreUriParams ps) }
 {
     let mut params = List::new(alloc);
-    put_param(&mut params, tcp_param(alloc)?)?;
-    put_param(&mut params, loose_param(alloc)?)?;
-    put_param(&mut params, ar_param(alloc, order, region)?)?;
+    params.push(tcp_param(alloc)?)?;
+    params.push(loose_param(alloc)?)?;
+    params.push(ar_param(alloc, order, region)?)?;
     Ok(params)
-}
-
-// The host that the container listens at.
-#[tactic(auto, using(sc_model::proofs::HostFacts::ip_is_host))]
-fn listen_host(alloc: Global, ip: [u8; 4]) -> Result<Text, NoMemory>
-    ensures exact { IfOk result (λ t. t ≡ ip_text ip) }
-    ensures host { IfOk result (λ t. is_host t ≡ true) }
-{
-    ip_text(alloc, ip)
 }
 
 // `sip:host:port;transport=tcp;lr;ar=n-R`
@@ -111,7 +49,7 @@ fn return_uri(alloc: Global, config: &Config, order: u32, region: Region) -> Res
     ensures { IfOk result
         (λ u. u ≡ Sip (return_uri (listen_host config.now) config.now.listen.1 order region)) }
 {
-    let host = listen_host(alloc, config.listen.0)?;
+    let host = ip_text(alloc, config.listen.0)?;
     let params = return_params(alloc, order, region)?;
     Ok(Uri::Sip(SipUri {
         user: None,

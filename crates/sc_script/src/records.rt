@@ -1,9 +1,10 @@
 //! The records of a run.
 
 ghost use Rattle.std.specs.Prelude.{◌≡◌, ◌++◌, [], ◌∷◌, decimal, length, IfOk, OnErr, OnOk};
-ghost use Rattle.sc_model.specs.Records.{end_text, end_word, ip_text, out_word, place_text, record_line, record_text};
+ghost use Rattle.sc_model.specs.Records.{end_text, end_word, out_word, record_line, record_text};
 
 use sc_message_text::text_of;
+use sc_names::put_place;
 use sc_value::{NoMemory, Place, Sent, Text, write_u64};
 use std::alloc::Global;
 
@@ -49,41 +50,6 @@ fn put_out_word(out: &mut Text) -> Result<(), NoMemory>
     ensures { OnOk result (out.new ≡ out.old ++ out_word) }
 {
     out.append(b"out ")
-}
-
-#[tactic(auto, unfolding(sc_model::specs::Records::place_text))]
-fn put_place(place: Place, out: &mut Text) -> Result<(), NoMemory>
-    ensures { OnOk result (out.new ≡ out.old ++ place_text place) }
-{
-    match place {
-        Place::Back(number) => {
-            out.append(b"c")?;
-            write_u64(number, out)
-        }
-        Place::To(ip, port) => {
-            put_ip(ip, out)?;
-            out.append(b":")?;
-            write_u64(u64::from(port), out)
-        }
-    }
-}
-
-#[tactic(auto, unfolding(sc_model::specs::Records::ip_text))]
-fn put_ip(ip: [u8; 4], out: &mut Text) -> Result<(), NoMemory>
-    ensures { OnOk result (out.new ≡ out.old ++ ip_text ip) }
-{
-    put_pair(ip[0], ip[1], out)?;
-    out.append(b".")?;
-    put_pair(ip[2], ip[3], out)
-}
-
-// `a.b`
-fn put_pair(a: u8, b: u8, out: &mut Text) -> Result<(), NoMemory>
-    ensures { OnOk result (out.new ≡ out.old ++ (decimal a ++ 46 ∷ [] ++ decimal b)) }
-{
-    write_u64(u64::from(a), out)?;
-    out.append(b".")?;
-    write_u64(u64::from(b), out)
 }
 
 /// Puts the last line of a run at the end of a text: `end STEPS SENT LIVE`, the number of steps,

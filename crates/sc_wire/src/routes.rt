@@ -1,23 +1,22 @@
 //! With what an initial request from outside asks the router: an own top Route is taken off, and
 //! its `ar` gives the place in the list at which the router goes on and the region.
 
-ghost use Rattle.std.specs.Prelude.{◌≡◌, ◌^◌, ◌∷◌, [], option_and_then, option_map, IfOk};
+ghost use Rattle.std.specs.Prelude.{◌≡◌, ◌^◌, option_and_then, option_map, IfOk};
 ghost use Rattle.std.specs.Option.{option_copied, option_map_or};
 ghost use Rattle.sc_tokens.specs.Names.{same_bytes};
 ghost use Rattle.sc_tokens.specs.Cuts.{before};
 ghost use Rattle.sc_tokens.specs.Numbers.{number_below};
-ghost use Rattle.sc_model.specs.Names.{ar_value, region_letter};
+ghost use Rattle.sc_model.specs.Names.{ar_value};
 ghost use Rattle.sc_model.specs.OwnHosts.{is_own};
 ghost use Rattle.sc_hosts.specs.Routes.{at_beginning, popped_route, unrouted_initial, ar_of, named_number, at_number, named_position, position_by, position_of};
 
 use sc_ascii::read_u64;
 use sc_inboxes::{uri_param, without_top};
+use sc_names::ar_value;
 use sc_router::is_own;
 use sc_terms::Config;
 use sc_uri_text::cut;
-use sc_value::{
-    Address, CloneIn, Directive, NoMemory, Region, Request, Shared, Text, Uri, write_u64,
-};
+use sc_value::{Address, CloneIn, Directive, NoMemory, Region, Request, Shared, Text, Uri};
 use std::alloc::Global;
 use std::marker::Model;
 
@@ -96,27 +95,6 @@ fn ar_of(uri: &Uri) -> Option<&Text>
     ensures { option_copied result ≡ ar_of uri.entry.now }
 {
     uri_param(uri, b"ar")
-}
-
-fn region_letter(region: Region) -> &'static [u8]
-    ensures { result.now ≡ region_letter region ∷ [] }
-{
-    match region {
-        Region::Originating => b"O",
-        Region::Terminating => b"T",
-        Region::Neutral => b"N",
-    }
-}
-
-#[tactic(auto, unfolding(sc_model::specs::Names::ar_value))]
-fn ar_value(alloc: Global, n: u32, region: Region) -> Result<Text, NoMemory>
-    ensures { IfOk result (λ t. t ≡ ar_value n region) }
-{
-    let mut text = Text::new(alloc);
-    write_u64(u64::from(n), &mut text)?;
-    text.append(b"-")?;
-    text.append(region_letter(region))?;
-    Ok(text)
 }
 
 #[tactic(auto, using(sc_syntax::proofs::NumberLaws::below_none, sc_syntax::proofs::NumberLaws::below_small, sc_syntax::proofs::NumberLaws::below_large))]
