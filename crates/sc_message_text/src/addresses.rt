@@ -6,6 +6,8 @@ ghost use Rattle.sc_grammar.specs.Written.{address_text, contact_text};
 use sc_uri_text::{put_byte, put_ended, put_params, put_uri};
 use sc_value::{Address, Contact, NoMemory, Text};
 
+/// Appends an address as it is written (RFC 3261 section 20.10). For want of memory `out` may hold
+/// a part of it.
 #[tactic(auto, unfolding(sc_grammar::specs::Written::address_text))]
 pub fn put_address(address: &Address, out: &mut Text) -> Result<(), NoMemory>
     ensures { OnOk result (out.new ≡ out.old ++ address_text address.now) }

@@ -47,9 +47,9 @@ fn put_last(fields: &mut Others, field: Field) -> Result<(), NoMemory>
     Ok(())
 }
 
-// Whether the parameter `branch` is there and isn't empty.
+/// Whether the Via's parameter `branch` is there and isn't empty (RFC 3261 section 8.1.1.7).
 #[tactic(auto, unfolding(sc_syntax::specs::Judging::has_branch, sc_value::specs::Params::branch_name))]
-fn has_branch(via: &Via) -> bool
+pub fn has_branch(via: &Via) -> bool
     ensures { result ≡ has_branch via.now }
 {
     match branch(via) {

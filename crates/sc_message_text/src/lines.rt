@@ -1,14 +1,16 @@
-//! One line of a header: its name, a colon, a space, its value and the line's end.
+//! One line of a header: its name, a colon, a space, its value and the line's end (RFC 3261 section
+//! 7.3). For want of memory `out` may hold a part of it.
 
 ghost use Rattle.std.specs.Prelude.{◌≡◌, ◌++◌, ◌∷◌, [], decimal, OnOk};
-ghost use Rattle.sc_grammar.specs.Written.{contact_line, field_line, line, record_route_line, route_line, via_line, address_text};
+ghost use Rattle.sc_tokens.specs.HeaderNames.{cseq_name};
+ghost use Rattle.sc_grammar.specs.Written.{address_text, contact_line, cseq_text, field_line, line, record_route_line, route_line, via_line};
 
 use crate::addresses::{put_address, put_contact};
-use crate::headers::put_via;
+use crate::headers::{put_cseq, put_via};
 use crate::items::Form;
 use crate::names;
 use crate::pieces::put_line_end;
-use sc_value::{Address, Contact, Field, NoMemory, Text, Via, write_u64};
+use sc_value::{Address, CSeq, Contact, Field, NoMemory, Text, Via, write_u64};
 
 pub fn put_name(name: &[u8], out: &mut Text) -> Result<(), NoMemory>
     ensures { OnOk result (out.new ≡ out.old ++ (name.now ++ 58 ∷ 32 ∷ [])) }
@@ -17,6 +19,7 @@ pub fn put_name(name: &[u8], out: &mut Text) -> Result<(), NoMemory>
     out.append(b": ")
 }
 
+/// Appends the line of the header of this name with this value.
 #[tactic(auto, unfolding(sc_grammar::specs::Written::line))]
 pub fn put_line(name: &[u8], value: &[u8], out: &mut Text) -> Result<(), NoMemory>
     ensures { OnOk result (out.new ≡ out.old ++ line name.now value.now) }
@@ -35,6 +38,7 @@ pub fn put_number_line(name: &[u8], number: u64, out: &mut Text) -> Result<(), N
     put_line_end(out)
 }
 
+/// Appends the line of the header of this name whose value is this address.
 #[tactic(auto, unfolding(sc_grammar::specs::Written::line))]
 pub fn put_address_line(name: &[u8], address: &Address, out: &mut Text) -> Result<(), NoMemory>
     ensures { OnOk result (out.new ≡ out.old ++ line name.now (address_text address.now)) }
@@ -44,11 +48,22 @@ pub fn put_address_line(name: &[u8], address: &Address, out: &mut Text) -> Resul
     put_line_end(out)
 }
 
+/// Appends the line of CSeq.
+#[tactic(auto, unfolding(sc_grammar::specs::Written::line))]
+pub fn put_cseq_line(cseq: &CSeq, out: &mut Text) -> Result<(), NoMemory>
+    ensures { OnOk result (out.new ≡ out.old ++ line cseq_name (cseq_text cseq.now)) }
+{
+    put_name(names::cseq_name(), out)?;
+    put_cseq(cseq, out)?;
+    put_line_end(out)
+}
+
+/// Appends the line of a Via.
 #[tactic(auto, unfolding(sc_grammar::specs::Written::via_line, sc_grammar::specs::Written::line))]
-fn put_via_line(via: &Via, out: &mut Text) -> Result<(), NoMemory>
+pub fn put_via_line(via: &Via, out: &mut Text) -> Result<(), NoMemory>
     ensures { OnOk result (out.new ≡ out.old ++ via_line via.now) }
 {
-    put_name(names::via(), out)?;
+    put_name(names::via_name(), out)?;
     put_via(via, out)?;
     put_line_end(out)
 }
@@ -57,7 +72,7 @@ fn put_via_line(via: &Via, out: &mut Text) -> Result<(), NoMemory>
 fn put_contact_line(contact: &Contact, out: &mut Text) -> Result<(), NoMemory>
     ensures { OnOk result (out.new ≡ out.old ++ contact_line contact.now) }
 {
-    put_name(names::contact(), out)?;
+    put_name(names::contact_name(), out)?;
     put_contact(contact, out)?;
     put_line_end(out)
 }
@@ -79,7 +94,7 @@ impl Form<Address> for RouteLine {
 
     #[tactic(auto, unfolding(sc_grammar::specs::Written::route_line))]
     fn put(item: &Address, out: &mut Text) -> Result<(), NoMemory> {
-        put_address_line(names::route(), item, out)
+        put_address_line(names::route_name(), item, out)
     }
 }
 
@@ -90,7 +105,7 @@ impl Form<Address> for RecordRouteLine {
 
     #[tactic(auto, unfolding(sc_grammar::specs::Written::record_route_line))]
     fn put(item: &Address, out: &mut Text) -> Result<(), NoMemory> {
-        put_address_line(names::record_route(), item, out)
+        put_address_line(names::record_route_name(), item, out)
     }
 }
 

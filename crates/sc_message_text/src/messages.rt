@@ -1,26 +1,24 @@
 //! Whole messages (RFC 3261 section 7).
 
 ghost use Rattle.std.specs.Prelude.{◌≡◌, ◌++◌, Ok, IfOk, OnErr, OnOk};
-ghost use Rattle.sc_grammar.specs.Written.{closing_lines, cseq_text, dialog_lines, head_text, hops_line, line, request_line, routing_lines, status_line, written};
+ghost use Rattle.sc_grammar.specs.Written.{closing_lines, dialog_lines, head_text, hops_line, request_line, routing_lines, status_line, written};
 ghost use Rattle.sc_value.specs.declared.message.Message.{Message};
 ghost use Rattle.sc_syntax.specs.Messages.{message_of};
 ghost use Rattle.sc_spelling.specs.Kept.{HasBranch, HasRoom};
 ghost use Rattle.sc_spelling.specs.Made.{HasCode};
 ghost use Rattle.sc_spelling.specs.SpelledMessages.{HasMethod};
-ghost use Rattle.sc_tokens.specs.HeaderNames.{cseq_name};
 
-use crate::headers::put_cseq;
 use crate::items::put_items;
 use crate::lines::{
-    ContactLine, FieldLine, RecordRouteLine, RouteLine, ViaLine, put_address_line, put_line,
-    put_name, put_number_line,
+    ContactLine, FieldLine, RecordRouteLine, RouteLine, ViaLine, put_address_line, put_cseq_line,
+    put_line, put_number_line,
 };
 use crate::names;
 use crate::pieces::{put_line_end, put_version};
 use sc_spelling::written_again;
 use sc_uri_text::{put_byte, put_uri};
 use sc_value::{
-    Address, CSeq, Contact, Field, Head, Message, NoMemory, Request, Response, Text, Via, write_u64,
+    Address, Contact, Field, Head, Message, NoMemory, Request, Response, Text, Via, write_u64,
 };
 use std::alloc::Global;
 
@@ -130,7 +128,7 @@ fn put_hops_line(hops: Option<u8>, out: &mut Text) -> Result<(), NoMemory>
     ensures { OnOk result (out.new ≡ out.old ++ hops_line hops) }
 {
     match hops {
-        Some(hops) => put_number_line(names::max_forwards(), u64::from(hops), out),
+        Some(hops) => put_number_line(names::max_forwards_name(), u64::from(hops), out),
         None => Ok(()),
     }
 }
@@ -139,19 +137,10 @@ fn put_hops_line(hops: Option<u8>, out: &mut Text) -> Result<(), NoMemory>
 fn put_dialog_lines(head: &Head, out: &mut Text) -> Result<(), NoMemory>
     ensures { OnOk result (out.new ≡ out.old ++ dialog_lines head.now) }
 {
-    put_address_line(names::from(), &head.from, out)?;
-    put_address_line(names::to(), &head.to, out)?;
-    put_line(names::call_id(), head.call_id.as_bytes(), out)?;
+    put_address_line(names::from_name(), &head.from, out)?;
+    put_address_line(names::to_name(), &head.to, out)?;
+    put_line(names::call_id_name(), head.call_id.as_bytes(), out)?;
     put_cseq_line(&head.cseq, out)
-}
-
-#[tactic(auto, unfolding(sc_grammar::specs::Written::line))]
-fn put_cseq_line(cseq: &CSeq, out: &mut Text) -> Result<(), NoMemory>
-    ensures { OnOk result (out.new ≡ out.old ++ line cseq_name (cseq_text cseq.now)) }
-{
-    put_name(names::cseq(), out)?;
-    put_cseq(cseq, out)?;
-    put_line_end(out)
 }
 
 #[tactic(auto, unfolding(sc_grammar::specs::Written::closing_lines))]
@@ -160,5 +149,5 @@ fn put_closing_lines(head: &Head, out: &mut Text) -> Result<(), NoMemory>
 {
     put_items::<Contact, ContactLine>(head.contact.as_slice(), out)?;
     put_items::<Field, FieldLine>(head.others.as_slice(), out)?;
-    put_number_line(names::content_length(), head.body.len() as u64, out)
+    put_number_line(names::content_length_name(), head.body.len() as u64, out)
 }

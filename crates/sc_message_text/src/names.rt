@@ -3,71 +3,81 @@
 ghost use Rattle.std.specs.Prelude.{◌≡◌};
 ghost use Rattle.sc_tokens.specs.HeaderNames.{call_id_name, contact_name, content_length_name, cseq_name, from_name, max_forwards_name, record_route_name, route_name, to_name, via_name};
 
+/// `Via` (RFC 3261 section 20.42).
 #[tactic(auto, unfolding(sc_tokens::specs::HeaderNames::via_name))]
-pub fn via() -> &'static [u8]
+pub fn via_name() -> &'static [u8]
     ensures { result.now ≡ via_name }
 {
     b"Via"
 }
 
+/// `Route` (RFC 3261 section 20.34).
 #[tactic(auto, unfolding(sc_tokens::specs::HeaderNames::route_name))]
-pub fn route() -> &'static [u8]
+pub fn route_name() -> &'static [u8]
     ensures { result.now ≡ route_name }
 {
     b"Route"
 }
 
+/// `Record-Route` (RFC 3261 section 20.30).
 #[tactic(auto, unfolding(sc_tokens::specs::HeaderNames::record_route_name))]
-pub fn record_route() -> &'static [u8]
+pub fn record_route_name() -> &'static [u8]
     ensures { result.now ≡ record_route_name }
 {
     b"Record-Route"
 }
 
+/// `Max-Forwards` (RFC 3261 section 20.22).
 #[tactic(auto, unfolding(sc_tokens::specs::HeaderNames::max_forwards_name))]
-pub fn max_forwards() -> &'static [u8]
+pub fn max_forwards_name() -> &'static [u8]
     ensures { result.now ≡ max_forwards_name }
 {
     b"Max-Forwards"
 }
 
+/// `From` (RFC 3261 section 20.20).
 #[tactic(auto, unfolding(sc_tokens::specs::HeaderNames::from_name))]
-pub fn from() -> &'static [u8]
+pub fn from_name() -> &'static [u8]
     ensures { result.now ≡ from_name }
 {
     b"From"
 }
 
+/// `To` (RFC 3261 section 20.39).
 #[tactic(auto, unfolding(sc_tokens::specs::HeaderNames::to_name))]
-pub fn to() -> &'static [u8]
+pub fn to_name() -> &'static [u8]
     ensures { result.now ≡ to_name }
 {
     b"To"
 }
 
+/// `Call-ID` (RFC 3261 section 20.8).
 #[tactic(auto, unfolding(sc_tokens::specs::HeaderNames::call_id_name))]
-pub fn call_id() -> &'static [u8]
+pub fn call_id_name() -> &'static [u8]
     ensures { result.now ≡ call_id_name }
 {
     b"Call-ID"
 }
 
+/// `CSeq` (RFC 3261 section 20.16).
 #[tactic(auto, unfolding(sc_tokens::specs::HeaderNames::cseq_name))]
-pub fn cseq() -> &'static [u8]
+pub fn cseq_name() -> &'static [u8]
     ensures { result.now ≡ cseq_name }
 {
     b"CSeq"
 }
 
+/// `Contact` (RFC 3261 section 20.10).
 #[tactic(auto, unfolding(sc_tokens::specs::HeaderNames::contact_name))]
-pub fn contact() -> &'static [u8]
+pub fn contact_name() -> &'static [u8]
     ensures { result.now ≡ contact_name }
 {
     b"Contact"
 }
 
+/// `Content-Length` (RFC 3261 section 20.14).
 #[tactic(auto, unfolding(sc_tokens::specs::HeaderNames::content_length_name))]
-pub fn content_length() -> &'static [u8]
+pub fn content_length_name() -> &'static [u8]
     ensures { result.now ≡ content_length_name }
 {
     b"Content-Length"

@@ -38,8 +38,9 @@ fn is_broken(line: &[u8]) -> bool
     has(line, b'\r') || has(line, b'\n')
 }
 
+/// Whether the line begins as that of a response, without regard to case (RFC 3261 section 7.2).
 #[tactic(auto, unfolding(sc_syntax::specs::StartLines::is_status_line))]
-fn is_status_line(line: &[u8]) -> bool
+pub fn is_status_line(line: &[u8]) -> bool
     ensures { result ≡ is_status_line line.now }
 {
     same_name(first_four(line), b"SIP/")

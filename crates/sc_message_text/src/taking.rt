@@ -51,25 +51,25 @@ fn take_named(left: &mut Left, alloc: Global, name: &[u8], value: &[u8]) -> Resu
 fn header_named(name: &[u8]) -> Header
     ensures { result ≡ header_named name.now }
 {
-    if same_name(name, names::via()) {
+    if same_name(name, names::via_name()) {
         Header::Via
-    } else if same_name(name, names::route()) {
+    } else if same_name(name, names::route_name()) {
         Header::Route
-    } else if same_name(name, names::record_route()) {
+    } else if same_name(name, names::record_route_name()) {
         Header::RecordRoute
-    } else if same_name(name, names::contact()) {
+    } else if same_name(name, names::contact_name()) {
         Header::Contact
-    } else if same_name(name, names::from()) {
+    } else if same_name(name, names::from_name()) {
         Header::From
-    } else if same_name(name, names::to()) {
+    } else if same_name(name, names::to_name()) {
         Header::To
-    } else if same_name(name, names::call_id()) {
+    } else if same_name(name, names::call_id_name()) {
         Header::CallId
-    } else if same_name(name, names::cseq()) {
+    } else if same_name(name, names::cseq_name()) {
         Header::CSeq
-    } else if same_name(name, names::max_forwards()) {
+    } else if same_name(name, names::max_forwards_name()) {
         Header::MaxForwards
-    } else if same_name(name, names::content_length()) {
+    } else if same_name(name, names::content_length_name()) {
         Header::ContentLength
     } else {
         Header::Other

@@ -5,8 +5,8 @@ ghost use Rattle.sc_grammar.specs.Written.{address_text, contact_text};
 ghost use Rattle.sc_recording.specs.CallTexts.{acting_on, contact_part, contacts_text, field_part, fields_text, flag_text, number_or, numbered, numbered_or, signed, sized, uri_or, uri_part, uris_text};
 
 use crate::forms::{Form, put_items};
-use sc_message_text::uri_text;
-use sc_uri_text::{put_byte, put_ended, put_params, put_uri};
+use sc_message_text::{put_address, uri_text};
+use sc_uri_text::put_byte;
 use sc_value::{Address, Contact, Field, NoMemory, ReqId, Text, Uri, write_u64};
 use std::alloc::Global;
 
@@ -92,18 +92,6 @@ pub fn put_uri_or(alloc: Global, uri: &Option<Uri>, out: &mut Text) -> Result<()
         Some(uri) => put_uri_part(alloc, uri, out),
         None => out.append(b" -"),
     }
-}
-
-/// Appends an address as it is written (RFC 3261 section 20.10).
-#[tactic(auto, unfolding(sc_grammar::specs::Written::address_text))]
-pub fn put_address(address: &Address, out: &mut Text) -> Result<(), NoMemory>
-    ensures { OnOk result (out.new ≡ out.old ++ address_text address.now) }
-{
-    put_ended(&address.display, b' ', out)?;
-    put_byte(b'<', out)?;
-    put_uri(&address.uri, out)?;
-    put_byte(b'>', out)?;
-    put_params(address.params.as_slice(), out)
 }
 
 /// Appends an address, with how many bytes it has.

@@ -1,6 +1,6 @@
 //! What an answer takes from a head that is at fault (RFC 3261 section 8.2.6.2).
 
-ghost use Rattle.std.specs.Prelude.{◌≡◌, ◌++◌, Some, Option, IfOk, IfSome, OnOk, false, take, slice_get, filter_map};
+ghost use Rattle.std.specs.Prelude.{◌≡◌, ◌++◌, Some, Option, IfOk, IfSome, OnOk, false, slice_get, filter_map};
 ghost use Rattle.std.specs.Option.{option_copied, option_map, option_map_or, option_zip};
 ghost use Rattle.sc_tokens.specs.HeaderNames.{call_id_name, cseq_name, from_name, to_name};
 ghost use Rattle.sc_value.specs.AnswerableValues.{BeginsWithBranch};
@@ -10,19 +10,18 @@ ghost use Rattle.sc_syntax.specs.Vias.{vias_of};
 ghost use Rattle.sc_syntax.specs.Judging.{has_branch, in_line};
 ghost use Rattle.sc_syntax.specs.Lines.{lines_behind};
 ghost use Rattle.sc_syntax.specs.Folds.{joined};
-ghost use Rattle.sc_syntax.specs.StartLines.{is_status_line};
 ghost use Rattle.sc_syntax.specs.Fronts.{answerable_in, answerable_of, answerable_with, field_of, once, vias_in, with_branch};
 ghost use Rattle.sc_head_text.specs.Answers.{Gives};
 ghost use Rattle.sc_stream.specs.Answers.{TakesVias, all_vias, vias_at};
 ghost use Rattle.sc_stream.specs.Fields.{AreTrimmed};
 
 use crate::fields::{fields_behind, only_value};
-use crate::names;
 use sc_head_text::{Unread, read_address, read_cseq, read_vias};
-use sc_message_text::split_start;
+use sc_message_text::{
+    call_id_name, cseq_name, from_name, has_branch, is_status_line, split_start, to_name, via_name,
+};
 use sc_value::{
-    Address, Answerable, CSeq, Field, HeaderValue, List, NoMemory, Via, branch, is_one_line,
-    same_name,
+    Address, Answerable, CSeq, Field, HeaderValue, List, NoMemory, Via, is_one_line, same_name,
 };
 use std::alloc::Global;
 
@@ -53,19 +52,6 @@ fn answerable_behind(alloc: Global, rest: Option<&[u8]>) -> Result<Option<Answer
 {
     let fields = fields_behind(alloc, rest)?;
     answerable_in(alloc, fields.as_slice())
-}
-
-#[tactic(auto, unfolding(sc_syntax::specs::StartLines::is_status_line))]
-fn is_status_line(line: &[u8]) -> bool
-    ensures { result ≡ is_status_line line.now }
-{
-    same_name(first_four(line), b"SIP/")
-}
-
-fn first_four(line: &[u8]) -> &[u8]
-    ensures { result.now ≡ take 4 line.now }
-{
-    if line.len() < 4 { line } else { &line[..4] }
 }
 
 // The five headers, where each is there, readable and not doubled.
@@ -105,8 +91,8 @@ fn read_peers(alloc: Global, fields: &[Field]) -> Result<Option<(Address, Addres
         ≡ option_zip (once address_of from_name fields.now)
         (once address_of to_name fields.now)) }
 {
-    let from = read_peer(alloc, fields, names::from())?;
-    let to = read_peer(alloc, fields, names::to())?;
+    let from = read_peer(alloc, fields, from_name())?;
+    let to = read_peer(alloc, fields, to_name())?;
     Ok(from.zip(to))
 }
 
@@ -154,7 +140,7 @@ fn read_call_id(alloc: Global, fields: &[Field]) -> Result<Option<HeaderValue>, 
     requires { AreTrimmed fields.now }
     ensures { IfOk result (λ text. text ≡ once Some call_id_name fields.now) }
 {
-    match only_value(fields, names::call_id()) {
+    match only_value(fields, call_id_name()) {
         Some(value) => {
             if !is_one_line(value) {
                 return Ok(None);
@@ -169,7 +155,7 @@ fn read_call_id(alloc: Global, fields: &[Field]) -> Result<Option<HeaderValue>, 
 fn read_sequence(alloc: Global, fields: &[Field]) -> Result<Option<CSeq>, NoMemory>
     ensures { IfOk result (λ cseq. cseq ≡ once cseq_of cseq_name fields.now) }
 {
-    match only_value(fields, names::cseq()) {
+    match only_value(fields, cseq_name()) {
         Some(value) => {
             if !is_one_line(value) {
                 return Ok(None);
@@ -213,17 +199,6 @@ fn begins_well(vias: &[Via]) -> bool
     }
 }
 
-// Whether the parameter `branch` is there and isn't empty.
-#[tactic(auto, unfolding(sc_syntax::specs::Judging::has_branch, sc_value::specs::Params::branch_name))]
-fn has_branch(via: &Via) -> bool
-    ensures { result ≡ has_branch via.now }
-{
-    match branch(via) {
-        Some(branch) => !branch.is_empty(),
-        None => false,
-    }
-}
-
 // The Vias of all fields of that name.
 fn all_vias(alloc: Global, fields: &[Field]) -> Result<List<Via>, Unread>
     ensures { Gives result (all_vias fields.now) }
@@ -243,7 +218,7 @@ fn all_vias(alloc: Global, fields: &[Field]) -> Result<List<Via>, Unread>
 fn put_field(vias: &mut List<Via>, alloc: Global, field: &Field) -> Result<(), Unread>
     ensures { TakesVias result vias.old vias.new (vias_at field.now) }
 {
-    if !same_name(field.name.as_bytes(), names::via()) {
+    if !same_name(field.name.as_bytes(), via_name()) {
         return Ok(());
     }
     put_vias(vias, alloc, field.value.as_bytes())

@@ -9,7 +9,6 @@ mod first;
 mod fronts;
 mod gone;
 mod laws;
-mod names;
 mod streams;
 
 pub use fronts::front;
