@@ -5,13 +5,7 @@ ghost use Rattle.std.specs.List.{prefix_len, suffix_len, position_or_len};
 ghost use Rattle.sc_tokens.specs.Tokens.{is_blank};
 ghost use Rattle.sc_tokens.specs.Blanks.{trimmed, trimmed_back, trimmed_front};
 
-/// Whether the byte is a blank: a space or a tab (RFC 3261 section 25.1).
-#[tactic(auto, unfolding(sc_tokens::specs::Tokens::is_blank))]
-pub fn is_blank(b: u8) -> bool
-    ensures { result ≡ is_blank b }
-{
-    b == b' ' || b == b'\t'
-}
+use sc_value::is_blank;
 
 /// The text without the blanks at its ends.
 #[tactic(auto, unfolding(sc_tokens::specs::Blanks::trimmed))]

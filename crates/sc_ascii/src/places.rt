@@ -5,6 +5,8 @@ ghost use Rattle.std.specs.List.{position_or_len};
 ghost use Rattle.sc_tokens.specs.Tokens.{is_token_byte};
 ghost use Rattle.sc_tokens.specs.Quoted.{closing, is_quote_at, quoted_end, token_end};
 
+use sc_value::is_token_byte;
+
 /// The first place from `at` on that holds no byte of a token, or the text's length: a token's
 /// bytes are letters, digits and ``-.!%*_+`'~`` (RFC 3261 section 25.1).
 #[tactic(auto, unfolding(sc_tokens::specs::Quoted::token_end))]
@@ -26,25 +28,6 @@ fn token_len(text: &[u8]) -> usize
         }
     }
     text.len()
-}
-
-/// Whether the byte may stand in a token: a letter, a digit or one of ``-.!%*_+`'~`` (RFC 3261
-/// section 25.1).
-#[tactic(auto, unfolding(sc_tokens::specs::Tokens::is_token_byte))]
-pub fn is_token_byte(b: u8) -> bool
-    ensures { result ≡ is_token_byte b }
-{
-    b.is_ascii_alphanumeric()
-        || b == b'-'
-        || b == b'.'
-        || b == b'!'
-        || b == b'%'
-        || b == b'*'
-        || b == b'_'
-        || b == b'+'
-        || b == b'`'
-        || b == b'\''
-        || b == b'~'
 }
 
 /// The place after the quoted string that begins at `at`, a backslash taking the next byte with

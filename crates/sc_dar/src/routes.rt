@@ -1,6 +1,6 @@
 //! The route of a tuple: nothing, or one `sip:` URI, bare or in angle brackets.
 
-ghost use Rattle.std.specs.Prelude.{◌≡◌, [], Some, None};
+ghost use Rattle.std.specs.Prelude.{◌≡◌};
 ghost use Rattle.std.specs.Option.{option_copied};
 ghost use Rattle.sc_syntax.specs.Uris.{uri_of};
 ghost use Rattle.sc_dar.specs.Tuples.{BAD_ROUTE as bad_route, given, sip_route, unbracketed, route_of};
@@ -10,7 +10,7 @@ use crate::cuts::cut;
 use crate::unread::{BAD_ROUTE, Unread};
 use sc_ascii::begins;
 use sc_uri_text::UriRefused;
-use sc_value::{Address, Discard, List, Uri};
+use sc_value::{Address, Discard, Uri, plain_address};
 use std::alloc::Global;
 
 // What stands between angle brackets, or else the whole text.
@@ -27,24 +27,12 @@ fn unbracketed(text: &[u8]) -> Option<&[u8]>
     }
 }
 
-#[tactic(auto, unfolding(sc_tokens::specs::HeaderTokens::IsDisplay, sc_value::specs::ParamRules::AreHeaderParams))]
-fn bare(alloc: Global, uri: Uri) -> Address
-    ensures { result ≡ record { display = None; uri = uri; params = [] } }
-{
-    uri.known();
-    Address {
-        display: None,
-        uri,
-        params: List::new(alloc),
-    }
-}
-
 #[tactic(auto, unfolding(crate::specs::Tuples::sip_route))]
 fn sip_route(alloc: Global, text: &[u8]) -> Result<Address, Unread>
     ensures { IsRead result (given bad_route (sip_route (uri_of text.now))) }
 {
     match sc_uri_text::read(alloc, text) {
-        Ok(Uri::Sip(uri)) => Ok(bare(alloc, Uri::Sip(uri))),
+        Ok(Uri::Sip(uri)) => Ok(plain_address(alloc, Uri::Sip(uri))),
         Ok(Uri::Other(text)) => {
             drop(text);
             Err(Unread::Fault { kind: BAD_ROUTE })

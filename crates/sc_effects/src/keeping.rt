@@ -1,6 +1,6 @@
 //! Proxies, timers, attributes and flags.
 
-ghost use Rattle.std.specs.Prelude.{◌≡◌, ◌+◌, position, OnOk, IfOk};
+ghost use Rattle.std.specs.Prelude.{◌≡◌, position, OnOk, IfOk};
 ghost use Rattle.sc_value.specs.Lists.{change_first, remove_first};
 ghost use Rattle.sc_tokens.specs.Names.{same_bytes};
 ghost use Rattle.sc_model.specs.Settings.{moment_after};
@@ -11,20 +11,10 @@ ghost use Rattle.sc_effects.specs.Elements.{proxied_at, with_flag, with_value};
 
 use sc_looking::{is_proxy, is_set, request_in, request_place, session_place, timer_place};
 use sc_terms::{Period, RequestView, Role, SessionView, Target, TimerView, View};
-use sc_value::{CloneIn, Field, List, NoMemory, ReqId, SessId, Text, TimerId, sum, sum_u32};
+use sc_value::{
+    CloneIn, Field, List, NoMemory, ReqId, SessId, Text, TimerId, sum, sum_u8, sum_u32,
+};
 use std::alloc::Global;
-
-fn sum_u8(a: u8, count: usize) -> Result<u8, NoMemory>
-    ensures { IfOk result (λ n. n ≡ a + count) }
-{
-    let Ok(more) = u8::try_from(count) else {
-        return Err(NoMemory);
-    };
-    match a.checked_add(more) {
-        Some(n) => Ok(n),
-        None => Err(NoMemory),
-    }
-}
 
 #[tactic(auto, unfolding(sc_hosts::specs::Effects::proxied_request))]
 fn proxied_request(request: &mut RequestView, count: usize) -> Result<(), NoMemory>

@@ -12,7 +12,7 @@ ghost use Rattle.sc_hosts.specs.States.{failed_state, is_ringing, invited_state,
 
 use sc_methods::{is_bye, is_failure, is_final, is_invite, is_notify, is_subscribe, is_success};
 use sc_terms::{RequestView, Role, State};
-use sc_value::{Field, same_name};
+use sc_value::{Field, is_token_byte, same_name};
 
 #[tactic(auto, unfolding(sc_hosts::specs::States::failed_state))]
 fn failed_state(role: Role) -> State
@@ -153,23 +153,6 @@ pub fn after_response(
     } else {
         after_later(request.method.as_bytes(), request.ends, state, code)
     }
-}
-
-#[tactic(auto, unfolding(sc_tokens::specs::Tokens::is_token_byte))]
-fn is_token_byte(b: u8) -> bool
-    ensures { result ≡ is_token_byte b }
-{
-    b.is_ascii_alphanumeric()
-        || b == b'-'
-        || b == b'.'
-        || b == b'!'
-        || b == b'%'
-        || b == b'*'
-        || b == b'_'
-        || b == b'+'
-        || b == b'`'
-        || b == b'\''
-        || b == b'~'
 }
 
 fn first_other(value: &[u8]) -> Option<usize>

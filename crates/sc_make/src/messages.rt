@@ -1,6 +1,6 @@
 //! The three messages of a call.
 
-ghost use Rattle.std.specs.Prelude.{◌≡◌, ◌∷◌, ◌<◌, ◌^◌, [], None, true, IfOk};
+ghost use Rattle.std.specs.Prelude.{◌≡◌, ◌∷◌, ◌<◌, ◌^◌, [], true, IfOk};
 ghost use Rattle.std.specs.List.{list_all};
 ghost use Rattle.sc_tokens.specs.Tokens.{is_one_line, is_token, is_token_byte};
 ghost use Rattle.sc_tokens.specs.HeaderTokens.{is_param_text};
@@ -12,7 +12,7 @@ ghost use Rattle.sc_value.specs.Params.{tag_name, branch_name};
 use crate::names::{answer_tag, branch_of, call_of, session_uri, user_uri, valued};
 use sc_value::{
     Address, CSeq, Contact, Head, List, NoMemory, Others, Param, Request, Shared, SharedList, Text,
-    Token, Uri, Via,
+    Token, Via, plain_address,
 };
 use std::alloc::Global;
 
@@ -208,7 +208,7 @@ fn to_side(alloc: Global) -> Result<Address, NoMemory>
     ensures { IfOk result (λ a. a ≡ to_side) }
 {
     let uri = user_uri(alloc, b"u", b"home.test", None)?;
-    Ok(plain(alloc, uri))
+    Ok(plain_address(alloc, uri))
 }
 
 #[tactic(auto, unfolding(sc_model::specs::Generated::answered_side, sc_model::specs::Generated::called, sc_model::specs::Generated::home, sc_tokens::specs::Bytes::is_open, sc_tokens::specs::Bytes::is_closed, sc_tokens::specs::Cuts::has, sc_tokens::specs::Hosts::is_host, sc_tokens::specs::Hosts::begins, sc_tokens::specs::Hosts::is_host_name, sc_tokens::specs::Bytes::is_host_byte, sc_tokens::specs::HeaderTokens::IsDisplay))]
@@ -239,7 +239,7 @@ fn caller_contact(alloc: Global) -> Result<Contact, NoMemory>
     ensures { IfOk result (λ c. c ≡ caller_contact) }
 {
     let uri = user_uri(alloc, b"m", b"127.0.0.1", Some(5090))?;
-    Ok(Contact::At(plain(alloc, uri)))
+    Ok(Contact::At(plain_address(alloc, uri)))
 }
 
 fn routes(alloc: Global, i: u64) -> Result<List<Address>, NoMemory>
@@ -256,17 +256,5 @@ fn route_of(alloc: Global, i: u64) -> Result<Address, NoMemory>
     ensures { IfOk result (λ a. a ≡ route_of i) }
 {
     let uri = session_uri(alloc, 0, i)?;
-    Ok(plain(alloc, uri))
-}
-
-#[tactic(auto, unfolding(sc_tokens::specs::HeaderTokens::IsDisplay, sc_value::specs::ParamRules::AreHeaderParams))]
-fn plain(alloc: Global, uri: Uri) -> Address
-    ensures { result ≡ record { display = None; uri = uri; params = [] } }
-{
-    uri.known();
-    Address {
-        display: None,
-        uri,
-        params: List::new(alloc),
-    }
+    Ok(plain_address(alloc, uri))
 }

@@ -1,6 +1,6 @@
 //! The own route by which a request comes back to the router.
 
-ghost use Rattle.std.specs.Prelude.{◌≡◌, ◌∷◌, [], Some, None, IfOk};
+ghost use Rattle.std.specs.Prelude.{◌≡◌, ◌∷◌, [], Some, IfOk};
 ghost use Rattle.sc_value.specs.ParamRules.{AreUriParams};
 ghost use Rattle.sc_value.specs.declared.parts.Param.{Param};
 ghost use Rattle.sc_value.specs.declared.parts.Uri.TheVariants.{Sip};
@@ -10,7 +10,7 @@ ghost use Rattle.sc_model.specs.Choices.{way_back};
 
 use sc_names::{ar_value, ip_text, loose_param, tcp_param};
 use sc_terms::Config;
-use sc_value::{Address, List, NoMemory, Param, Region, SipUri, Text, Uri};
+use sc_value::{Address, List, NoMemory, Param, Region, SipUri, Text, Uri, plain_address};
 use std::alloc::Global;
 
 #[tactic(auto, unfolding(sc_model::specs::Names::ar_name))]
@@ -60,18 +60,6 @@ fn return_uri(alloc: Global, config: &Config, order: u32, region: Region) -> Res
     }))
 }
 
-#[tactic(auto, unfolding(sc_tokens::specs::HeaderTokens::IsDisplay, sc_value::specs::ParamRules::AreHeaderParams))]
-fn plain(alloc: Global, uri: Uri) -> Address
-    ensures { result ≡ record { display = None; uri = uri; params = [] } }
-{
-    uri.known();
-    Address {
-        display: None,
-        uri,
-        params: List::new(alloc),
-    }
-}
-
 // The own route that leads to this order of the router's list.
 #[tactic(auto, unfolding(sc_model::specs::Choices::way_back))]
 pub fn way_back(
@@ -83,5 +71,5 @@ pub fn way_back(
     ensures { IfOk result (λ a. a ≡ way_back config.now order region) }
 {
     let uri = return_uri(alloc, config, order, region)?;
-    Ok(plain(alloc, uri))
+    Ok(plain_address(alloc, uri))
 }

@@ -1,6 +1,6 @@
 //! A response on a branch of a proxied request (RFC 3261 section 16.7).
 
-ghost use Rattle.std.specs.Prelude.{◌≡◌, ◌+◌, option_and_then, IfOk, OnOk};
+ghost use Rattle.std.specs.Prelude.{◌≡◌, option_and_then, IfOk, OnOk};
 ghost use Rattle.std.specs.List.{find};
 ghost use Rattle.sc_value.specs.Lists.{change_first};
 ghost use Rattle.sc_terms.specs.declared.events.Event.{Event};
@@ -19,7 +19,7 @@ use sc_legs::{is_invalid, leg_of, take_answer};
 use sc_looking::request_place;
 use sc_state::{Known, Proxy, Session};
 use sc_terms::{Event, ProxyOptions, RequestView, SessionView, View};
-use sc_value::{CloneIn, List, NoMemory, ReqId, Response, SessId, Shared};
+use sc_value::{CloneIn, List, NoMemory, ReqId, Response, SessId, Shared, sum_u8};
 use std::alloc::Global;
 
 fn branch_event(
@@ -53,18 +53,6 @@ fn told(
         return response_event(alloc, proxy.req, sess, response);
     }
     branch_event(alloc, proxy.req, sess, response)
-}
-
-fn sum_u8(a: u8, count: usize) -> Result<u8, NoMemory>
-    ensures { IfOk result (λ n. n ≡ a + count) }
-{
-    let Ok(more) = u8::try_from(count) else {
-        return Err(NoMemory);
-    };
-    match a.checked_add(more) {
-        Some(n) => Ok(n),
-        None => Err(NoMemory),
-    }
 }
 
 #[tactic(auto, unfolding(crate::specs::Shown::more_branches))]

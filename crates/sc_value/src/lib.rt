@@ -44,10 +44,12 @@ pub use list::List;
 pub use message::{Head, Message, Request, Response, Sent};
 pub use names::{is_system_name, long_name, same_name};
 pub use no_memory::NoMemory;
-pub use numbers::{number_after, sum, sum_u32, write_u64};
+pub use numbers::{number_after, sum, sum_u8, sum_u32, write_u64};
 pub use other_uri::OtherUri;
 pub use others::{Others, is_other};
-pub use parts::{Address, CSeq, Contact, Field, Param, SipUri, Uri, Via, branch, tag};
+pub use parts::{
+    Address, CSeq, Contact, Field, Param, SipUri, Uri, Via, branch, plain_address, tag,
+};
 pub use places::same_place;
 pub use reason::Reason;
 pub use same::Same;
@@ -55,4 +57,4 @@ pub use shared::Shared;
 pub use shared_list::SharedList;
 pub use text::Text;
 pub use token::Token;
-pub use tokens::{is_one_line, is_token, is_value};
+pub use tokens::{is_blank, is_one_line, is_token, is_token_byte, is_value};

@@ -34,6 +34,20 @@ pub fn sum_u32(a: u32, b: u32) -> Result<u32, NoMemory>
     }
 }
 
+/// The sum of a small number and a count of things, with the same answer past the greatest number
+/// of its type.
+pub fn sum_u8(a: u8, count: usize) -> Result<u8, NoMemory>
+    ensures { IfOk result (λ n. n ≡ a + count) }
+{
+    let Ok(more) = u8::try_from(count) else {
+        return Err(NoMemory);
+    };
+    match a.checked_add(more) {
+        Some(n) => Ok(n),
+        None => Err(NoMemory),
+    }
+}
+
 /// The number of a thing that follows so many others, with the same answer past the greatest.
 pub fn number_after(count: usize) -> Result<u32, NoMemory>
     ensures { IfOk result (λ n. n ≡ count + 1) }

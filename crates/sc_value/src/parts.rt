@@ -1,10 +1,11 @@
 //! The parts of a message's head (RFC 3261 sections 19.1, 20 and 25.1).
 
-ghost use Rattle.std.specs.Prelude.{◌≡◌, position};
+ghost use Rattle.std.specs.Prelude.{◌≡◌, [], None, position};
 ghost use Rattle.std.specs.Option.{option_copied};
 ghost use Rattle.sc_value.specs.Params.{param_value, branch_name, tag_name, is_named};
 
 use crate::{List, OtherUri, Text, Token, same_name};
+use std::alloc::Global;
 use std::marker::Model;
 
 /// A parameter of a URI, an address or a Via: `;name` or `;name=value`. An empty value is not the
@@ -129,6 +130,19 @@ impl Model for CSeq {
 pub struct Field {
     pub name: Text,
     pub value: Text,
+}
+
+/// The address of a URI alone, without display and parameters (RFC 3261 section 20.10).
+#[tactic(auto, unfolding(sc_tokens::specs::HeaderTokens::IsDisplay, crate::specs::ParamRules::AreHeaderParams))]
+pub fn plain_address(alloc: Global, uri: Uri) -> Address
+    ensures { result ≡ record { display = None; uri = uri; params = [] } }
+{
+    uri.known();
+    Address {
+        display: None,
+        uri,
+        params: List::new(alloc),
+    }
 }
 
 /// The value of the address's parameter `tag`, None exactly where there is none (RFC 3261 section

@@ -21,8 +21,10 @@ fn has_token_bytes(text: &[u8]) -> bool
     text.iter().all(|b| is_token_byte(*b))
 }
 
+/// Whether the byte may stand in a token: a letter, a digit or one of ``-.!%*_+`'~`` (RFC 3261
+/// section 25.1).
 #[tactic(auto, unfolding(sc_tokens::specs::Tokens::is_token_byte))]
-fn is_token_byte(b: u8) -> bool
+pub fn is_token_byte(b: u8) -> bool
     ensures { result ≡ is_token_byte b }
 {
     match b {
@@ -54,8 +56,9 @@ pub fn is_value(text: &[u8]) -> bool
     is_one_line(text) && !begins_blank(text) && !ends_blank(text)
 }
 
+/// Whether the byte is a blank: a space or a tab (RFC 3261 section 25.1).
 #[tactic(auto, unfolding(sc_tokens::specs::Tokens::is_blank))]
-fn is_blank(b: u8) -> bool
+pub fn is_blank(b: u8) -> bool
     ensures { result ≡ is_blank b }
 {
     b == b' ' || b == b'\t'
