@@ -90,6 +90,7 @@ fn tried(
     let last = Shared::new(alloc, trying(alloc, request)?)?;
     let mut own = server.clone_in(alloc)?;
     own.last = Some(last);
+    own.passed.items.reserve_exact(1)?;
     own.passed.items.insert(
         0,
         ServerItem::AnswerGiven {

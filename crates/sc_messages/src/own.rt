@@ -126,7 +126,9 @@ fn session_params(alloc: Global, epoch: u32, app: AppId) -> Result<List<Param>, 
         ≡ tcp_param ∷ loose_param ∷ record { name = ap_name; value = Some (ap_value epoch app) }
         ∷ []) }
 {
-    let mut params = List::new(alloc);
+    let mut params = List {
+        items: Vec::with_capacity(alloc, 3)?,
+    };
     params.push(tcp_param(alloc)?)?;
     params.push(loose_param(alloc)?)?;
     params.push(ap_param(alloc, epoch, app)?)?;

@@ -77,6 +77,7 @@ fn client_passed(
     ensures { IfOk result (λ own. own ≡ client_passed item client.now) }
 {
     let mut own = client.clone_in(alloc)?;
+    own.passed.items.reserve_exact(1)?;
     own.passed.items.insert(0, item)?;
     Shared::new(alloc, own)
 }

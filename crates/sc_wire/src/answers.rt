@@ -29,6 +29,7 @@ fn answered_server(
     let last = response.clone_in(alloc)?;
     let mut own = server.clone_in(alloc)?;
     own.last = Some(last);
+    own.passed.items.reserve_exact(1)?;
     own.passed
         .items
         .insert(0, ServerItem::AnswerGiven { code, moment: now })?;
