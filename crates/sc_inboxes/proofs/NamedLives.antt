@@ -120,4 +120,4 @@ pub named_grouped : (group epoch number : ℕ) (uri : Uri) → ((serial : ℕ) �
     → (x : Live Session) → is_named_live epoch number uri x ≡ true → belongs groups_of_live group x ≡ true
 unfolding is_named_live
 named_grouped group epoch number uri named x is =
-    or_right (x.serial == group) (serial_number x.serial == group) (ap (λ n. serial_number x.serial == n) (named x.serial is) ∙ itself (serial_number x.serial))
+    or_right (serial_number x.serial == group) (serial_number x.serial == group) (ap (λ n. serial_number x.serial == n) (named x.serial is) ∙ itself (serial_number x.serial))

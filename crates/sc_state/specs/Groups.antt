@@ -40,6 +40,6 @@ groups_of_client client = (client.app.serial, branch_number client.app client.br
 abbrev pub groups_of_server : Server → ℕ × ℕ
 groups_of_server server = (server.app.serial, via_number server.request.head.via)
 
--- of a live session: its serial, and that of the serial as an own URI says it
+-- of a live session: that of its serial as an own URI says it, twice
 abbrev pub groups_of_live : {S : Type 0} → Live S → ℕ × ℕ
-groups_of_live live = (live.serial, serial_number live.serial)
+groups_of_live live = (serial_number live.serial, serial_number live.serial)

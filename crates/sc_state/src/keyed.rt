@@ -99,7 +99,8 @@ impl<S: Timed> Item for Live<S> {
     }
 
     fn groups(&self) -> (u64, u64) {
-        (self.serial, serial_number(self.serial))
+        let group = serial_number(self.serial);
+        (group, group)
     }
 }
 
