@@ -30,7 +30,7 @@ pub fn fresh(
 {
     let own_tag = first_tag(alloc, config.salt.as_text(), epoch, app)?;
     let known = first_known(alloc, &own_tag, noted, request)?;
-    let view = first_view(alloc, config, app, epoch, began, request)?;
+    let view = first_view(alloc, config, app, epoch, began, &own_tag, request)?;
     Ok(Session { view, known })
 }
 
@@ -49,13 +49,15 @@ fn first_view(
     app: AppId,
     epoch: u32,
     began: u64,
+    own_tag: &Text,
     request: &Request,
 ) -> Result<View, NoMemory>
+    requires { own_tag.now ≡ tag_text config.now.salt epoch app 1 }
     ensures { IfOk result (λ v. v ≡ first_view config.now app epoch began request.now) }
 {
     let entry = config.app.as_slice().get(app.host as usize);
     let expires = expiry_of(entry, began)?;
-    let own_tag = first_tag(alloc, config.salt.as_text(), epoch, app)?;
+    let own_tag = own_tag.clone_in(alloc)?;
     let sessions = first_sessions(alloc, own_tag, request)?;
     let salt = config.salt.clone_in(alloc)?;
     let params = params_of(alloc, entry)?;
