@@ -19,7 +19,7 @@ use crate::params::read_params;
 use crate::parts::{Readable, read_parts, split_part};
 use sc_ascii::trim;
 use sc_syntax::Scan;
-use sc_uri_text::copy_of;
+use sc_uri_text::shared_copy_of;
 use sc_value::{Address, Contact, List, Param};
 use std::alloc::Global;
 
@@ -110,7 +110,7 @@ fn with_uri(alloc: Global, named: Named<'_>, params: List<Param>) -> Result<Addr
     requires params { AreHeaderParams params }
     ensures { Gives result (with_uri params (seen named.entry)) }
 {
-    let display = copy_of(alloc, named.display)?;
+    let display = shared_copy_of(alloc, named.display)?;
     match sc_uri_text::read(alloc, named.uri) {
         Ok(uri) => {
             uri.known();

@@ -3,12 +3,14 @@
 
 ghost use Rattle.std.specs.Prelude.{◌≡◌, List, ℕ, decimal, length, min};
 ghost use Rattle.std.specs.List.{flat_map};
+ghost use Rattle.std.specs.Option.{option_copied};
 ghost use Rattle.sc_grammar.specs.Written.{address_text, closing_lines, contact_line, contact_text, cseq_text, dialog_lines, field_line, head_text, hops_line, param_text, params_text, port_text, record_route_line, request_line, route_line, routing_lines, sip_uri_text, status_line, uri_text, via_line, via_text, written};
 ghost use Rattle.sc_switch.specs.Lengths.{marked_length};
 
 use crate::sizes::length_of;
 use sc_value::{
     Address, CSeq, Contact, Field, Head, Message, Param, Request, Response, SipUri, Text, Uri, Via,
+    shared_value,
 };
 
 /// How many bytes the written text of a message has.
@@ -205,7 +207,7 @@ impl Form<Param> for ParamText {
     #[tactic(auto, using(crate::proofs::WrittenLengths::param_length))]
     fn len(item: &Param) -> u64 {
         length_of(&item.name)
-            .saturating_add(marked_len(&item.value))
+            .saturating_add(marked_len(item.value.as_ref()))
             .saturating_add(1)
     }
 }
@@ -251,7 +253,7 @@ fn contact_len(contact: &Contact) -> u64
 fn address_len(address: &Address) -> u64
     ensures { result ≡ min (length (address_text address.now)) u64.MAX }
 {
-    marked_len(&address.display)
+    marked_len(shared_value(&address.display))
         .saturating_add(uri_len(&address.uri))
         .saturating_add(params_len(address.params.as_slice()))
         .saturating_add(2)
@@ -274,11 +276,11 @@ fn uri_len(uri: &Uri) -> u64
 fn sip_uri_len(uri: &SipUri) -> u64
     ensures { result ≡ min (length (sip_uri_text uri.now)) u64.MAX }
 {
-    marked_len(&uri.user)
+    marked_len(uri.user.as_ref())
         .saturating_add(length_of(&uri.host))
         .saturating_add(port_len(uri.port))
         .saturating_add(params_len(uri.params.as_slice()))
-        .saturating_add(marked_len(&uri.headers))
+        .saturating_add(marked_len(shared_value(&uri.headers)))
         .saturating_add(4)
 }
 
@@ -292,8 +294,8 @@ fn params_len(params: &[Param]) -> u64
 
 /// The length of a text with the sign that stands before or behind it; none has no bytes.
 #[tactic(auto, unfolding(crate::specs::Lengths::marked_length))]
-fn marked_len(text: &Option<Text>) -> u64
-    ensures { result ≡ min (marked_length text.now) u64.MAX }
+fn marked_len(text: Option<&Text>) -> u64
+    ensures { result ≡ min (marked_length (option_copied text.entry)) u64.MAX }
 {
     match text {
         Some(text) => length_of(text).saturating_add(1),

@@ -2,10 +2,11 @@
 //! greatest.
 
 ghost use Rattle.std.specs.Prelude.{◌≡◌, ℕ, ◌+◌, min, length, sum_by, Option};
+ghost use Rattle.std.specs.Option.{option_copied};
 ghost use Rattle.sc_model.specs.JournalSizes.{option_size, param_size, sip_uri_size, uri_size, address_size, contact_size, field_size, answer_size, ask_size, inside_size, option_uri_size, call_size, record_size};
 
 use sc_terms::{Answer, Ask, Call, CallRecord, Inside};
-use sc_value::{Address, Contact, Field, Param, SipUri, Text, Uri};
+use sc_value::{Address, Contact, Field, Param, SipUri, Text, Uri, shared_value};
 
 /// A value whose texts have a size.
 pub trait Measured {
@@ -35,8 +36,8 @@ pub fn length_of(text: &Text) -> u64
 }
 
 #[tactic(auto, unfolding(sc_model::specs::JournalSizes::option_size))]
-fn option_size(text: &Option<Text>) -> u64
-    ensures { result ≡ min (option_size text.now) u64.MAX }
+fn option_size(text: Option<&Text>) -> u64
+    ensures { result ≡ min (option_size (option_copied text.entry)) u64.MAX }
 {
     match text {
         Some(text) => length_of(text),
@@ -49,7 +50,7 @@ impl Measured for Param {
 
     #[tactic(auto, unfolding(sc_model::specs::JournalSizes::param_size))]
     fn size(&self) -> u64 {
-        length_of(&self.name).saturating_add(option_size(&self.value))
+        length_of(&self.name).saturating_add(option_size(self.value.as_ref()))
     }
 }
 
@@ -57,11 +58,11 @@ impl Measured for Param {
 fn sip_uri_size(uri: &SipUri) -> u64
     ensures { result ≡ min (sip_uri_size uri.now) u64.MAX }
 {
-    let named = option_size(&uri.user).saturating_add(length_of(&uri.host));
+    let named = option_size(uri.user.as_ref()).saturating_add(length_of(&uri.host));
     let params = total(uri.params.as_slice());
     named
         .saturating_add(params)
-        .saturating_add(option_size(&uri.headers))
+        .saturating_add(option_size(shared_value(&uri.headers)))
 }
 
 impl Measured for Uri {
@@ -80,7 +81,7 @@ impl Measured for Uri {
 fn address_size(address: &Address) -> u64
     ensures { result ≡ min (address_size address.now) u64.MAX }
 {
-    option_size(&address.display)
+    option_size(shared_value(&address.display))
         .saturating_add(address.uri.size())
         .saturating_add(total(address.params.as_slice()))
 }

@@ -11,7 +11,7 @@ mod refused;
 mod sent;
 mod writing;
 
-pub use copies::copy_of;
+pub use copies::{copy_of, shared_copy_of};
 pub use hosts::is_host;
 pub use pieces::{put_byte, put_ended, put_port, put_signed};
 pub use reading::read;

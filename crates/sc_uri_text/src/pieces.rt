@@ -2,6 +2,7 @@
 //! may hold a part of the piece.
 
 ghost use Rattle.std.specs.Prelude.{◌≡◌, ◌++◌, [], ◌∷◌, OnOk};
+ghost use Rattle.std.specs.Option.{option_copied};
 ghost use Rattle.sc_grammar.specs.Written.{ended_text, port_text, scheme, signed_text};
 
 use sc_value::{NoMemory, Text, write_u64};
@@ -23,8 +24,8 @@ pub(crate) fn put_scheme(out: &mut Text) -> Result<(), NoMemory>
 
 /// Appends nothing, or the sign and the text.
 #[tactic(auto, unfolding(sc_grammar::specs::Written::signed_text))]
-pub fn put_signed(sign: u8, text: &Option<Text>, out: &mut Text) -> Result<(), NoMemory>
-    ensures { OnOk result (out.new ≡ out.old ++ signed_text sign text.now) }
+pub fn put_signed(sign: u8, text: Option<&Text>, out: &mut Text) -> Result<(), NoMemory>
+    ensures { OnOk result (out.new ≡ out.old ++ signed_text sign (option_copied text.entry)) }
 {
     match text {
         Some(text) => {
@@ -37,8 +38,8 @@ pub fn put_signed(sign: u8, text: &Option<Text>, out: &mut Text) -> Result<(), N
 
 /// Appends nothing, or the text and the sign.
 #[tactic(auto, unfolding(sc_grammar::specs::Written::ended_text))]
-pub fn put_ended(text: &Option<Text>, sign: u8, out: &mut Text) -> Result<(), NoMemory>
-    ensures { OnOk result (out.new ≡ out.old ++ ended_text text.now sign) }
+pub fn put_ended(text: Option<&Text>, sign: u8, out: &mut Text) -> Result<(), NoMemory>
+    ensures { OnOk result (out.new ≡ out.old ++ ended_text (option_copied text.entry) sign) }
 {
     match text {
         Some(text) => {

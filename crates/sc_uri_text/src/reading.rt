@@ -13,7 +13,7 @@ ghost use Rattle.sc_uri_text.specs.Answers.{IsRead, IsReadAs};
 
 use crate::UriRefused;
 use crate::classes::{is_open, is_scheme};
-use crate::copies::copy_of;
+use crate::copies::{copy_of, shared_copy_of};
 use crate::params::read_params;
 use crate::sent::read_sent;
 use sc_ascii::{cut, same_name};
@@ -149,7 +149,7 @@ fn build(
 {
     let user = copy_of(alloc, user)?;
     let host = Text::from_slice(alloc, host)?;
-    let headers = copy_of(alloc, headers)?;
+    let headers = shared_copy_of(alloc, headers)?;
     Ok(Uri::Sip(SipUri {
         user,
         host,

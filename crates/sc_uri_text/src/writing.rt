@@ -4,7 +4,7 @@ ghost use Rattle.std.specs.Prelude.{◌≡◌, ◌++◌, OnOk, OnErr};
 ghost use Rattle.sc_grammar.specs.Written.{param_text, params_text, sip_uri_text, uri_text};
 
 use crate::pieces::{put_byte, put_ended, put_port, put_scheme, put_signed};
-use sc_value::{NoMemory, Param, SipUri, Text, Uri};
+use sc_value::{NoMemory, Param, SipUri, Text, Uri, shared_value};
 use std::alloc::Global;
 
 /// Puts the text of a URI at the end (RFC 3261 section 19.1.1). The one error is want of memory,
@@ -34,11 +34,11 @@ fn put_sip_uri(uri: &SipUri, out: &mut Text) -> Result<(), NoMemory>
     ensures { OnOk result (out.new ≡ out.old ++ sip_uri_text uri.now) }
 {
     put_scheme(out)?;
-    put_ended(&uri.user, b'@', out)?;
+    put_ended(uri.user.as_ref(), b'@', out)?;
     out.append(uri.host.as_bytes())?;
     put_port(uri.port, out)?;
     put_params(uri.params.as_slice(), out)?;
-    put_signed(b'?', &uri.headers, out)
+    put_signed(b'?', shared_value(&uri.headers), out)
 }
 
 /// Appends the parameters, each behind a semicolon (RFC 3261 section 25.1). For want of memory
@@ -59,5 +59,5 @@ fn put_param(param: &Param, out: &mut Text) -> Result<(), NoMemory>
 {
     put_byte(b';', out)?;
     out.append(param.name.as_bytes())?;
-    put_signed(b'=', &param.value, out)
+    put_signed(b'=', param.value.as_ref(), out)
 }

@@ -53,7 +53,7 @@ pub use parts::{
 pub use places::same_place;
 pub use reason::Reason;
 pub use same::Same;
-pub use shared::Shared;
+pub use shared::{Shared, shared_value};
 pub use shared_list::SharedList;
 pub use text::Text;
 pub use token::Token;

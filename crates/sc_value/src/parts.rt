@@ -4,7 +4,7 @@ ghost use Rattle.std.specs.Prelude.{◌≡◌, [], None, position};
 ghost use Rattle.std.specs.Option.{option_copied};
 ghost use Rattle.sc_value.specs.Params.{param_value, branch_name, tag_name, is_named};
 
-use crate::{List, OtherUri, Text, Token, same_name};
+use crate::{List, OtherUri, Shared, Text, Token, same_name};
 use std::alloc::Global;
 use std::marker::Model;
 
@@ -17,14 +17,14 @@ pub struct Param {
 }
 
 /// A `sip:` URI (RFC 3261 section 19.1.1). The user part holds the password, and the headers are
-/// all that follows `?`, both as written.
+/// all that follows `?`, both as written. Few URIs have headers, so that they stand apart.
 #[derive(Drop)]
 pub struct SipUri {
     pub user: Option<Text>,
     pub host: Text,
     pub port: Option<u16>,
     pub params: List<Param>,
-    pub headers: Option<Text>,
+    pub headers: Option<Shared<Text>>,
 }
 
 impl Model for SipUri {
@@ -60,10 +60,10 @@ pub enum Uri {
 }
 
 /// An address with its header parameters (RFC 3261 section 20.10). The display is as written, with
-/// its quotes.
+/// its quotes; it stands apart, as many addresses have none.
 #[derive(Drop)]
 pub struct Address {
-    pub display: Option<Text>,
+    pub display: Option<Shared<Text>>,
     pub uri: Uri,
     pub params: List<Param>,
 }

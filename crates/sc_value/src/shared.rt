@@ -1,4 +1,5 @@
 ghost use Rattle.std.specs.Prelude.{◌≡◌, IfOk};
+ghost use Rattle.std.specs.Option.{option_copied};
 
 use crate::{CloneIn, NoMemory, Same};
 use std::alloc::Global;
@@ -60,5 +61,15 @@ impl<T: Drop> CloneIn for Shared<T> {
 impl<T: Same> Same for Shared<T> {
     fn same(&self, other: &Shared<T>) -> bool {
         self.get().same(other.get())
+    }
+}
+
+/// The value, where there is one.
+pub fn shared_value<T>(item: &Option<Shared<T>>) -> Option<&T>
+    ensures { option_copied result ≡ item.now }
+{
+    match item {
+        Some(item) => Some(item.get()),
+        None => None,
     }
 }
