@@ -7,8 +7,8 @@ use Rattle.sc_state.specs.declared.working.Working.{Working}
 use Rattle.sc_hosts.specs.Branches.{new_branch}
 use Rattle.sc_hosts.specs.Giving.{giving}
 use Rattle.sc_hosts.specs.Working.{next_branch}
-use Rattle.sc_hosts.specs.Acting.{in_proxy, in_view, drawn, started}
-use Rattle.sc_acting.specs.Acts.{branched, begin_order, sent_to}
+use Rattle.sc_hosts.specs.Acting.{in_proxy, in_view, with_next_branch as drawn, after_start as started}
+use Rattle.sc_acting.specs.Acts.{with_new_branch as branched, begin_order, sent_to}
 
 pub started_is : (config : Config) (proxy : Proxy) (working : Working) (uri : Uri)
     → started config proxy working uri

@@ -15,8 +15,8 @@ use Rattle.sc_hosts.specs.Working.{next_branch}
 use Rattle.sc_hosts.specs.Messages.{on_branch, proxied_request}
 
 -- a target has become a branch
-unfoldable pub branched : Branch → Proxy → Proxy
-branched branch proxy =
+unfoldable pub with_new_branch : Branch → Proxy → Proxy
+with_new_branch branch proxy =
     record proxy { branches = proxy.branches ++ branch ∷ []; targets = drop 1 proxy.targets }
 
 -- the request as it goes to this target

@@ -2,11 +2,11 @@
 
 ghost use Rattle.std.specs.Prelude.{◌≡◌, IfOk, OnOk};
 ghost use Rattle.std.specs.List.{fold};
-ghost use Rattle.sc_hosts.specs.Acting.{started, acted, acts, all_act};
+ghost use Rattle.sc_hosts.specs.Acting.{acts, after_proxy, after_start, all_act};
 ghost use Rattle.sc_hosts.specs.Branches.{new_branch, records_route};
 ghost use Rattle.sc_hosts.specs.Messages.{proxied_request};
 ghost use Rattle.sc_hosts.specs.Working.{next_branch};
-ghost use Rattle.sc_acting.specs.Acts.{sent_to, begin_order};
+ghost use Rattle.sc_acting.specs.Acts.{begin_order, sent_to};
 
 use crate::changing::{draw, give, proxy_now, rest, with_branch};
 use crate::closing::{closes, sends_cancels};
@@ -92,7 +92,7 @@ fn started(
     working: &mut Working,
     uri: &Uri,
 ) -> Result<(), NoMemory>
-    ensures { OnOk result (working.new ≡ started config.now proxy.now working.old uri.now) }
+    ensures { OnOk result (working.new ≡ after_start config.now proxy.now working.old uri.now) }
 {
     let branch = next_branch_of(proxy, working)?;
     let order = begin_order(alloc, config, proxy, working, uri)?;
@@ -108,7 +108,8 @@ fn all_started(
     working: &mut Working,
     uris: &[Uri],
 ) -> Result<(), NoMemory>
-    ensures { OnOk result (working.new ≡ fold (started config.now proxy.now) working.old uris.now) }
+    ensures { OnOk result
+        (working.new ≡ fold (after_start config.now proxy.now) working.old uris.now) }
 {
     for uri in uris {
         started(alloc, config, proxy, working, uri)?;
@@ -117,14 +118,14 @@ fn all_started(
 }
 
 /// New branches, then what is forwarded, then CANCELs in the order of branches.
-#[tactic(auto, unfolding(sc_hosts::specs::Acting::acted))]
+#[tactic(auto, unfolding(sc_hosts::specs::Acting::after_proxy))]
 fn acted(
     alloc: Global,
     config: &Config,
     proxy: &Proxy,
     working: &mut Working,
 ) -> Result<(), NoMemory>
-    ensures { OnOk result (working.new ≡ acted config.now proxy.now working.old) }
+    ensures { OnOk result (working.new ≡ after_proxy config.now proxy.now working.old) }
 {
     let uris = starting(alloc, proxy)?;
     all_started(alloc, config, proxy, working, uris.as_slice())?;

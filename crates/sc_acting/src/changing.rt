@@ -6,8 +6,8 @@ ghost use Rattle.sc_hosts.specs.Looking.{same_request};
 ghost use Rattle.sc_hosts.specs.PreparingResponses.{change_proxy};
 ghost use Rattle.sc_hosts.specs.Preparing.{proxy_of};
 ghost use Rattle.sc_hosts.specs.Giving.{giving};
-ghost use Rattle.sc_hosts.specs.Acting.{drawn, with_forwarded, rested_branch, rested, proxy_now};
-ghost use Rattle.sc_acting.specs.Acts.{branched};
+ghost use Rattle.sc_hosts.specs.Acting.{at_rest, proxy_now, rested_branch, with_forwarded, with_next_branch};
+ghost use Rattle.sc_acting.specs.Acts.{with_new_branch};
 
 use sc_effects::{proxy_of, proxy_place};
 use sc_methods::is_final;
@@ -26,15 +26,15 @@ pub fn give(working: &mut Working, order: Order) -> Result<(), NoMemory>
 
 /// A branch is drawn.
 pub fn draw(view: &mut View) -> Result<(), NoMemory>
-    ensures { OnOk result (view.new ≡ drawn view.old) }
+    ensures { OnOk result (view.new ≡ with_next_branch view.old) }
 {
     view.counter = sum(view.counter, 1)?;
     Ok(())
 }
 
-#[tactic(auto, unfolding(crate::specs::Acts::branched))]
+#[tactic(auto, unfolding(crate::specs::Acts::with_new_branch))]
 fn branched(proxy: &mut Proxy, branch: Branch) -> Result<(), NoMemory>
-    ensures { OnOk result (proxy.new ≡ branched branch proxy.old) }
+    ensures { OnOk result (proxy.new ≡ with_new_branch branch proxy.old) }
 {
     proxy.branches.push(branch)?;
     if !proxy.targets.is_empty() {
@@ -47,7 +47,7 @@ fn branched(proxy: &mut Proxy, branch: Branch) -> Result<(), NoMemory>
 fn branched_in(proxies: &mut [Proxy], req: ReqId, branch: Branch) -> Result<(), NoMemory>
     ensures { OnOk result
         (proxies.new
-        ≡ change_first (λ proxy. same_request proxy.req req) (branched branch) proxies.old) }
+        ≡ change_first (λ proxy. same_request proxy.req req) (with_new_branch branch) proxies.old) }
 {
     match proxy_place(proxies, req) {
         Some(at) => branched(&mut proxies[at], branch),
@@ -57,7 +57,7 @@ fn branched_in(proxies: &mut [Proxy], req: ReqId, branch: Branch) -> Result<(), 
 
 /// The next target of a proxied request has become this branch.
 pub fn with_branch(known: &mut Known, req: ReqId, branch: Branch) -> Result<(), NoMemory>
-    ensures { OnOk result (known.new ≡ change_proxy req (branched branch) known.old) }
+    ensures { OnOk result (known.new ≡ change_proxy req (with_new_branch branch) known.old) }
 {
     branched_in(&mut known.proxies.items, req, branch)
 }
@@ -104,9 +104,9 @@ fn all_rested(branches: &mut [Branch])
     }
 }
 
-#[tactic(auto, unfolding(sc_hosts::specs::Acting::rested))]
+#[tactic(auto, unfolding(sc_hosts::specs::Acting::at_rest))]
 fn rested(proxy: &mut Proxy)
-    ensures { proxy.new ≡ rested proxy.old }
+    ensures { proxy.new ≡ at_rest proxy.old }
 {
     all_rested(&mut proxy.branches.items);
     proxy.passing = None;
@@ -115,7 +115,7 @@ fn rested(proxy: &mut Proxy)
 
 #[tactic(auto, using(sc_value::proofs::ListFacts::change_first_position, sc_value::proofs::ListFacts::change_first_none))]
 fn rested_in(proxies: &mut [Proxy], req: ReqId)
-    ensures { proxies.new ≡ change_first (λ proxy. same_request proxy.req req) rested proxies.old }
+    ensures { proxies.new ≡ change_first (λ proxy. same_request proxy.req req) at_rest proxies.old }
 {
     match proxy_place(proxies, req) {
         Some(at) => rested(&mut proxies[at]),
@@ -125,7 +125,7 @@ fn rested_in(proxies: &mut [Proxy], req: ReqId)
 
 /// A proxied request has done what this turn made it do.
 pub fn rest(known: &mut Known, req: ReqId)
-    ensures { known.new ≡ change_proxy req rested known.old }
+    ensures { known.new ≡ change_proxy req at_rest known.old }
 {
     rested_in(&mut known.proxies.items, req);
 }

@@ -1,7 +1,7 @@
 //! What a proxied request leaves once it is over, and the CANCELs that it sends.
 
 ghost use Rattle.std.specs.Prelude.{◌≡◌, ◌∷◌, [], ◌++◌, OnOk, map};
-ghost use Rattle.sc_hosts.specs.Acting.{is_over, closed_session, closes, sends_cancels, proxy_now};
+ghost use Rattle.sc_hosts.specs.Acting.{closed_session, closes, is_over, proxy_now, sends_cancels};
 ghost use Rattle.sc_acting.specs.Acts.{cancel_order};
 
 use crate::changing::proxy_now;

@@ -5,7 +5,7 @@ ghost use Rattle.std.specs.Option.{option_copied};
 ghost use Rattle.sc_value.specs.Lists.{change_first};
 ghost use Rattle.sc_model.specs.BestResponses.{best_response};
 ghost use Rattle.sc_hosts.specs.Looking.{is_session};
-ghost use Rattle.sc_hosts.specs.Acting.{forwarded_view, moved_on, subscribed_tag, with_subscribed, forwards, passes, forwards_best, chooses};
+ghost use Rattle.sc_hosts.specs.Acting.{chooses, forwarded_view, forwards, forwards_best, moved_on, passes, subscribed_tag, with_subscribed};
 
 use crate::changing::{give, note_forwarded};
 use sc_best::{best, forwarded};

@@ -5,10 +5,10 @@ use Rattle.sc_terms.specs.declared.settings.Config.{Config}
 use Rattle.sc_terms.specs.declared.views.SessionView.{SessionView}
 use Rattle.sc_state.specs.declared.proxy.Proxy.{Proxy}
 use Rattle.sc_state.specs.declared.working.Working.{Working}
-use Rattle.sc_hosts.specs.Acting.{acted as proxy_acted, acts, all_act, started}
+use Rattle.sc_hosts.specs.Acting.{after_proxy as proxy_acted, acts, all_act, after_start as started}
 use Rattle.sc_hosts.specs.Branches.{starting}
 use Rattle.sc_hosts.specs.PreparingResponses.{is_invalid}
-use Rattle.sc_answered.specs.Happened.{acted_from, acted, acted_by, all_acted}
+use Rattle.sc_answered.specs.Happened.{acted_from, by_proxy as acted, acted_by, all_acted}
 use Rattle.sc_answered.proofs.Standing.{Comes, comes-next, comes-same, comes-then, if-comes}
 use Rattle.sc_answered.proofs.Forwarded.{Goes, sessions_at, started-comes}
 use Rattle.sc_answered.proofs.Proxied.{from-comes, from-is, from_of}

@@ -18,15 +18,15 @@ use Rattle.sc_state.specs.declared.working.Draft.{Draft}
 use Rattle.sc_state.specs.declared.working.Play.{Play}
 use Rattle.sc_state.specs.declared.working.Prepared.{Prepared}
 use Rattle.sc_state.specs.declared.working.Working.{Working}
-use Rattle.sc_hosts.specs.Effects.{acked, after_call, after_listed, begun, created, created_later, created_leg, discarded, flagged, played_by, proxied, proxying, sent, with_draft, with_timer}
-use Rattle.sc_hosts.specs.Looking.{is_proxy, is_session, linked_to, removed, request_in, unlinked}
+use Rattle.sc_hosts.specs.Effects.{view_with_ack as acked, after_call, after_listed, first_play as begun, play_with_initial as created, created_later, created_leg, play_without_draft as discarded, with_invalidation_flag as flagged, played_by, view_with_targets as proxied, proxying, play_with_request as sent, with_draft, with_timer}
+use Rattle.sc_hosts.specs.Looking.{is_proxy, is_session, linked_to, without_sip_session as removed, request_in, without_link as unlinked}
 use Rattle.sc_hosts.specs.RefusalParts.{draft_in}
 use Rattle.sc_hosts.specs.Refusals.{begun_by, refusal}
-use Rattle.sc_hosts.specs.ViewChanges.{invalidated, linked, new_session, own_session, settled_requests, tidy, with_own_session}
-use Rattle.sc_hosts.specs.Working.{starts, worked, worked_all}
+use Rattle.sc_hosts.specs.ViewChanges.{view_without as invalidated, with_link as linked, new_session, own_session, settled_requests, tidy, with_own_session}
+use Rattle.sc_hosts.specs.Working.{starts, after_one_call as worked, worked_all}
 use Rattle.sc_walked.proofs.WalkParts.{each-first, if-is}
 use Rattle.sc_lasting.proofs.Parts.{linked-each, removed-each, unlinked-each}
-use Rattle.sc_answered.specs.Happened.{given, given_by, given_if}
+use Rattle.sc_answered.specs.Happened.{by_calls as given, given_by, given_if}
 use Rattle.sc_answered.proofs.Standing.{Comes, IsKept, comes-each, comes-more, comes-next, comes-same, comes-then, if-still}
 use Rattle.sc_answered.proofs.Shown.{comes-answer, kept}
 

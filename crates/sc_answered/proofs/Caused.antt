@@ -36,14 +36,14 @@ use Rattle.sc_model.specs.BestResponses.{best_response}
 use Rattle.sc_model.specs.Dialogs.{tag_of}
 use Rattle.sc_model.specs.SessionStates.{invite}
 use Rattle.sc_model.specs.Transactions.{is_failure, is_success}
-use Rattle.sc_hosts.specs.Acting.{acts, all_act, chooses, drafts_ended, faulted, is_request_event, passes, proxy_now, sends_cancels, started}
+use Rattle.sc_hosts.specs.Acting.{acts, all_act, chooses, drafts_ended, after_fault as faulted, is_request_event, passes, proxy_now, sends_cancels, after_start as started}
 use Rattle.sc_hosts.specs.Branches.{can_choose, can_pass, is_exhausted, starting}
 use Rattle.sc_hosts.specs.DerivedSessions.{is_of}
-use Rattle.sc_hosts.specs.Effects.{after_listed, begun}
+use Rattle.sc_hosts.specs.Effects.{after_listed, first_play as begun}
 use Rattle.sc_hosts.specs.Histories.{History, session_after}
 use Rattle.sc_hosts.specs.Legs.{is_low, leg_of}
 use Rattle.sc_hosts.specs.Looking.{is_gone, is_session, request_in, same_session, session_in}
-use Rattle.sc_hosts.specs.Preparing.{kept_of, prepared}
+use Rattle.sc_hosts.specs.Preparing.{kept_of, prepared_session as prepared}
 use Rattle.sc_hosts.specs.PreparingResponses.{accepts_invite, is_first_success, is_invalid, shown_again}
 use Rattle.sc_hosts.specs.Refusals.{refusal}
 use Rattle.sc_hosts.specs.Sessions.{Turn}
@@ -52,7 +52,7 @@ use Rattle.sc_hosts.specs.Working.{worked_all}
 use Rattle.sc_lasting.specs.Lasting.{All}
 use Rattle.sc_answered.proofs.Standing.{found-passes}
 use Rattle.sc_answered.specs.StateOf.{Asked, Exhausted, Happening, Overtaken, Response as Responded, Undone}
-use Rattle.sc_answered.specs.Happened.{Happened, acted, acted_by, acted_from, acted_last, acted_next, all_acted, called_by, ended_by, shown_by, answer_to, asked_of, at_moment, best_passed, came_in, cancelled, cancelled_in, chosen, exhausted, exhausted_by, failed, failed_at, forwarded, forwarded_to, given, given_by, given_if, got, got_in, got_own, happened_after, happened_by, happened_of, heard, in_each, initial_of, overtaken_by, passed, response_in, settled_by, stopped, stopped_at, stopped_of, too_low, too_low_in, undone_by}
+use Rattle.sc_answered.specs.Happened.{Happened, by_proxy as acted, acted_by, acted_from, acted_last, acted_next, all_acted, called_by, ended_by, shown_by, answer_to, asked_of, at_moment, best_passed, came_in, by_cancel as cancelled, cancelled_in, by_choice as chosen, by_exhaustion as exhausted, exhausted_by, by_turn_end as failed, failed_at, by_forwarding as forwarded, forwarded_to, by_calls as given, given_by, given_if, by_response as got, got_in, got_own, happened_after, happened_by, happened_of, by_event as heard, in_each, initial_of, overtaken_by, by_passing as passed, response_in, settled_by, by_stop as stopped, stopped_at, stopped_of, too_low, too_low_in, undone_by}
 use Rattle.sc_answered.specs.Needed.{takes_call}
 use Rattle.sc_answered.specs.Causes.{HaveCauses, fails_first, is_caused, takes_elsewhere}
 

@@ -13,15 +13,15 @@ use Rattle.sc_state.specs.declared.session.Known.{Known}
 use Rattle.sc_state.specs.declared.session.Session.{Session}
 use Rattle.sc_state.specs.declared.working.Working.{Working}
 use Rattle.sc_hosts.specs.Acting.{hops_spent, in_view, is_request_event, passed_later, passed_on, passed_request_of, passes_later}
-use Rattle.sc_hosts.specs.Finishing.{is_ended, is_session_ready, lightened, outcome_of, session_in_play, swept, swept_one, without_acks}
+use Rattle.sc_hosts.specs.Finishing.{is_ended, is_session_ready, without_unneeded as lightened, outcome_of, session_in_play, swept, swept_one, without_acks}
 use Rattle.sc_hosts.specs.Giving.{answering}
-use Rattle.sc_hosts.specs.Looking.{removed, request_in}
+use Rattle.sc_hosts.specs.Looking.{without_sip_session as removed, request_in}
 use Rattle.sc_hosts.specs.Messages.{bare_answer}
 use Rattle.sc_hosts.specs.Preparing.{kept_of}
 use Rattle.sc_hosts.specs.PreparingResponses.{is_invalid}
-use Rattle.sc_hosts.specs.ViewChanges.{answered, is_owed, tidy}
+use Rattle.sc_hosts.specs.ViewChanges.{view_with_answer as answered, is_owed, tidy}
 use Rattle.sc_hosts.specs.Words.{too_many_hops}
-use Rattle.sc_answered.specs.Happened.{answer_to, stopped, stopped_at, stopped_of}
+use Rattle.sc_answered.specs.Happened.{answer_to, by_stop as stopped, stopped_at, stopped_of}
 use Rattle.sc_answered.proofs.Standing.{Comes, comes-next, comes-same, if-comes, if-still}
 use Rattle.sc_answered.proofs.Shown.{comes-answer, kept}
 use Rattle.sc_answered.proofs.Called.{comes-removed}

@@ -15,7 +15,7 @@ use Rattle.sc_terms.specs.declared.views.RequestView.{RequestView}
 use Rattle.sc_terms.specs.declared.views.SessionView.{SessionView}
 use Rattle.sc_terms.specs.declared.views.State.{State}
 use Rattle.sc_terms.specs.declared.views.View.{View}
-use Rattle.sc_grammar.specs.Written.{Bytes}
+use Rattle.sc_tokens.specs.Bytes.{Bytes}
 use Rattle.sc_state.specs.declared.proxy.Passing.{Passing}
 use Rattle.sc_state.specs.declared.proxy.Proxy.{Proxy}
 use Rattle.sc_state.specs.declared.session.Session.{Session}
@@ -24,17 +24,17 @@ use Rattle.sc_state.specs.declared.working.Working.{Working}
 use Rattle.sc_model.specs.BestResponses.{best_response, server_error}
 use Rattle.sc_model.specs.Dialogs.{subscribe, tag_of}
 use Rattle.sc_model.specs.Transactions.{is_success}
-use Rattle.sc_hosts.specs.Acting.{chooses, drafts_ended, fault_at, faulted, forwarded_view, forwards, forwards_best, in_view, moved_on, passes, started, subscribed_tag, with_subscribed, without_left}
+use Rattle.sc_hosts.specs.Acting.{chooses, drafts_ended, fault_at, after_fault as faulted, forwarded_view, forwards, forwards_best, in_view, moved_on, passes, after_start as started, subscribed_tag, with_subscribed, without_left}
 use Rattle.sc_hosts.specs.Branches.{can_choose, can_pass}
 use Rattle.sc_hosts.specs.Giving.{answering}
-use Rattle.sc_hosts.specs.Looking.{in_state, is_session, removed, request_in}
+use Rattle.sc_hosts.specs.Looking.{in_state, is_session, without_sip_session as removed, request_in}
 use Rattle.sc_hosts.specs.Messages.{bare_answer}
 use Rattle.sc_hosts.specs.States.{after_initial}
-use Rattle.sc_hosts.specs.ViewChanges.{answered, answered_in, is_owed, tidy}
+use Rattle.sc_hosts.specs.ViewChanges.{view_with_answer as answered, answered_in, is_owed, tidy}
 use Rattle.sc_walked.specs.SessionWalks.{Each}
 use Rattle.sc_walked.proofs.WalkParts.{each-first, each-same, if-is}
 use Rattle.sc_answered.specs.StateOf.{Response as Responded, meaning}
-use Rattle.sc_answered.specs.Happened.{Happened, answer_to, asked_of, best_passed, came_in, chosen, failed, failed_at, forwarded, forwarded_to, initial_of, passed}
+use Rattle.sc_answered.specs.Happened.{Happened, answer_to, asked_of, best_passed, came_in, by_choice as chosen, by_turn_end as failed, failed_at, by_forwarding as forwarded, forwarded_to, initial_of, by_passing as passed}
 use Rattle.sc_answered.proofs.StateAfter.{after-first, state_after}
 use Rattle.sc_answered.proofs.Standing.{Comes, IsKept, IsSided, comes-each, comes-next, comes-response, comes-same, if-comes, if-still, response-same}
 use Rattle.sc_answered.proofs.Shown.{comes-answer, comes-responded, kept, sided}

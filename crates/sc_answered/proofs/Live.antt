@@ -7,9 +7,9 @@ use Rattle.sc_state.specs.declared.host.Live.{Live}
 use Rattle.sc_state.specs.declared.queue.Waiting.{Waiting}
 use Rattle.sc_state.specs.declared.session.Session.{Session}
 use Rattle.sc_hosts.specs.Histories.{History, as_history, as_session, session_of}
-use Rattle.sc_hosts.specs.Runs.{IsLawful, chained}
+use Rattle.sc_hosts.specs.Runs.{IsLawful, net_from as chained}
 use Rattle.sc_hosts.specs.Steps.{live_at}
-use Rattle.sc_lived.specs.Lived.{HasLived, Told, told}
+use Rattle.sc_lived.specs.Lived.{HasLived, Told, turns_in as told}
 use Rattle.sc_lived.proofs.Sayings.{session-lived}
 use Rattle.sc_answered.specs.Happened.{HaveStates, happened_of}
 use Rattle.sc_answered.specs.LiveStates.{HasLivedStates}

@@ -10,12 +10,12 @@ use Rattle.sc_terms.specs.declared.views.State.TheVariants.{Terminated}
 use Rattle.sc_state.specs.declared.proxy.Proxy.{Proxy}
 use Rattle.sc_state.specs.declared.session.Known.{Known}
 use Rattle.sc_state.specs.declared.working.Working.{Working}
-use Rattle.sc_hosts.specs.Acting.{acted as proxy_acted, chooses, closed_session, closes, in_view, is_over, passes, proxy_now, sends_cancels, started}
+use Rattle.sc_hosts.specs.Acting.{after_proxy as proxy_acted, chooses, closed_session, closes, in_view, is_over, passes, proxy_now, sends_cancels, after_start as started}
 use Rattle.sc_hosts.specs.Branches.{is_exhausted, starting}
 use Rattle.sc_hosts.specs.DerivedSessions.{is_of}
 use Rattle.sc_hosts.specs.Looking.{in_state, is_early, is_initial_state, same_session}
 use Rattle.sc_answered.specs.StateOf.{Exhausted, meaning}
-use Rattle.sc_answered.specs.Happened.{acted_last, acted_next, acted_from, chosen, exhausted, exhausted_by, passed}
+use Rattle.sc_answered.specs.Happened.{acted_last, acted_next, acted_from, by_choice as chosen, by_exhaustion as exhausted, exhausted_by, by_passing as passed}
 use Rattle.sc_answered.proofs.StateAfter.{state_after}
 use Rattle.sc_answered.proofs.Standing.{Comes, comes-all, comes-same, comes-then, if-comes}
 use Rattle.sc_answered.proofs.Forwarded.{Goes, chosen-comes, passed-comes, sessions_at}

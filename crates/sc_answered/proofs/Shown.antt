@@ -27,14 +27,14 @@ use Rattle.sc_hosts.specs.Branches.{is_supervised}
 use Rattle.sc_hosts.specs.DerivedSessions.{Derives, Handling, In, Takes, derived_session, failed_session, handled_in, is_of, is_overtaken, overtaken, overtaken_session, without_derived}
 use Rattle.sc_hosts.specs.Legs.{is_low, leg_of}
 use Rattle.sc_hosts.specs.Looking.{in_state, is_early, is_gone_in, is_session, request_in, same_session, session_in}
-use Rattle.sc_hosts.specs.Preparing.{cancelled_proxy, cancelled_request, fired, has_expired, kept_of, prepared, prepared_branch_timer, prepared_cancel, prepared_expiry, prepared_for, prepared_timer, terminated, timed_out}
-use Rattle.sc_hosts.specs.PreparingRequests.{next_id, prepared_request, received, showing, showing_in, silent, taken, taken_in, too_low}
-use Rattle.sc_hosts.specs.PreparingResponses.{accepts_invite, branch_placed, heard_in, is_first_success, is_watched, noted_final, placed, prepared_branch, prepared_own, prepared_response, responded, responded_again, responded_in, settled_legs, shown_again, with_branches, with_request_again}
-use Rattle.sc_hosts.specs.ViewChanges.{answered, answered_in, tidy, with_response}
+use Rattle.sc_hosts.specs.Preparing.{cancelled_proxy, cancelled_request, after_timer as fired, has_expired, kept_of, prepared_session as prepared, prepared_branch_timer, prepared_cancel, prepared_expiry, prepared_for, prepared_timer, prepared_end as terminated, timed_out}
+use Rattle.sc_hosts.specs.PreparingRequests.{next_id, prepared_request, with_received_request as received, showing, showing_in, silent, prepared_for_request as taken, taken_in, too_low}
+use Rattle.sc_hosts.specs.PreparingResponses.{accepts_invite, branch_placed, heard_in, is_first_success, is_watched, noted_final, session_of_response as placed, prepared_branch, prepared_own, prepared_response, with_handled_response as responded, responded_again, responded_in, settled_legs, shown_again, with_branches, with_request_again}
+use Rattle.sc_hosts.specs.ViewChanges.{view_with_answer as answered, answered_in, tidy, with_response}
 use Rattle.sc_walked.specs.SessionWalks.{Each}
 use Rattle.sc_walked.proofs.WalkParts.{each-first, each-map, each-same}
 use Rattle.sc_answered.specs.StateOf.{Overtaken, Response as Responded, Undone, meaning}
-use Rattle.sc_answered.specs.Happened.{Happened, answer_to, asked_of, at_moment, came_in, cancelled, cancelled_in, got, got_in, got_own, heard, overtaken_by, response_in, settled_by, too_low as told_low, too_low_in, undone_by}
+use Rattle.sc_answered.specs.Happened.{Happened, answer_to, asked_of, at_moment, came_in, by_cancel as cancelled, cancelled_in, by_response as got, got_in, got_own, by_event as heard, overtaken_by, response_in, settled_by, too_low as told_low, too_low_in, undone_by}
 use Rattle.sc_answered.proofs.StateAfter.{after-responded, state_after}
 use Rattle.sc_answered.proofs.Standing.{Comes, IsKept, IsSided, comes-all, comes-each, comes-more, comes-next, comes-response, comes-same, comes-then, if-comes, if-still, response-same}
 

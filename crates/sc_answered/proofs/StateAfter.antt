@@ -9,7 +9,7 @@ use Rattle.sc_terms.specs.declared.views.Role.{Role}
 use Rattle.sc_terms.specs.declared.views.Role.TheVariants as roles
 use Rattle.sc_terms.specs.declared.views.State.{State}
 use Rattle.sc_terms.specs.declared.views.State.TheVariants.{Initial, Early, Confirmed, Terminated}
-use Rattle.sc_grammar.specs.Written.{Bytes}
+use Rattle.sc_tokens.specs.Bytes.{Bytes}
 use Rattle.sc_model.specs.Dialogs.{subscribe}
 use Rattle.sc_model.specs.SessionStates.{bye, ended_state, invite, is_final}
 use Rattle.sc_model.specs.Transactions.{is_failure, is_success}

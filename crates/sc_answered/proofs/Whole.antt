@@ -7,15 +7,15 @@ use Rattle.sc_state.specs.declared.queue.Queued.{Queued}
 use Rattle.sc_state.specs.declared.session.Session.{Session}
 use Rattle.sc_state.specs.declared.working.Prepared.{Prepared}
 use Rattle.sc_state.specs.declared.working.Working.{Working}
-use Rattle.sc_hosts.specs.Acting.{all_act, drafts_ended, faulted, passes_later}
-use Rattle.sc_hosts.specs.Effects.{begun}
-use Rattle.sc_hosts.specs.Finishing.{finished, outcome, outcome_of}
+use Rattle.sc_hosts.specs.Acting.{all_act, drafts_ended, after_fault as faulted, passes_later}
+use Rattle.sc_hosts.specs.Effects.{first_play as begun}
+use Rattle.sc_hosts.specs.Finishing.{after_all_calls as finished, outcome, outcome_of}
 use Rattle.sc_hosts.specs.Histories.{History, after_turn, session_after, session_of}
 use Rattle.sc_hosts.specs.Legs.{first_session, first_view, fresh}
-use Rattle.sc_hosts.specs.Preparing.{prepared}
+use Rattle.sc_hosts.specs.Preparing.{prepared_session as prepared}
 use Rattle.sc_hosts.specs.Sessions.{Turn}
 use Rattle.sc_hosts.specs.Working.{worked_all}
-use Rattle.sc_answered.specs.Happened.{called_by, ended_by, shown_by, HaveStates, all_acted, at_moment, failed, given, happened_in, heard, stopped, happened_after, happened_by, happened_of}
+use Rattle.sc_answered.specs.Happened.{called_by, ended_by, shown_by, HaveStates, all_acted, at_moment, by_turn_end as failed, by_calls as given, happened_in, by_event as heard, by_stop as stopped, happened_after, happened_by, happened_of}
 use Rattle.sc_answered.proofs.Standing.{Comes, Stand, comes-next, comes-still, comes-then, new-state, states-of}
 use Rattle.sc_answered.proofs.Shown.{shown-comes}
 use Rattle.sc_answered.proofs.Called.{worked-comes}

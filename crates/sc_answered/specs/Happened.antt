@@ -34,16 +34,16 @@ use Rattle.sc_state.specs.declared.working.Working.{Working}
 use Rattle.sc_model.specs.BestResponses.{best_response}
 use Rattle.sc_model.specs.Dialogs.{tag_of}
 use Rattle.sc_model.specs.Transactions.{is_failure}
-use Rattle.sc_hosts.specs.Acting.{acts, all_act, chooses, drafts_ended, faulted, is_request_event, passes, proxy_now, sends_cancels, started}
+use Rattle.sc_hosts.specs.Acting.{acts, after_fault, after_start, all_act, chooses, drafts_ended, is_request_event, passes, proxy_now, sends_cancels}
 use Rattle.sc_hosts.specs.Branches.{can_choose, can_pass, is_exhausted, starting}
 use Rattle.sc_hosts.specs.DerivedSessions.{is_of}
-use Rattle.sc_hosts.specs.Effects.{after_listed, begun}
+use Rattle.sc_hosts.specs.Effects.{after_listed, first_play}
 use Rattle.sc_hosts.specs.Histories.{History, session_after}
-use Rattle.sc_hosts.specs.Legs.{leg_of, is_low, session_for}
+use Rattle.sc_hosts.specs.Legs.{is_low, leg_of, session_for}
 use Rattle.sc_hosts.specs.Looking.{is_gone_in, request_in, same_session, session_in}
-use Rattle.sc_hosts.specs.Preparing.{is_invited, kept_of, prepared}
-use Rattle.sc_hosts.specs.PreparingRequests.{next_id, received}
-use Rattle.sc_hosts.specs.PreparingResponses.{accepts_invite, is_first_success, is_invalid, is_sent_on, placed, shown_again}
+use Rattle.sc_hosts.specs.Preparing.{is_invited, kept_of, prepared_session}
+use Rattle.sc_hosts.specs.PreparingRequests.{next_id, with_received_request}
+use Rattle.sc_hosts.specs.PreparingResponses.{accepts_invite, is_first_success, is_invalid, is_sent_on, session_of_response, shown_again}
 use Rattle.sc_hosts.specs.Refusals.{begun_by, refusal}
 use Rattle.sc_hosts.specs.Sessions.{Turn}
 use Rattle.sc_hosts.specs.ViewChanges.{is_owed}
@@ -145,18 +145,19 @@ unfoldable pub got_own : Session → Kept → Response → Option RequestView �
 got_own session kept response None =
     if accepts_invite kept response
     then got_in (shown_again session.known kept response.code) response
-    (placed session kept (shown_again session.known kept response.code) response
+    (session_of_response session kept (shown_again session.known kept response.code) response
     (session_in session.view kept.sess))
     else []
 got_own session kept response (Some request) =
     got_in request response
-    (placed session kept request response (session_in session.view request.sess))
+    (session_of_response session kept request response (session_in session.view request.sess))
 
 -- a response to a request that was sent, if it is kept; one on a proxy's branch counts once it is
 -- forwarded
-unfoldable pub got : Session → Response → Option Kept → List Happened
-got session response None = []
-got session response (Some kept) = got_own session kept response (request_in session.view kept.id)
+unfoldable pub by_response : Session → Response → Option Kept → List Happened
+by_response session response None = []
+by_response session response (Some kept) =
+    got_own session kept response (request_in session.view kept.id)
 
 -- ## Answers that the container gives before anyone is called
 
@@ -165,8 +166,9 @@ unfoldable pub too_low_in : Session → ℕ → SessId → Option SessionView �
 too_low_in session number sess None request = []
 too_low_in session number sess (Some found) request =
     if is_low (leg_of session.known sess) request
-    then answer_to (received session number sess false false request).view
-    (request_in (received session number sess false false request).view (next_id session)) 500
+    then answer_to (with_received_request session number sess false false request).view
+    (request_in (with_received_request session number sess false false request).view
+    (next_id session)) 500
     else []
 
 -- the same, where a SipSession has its dialog
@@ -184,20 +186,20 @@ cancelled_in session (Some kept) (Some request) =
     else (if is_none request.answered then answer_to session.view (Some request) 487 else [])
 
 -- the same, of the INVITE that came under the event that the CANCEL names
-unfoldable pub cancelled : Session → Option Invited → List Happened
-cancelled session None = []
-cancelled session (Some invited) =
+unfoldable pub by_cancel : Session → Option Invited → List Happened
+by_cancel session None = []
+by_cancel session (Some invited) =
     cancelled_in session (kept_of session.known invited.req) (request_in session.view invited.req)
 
 -- what an event brings
-unfoldable pub heard : Session → ℕ → Queued → List Happened
-heard session number (queued.Request request) =
+unfoldable pub by_event : Session → ℕ → Queued → List Happened
+by_event session number (queued.Request request) =
     too_low session number request (session_for session request)
-heard session number (queued.Response branch response) =
-    got session response (find (is_sent_on branch) session.known.kept)
-heard session number (queued.Cancelled event) =
-    cancelled session (find (is_invited event) session.known.invited)
-heard session number event = []
+by_event session number (queued.Response branch response) =
+    by_response session response (find (is_sent_on branch) session.known.kept)
+by_event session number (queued.Cancelled event) =
+    by_cancel session (find (is_invited event) session.known.invited)
+by_event session number event = []
 
 -- ## Answers that the application gives
 
@@ -215,10 +217,10 @@ given_if play call None = given_by play call
 given_if play call (Some refused) = []
 
 -- by these calls, one after the other
-unfoldable pub given : Play → List CallRecord → List Happened
-given play [] = []
-given play (made ∷ later) =
-    given (after_listed play made.call) later ++ given_if play made.call (refusal play made.call)
+unfoldable pub by_calls : Play → List CallRecord → List Happened
+by_calls play [] = []
+by_calls play (made ∷ later) =
+    by_calls (after_listed play made.call) later ++ given_if play made.call (refusal play made.call)
 
 -- ## What follows the calls
 
@@ -229,10 +231,10 @@ failed_at view (Some request) =
     if is_owed request && not request.proxied then answer_to view (Some request) 500 else []
 
 -- by how the turn ended
-unfoldable pub failed : Option ReqId → End → View → List Happened
-failed req ends.Fine view = []
-failed req ends.Fault view = failed_at view (option_and_then (request_in view) req)
-failed req ends.Starved view = []
+unfoldable pub by_turn_end : Option ReqId → End → View → List Happened
+by_turn_end req ends.Fine view = []
+by_turn_end req ends.Fault view = failed_at view (option_and_then (request_in view) req)
+by_turn_end req ends.Starved view = []
 
 -- a response that a proxy forwards in this SipSession, by whether the view shows the request still;
 -- where it doesn't only one to the request that began the SipSession counts
@@ -242,25 +244,26 @@ forwarded_to proxy sess None response view =
 forwarded_to proxy sess (Some request) response view = came_in view sess (asked_of request) response
 
 -- the same, within a turn
-abbrev pub forwarded : Proxy → SessId → Response → Working → List Happened
-forwarded proxy sess response working =
+abbrev pub by_forwarding : Proxy → SessId → Response → Working → List Happened
+by_forwarding proxy sess response working =
     forwarded_to proxy sess (request_in working.play.view proxy.req) response working.play.view
 
 -- the response that waits to be forwarded as it came, where it can go still
-unfoldable pub passed : Proxy → Option Passing → Working → List Happened
-passed proxy None working = []
-passed proxy (Some passing) working =
-    if can_pass proxy passing.response then forwarded proxy passing.sess passing.response working
+unfoldable pub by_passing : Proxy → Option Passing → Working → List Happened
+by_passing proxy None working = []
+by_passing proxy (Some passing) working =
+    if can_pass proxy passing.response
+    then by_forwarding proxy passing.sess passing.response working
     else []
 
 -- the best response
 unfoldable pub best_passed : Proxy → Option Response → Working → List Happened
 best_passed proxy None working = []
-best_passed proxy (Some response) working = forwarded proxy proxy.sess response working
+best_passed proxy (Some response) working = by_forwarding proxy proxy.sess response working
 
 -- once it can go
-unfoldable pub chosen : Proxy → Working → List Happened
-chosen proxy working =
+unfoldable pub by_choice : Proxy → Working → List Happened
+by_choice proxy working =
     if can_choose proxy then best_passed proxy (best_response proxy.candidates) working else []
 
 -- the SipSessions of a request, when its search is over
@@ -270,36 +273,37 @@ exhausted_by known req original sessions =
     sessions
 
 -- once no branch is open and no target is left
-unfoldable pub exhausted : Proxy → Working → List Happened
-exhausted proxy working =
+unfoldable pub by_exhaustion : Proxy → Working → List Happened
+by_exhaustion proxy working =
     if is_exhausted proxy && is_some proxy.options
     then exhausted_by working.known proxy.req proxy.sess working.play.view.sessions
     else []
 
 -- once the best response went: its search may be over
 unfoldable pub acted_last : Proxy → Working → List Happened
-acted_last proxy working = exhausted (proxy_now proxy working) (sends_cancels proxy working)
+acted_last proxy working = by_exhaustion (proxy_now proxy working) (sends_cancels proxy working)
 
 -- once what waited was forwarded: the best response goes
 unfoldable pub acted_next : Proxy → Working → List Happened
 acted_next proxy working =
     acted_last proxy (chooses (proxy_now proxy working) working)
-    ++ chosen (proxy_now proxy working) working
+    ++ by_choice (proxy_now proxy working) working
 
 -- once its branches were started: what waits is forwarded
 unfoldable pub acted_from : Proxy → Working → List Happened
 acted_from proxy working =
     acted_next proxy (passes (proxy_now proxy working) proxy.passing working)
-    ++ passed (proxy_now proxy working) proxy.passing working
+    ++ by_passing (proxy_now proxy working) proxy.passing working
 
 -- what a proxy does after a turn
-unfoldable pub acted : Config → Proxy → Working → List Happened
-acted config proxy working = acted_from proxy (fold (started config proxy) working (starting proxy))
+unfoldable pub by_proxy : Config → Proxy → Working → List Happened
+by_proxy config proxy working =
+    acted_from proxy (fold (after_start config proxy) working (starting proxy))
 
 -- unless the application ended its SipSession
 unfoldable pub acted_by : Config → Proxy → Working → List Happened
 acted_by config proxy working =
-    if is_invalid working.known proxy.sess then [] else acted config proxy working
+    if is_invalid working.known proxy.sess then [] else by_proxy config proxy working
 
 -- what these proxies do, one after the other
 unfoldable pub all_acted : Config → List Proxy → Working → List Happened
@@ -323,8 +327,8 @@ stopped_of working None = []
 stopped_of working (Some request) = stopped_at working request (kept_of working.known request.id)
 
 -- the same, of the event's request
-unfoldable pub stopped : Queued → Option ReqId → Working → List Happened
-stopped event req working =
+unfoldable pub by_stop : Queued → Option ReqId → Working → List Happened
+by_stop event req working =
     if is_request_event event
     then stopped_of working (option_and_then (request_in working.play.view) req)
     else []
@@ -338,25 +342,27 @@ at_moment now session = record session { view = record session.view { now = now 
 -- once the container has answered what a fault left: what proxies do, and what goes no further
 unfoldable pub ended_by : Config → Queued → Option ReqId → Working → List Happened
 ended_by config event req working =
-    stopped event req (all_act config working) ++ all_acted config working.known.proxies working
+    by_stop event req (all_act config working) ++ all_acted config working.known.proxies working
 
 -- after the calls, by how the turn ended
 unfoldable pub called_by : Config → Queued → Option ReqId → End → Working → List Happened
 called_by config event req end working =
-    ended_by config event req (faulted config req end working) ++ failed req end working.play.view
+    ended_by config event req (after_fault config req end working)
+    ++ by_turn_end req end working.play.view
 
 -- the calls, at what the event shows, and what follows them
 unfoldable pub shown_by : Config → Turn → Prepared → List Happened
 shown_by config turn shown =
     called_by config turn.waiting.event shown.req turn.end
-    (drafts_ended (worked_all config shown turn.calls)) ++ given (begun shown.view) turn.calls
+    (drafts_ended (worked_all config shown turn.calls))
+    ++ by_calls (first_play shown.view) turn.calls
 
 -- what a turn of the session tells: what its event brought, what its calls gave, and what followed
 -- them
 unfoldable pub happened_by : Config → Session → Turn → List Happened
 happened_by config session turn =
-    shown_by config turn (prepared config turn.ringing session turn.waiting turn.now)
-    ++ heard (at_moment turn.now session) turn.waiting.number turn.waiting.event
+    shown_by config turn (prepared_session config turn.ringing session turn.waiting turn.now)
+    ++ by_event (at_moment turn.now session) turn.waiting.number turn.waiting.event
 
 -- what these turns of a history tell
 unfoldable pub happened_after : Config → History → List Turn → List Happened

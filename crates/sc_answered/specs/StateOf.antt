@@ -10,7 +10,7 @@ use Rattle.sc_tokens.specs.Names.{same_bytes}
 use Rattle.sc_terms.specs.declared.views.Role.{Role}
 use Rattle.sc_terms.specs.declared.views.State.{State}
 use Rattle.sc_terms.specs.declared.views.State.TheVariants.{Initial, Early, Confirmed, Terminated}
-use Rattle.sc_grammar.specs.Written.{Bytes}
+use Rattle.sc_tokens.specs.Bytes.{Bytes}
 use Rattle.sc_model.specs.Dialogs.{subscribe}
 use Rattle.sc_model.specs.SessionStates.{invite, bye, is_final}
 use Rattle.sc_model.specs.Transactions.{is_success, is_failure}

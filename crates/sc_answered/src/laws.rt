@@ -11,10 +11,10 @@ ghost use Rattle.sc_state.specs.declared.host.Live.{Live};
 ghost use Rattle.sc_state.specs.declared.session.Session.{Session};
 ghost use Rattle.sc_hosts.specs.Histories.{History, as_history, as_session, session_of};
 ghost use Rattle.sc_hosts.specs.Looking.{is_confirmed, is_early, is_terminated};
-ghost use Rattle.sc_hosts.specs.Runs.{IsLawful, chained};
+ghost use Rattle.sc_hosts.specs.Runs.{IsLawful, net_from};
 ghost use Rattle.sc_hosts.specs.States.{after_response};
 ghost use Rattle.sc_hosts.specs.Steps.{live_at};
-ghost use Rattle.sc_lived.specs.Lived.{told};
+ghost use Rattle.sc_lived.specs.Lived.{turns_in};
 ghost use Rattle.sc_answered.specs.Causes.{HaveCauses};
 ghost use Rattle.sc_answered.specs.Happened.{HaveStates, asked_of, happened_of};
 ghost use Rattle.sc_answered.specs.LiveStates.{HasLivedStates};
@@ -78,11 +78,11 @@ pub fn what_comes_of_others_has_its_cause()
 pub fn live_states_are_of_what_happened()
     ensures history { (setup : Setup) (epoch began : ℕ) (journal : List Step) (app : AppId)
         (live : Live History) → IsLawful (as_history setup.config) setup epoch began journal
-        → live_at app (chained (as_history setup.config) setup epoch began journal) ≡ Some live
+        → live_at app (net_from (as_history setup.config) setup epoch began journal) ≡ Some live
         → HaveStates (happened_of setup.config live.session)
         (session_of setup.config live.session).view.sessions }
     ensures session { (setup : Setup) (epoch began : ℕ) (journal : List Step) (app : AppId)
         (live : Live Session) → IsLawful as_session setup epoch began journal
-        → live_at app (chained as_session setup epoch began journal) ≡ Some live
-        → HasLivedStates setup app (told app journal) live.session live.inbox }
+        → live_at app (net_from as_session setup epoch began journal) ≡ Some live
+        → HasLivedStates setup app (turns_in app journal) live.session live.inbox }
 {}

@@ -7,7 +7,7 @@ use Rattle.sc_hosts.specs.Bringing.{Plays}
 use Rattle.sc_hosts.specs.Charters.{b2b_script, leg_script, reverse_script}
 use Rattle.sc_turn.specs.Working.{Working}
 use Rattle.sc_servlets.specs.Brought.{Meets}
-use Rattle.sc_apps.specs.Scripted.{IsPlayed, before, ended}
+use Rattle.sc_apps.specs.Scripted.{IsPlayed, before, end_of_script as ended}
 use Rattle.sc_apps.proofs.Playing.{keeps}
 
 pub keeps_b2b : (event : Event) (old new : Working) (played : Result (Unit {0}) NoMemory) (end : End) → old.calls ≡ [] → OnOk played (IsPlayed (leg_script (before false) old.shown event) old new) → end ≡ ended played → Meets end (Plays old.shown (Some (b2b_script old.shown event)) new.calls end)

@@ -19,13 +19,13 @@ use Rattle.sc_state.specs.declared.working.Draft.{Draft}
 use Rattle.sc_state.specs.declared.working.Play.{Play}
 use Rattle.sc_hosts.specs.Scripting.{Script, Done, Make, only, then_make, where_some, played_from}
 use Rattle.sc_hosts.specs.Bringing.{Plays}
-use Rattle.sc_hosts.specs.Effects.{accepted, after_call, created, created_leg, created_later, discarded, sent, with_draft, without_draft, after_calls, after_listed, answer_by, answer_of, begun, played_by}
+use Rattle.sc_hosts.specs.Effects.{answer_to_call as accepted, after_call, play_with_initial as created, created_leg, created_later, play_without_draft as discarded, play_with_request as sent, with_draft, without_draft, after_calls, after_listed, answer_by, answer_of, first_play as begun, played_by}
 use Rattle.sc_hosts.specs.Looking.{request_in}
 use Rattle.sc_hosts.specs.RefusalParts.{MOST_CALLS, draft_in}
 use Rattle.sc_hosts.specs.Refusals.{refusal}
 use Rattle.sc_turn.specs.Working.{Working, play_of, record_of, after_made, after_refused, after_starved, IsAccepted, IsRefused}
 use Rattle.sc_servlets.specs.Brought.{Meets}
-use Rattle.sc_apps.specs.Scripted.{IsMade, IsTold, IsPlayed, ended}
+use Rattle.sc_apps.specs.Scripted.{IsMade, IsTold, IsPlayed, end_of_script as ended}
 
 -- ## One call
 

@@ -3,7 +3,7 @@ use Rattle.std.proofs.Common.{◌≡◌, List, [], ◌∷◌, ◌++◌, Option, 
 use Rattle.std.specs.Prelude.{option_to_list}
 use Rattle.std.specs.List.{filter_map, flat_map}
 use Rattle.sc_value.specs.declared.parts.Uri.{Uri}
-use Rattle.sc_grammar.specs.Written.{Bytes}
+use Rattle.sc_tokens.specs.Bytes.{Bytes}
 use Rattle.sc_syntax.specs.UriParts.{Fault}
 use Rattle.sc_syntax.specs.Uris.{uri_of}
 use Rattle.sc_hosts.specs.Scripting.{readable}

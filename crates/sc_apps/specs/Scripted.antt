@@ -16,8 +16,8 @@ use Rattle.sc_terms.specs.declared.calls.End.{End}
 use Rattle.sc_terms.specs.declared.calls.End.TheVariants as ends
 use Rattle.sc_terms.specs.declared.calls.Refusal.{Refusal}
 use Rattle.sc_terms.specs.declared.calls.Refusal.TheVariants as refusals
-use Rattle.sc_grammar.specs.Written.{Bytes}
-use Rattle.sc_hosts.specs.Scripting.{Script, Make, only, played_from, readable, then_make, where_some, with_number}
+use Rattle.sc_tokens.specs.Bytes.{Bytes}
+use Rattle.sc_hosts.specs.Scripting.{Make, Script, only, played_from, readable, then_make, where_some, with_number}
 use Rattle.sc_hosts.specs.Charters.{dial_ask}
 use Rattle.sc_hosts.specs.Effects.{answer_of}
 use Rattle.sc_turn.specs.Working.{Working, play_of, after_made}
@@ -66,6 +66,6 @@ abbrev pub is_first_of : SessId → RequestView → Bool
 is_first_of sess request = request.initial && not request.received && request.sess.0 == sess.0
 
 -- how a turn ends
-unfoldable pub ended : Result (Unit {0}) NoMemory → End
-ended (Ok played) = ends.Fine
-ended (Err e) = ends.Starved
+unfoldable pub end_of_script : Result (Unit {0}) NoMemory → End
+end_of_script (Ok played) = ends.Fine
+end_of_script (Err e) = ends.Starved

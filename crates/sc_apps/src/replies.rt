@@ -2,7 +2,7 @@
 
 ghost use Rattle.std.specs.Prelude.{◌≡◌, ◌+◌, ◌<◌, IfOk, OnOk};
 ghost use Rattle.sc_value.specs.declared.ids.ReqId.{ReqId};
-ghost use Rattle.sc_hosts.specs.Scripting.{reply, only};
+ghost use Rattle.sc_hosts.specs.Scripting.{only, reply};
 ghost use Rattle.sc_hosts.specs.Charters.{reply_ok};
 ghost use Rattle.sc_hosts.specs.RefusalParts.{MOST_CALLS};
 ghost use Rattle.sc_hosts.specs.Words.{ok, ringing, forbidden, too_many_hops};

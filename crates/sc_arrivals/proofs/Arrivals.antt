@@ -11,7 +11,7 @@ use Rattle.sc_state.specs.declared.net.Net.{Net}
 use Rattle.sc_state.specs.declared.session.Session.{Session}
 use Rattle.sc_model.specs.Dialogs.{tag_of}
 use Rattle.sc_hosts.specs.Histories.{as_session}
-use Rattle.sc_hosts.specs.Arrivals.{first_host, arrived, arrives_as, response_by, sort_in, taken_at}
+use Rattle.sc_hosts.specs.Arrivals.{first_host, after_arrival as arrived, arrives_as, response_by, sort_in, taken_at}
 use Rattle.sc_hosts.specs.Nets.{named_host}
 use Rattle.sc_hosts.specs.Taking.{own_uri, sort_of}
 use Rattle.sc_arrivals.specs.HostTests.{claims, awaits}

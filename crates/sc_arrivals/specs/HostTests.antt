@@ -6,7 +6,7 @@ use Rattle.sc_value.specs.declared.message.Response.{Response}
 use Rattle.sc_state.specs.Hosts.{Host}
 use Rattle.sc_state.specs.declared.host.Peer.TheVariants as peers
 use Rattle.sc_state.specs.declared.session.Session.{Session}
-use Rattle.sc_grammar.specs.Written.{Bytes}
+use Rattle.sc_tokens.specs.Bytes.{Bytes}
 use Rattle.sc_hosts.specs.Taking.{server_for}
 use Rattle.sc_hosts.specs.Transacting.{client_for}
 

@@ -2,7 +2,7 @@
 
 ghost use Rattle.std.specs.Prelude.{◌≡◌, IfOk, OnOk};
 ghost use Rattle.sc_hosts.specs.Histories.{as_session};
-ghost use Rattle.sc_hosts.specs.Arrivals.{first_host, sort_in, arrives_as, arrived};
+ghost use Rattle.sc_hosts.specs.Arrivals.{after_arrival, arrives_as, first_host, sort_in};
 ghost use Rattle.sc_arrivals.specs.HostTests.{awaits};
 
 use crate::answers::answer_unknown;
@@ -27,7 +27,8 @@ fn arrives_as(
     sort: Sort<u32, u32>,
     net: &mut Net<Session>,
 ) -> Result<(), NoMemory>
-    ensures { OnOk result (net.new ≡ arrives_as as_session setup.now from request.now sort net.old) }
+    ensures { OnOk result
+        (net.new ≡ arrives_as as_session setup.now from request.now sort net.old) }
 {
     match sort {
         Sort::Cancels(host) => take_request(alloc, setup, from, &None, request, host, net),
@@ -89,7 +90,7 @@ pub fn arrived(
     message: &Message,
     net: &mut Net<Session>,
 ) -> Result<(), NoMemory>
-    ensures { OnOk result (net.new ≡ arrived as_session setup.now from message.now net.old) }
+    ensures { OnOk result (net.new ≡ after_arrival as_session setup.now from message.now net.old) }
 {
     match message {
         Message::Request(request) => request_arrives(alloc, setup, from, request, net),

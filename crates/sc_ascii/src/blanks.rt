@@ -3,14 +3,14 @@
 ghost use Rattle.std.specs.Prelude.{◌≡◌, ◌≤◌, ◌-◌, length};
 ghost use Rattle.std.specs.List.{prefix_len, suffix_len, position_or_len};
 ghost use Rattle.sc_tokens.specs.Tokens.{is_blank};
-ghost use Rattle.sc_tokens.specs.Blanks.{trimmed, trimmed_back, trimmed_front};
+ghost use Rattle.sc_tokens.specs.Blanks.{trimmed_back, trimmed_front, without_blanks};
 
 use sc_value::is_blank;
 
 /// The text without the blanks at its ends.
-#[tactic(auto, unfolding(sc_tokens::specs::Blanks::trimmed))]
+#[tactic(auto, unfolding(sc_tokens::specs::Blanks::without_blanks))]
 pub fn trim(text: &[u8]) -> &[u8]
-    ensures { result.now ≡ trimmed text.now }
+    ensures { result.now ≡ without_blanks text.now }
 {
     trim_back(trim_front(text))
 }

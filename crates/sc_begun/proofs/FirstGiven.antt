@@ -17,8 +17,8 @@ use Rattle.sc_state.specs.declared.session.Session.{Session}
 use Rattle.sc_state.specs.declared.working.Prepared.{Prepared}
 use Rattle.sc_state.specs.declared.working.Working.{Working}
 use Rattle.sc_model.specs.Dialogs.{tag_of}
-use Rattle.sc_model.specs.Responses.{untagged}
-use Rattle.sc_hosts.specs.Acting.{all_act, drafts_ended, faulted, passes_later}
+use Rattle.sc_model.specs.Responses.{address_without_tag as untagged}
+use Rattle.sc_hosts.specs.Acting.{all_act, drafts_ended, after_fault as faulted, passes_later}
 use Rattle.sc_hosts.specs.Messages.{asked_request, leg_request, on_branch, proxied_request}
 use Rattle.sc_hosts.specs.Preparing.{prepared_for}
 use Rattle.sc_hosts.specs.Working.{worked_all}

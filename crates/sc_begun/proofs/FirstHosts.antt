@@ -10,9 +10,9 @@ use Rattle.sc_state.specs.declared.host.Peer.{Peer}
 use Rattle.sc_state.specs.declared.host.Taken.{Taken}
 use Rattle.sc_state.specs.declared.net.Note.{Note}
 use Rattle.sc_hosts.proofs.EachSort.{takes-by}
-use Rattle.sc_hosts.specs.Inboxes.{quiet}
+use Rattle.sc_hosts.specs.Inboxes.{without_answer as quiet}
 use Rattle.sc_hosts.specs.Sessions.{Form}
-use Rattle.sc_hosts.specs.Taking.{begun, begun_live, take_initial, takes}
+use Rattle.sc_hosts.specs.Taking.{take_new as begun, begun_live, take_initial, takes}
 use Rattle.sc_hosts.specs.TakingResponses.{take_response}
 use Rattle.sc_walks.specs.Walks.{HostLaws}
 use Rattle.sc_walks.proofs.WalkHosts.{if-took, response_to-walks, cancelled-walks, repeated-walks, pass_server-walks, refuse-walks, with_server-walks, with_trying-walks, queue_later-walks}

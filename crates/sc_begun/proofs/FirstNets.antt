@@ -18,13 +18,13 @@ use Rattle.sc_state.specs.declared.host.Taken.{Taken}
 use Rattle.sc_state.specs.declared.net.Entry.{Entry}
 use Rattle.sc_state.specs.declared.net.Net.{Net}
 use Rattle.sc_state.specs.declared.net.Note.{Note}
-use Rattle.sc_grammar.specs.Written.{Bytes}
+use Rattle.sc_tokens.specs.Bytes.{Bytes}
 use Rattle.sc_hosts.proofs.EachSort.{arrives-each}
-use Rattle.sc_hosts.specs.Arrivals.{host_takes, taken_at, edge_answer, begins_by, initial_arrives, response_by, arrived}
+use Rattle.sc_hosts.specs.Arrivals.{host_takes, taken_at, edge_answer, begins_by, initial_arrives, response_by, after_arrival as arrived}
 use Rattle.sc_hosts.specs.Taking.{begun_live, takes}
 use Rattle.sc_hosts.specs.Nets.{host_at, is_busy, deliver_at, deliver_entry, deliver_first, weight}
 use Rattle.sc_hosts.specs.Routes.{popped_route, unrouted_initial}
-use Rattle.sc_hosts.specs.Runs.{delivered}
+use Rattle.sc_hosts.specs.Runs.{after_delivery as delivered}
 use Rattle.sc_hosts.specs.Sessions.{Form}
 use Rattle.sc_hosts.specs.Settle.{steps, settle}
 use Rattle.sc_walks.specs.Walks.{HostLaws, NetLaws}

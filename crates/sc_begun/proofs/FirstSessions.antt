@@ -19,15 +19,15 @@ use Rattle.sc_state.specs.declared.net.Note.{Note}
 use Rattle.sc_state.specs.declared.orders.Outcome.{Outcome}
 use Rattle.sc_state.specs.declared.queue.Waiting.{Waiting}
 use Rattle.sc_state.specs.declared.session.Session.{Session}
-use Rattle.sc_hosts.specs.Inboxes.{is_live, live_in, quiet, queue, with_event}
+use Rattle.sc_hosts.specs.Inboxes.{is_live, live_in, without_answer as quiet, queue, with_event}
 use Rattle.sc_hosts.specs.Taking.{begun_live}
 use Rattle.sc_hosts.specs.Ticks.{mark_fired}
 use Rattle.sc_model.specs.Timers.{DueEntry}
 use Rattle.sc_state.specs.declared.queue.Queued.{Queued}
 use Rattle.sc_hosts.specs.Nets.{host_at}
-use Rattle.sc_hosts.specs.Runs.{after_step, chained, chained_from, quiet_host, start}
+use Rattle.sc_hosts.specs.Runs.{after_step, net_from as chained, chained_from, quiet_host, start}
 use Rattle.sc_hosts.specs.Sessions.{Form, Turn}
-use Rattle.sc_hosts.specs.Steps.{closed_turn, invalidated, live_at, stepped, turned, turned_live, turns, turns_first, withdrawn, without_live}
+use Rattle.sc_hosts.specs.Steps.{closed_turn, without_application as invalidated, live_at, before_delivery as stepped, net_after_turn as turned, turned_live, turns, turns_first, withdrawn, without_live}
 use Rattle.sc_hosts.specs.Transacting.{tidied}
 use Rattle.sc_lasting.specs.Lasting.{All}
 use Rattle.sc_lasting.proofs.Parts.{all-append, all-first, all-found, all-removed}
@@ -165,7 +165,7 @@ module _ {S : Type 0} (Good : S → Type 0) where
     stepped-keeps (steps.Bad from bad) net = bad_by-walks H Keeps host-law net-law setup.config from bad.heads net
     stepped-keeps (steps.Lost place) net = lost-walks H Keeps host-law net-law setup.config place net
     stepped-keeps (steps.Tick now) net = ticked-walks H Keeps host-law net-law form setup.config now net
-    stepped-keeps (steps.Turn app event now made end) net = turns-keep app _ now made end net
+    stepped-keeps (steps.Turn end app event now made) net = turns-keep app _ now made end net
     stepped-keeps (steps.Withdraw app) net = withdrawn-keeps app _ net
 
     after_step-keeps : (step : Step) (net : Net S) → Keeps net (after_step form setup net step)

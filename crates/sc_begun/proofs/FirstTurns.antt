@@ -15,12 +15,12 @@ use Rattle.sc_state.specs.declared.session.Session.{Session}
 use Rattle.sc_state.specs.declared.working.Prepared.{Prepared}
 use Rattle.sc_state.specs.declared.working.Working.{Working}
 use Rattle.sc_forms.proofs.HistoryLaws.{lawful_back-histories}
-use Rattle.sc_hosts.specs.Acting.{drafts_ended, faulted}
-use Rattle.sc_hosts.specs.Finishing.{finished, outcome, outcome_of}
+use Rattle.sc_hosts.specs.Acting.{drafts_ended, after_fault as faulted}
+use Rattle.sc_hosts.specs.Finishing.{after_all_calls as finished, outcome, outcome_of}
 use Rattle.sc_hosts.specs.Histories.{History, as_history, as_session, begun_history, session_of, turned_history}
 use Rattle.sc_hosts.specs.Nets.{host_at}
-use Rattle.sc_hosts.specs.Preparing.{prepared}
-use Rattle.sc_hosts.specs.Runs.{IsLawful, chained}
+use Rattle.sc_hosts.specs.Preparing.{prepared_session as prepared}
+use Rattle.sc_hosts.specs.Runs.{IsLawful, net_from as chained}
 use Rattle.sc_hosts.specs.Sessions.{Turn}
 use Rattle.sc_hosts.specs.Steps.{live_at, outcome_by, ringing_at, turn_of}
 use Rattle.sc_hosts.specs.Working.{worked_all}
@@ -28,7 +28,7 @@ use Rattle.sc_walked.proofs.WalkCalls.{session_at, worked_all-walks}
 use Rattle.sc_walked.proofs.WalkEnds.{done-any, drafts_ended-goes, faulted-goes}
 use Rattle.sc_walked.proofs.WalkShown.{prepared-walks}
 use Rattle.sc_lasting.specs.Lasting.{All, IsOf}
-use Rattle.sc_lived.specs.Lived.{AreLate, AreOfOne, IsLived, told, turned_events}
+use Rattle.sc_lived.specs.Lived.{AreLate, AreOfOne, IsLived, turns_in as told, turned_events}
 use Rattle.sc_lived.proofs.Accepted.{one-life, begins-of, late-of}
 use Rattle.sc_lived.proofs.Sayings.{has-lived, read-at}
 use Rattle.sc_hops.specs.Hops.{IsUntagged}

@@ -8,7 +8,7 @@ ghost use Rattle.sc_state.specs.declared.host.Live.{Live};
 ghost use Rattle.sc_state.specs.declared.queue.Waiting.{Waiting};
 ghost use Rattle.sc_state.specs.declared.session.Session.{Session};
 ghost use Rattle.sc_hosts.specs.Histories.{History, as_history, as_session};
-ghost use Rattle.sc_hosts.specs.Runs.{IsLawful, chained};
+ghost use Rattle.sc_hosts.specs.Runs.{IsLawful, net_from};
 ghost use Rattle.sc_hosts.specs.Steps.{live_at, outcome_by, turn_of};
 ghost use Rattle.sc_lasting.specs.Lasting.{All};
 ghost use Rattle.sc_hops.specs.Hops.{IsUntagged};
@@ -19,7 +19,7 @@ ghost use Rattle.sc_begun.specs.Begun.{IsFirst};
 pub fn sessions_begin_without_tag()
     ensures { (setup : Setup) (epoch began : ℕ) (journal : List Step) (app : AppId)
         (live : Live History)
-        → live_at app (chained (as_history setup.config) setup epoch began journal) ≡ Some live
+        → live_at app (net_from (as_history setup.config) setup epoch began journal) ≡ Some live
         → IsFirst live.session.request }
 {}
 
@@ -32,18 +32,18 @@ pub fn initial_requests_have_no_tag()
     ensures session { (setup : Setup) (epoch began : ℕ) (journal : List Step) (app : AppId)
         (live : Live Session) (waiting : Waiting) (now : ℕ) (made : List CallRecord) (end : End)
         → IsLawful as_session setup epoch began journal
-        → live_at app (chained as_session setup epoch began journal) ≡ Some live
+        → live_at app (net_from as_session setup epoch began journal) ≡ Some live
         → slice_get live.inbox 0 ≡ Some waiting
         → All IsUntagged
         (outcome_by as_session setup.config live.session
-        (turn_of (chained as_session setup epoch began journal) app waiting now made end)).orders }
+        (turn_of (net_from as_session setup epoch began journal) app waiting now made end)).orders }
     ensures history { (setup : Setup) (epoch began : ℕ) (journal : List Step) (app : AppId)
         (live : Live History) (waiting : Waiting) (now : ℕ) (made : List CallRecord) (end : End)
         → IsLawful (as_history setup.config) setup epoch began journal
-        → live_at app (chained (as_history setup.config) setup epoch began journal) ≡ Some live
+        → live_at app (net_from (as_history setup.config) setup epoch began journal) ≡ Some live
         → slice_get live.inbox 0 ≡ Some waiting
         → All IsUntagged
         (outcome_by (as_history setup.config) setup.config live.session
-        (turn_of (chained (as_history setup.config) setup epoch began journal) app waiting now made
+        (turn_of (net_from (as_history setup.config) setup epoch began journal) app waiting now made
         end)).orders }
 {}

@@ -8,8 +8,8 @@ use Rattle.sc_value.specs.declared.message.Response.{Response}
 use Rattle.std.proofs.lemmas.List.{take_rest}
 use Rattle.sc_value.specs.declared.parts.Field.{Field}
 use Rattle.sc_value.specs.declared.message.Head.{Head}
-use Rattle.sc_grammar.specs.Written.{Bytes}
-use Rattle.sc_model.specs.BestResponses.{asks_credentials, is_challenge, challenges_of, gathered, forwarded, forwarded_with, forwarded_code, forwarded_reason}
+use Rattle.sc_tokens.specs.Bytes.{Bytes}
+use Rattle.sc_model.specs.BestResponses.{asks_credentials, is_challenge, challenges_of, challenges_beside as gathered, response_onward as forwarded, forwarded_with, forwarded_code, forwarded_reason}
 
 read : (responses : List Response) (chosen : ℕ) (response : Response) → chosen < length responses → response ≡ get_or responses chosen response → slice_get responses chosen ≡ Some response
 read responses chosen response below is = slice_get_read responses (length responses) chosen response refl below is

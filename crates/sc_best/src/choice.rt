@@ -1,7 +1,7 @@
 //! The choice (RFC 3261 section 16.7, step 6).
 
 ghost use Rattle.std.specs.Prelude.{◌≡◌, ◌==◌, ◌<◌, length, position, IfSome, is_none};
-ghost use Rattle.sc_model.specs.BestResponses.{best_of, is_global, is_lowest, class_of};
+ghost use Rattle.sc_model.specs.BestResponses.{best_of, class_of, is_global, is_lowest};
 
 use sc_value::{List, Response, Shared};
 

@@ -3,7 +3,7 @@
 ghost use Rattle.std.specs.Prelude.{◌≡◌, ◌==◌, ◌<◌, ◌++◌, ◌||◌, length, IfOk, OnOk, filter, slice_get};
 ghost use Rattle.std.specs.List.{flat_map};
 ghost use Rattle.sc_value.specs.declared.message.Response.{Response};
-ghost use Rattle.sc_model.specs.BestResponses.{is_challenge, asks_credentials, challenges_of, gathered, forwarded_code, forwarded_reason, forwarded};
+ghost use Rattle.sc_model.specs.BestResponses.{asks_credentials, challenges_beside, challenges_of, forwarded_code, forwarded_reason, is_challenge, response_onward};
 
 use sc_value::{CloneIn, Field, Head, List, NoMemory, Others, Reason, Response, Shared, same_name};
 use std::alloc::Global;
@@ -18,7 +18,7 @@ pub fn gather(
     chosen: usize,
 ) -> Result<Others, NoMemory>
     requires { chosen < length list.now }
-    ensures { IfOk result (λ fields. fields ≡ gathered list.now chosen) }
+    ensures { IfOk result (λ fields. fields ≡ challenges_beside list.now chosen) }
 {
     let mut fields = Others::new(alloc);
     add_gathered(alloc, list.as_slice(), chosen, &mut fields)?;
@@ -32,7 +32,7 @@ fn add_gathered(
     fields: &mut Others,
 ) -> Result<(), NoMemory>
     requires { chosen < length responses.now }
-    ensures { OnOk result (fields.new ≡ fields.old ++ gathered responses.now chosen) }
+    ensures { OnOk result (fields.new ≡ fields.old ++ challenges_beside responses.now chosen) }
 {
     if !asks_credentials(responses[chosen].get()) {
         return Ok(());
@@ -103,7 +103,7 @@ pub fn forwarded(
     chosen: usize,
 ) -> Result<Response, NoMemory>
     requires { chosen < length list.now }
-    ensures { IfOk result (λ response. forwarded list.now chosen ≡ Some response) }
+    ensures { IfOk result (λ response. response_onward list.now chosen ≡ Some response) }
 {
     let responses = list.as_slice();
     let response = responses[chosen].get();
@@ -145,7 +145,7 @@ fn forwarded_head(
         (response : Response) → slice_get responses.now chosen ≡ Some response
         → head
         ≡ record response.head {
-          others = response.head.others ++ gathered responses.now chosen;
+          others = response.head.others ++ challenges_beside responses.now chosen;
         }) }
 {
     let others = forwarded_others(alloc, responses, chosen)?;
@@ -161,7 +161,7 @@ fn forwarded_others(
     ensures { IfOk result
         (λ fields.
         (response : Response) → slice_get responses.now chosen ≡ Some response
-        → fields ≡ response.head.others ++ gathered responses.now chosen) }
+        → fields ≡ response.head.others ++ challenges_beside responses.now chosen) }
 {
     let mut fields = responses[chosen].get().head.others.clone_in(alloc)?;
     add_gathered(alloc, responses, chosen, &mut fields)?;

@@ -17,7 +17,7 @@ use Rattle.std.proofs.lemmas.Map.Lookups.{exact_unsigned}
 use Rattle.sc_book.specs.Places.{Placed, at_place}
 use Rattle.sc_book.specs.Pairs.{Pairs, pair_cmp, has_pair, is_number}
 use Rattle.sc_book.specs.Found.{HasAll}
-use Rattle.sc_book.specs.Words.{paired, sooner, earliest, is_free}
+use Rattle.sc_book.specs.Words.{number_and_key as paired, sooner, earliest, is_free}
 use Rattle.sc_book.specs.Firsts.{free_of, is_numbered, is_next, earliest_at}
 use Rattle.sc_book.specs.Keys.{AreKeyed}
 use Rattle.sc_book.proofs.Basics.{none_some, some_is, not_true, turned, first, second, same_number, same_place, own_number, itself, eq_then, and_second, less_tested, tied}

@@ -11,7 +11,7 @@ use Rattle.std.specs.BTreeMap.{insert_entry}
 use Rattle.std.specs.FinMap.Entries.{find, below_all, is_sorted}
 use Rattle.std.proofs.lemmas.Map.Keys.{sorted_tail}
 use Rattle.std.proofs.lemmas.Map.Lookups.{exact_unsigned}
-use Rattle.sc_book.specs.Places.{Placed, at_place, passes_at, laid, all_laid}
+use Rattle.sc_book.specs.Places.{Placed, at_place, passes_at, with_item_at as laid, all_laid}
 use Rattle.sc_book.specs.Words.{in_groups, belongs}
 use Rattle.sc_book.specs.Pairs.{Pairs, has_pair, is_group, Grown, HasOr}
 use Rattle.sc_book.specs.Gathering.{has_place, MorePlaces, Covers, with_all}

@@ -10,7 +10,7 @@ use Rattle.std.proofs.lemmas.Cmp.{nat_cmp_total}
 use Rattle.std.proofs.lemmas.Map.Keys.{sorted_head, sorted_tail}
 use Rattle.std.proofs.lemmas.Map.Lookups.{exact_unsigned}
 use Rattle.sc_book.specs.Places.{Placed, at_place}
-use Rattle.sc_book.specs.Gathering.{has_place, Covers, picked, with_one, gathered, one_of}
+use Rattle.sc_book.specs.Gathering.{has_place, Covers, if_passing as picked, with_one, items_at as gathered, one_of}
 use Rattle.sc_book.proofs.Basics.{has_one, turned, first, second, joined, less, tied}
 use Rattle.sc_book.proofs.PlaceLaws.{missed}
 

@@ -8,7 +8,7 @@ use Rattle.std.specs.FinMap.Entries.{is_sorted, is_sorted-where_key, same_entrie
 use Rattle.std.proofs.lemmas.Cmp.{nat_cmp_total}
 use Rattle.std.proofs.lemmas.Map.Lookups.{exact_unsigned}
 use Rattle.sc_book.specs.Places.{Placed, at_place, passes_at, without_item}
-use Rattle.sc_book.specs.Gathering.{has_place, Covers, picked, left_once, left_at}
+use Rattle.sc_book.specs.Gathering.{has_place, Covers, if_passing as picked, left_once, left_at}
 use Rattle.sc_book.proofs.Basics.{not_true, turned, same_place, same_test, flip_test}
 use Rattle.sc_book.proofs.PlaceLaws.{found_without}
 use Rattle.sc_book.proofs.GatherLaws.{passing, sorted_passing, found_passing, values_passing}

@@ -13,7 +13,7 @@ use Rattle.std.proofs.lemmas.Cmp.{nat_cmp_total, eq_by_cmp_equiv}
 use Rattle.std.proofs.lemmas.Map.Keys.{sorted_head, sorted_tail}
 use Rattle.std.proofs.lemmas.Map.Lookups.{exact_unsigned}
 use Rattle.sc_book.proofs.Basics.{whole, first, second, joined, tied, less, less_tested}
-use Rattle.sc_book.specs.Places.{Placed, at_place, with_item, without_item, laid, all_laid}
+use Rattle.sc_book.specs.Places.{Placed, at_place, with_item, without_item, with_item_at as laid, all_laid}
 
 -- a map's insertion is that of the words here
 pub inserted_entry : {K X : Type 0} (R : K → K → Ordering) (k : K) (v : X) (es : List (K × X)) → insert_entry R es k v ≡ put R k v es

@@ -6,7 +6,7 @@ use Rattle.std.specs.Ordering.{nat_cmp}
 use Rattle.std.specs.FinMap.Entries.{where_key}
 use Rattle.sc_book.specs.Places.{Placed, at_place}
 use Rattle.sc_book.specs.Pairs.{is_number}
-use Rattle.sc_book.specs.Words.{paired, sooner, is_free}
+use Rattle.sc_book.specs.Words.{is_free, number_and_key, sooner}
 
 -- the items at other places
 abbrev pub free_of : {T : Type 0} → List ℕ → Placed T → Placed T
@@ -23,4 +23,4 @@ is_next number places es pair = is_free places pair.1 && is_numbered number es p
 -- the lowest number of all items, with the first place of an item that has it
 unfoldable pub earliest_at : {T : Type 0} → (T → Option ℕ) → Placed T → Option (ℕ × ℕ)
 earliest_at number [] = None
-earliest_at number (e ∷ es) = sooner (paired (number e.1) e.0) (earliest_at number es)
+earliest_at number (e ∷ es) = sooner (number_and_key (number e.1) e.0) (earliest_at number es)

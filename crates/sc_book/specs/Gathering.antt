@@ -62,9 +62,9 @@ is_wanted due group_of (wanted.Of group) = belongs group_of group
 is_wanted due group_of (wanted.Before past) = λ x. is_before past (due x)
 
 -- the item, where it passes
-abbrev pub picked : {T : Type 0} → (T → Bool) → Option T → Option T
-picked test None = None
-picked test (Some x) = if test x then Some x else None
+abbrev pub if_passing : {T : Type 0} → (T → Bool) → Option T → Option T
+if_passing test None = None
+if_passing test (Some x) = if test x then Some x else None
 
 -- before the others, where there is one
 abbrev pub with_one : {T : Type 0} → ℕ → Option T → Placed T → Placed T
@@ -72,9 +72,9 @@ with_one p None es = es
 with_one p (Some x) es = (p, x) ∷ es
 
 -- the items that pass at these places
-unfoldable pub gathered : {T : Type 0} → (T → Bool) → Placed T → List ℕ → Placed T
-gathered test es [] = []
-gathered test es (p ∷ ps) = with_one p (picked test (at_place p es)) (gathered test es ps)
+unfoldable pub items_at : {T : Type 0} → (T → Bool) → Placed T → List ℕ → Placed T
+items_at test es [] = []
+items_at test es (p ∷ ps) = with_one p (if_passing test (at_place p es)) (items_at test es ps)
 
 -- the item of an Option, or none
 abbrev pub one_of : {T : Type 0} → Option T → List T

@@ -31,14 +31,14 @@ without_item es place = where_key nat_cmp (λ x. not (eq_by_cmp nat_cmp place x)
 -- ## Changes
 
 -- with this at this place: None takes the item away
-unfoldable pub laid : {T : Type 0} → Placed T → ℕ → Option T → Placed T
-laid es place None = without_item es place
-laid es place (Some item) = with_item es place item
+unfoldable pub with_item_at : {T : Type 0} → Placed T → ℕ → Option T → Placed T
+with_item_at es place None = without_item es place
+with_item_at es place (Some item) = with_item es place item
 
 -- with all these changes
 unfoldable pub all_laid : {T : Type 0} → Placed T → List (ℕ × Option T) → Placed T
 all_laid es [] = es
-all_laid es (c ∷ cs) = all_laid (laid es c.0 c.1) cs
+all_laid es (c ∷ cs) = all_laid (with_item_at es c.0 c.1) cs
 
 -- the items that several books have in common
 abbrev pub shared_items : {T : Type 0} → Option (Arc (Placed T) Global) → Placed T

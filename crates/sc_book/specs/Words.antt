@@ -29,9 +29,9 @@ abbrev pub is_free : List ℕ → ℕ → Bool
 is_free keys k = not (is_among keys k)
 
 -- a number with the key of its item
-abbrev pub paired : Option ℕ → ℕ → Option (ℕ × ℕ)
-paired None key = None
-paired (Some number) key = Some (number, key)
+abbrev pub number_and_key : Option ℕ → ℕ → Option (ℕ × ℕ)
+number_and_key None key = None
+number_and_key (Some number) key = Some (number, key)
 
 -- the lower of two numbers, with its key: of two that are alike the first
 abbrev pub sooner : Option (ℕ × ℕ) → Option (ℕ × ℕ) → Option (ℕ × ℕ)
@@ -43,4 +43,4 @@ sooner (Some a) (Some b) = if nat_lt b.0 a.0 then Some b else Some a
 unfoldable pub earliest : {T : Type 0} → (T → ℕ) → (T → Option ℕ) → List T → Option (ℕ × ℕ)
 earliest key number [] = None
 earliest key number (item ∷ items) =
-    sooner (paired (number item) (key item)) (earliest key number items)
+    sooner (number_and_key (number item) (key item)) (earliest key number items)

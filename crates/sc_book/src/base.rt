@@ -7,7 +7,7 @@ ghost use Rattle.std.specs.FinMap.Entries.{is_sorted};
 ghost use Rattle.sc_book.specs.Places.{at_place, with_item, without_item};
 ghost use Rattle.sc_book.specs.Words.{belongs, is_before};
 ghost use Rattle.sc_book.specs.Found.{numbers_of, AreFound, HasNumbers, AllGrown, AllKeptBut};
-ghost use Rattle.sc_book.specs.Gathering.{MorePlaces, Covers};
+ghost use Rattle.sc_book.specs.Gathering.{Covers, MorePlaces};
 ghost use Rattle.sc_book.specs.Firsts.{free_of, earliest_at};
 
 use crate::Item;

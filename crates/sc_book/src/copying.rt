@@ -1,7 +1,7 @@
 //! Copies of books.
 
 ghost use Rattle.std.specs.Prelude.{◌≡◌, OnOk};
-ghost use Rattle.sc_book.specs.Places.{laid, all_laid};
+ghost use Rattle.sc_book.specs.Places.{all_laid, with_item_at};
 
 use crate::Item;
 use crate::book::Book;
@@ -32,14 +32,14 @@ fn add_changes<T: Item>(
     Ok(())
 }
 
-#[tactic(auto, unfolding(crate::specs::Places::laid))]
+#[tactic(auto, unfolding(crate::specs::Places::with_item_at))]
 fn add_change<T: Item>(
     alloc: Global,
     place: u64,
     change: &Option<Entry<T>>,
     copy: &mut Book<T>,
 ) -> Result<(), NoMemory>
-    ensures { OnOk result (copy.new ≡ laid copy.old place change.now) }
+    ensures { OnOk result (copy.new ≡ with_item_at copy.old place change.now) }
 {
     match change {
         Some(entry) => copy.put(place, entry.clone_in(alloc)?),

@@ -7,7 +7,7 @@ ghost use Rattle.std.specs.Map.{values_of};
 ghost use Rattle.std.specs.Option.{option_copied};
 ghost use Rattle.std.specs.Ordering.{nat_cmp};
 ghost use Rattle.sc_book.specs.Words.{belongs, is_before};
-ghost use Rattle.sc_book.specs.Gathering.{is_wanted, gathered, picked, one_of, Covers};
+ghost use Rattle.sc_book.specs.Gathering.{Covers, if_passing, is_wanted, items_at, one_of};
 
 use crate::Item;
 use crate::book::Book;
@@ -99,7 +99,7 @@ fn add_all<T: Item>(
     ensures gathered { OnOk result
         (own.new
         ≡ own.old
-        ++ values_of (gathered (is_wanted T.due T.groups wanted) book.now places.now.keys)) }
+        ++ values_of (items_at (is_wanted T.due T.groups wanted) book.now places.now.keys)) }
     ensures in_order { OnOk result (IsStrictlySortedBy nat_cmp places.now.keys) }
 {
     for place in places {
@@ -117,7 +117,7 @@ fn add_wanted<T: Item>(
     ensures { OnOk result
         (own.new
         ≡ own.old
-        ++ one_of (picked (is_wanted T.due T.groups wanted) (option_copied entry.entry))) }
+        ++ one_of (if_passing (is_wanted T.due T.groups wanted) (option_copied entry.entry))) }
 {
     match entry {
         Some(entry) => {

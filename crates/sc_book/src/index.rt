@@ -1,6 +1,6 @@
 ghost use Rattle.std.specs.Prelude.{◌≡◌, ◌==◌, ◌<◌, ℕ, [], OnOk, true, not};
 ghost use Rattle.sc_book.specs.Pairs.{has_pair, Grown, KeptBut};
-ghost use Rattle.sc_book.specs.Gathering.{has_place, MorePlaces, with_places, pairs_below, pairs_from, pairs_up};
+ghost use Rattle.sc_book.specs.Gathering.{MorePlaces, has_place, pairs_below, pairs_from, pairs_up, with_places};
 
 use sc_value::NoMemory;
 use std::alloc::Global;

@@ -2,7 +2,7 @@
 
 ghost use Rattle.std.specs.Prelude.{◌≡◌, false, not, OnOk};
 ghost use Rattle.sc_book.specs.Places.{passes_at};
-ghost use Rattle.sc_book.specs.Gathering.{left_once, left_at};
+ghost use Rattle.sc_book.specs.Gathering.{left_at, left_once};
 ghost use Rattle.sc_book.specs.Keys.{AreFewer};
 
 use crate::book::Book;

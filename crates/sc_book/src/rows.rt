@@ -2,7 +2,7 @@ ghost use Rattle.std.specs.Prelude.{◌≡◌, ◌==◌, ◌++◌, ◌∷◌, []
 ghost use Rattle.std.specs.List.{filter, find};
 ghost use Rattle.std.specs.Option.{option_copied};
 ghost use Rattle.sc_value.specs.Lists.{change_first, remove_first};
-ghost use Rattle.sc_book.specs.Words.{belongs, is_before, is_free, earliest, has_key};
+ghost use Rattle.sc_book.specs.Words.{belongs, earliest, has_key, is_before, is_free};
 
 use crate::counted::Counted;
 use crate::keeping::keep_at;

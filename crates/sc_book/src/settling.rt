@@ -4,7 +4,7 @@ ghost use Rattle.std.specs.Prelude.{◌≡◌, true, OnOk, OnErr};
 ghost use Rattle.std.specs.Arc.{arc_value};
 ghost use Rattle.std.specs.Ordering.{nat_cmp};
 ghost use Rattle.std.specs.FinMap.Entries.{is_sorted};
-ghost use Rattle.sc_book.specs.Places.{laid, all_laid};
+ghost use Rattle.sc_book.specs.Places.{all_laid, with_item_at};
 ghost use Rattle.sc_book.specs.Groups.{KeepsBook};
 
 use crate::Item;
@@ -71,9 +71,9 @@ fn settle_first<T: Item>(
 }
 
 // With this at a place: None takes the item away.
-#[tactic(auto, unfolding(crate::specs::Places::laid))]
+#[tactic(auto, unfolding(crate::specs::Places::with_item_at))]
 fn lay<T: Item>(place: u64, change: Option<Entry<T>>, base: &mut Base<T>) -> Result<(), NoMemory>
-    ensures ok { OnOk result (base.new ≡ laid base.old place change) }
+    ensures ok { OnOk result (base.new ≡ with_item_at base.old place change) }
     ensures err { OnErr result (base.new ≡ base.old) }
     ensures sorted { is_sorted nat_cmp base.new ≡ true }
 {

@@ -2,9 +2,9 @@ ghost use Rattle.std.specs.Prelude.{◌≡◌, [], OnOk, true};
 ghost use Rattle.std.specs.Option.{option_copied};
 ghost use Rattle.std.specs.Ordering.{nat_cmp};
 ghost use Rattle.std.specs.FinMap.Entries.{is_sorted};
-ghost use Rattle.sc_book.specs.Places.{at_place, all_laid};
+ghost use Rattle.sc_book.specs.Places.{all_laid, at_place};
 ghost use Rattle.sc_book.specs.Words.{belongs, is_before};
-ghost use Rattle.sc_book.specs.Gathering.{MorePlaces, Covers};
+ghost use Rattle.sc_book.specs.Gathering.{Covers, MorePlaces};
 ghost use Rattle.sc_book.specs.Groups.{KeepsBook};
 ghost use Rattle.sc_book.specs.Firsts.{free_of, earliest_at};
 

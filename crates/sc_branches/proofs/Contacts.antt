@@ -6,7 +6,7 @@ use Rattle.std.specs.List.{filter_map, flat_map}
 use Rattle.sc_value.specs.declared.parts.Contact.{Contact}
 use Rattle.sc_value.specs.declared.parts.Uri.{Uri}
 use Rattle.sc_branches.specs.Targets.{target_of, targets_of, with_new}
-use Rattle.sc_hosts.specs.Branches.{was_tried, untried}
+use Rattle.sc_hosts.specs.Branches.{was_tried, new_targets as untried}
 
 one_more : (contact : Contact) (contacts : List Contact) (o : Option Uri) → target_of contact ≡ o → flat_map targets_of contacts ≡ filter_map target_of contacts
     → option_to_list o ++ flat_map targets_of contacts ≡ filter_map target_of (contact ∷ contacts)

@@ -4,7 +4,7 @@ use Rattle.sc_value.specs.declared.ids.SessId.{SessId}
 use Rattle.sc_value.specs.declared.message.Response.{Response}
 use Rattle.sc_state.specs.declared.proxy.Proxy.{Proxy}
 use Rattle.sc_model.specs.Transactions.{is_success}
-use Rattle.sc_hosts.specs.Branches.{is_open, is_global, added_targets, ended_branch, with_candidate, with_targets, passing_on, stopped}
+use Rattle.sc_hosts.specs.Branches.{added_targets, ended_branch, is_global, is_open, passing_on, with_candidate, with_targets, without_search}
 use Rattle.sc_state.specs.declared.proxy.Branch.{Branch}
 
 -- its timer is due then
@@ -21,16 +21,16 @@ candidate_unless drops response proxy =
     if drops then proxy else record proxy { candidates = proxy.candidates ++ response ∷ [] }
 
 -- a final response of this branch, before it ends anything else
-unfoldable pub noted : ℕ → Response → Proxy → Proxy
-noted number response proxy =
+unfoldable pub after_final : ℕ → Response → Proxy → Proxy
+after_final number response proxy =
     with_targets (added_targets proxy response)
     (with_candidate response (ended_branch number response.code proxy))
 
 -- what a final response ends beside its branch
 unfoldable pub ending : SessId → Response → Proxy → Proxy
 ending sess response proxy =
-    if is_success response.code then passing_on sess response (stopped proxy)
-    else (if is_global response.code then stopped proxy else proxy)
+    if is_success response.code then passing_on sess response (without_search proxy)
+    else (if is_global response.code then without_search proxy else proxy)
 
 -- it gets a CANCEL
 unfoldable pub is_cancelled : Branch → Bool

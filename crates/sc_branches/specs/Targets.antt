@@ -3,7 +3,8 @@ use Rattle.std.specs.Prelude.{List, [], ◌∷◌, ◌++◌, Bool, Option, optio
 use Rattle.sc_value.specs.declared.parts.Contact.{Contact}
 use Rattle.sc_value.specs.declared.parts.Uri.{Uri}
 use Rattle.sc_tokens.specs.Names.{same_bytes}
-use Rattle.sc_grammar.specs.Written.{Bytes, uri_text}
+use Rattle.sc_tokens.specs.Bytes.{Bytes}
+use Rattle.sc_grammar.specs.Written.{uri_text}
 use Rattle.sc_model.specs.Dialogs.{contact_uri}
 use Rattle.sc_hosts.specs.Branches.{sip_uri}
 

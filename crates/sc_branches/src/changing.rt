@@ -2,8 +2,8 @@
 
 ghost use Rattle.std.specs.Prelude.{◌≡◌, ◌++◌, map, OnOk};
 ghost use Rattle.sc_value.specs.Lists.{change_first};
-ghost use Rattle.sc_hosts.specs.Branches.{is_branch, with_end, cancelled_branch, stopped, with_targets};
-ghost use Rattle.sc_branches.specs.Changes.{with_due, cancelling};
+ghost use Rattle.sc_hosts.specs.Branches.{cancelled_branch, is_branch, with_end, with_targets, without_search};
+ghost use Rattle.sc_branches.specs.Changes.{cancelling, with_due};
 
 use crate::options::{branch_place, is_open};
 use sc_state::{Branch, Proxy};
@@ -83,9 +83,9 @@ fn cancel_all(branches: &mut [Branch])
 }
 
 /// No further target, and a CANCEL to each open branch.
-#[tactic(auto, unfolding(sc_hosts::specs::Branches::stopped))]
+#[tactic(auto, unfolding(sc_hosts::specs::Branches::without_search))]
 pub fn stopped(proxy: &mut Proxy)
-    ensures { proxy.new ≡ stopped proxy.old }
+    ensures { proxy.new ≡ without_search proxy.old }
 {
     proxy.targets.items.clear();
     proxy.settled = true;

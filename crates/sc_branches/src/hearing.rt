@@ -4,8 +4,8 @@ ghost use Rattle.std.specs.Prelude.{◌≡◌, false, OnOk};
 ghost use Rattle.std.specs.Option.{option_map_or};
 ghost use Rattle.sc_model.specs.SessionStates.{is_final};
 ghost use Rattle.sc_model.specs.Transactions.{is_success};
-ghost use Rattle.sc_hosts.specs.Branches.{is_global, is_open, branch_in, rung, ended_branch, passing_on, ended_by, after_end, heard};
-ghost use Rattle.sc_branches.specs.Changes.{candidate_unless, noted, ending};
+ghost use Rattle.sc_hosts.specs.Branches.{after_end, after_ringing, branch_in, ended_branch, ended_by, is_global, is_open, passing_on, proxy_after_response};
+ghost use Rattle.sc_branches.specs.Changes.{after_final, candidate_unless, ending};
 
 use crate::changing::{due_in, end_in, stopped, with_targets};
 use crate::options::{branch_due, branch_in, is_open};
@@ -23,9 +23,9 @@ pub fn is_global(code: u16) -> bool
 }
 
 // A 101 to 199 begins the timer again.
-#[tactic(auto, unfolding(sc_hosts::specs::Branches::rung, crate::specs::Changes::with_due))]
+#[tactic(auto, unfolding(sc_hosts::specs::Branches::after_ringing, crate::specs::Changes::with_due))]
 fn rung(proxy: &mut Proxy, number: u64, now: u64) -> Result<(), NoMemory>
-    ensures { OnOk result (proxy.new ≡ rung number now proxy.old) }
+    ensures { OnOk result (proxy.new ≡ after_ringing number now proxy.old) }
 {
     let due = branch_due(proxy, now)?;
     due_in(&mut proxy.branches.items, number, due);
@@ -75,14 +75,14 @@ fn passing_on(
 
 // A final response of this branch: a 3xx that adds a target is no candidate, the others but 2xx
 // are.
-#[tactic(auto, unfolding(crate::specs::Changes::noted, crate::specs::Changes::candidate_unless, sc_hosts::specs::Branches::with_candidate, sc_hosts::specs::Branches::added_targets, sc_hosts::specs::Branches::ended_branch, sc_hosts::specs::Branches::recurses))]
+#[tactic(auto, unfolding(crate::specs::Changes::after_final, crate::specs::Changes::candidate_unless, sc_hosts::specs::Branches::with_candidate, sc_hosts::specs::Branches::added_targets, sc_hosts::specs::Branches::ended_branch, sc_hosts::specs::Branches::recurses))]
 fn noted(
     alloc: Global,
     proxy: &mut Proxy,
     number: u64,
     response: &Shared<Response>,
 ) -> Result<(), NoMemory>
-    ensures { OnOk result (proxy.new ≡ noted number response.now proxy.old) }
+    ensures { OnOk result (proxy.new ≡ after_final number response.now proxy.old) }
 {
     let added = added_targets(alloc, proxy, response.get())?;
     let drops = is_success(response.get().code) || !added.is_empty();
@@ -113,7 +113,7 @@ fn ending(
 }
 
 /// The first final response of a branch, handled in this SipSession.
-#[tactic(auto, unfolding(sc_hosts::specs::Branches::ended_by, crate::specs::Changes::noted, crate::specs::Changes::ending))]
+#[tactic(auto, unfolding(sc_hosts::specs::Branches::ended_by, crate::specs::Changes::after_final, crate::specs::Changes::ending))]
 pub fn ended_by(
     alloc: Global,
     proxy: &mut Proxy,
@@ -155,7 +155,7 @@ fn is_open_at(proxy: &Proxy, number: u64) -> bool
 }
 
 /// What a response on this branch makes of the proxy, handled in this SipSession at this moment.
-#[tactic(auto, unfolding(sc_hosts::specs::Branches::heard))]
+#[tactic(auto, unfolding(sc_hosts::specs::Branches::proxy_after_response))]
 pub fn heard(
     alloc: Global,
     proxy: &mut Proxy,
@@ -164,7 +164,8 @@ pub fn heard(
     response: &Shared<Response>,
     now: u64,
 ) -> Result<(), NoMemory>
-    ensures { OnOk result (proxy.new ≡ heard number sess response.now now proxy.old) }
+    ensures { OnOk result
+        (proxy.new ≡ proxy_after_response number sess response.now now proxy.old) }
 {
     if !is_open_at(proxy, number) {
         return after_end(alloc, proxy, sess, response);

@@ -1,7 +1,7 @@
 //! How a request becomes proxied.
 
 ghost use Rattle.std.specs.Prelude.{◌≡◌, IfOk};
-ghost use Rattle.sc_hosts.specs.Branches.{new_proxy, new_branch};
+ghost use Rattle.sc_hosts.specs.Branches.{new_branch, new_proxy};
 
 use crate::options::branch_due;
 use sc_state::{Branch, Proxy};

@@ -4,7 +4,7 @@ ghost use Rattle.std.specs.Prelude.{◌≡◌, ◌*◌, position, IfOk};
 ghost use Rattle.std.specs.List.{find, list_any};
 ghost use Rattle.std.specs.Option.{option_copied};
 ghost use Rattle.sc_model.specs.SessionStates.{invite};
-ghost use Rattle.sc_hosts.specs.Branches.{is_branch, is_open, has_open, branch_in, has_branch, is_invite, recurses, is_supervised, records_route, is_parallel, branch_due};
+ghost use Rattle.sc_hosts.specs.Branches.{branch_due, branch_in, has_branch, has_open, is_branch, is_invite, is_open, is_parallel, is_supervised, records_route, recurses};
 
 use sc_state::{Branch, Proxy};
 use sc_value::{NoMemory, sum};

@@ -2,7 +2,7 @@
 
 ghost use Rattle.std.specs.Prelude.{◌≡◌, ◌++◌, IfOk, OnOk, map, filter};
 ghost use Rattle.sc_branches.specs.Changes.{is_cancelled, number_of};
-ghost use Rattle.sc_hosts.specs.Branches.{starting, can_choose, can_pass, cancelled_now, is_exhausted};
+ghost use Rattle.sc_hosts.specs.Branches.{can_choose, can_pass, cancelled_now, is_exhausted, starting};
 
 use crate::options::{has_open, is_invite, is_open, is_parallel};
 use sc_methods::is_success;

@@ -7,7 +7,7 @@ ghost use Rattle.sc_grammar.specs.Written.{uri_text};
 ghost use Rattle.sc_model.specs.Dialogs.{contact_uri};
 ghost use Rattle.sc_hosts.specs.RefusalParts.{MOST_BRANCHES};
 ghost use Rattle.sc_branches.specs.Targets.{target_of, targets_of, has_text, with_new};
-ghost use Rattle.sc_hosts.specs.Branches.{is_redirect, sip_uri, contacts_of, was_tried, untried, added_targets};
+ghost use Rattle.sc_hosts.specs.Branches.{added_targets, contacts_of, is_redirect, new_targets, sip_uri, was_tried};
 
 use crate::options::recurses;
 use sc_message_text::uri_text;
@@ -118,7 +118,7 @@ fn find_untried(
     found: &mut List<Uri>,
     uris: &[Uri],
 ) -> Result<(), NoMemory>
-    ensures { OnOk result (found.new ≡ found.old ++ untried all.old uris.now) }
+    ensures { OnOk result (found.new ≡ found.old ++ new_targets all.old uris.now) }
 {
     for uri in uris {
         let known = was_tried(alloc, all.as_slice(), uri)?;
@@ -129,7 +129,7 @@ fn find_untried(
 }
 
 fn untried(alloc: Global, tried: &List<Uri>, uris: &[Uri]) -> Result<List<Uri>, NoMemory>
-    ensures { IfOk result (λ found. found ≡ untried tried.now uris.now) }
+    ensures { IfOk result (λ found. found ≡ new_targets tried.now uris.now) }
 {
     let mut all = tried.clone_in(alloc)?;
     let mut found = List::new(alloc);

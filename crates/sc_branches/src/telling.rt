@@ -3,7 +3,7 @@
 
 ghost use Rattle.std.specs.Prelude.{◌≡◌, ◌==◌, ◌&&◌, not, false, IfOk};
 ghost use Rattle.std.specs.Option.{option_map_or};
-ghost use Rattle.sc_hosts.specs.Branches.{is_open, branch_in, has_open, ends_search, ended_branch, leaves_target, ends_last, is_told_whole, is_timed_out, to_cancel};
+ghost use Rattle.sc_hosts.specs.Branches.{branch_in, ended_branch, ends_last, ends_search, has_open, is_open, is_timed_out, is_told_whole, leaves_target, to_cancel};
 
 use crate::changing::{cancel_in, end_in};
 use crate::hearing::is_global;

@@ -13,7 +13,7 @@ use Rattle.std.specs.Net.Grammar.{IsDotted}
 use Rattle.std.specs.Net.Reader.{read_ipv4}
 use Rattle.std.specs.declared.net.ipv4_addr.Ipv4Addr.{Ipv4Addr}
 use Rattle.std.proofs.NetLemmas.Ipv4.{read_ipv4_complete, read_ipv4_sound}
-use Rattle.sc_config.specs.Documents.{Bytes}
+use Rattle.sc_tokens.specs.Bytes.{Bytes}
 use Rattle.sc_config.specs.KeyValues.{ip_of, if_whole, port_of, is_colon, both, listen_text}
 
 pub ip_some : (text octets : Bytes) → IsDotted text octets → ip_of text ≡ Some octets

@@ -10,7 +10,8 @@ use Rattle.std.specs.Str.{IsUtf8, is_utf8}
 use Rattle.std.proofs.lemmas.Str.{is_utf8-from_IsUtf8, IsUtf8-from_is_utf8}
 use Rattle.toml.specs.View.{view, items_of, items_view}
 use Rattle.toml.specs.declared.value.Value.{Value}
-use Rattle.sc_config.specs.Documents.{Bytes, document, items_in, elements, first_given}
+use Rattle.sc_tokens.specs.Bytes.{Bytes}
+use Rattle.sc_config.specs.Documents.{document, items_in, elements, first_given}
 use Rattle.sc_config.specs.KeyValues.{is_params}
 use Rattle.sc_terms.specs.Ranges.{are_few}
 use Rattle.std.proofs.lemmas.List.{length-map}

@@ -6,8 +6,8 @@ use Rattle.std.proofs.lemmas.List.{drop_more, take_more, map-append, drop_all}
 use Rattle.sc_tokens.specs.Names.{same_bytes}
 use Rattle.toml.specs.View.{view}
 use Rattle.toml.specs.declared.value.Value.{Value}
-use Rattle.sc_config.specs.Documents.{Bytes}
-use Rattle.sc_config.specs.Faults.{app_text, doubled, double_name, DOUBLE_NAME}
+use Rattle.sc_tokens.specs.Bytes.{Bytes}
+use Rattle.sc_config.specs.Faults.{app_text, first_double as doubled, double_name, DOUBLE_NAME}
 
 -- the name of an application
 abbrev pub name_in : Value → Bytes

@@ -6,7 +6,7 @@ use Rattle.toml.specs.Data.{Members}
 use Rattle.sc_terms.specs.Ranges.{are_few}
 use Rattle.sc_syntax.proofs.CutLaws.{none_some}
 use Rattle.sc_config.specs.declared.faults.Check.TheVariants.{Range}
-use Rattle.sc_config.specs.Documents.{Bytes}
+use Rattle.sc_tokens.specs.Bytes.{Bytes}
 use Rattle.sc_config.specs.Faults.{Fault, first_fault, first_refusal, table_fault, top_fault, wrong_apps, are_some_tables, apps_in}
 
 none_first : (a b : Option Fault) → option_or a b ≡ None → (a ≡ None) × (b ≡ None)

@@ -9,7 +9,7 @@ use Rattle.toml.specs.Data.{Members, as_str, get_member}
 use Rattle.sc_tokens.specs.Tokens.{is_token, is_token_byte}
 use Rattle.sc_syntax.proofs.CutLaws.{none_some}
 use Rattle.sc_config.specs.declared.faults.Check.TheVariants.{Range}
-use Rattle.sc_config.specs.Documents.{Bytes}
+use Rattle.sc_tokens.specs.Bytes.{Bytes}
 use Rattle.sc_config.specs.KeyValues.{is_salt, text_if}
 use Rattle.sc_config.specs.Faults.{Fault, first_refusal, table_fault, top_fault, wrong_if, wrong_text}
 use Rattle.sc_config.specs.ReadSettings.{top_text}

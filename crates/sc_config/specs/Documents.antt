@@ -5,10 +5,7 @@ use Rattle.std.specs.Option.{option_and_then, option_map_or}
 use Rattle.std.specs.Str.{is_utf8}
 use Rattle.toml.specs.Data.{Data, Items, no_items, item, Members, no_members, member, as_array}
 use Rattle.toml.specs.Parse.{parse_document}
-
--- a text as its bytes, each 0 to 255
-abbrev pub Bytes : Type 0
-Bytes = List ℕ
+use Rattle.sc_tokens.specs.Bytes.{Bytes}
 
 -- the table that the bytes write; none where they aren't UTF-8 or aren't TOML
 abbrev pub document : Bytes → Option Members

@@ -10,7 +10,8 @@ use Rattle.sc_config.specs.declared.faults.Check.{Check}
 use Rattle.sc_config.specs.declared.faults.Check.TheVariants.{UnknownKeys, Missing, Range}
 use Rattle.sc_config.specs.declared.faults.Wrong.{Wrong}
 use Rattle.sc_config.specs.declared.faults.Wrong.TheVariants.{TopKey, AppKey, Host}
-use Rattle.sc_config.specs.Documents.{Bytes, elements, first_key, first_given}
+use Rattle.sc_tokens.specs.Bytes.{Bytes}
+use Rattle.sc_config.specs.Documents.{elements, first_key, first_given}
 use Rattle.sc_config.specs.KeyValues.{listen_in, text_in, number_in, flag_in, is_wrong_host, is_file, is_params, expires_in, is_app_name, is_salt}
 
 -- a kind of refusal and the key at fault
@@ -215,16 +216,16 @@ app_text key app =
     (option_and_then as_str (option_and_then (get_member key) (as_table app))) []
 
 -- the first name that stands among those before it
-unfoldable pub doubled : List Bytes → List Bytes → Option Bytes
-doubled earlier [] = None
-doubled earlier (name ∷ rest) =
+unfoldable pub first_double : List Bytes → List Bytes → Option Bytes
+first_double earlier [] = None
+first_double earlier (name ∷ rest) =
     if list_any (λ other. same_bytes other name) earlier then Some name
-    else doubled (earlier ++ name ∷ []) rest
+    else first_double (earlier ++ name ∷ []) rest
 
 -- the first name that an earlier application has
 unfoldable pub double_name : List Data → Option Fault
 double_name apps =
-    option_map (λ name. (DOUBLE_NAME, name)) (doubled [] (map (app_text (codes "name")) apps))
+    option_map (λ name. (DOUBLE_NAME, name)) (first_double [] (map (app_text (codes "name")) apps))
 
 -- one of the kinds has this name
 abbrev pub is_kind : List Bytes → Bytes → Bool

@@ -8,7 +8,8 @@ use Rattle.std.specs.Net.Reader.{read_ipv4}
 use Rattle.toml.specs.Data.{Data, as_str, as_integer, as_bool, as_array}
 use Rattle.sc_terms.specs.Ranges.{is_expiry}
 use Rattle.sc_tokens.specs.Hosts.{is_host}
-use Rattle.sc_config.specs.Documents.{Bytes, elements}
+use Rattle.sc_tokens.specs.Bytes.{Bytes}
+use Rattle.sc_config.specs.Documents.{elements}
 
 -- ## Texts
 

@@ -8,9 +8,10 @@ use Rattle.sc_terms.specs.declared.settings.HostEntry.{HostEntry}
 use Rattle.sc_terms.specs.declared.settings.AppEntry.{AppEntry}
 use Rattle.sc_config.specs.declared.config_refused.ConfigRefused.{ConfigRefused}
 use Rattle.sc_config.specs.declared.config_refused.ConfigRefused.TheVariants.{Refused, NoMemory}
-use Rattle.sc_config.specs.Documents.{Bytes, document, elements}
+use Rattle.sc_tokens.specs.Bytes.{Bytes}
+use Rattle.sc_config.specs.Documents.{document, elements}
 use Rattle.sc_config.specs.KeyValues.{listen_in, number_in, flag_in, expires_in, host_ip}
-use Rattle.sc_config.specs.Faults.{Fault, SYNTAX, LONG, app_text, apps_in, first_refusal}
+use Rattle.sc_config.specs.Faults.{Fault, LONG, SYNTAX, app_text, apps_in, first_refusal}
 
 -- Each value below is taken from a document without fault, so what stands for an absent one is
 -- never met.

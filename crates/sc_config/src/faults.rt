@@ -6,7 +6,7 @@ ghost use Rattle.std.specs.Option.{option_map, option_copied, is_none};
 ghost use Rattle.toml.specs.Data.{as_str, as_table, get_member};
 ghost use Rattle.sc_tokens.specs.Names.{same_bytes};
 ghost use Rattle.toml.specs.View.{view, table_view};
-ghost use Rattle.sc_config.specs.Faults.{fault_if, missing, wrong_text, wrong_listen, wrong_number, wrong_flag, wrong_flags, wrong_record, wrong_params, wrong_expires, app_fault, top_fault, is_app_key, is_top_key, is_any, is_wrong, item_fault, apps_in, apps_fault, are_some_tables, wrong_apps, wrong_hosts, wrong_numbers, table_fault, app_text, is_kind, unknown_kind, double_name, first_refusal, first_fault};
+ghost use Rattle.sc_config.specs.Faults.{app_fault, app_text, apps_fault, apps_in, are_some_tables, double_name, fault_if, first_fault, first_refusal, is_any, is_app_key, is_kind, is_top_key, is_wrong, item_fault, missing, table_fault, top_fault, unknown_kind, wrong_apps, wrong_expires, wrong_flag, wrong_flags, wrong_hosts, wrong_listen, wrong_number, wrong_numbers, wrong_params, wrong_record, wrong_text};
 ghost use Rattle.sc_config.specs.KeyValues.{is_wrong_host, is_salt, is_app_name, listen_in, is_file, is_params};
 ghost use Rattle.sc_tokens.specs.Hosts.{is_host};
 ghost use Rattle.sc_config.specs.declared.faults.Check.TheVariants.{UnknownKeys, Missing, Range};

@@ -2,7 +2,7 @@
 
 ghost use Rattle.std.specs.Prelude.{◌≡◌, ◌≤◌, IfSome};
 ghost use Rattle.std.specs.Option.{option_copied};
-ghost use Rattle.sc_console.specs.Lines.{asked_of, named, session_in, session_of};
+ghost use Rattle.sc_console.specs.Lines.{asked_of, asked_session, session_in, session_of};
 
 use crate::cuts::cut;
 use sc_script::decimal_upto;
@@ -69,10 +69,10 @@ fn session_of(host: &[u8], serial: Option<&[u8]>) -> Asked
 }
 
 /// The session of this host and serial, where both are there.
-#[tactic(auto, unfolding(crate::specs::Lines::named))]
+#[tactic(auto, unfolding(crate::specs::Lines::asked_session))]
 fn named(host: Option<u64>, serial: Option<u64>) -> Asked
     requires { IfSome host (λ host. host ≤ 4294967295) }
-    ensures { result ≡ named host serial }
+    ensures { result ≡ asked_session host serial }
 {
     match (host, serial) {
         (Some(host), Some(serial)) => Asked::Drop(AppId {

@@ -11,7 +11,7 @@ use Rattle.sc_edge.specs.Telling.{IsTold}
 use Rattle.sc_moments.specs.Moments.{tick_of, ticks_of}
 use Rattle.sc_moments.proofs.FollowTicks.{both-ticks}
 use Rattle.sc_outs.specs.Deeds.{Deed, step_of}
-use Rattle.sc_courses.specs.Asking.{Answered, AreAlmostEven, AreAnswers, AreEven, AreTold, Asked, Given, Source, Sources, Ticked, TickedPart, count_after, given_then, latest, none_given, raised, ticks_taken}
+use Rattle.sc_courses.specs.Asking.{Answered, AreAlmostEven, AreAnswers, AreEven, AreTold, Asked, Given, Source, Sources, Ticked, TickedPart, count_after, given_then, latest, none_given, later_moments as raised, ticks_taken}
 
 -- ## Answers, one after the other
 

@@ -17,7 +17,7 @@ use Rattle.sc_edge.specs.Telling.{Notes}
 use Rattle.sc_edge.specs.declared.notice.Noted.{Noted}
 use Rattle.sc_edge.specs.declared.notice.Noted.TheVariants as noted
 use Rattle.sc_hosts.specs.Histories.{as_session}
-use Rattle.sc_hosts.specs.Runs.{AreLawful, Epoch, IsLawful, IsLawfulAfter, after_step, chained, chained_from, is_idle, net_of, start}
+use Rattle.sc_hosts.specs.Runs.{AreLawful, Epoch, IsLawful, IsLawfulAfter, after_step, net_from as chained, chained_from, is_idle, net_of, start}
 use Rattle.sc_hosts.specs.Steps.{live_at}
 use Rattle.sc_outs.specs.Deeds.{Deed, step_of}
 use Rattle.sc_courses.specs.Ordering.{Obeys, Point, beginning_point, is_for, order_in, withdrawn_by}
@@ -26,7 +26,7 @@ use Rattle.sc_courses.specs.Endings.{HasToEnd, waits_for_end}
 use Rattle.sc_courses.proofs.EndingLaws.{are_in_time_begin, are_in_time_next, are_in_time_step, withdrawal_waits}
 use Rattle.sc_courses.specs.Listings.{IsListingAt}
 use Rattle.sc_courses.proofs.ListingLaws.{listings_none, listings_on, listings_told, lists_one, lists_other}
-use Rattle.sc_courses.specs.Courses.{AreDeeds, AreSent, Beginning, Course, IsRun, Telling, TellsEpochs, TellsListings, Told, ordered, told_by, with_item}
+use Rattle.sc_courses.specs.Courses.{AreDeeds, AreSent, Beginning, Course, IsRun, Telling, TellsEpochs, TellsListings, Told, with_orders as ordered, told_by, with_item}
 
 -- ## A step
 

@@ -84,7 +84,7 @@ young since moment now first later (steps.Bad place bad) in_time is before = bef
 young since moment now first later (steps.Lost place) in_time is before = before
 young since moment now first later (steps.Tick tick) (inl none) is before = cc
 young since moment now first later (steps.Tick tick) (inr early) is before = subst (λ (n : ℕ). tick < n + 1000) is early
-young since moment now first later (steps.Turn app event turned calls end) in_time is before = before
+young since moment now first later (steps.Turn end app event turned calls) in_time is before = before
 young since moment now first later (steps.Withdraw app) in_time is before = before
 
 second-more : (since moment : ℕ) (kept : List Step) (step : Step) → IsInTime since kept step → IsSince since moment kept → IsOfASecond moment kept → IsOfASecond moment (kept ++ step ∷ [])

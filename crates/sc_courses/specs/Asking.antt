@@ -28,10 +28,10 @@ pub record Answered {A : Type 0} (old new : Source A) (given : List A) : Type 0 
   pub later : (n : ℕ) → new.1 n ≡ old.1 (length given + n)
 
 -- of the moments of a clock those that are later than this one and than all before them
-unfoldable pub raised : ℕ → List ℕ → List ℕ
-raised last [] = []
-raised last (moment ∷ later) =
-    if nat_lt last moment then moment ∷ raised moment later else raised last later
+unfoldable pub later_moments : ℕ → List ℕ → List ℕ
+later_moments last [] = []
+later_moments last (moment ∷ later) =
+    if nat_lt last moment then moment ∷ later_moments moment later else later_moments last later
 
 -- the latest of them, or this one
 unfoldable pub latest : ℕ → List ℕ → ℕ
@@ -44,15 +44,15 @@ ticks_taken deeds = ticks_of (map step_of deeds)
 
 -- each moment of the clock that is a later one is a step, and no other is
 pub record Ticked (moments : List ℕ) (deeds : List Deed) (now : ℕ) : Type 0 where
-  pub ticks : ticks_taken deeds ≡ raised 0 moments
+  pub ticks : ticks_taken deeds ≡ later_moments 0 moments
   pub now_is : now ≡ latest 0 moments
 
 -- the same, but for the last answer of the clock
 unfoldable pub TickedPart : List ℕ → List Deed → Type 0
 TickedPart moments deeds =
-    (ticks_taken deeds ≡ raised 0 moments)
+    (ticks_taken deeds ≡ later_moments 0 moments)
     ⊎ ((before : List ℕ) × (last : ℕ) × (moments ≡ before ++ last ∷ [])
-    × (ticks_taken deeds ≡ raised 0 before))
+    × (ticks_taken deeds ≡ later_moments 0 before))
 
 -- ## Clock and orders
 

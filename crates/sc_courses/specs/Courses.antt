@@ -91,8 +91,8 @@ pub record Beginning : Type 0 where
   pub orders : List (Option Order)
 
 -- once these orders were answered
-abbrev pub ordered : Beginning → List (Option Order) → Beginning
-ordered from given = record from { orders = from.orders ++ given }
+abbrev pub with_orders : Beginning → List (Option Order) → Beginning
+with_orders from given = record from { orders = from.orders ++ given }
 
 -- once both the clock and the orders answered so
 abbrev pub after : Beginning → Given → Beginning

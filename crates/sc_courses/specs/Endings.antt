@@ -22,7 +22,7 @@ waits_for_end (steps.In from message) = true
 waits_for_end (steps.Bad from bad) = true
 waits_for_end (steps.Lost at) = true
 waits_for_end (steps.Tick now) = true
-waits_for_end (steps.Turn app event now calls end) = false
+waits_for_end (steps.Turn end app event now calls) = false
 waits_for_end (steps.Withdraw app) = false
 
 -- no such step was taken where the epoch had to end

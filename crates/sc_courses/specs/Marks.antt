@@ -54,7 +54,7 @@ is_heard (steps.In from message) = true
 is_heard (steps.Bad from bad) = true
 is_heard (steps.Lost at) = true
 is_heard (steps.Tick now) = false
-is_heard (steps.Turn app event now calls end) = false
+is_heard (steps.Turn end app event now calls) = false
 is_heard (steps.Withdraw app) = false
 
 -- what is marked of a deed

@@ -48,7 +48,7 @@ withdrawn_by (steps.In from message) = []
 withdrawn_by (steps.Bad from bad) = []
 withdrawn_by (steps.Lost at) = []
 withdrawn_by (steps.Tick now) = []
-withdrawn_by (steps.Turn app event now calls end) = []
+withdrawn_by (steps.Turn end app event now calls) = []
 withdrawn_by (steps.Withdraw app) = app ∷ []
 
 -- the sessions that were withdrawn, epoch by epoch

@@ -57,7 +57,7 @@ IsInTime since kept (steps.In place message) = Unit {0}
 IsInTime since kept (steps.Bad place bad) = Unit {0}
 IsInTime since kept (steps.Lost place) = Unit {0}
 IsInTime since kept (steps.Tick now) = (kept ≡ []) ⊎ (now < since + 1000)
-IsInTime since kept (steps.Turn app event moment calls end) = Unit {0}
+IsInTime since kept (steps.Turn end app event moment calls) = Unit {0}
 IsInTime since kept (steps.Withdraw app) = Unit {0}
 
 -- the parts that were handed on and what is kept are of a second each, and what is kept was begun

@@ -17,10 +17,10 @@ use Rattle.sc_syntax.specs.UriParts.{then_read as then_read_uri, port_in, is_por
 use Rattle.sc_syntax.specs.Uris.{user_in, behind_user, sent_in, params_text_in, sip_behind, sip_at, other_of, uri_behind, uri_of}
 use Rattle.sc_grammar.specs.Written.{scheme, ended_text, port_text, params_text, param_text, signed_text, sip_uri_text, uri_text}
 use Rattle.sc_dar.specs.WrittenTables.{region_text, modifier_text, route_text, between, app_text, tuple_front, tuple_back, tuple_text, lead, tuples_text, list_text, dar_text}
-use Rattle.sc_dar.specs.Lines.{drop_blanks, is_blank_text, ends, without_last, without_cr, ended, rows, onto_next, before_lines, joined, lines, is_comment}
-use Rattle.sc_dar.specs.Tuples.{TupleTexts, then_read, parts, behind, closed, quoted, is_closing, behind_tuple, is_parted, parted, opening, unquoted, region_of, modifier_of, sip_route, unbracketed, route_of, tuple_of, counted, tuple_at, tuples_in}
+use Rattle.sc_dar.specs.Lines.{drop_blanks, is_blank_text, ends, without_last, without_cr, lines_by_lf as ended, rows, onto_next, before_lines, lines_of_rows as joined, lines, is_comment}
+use Rattle.sc_dar.specs.Tuples.{TupleTexts, then_read, parts, behind, before_quote as closed, text_in_quotes as quoted, is_closing, behind_tuple, is_parted, tuple_before_comma as parted, opening, without_quotes as unquoted, region_of, modifier_of, sip_route, without_brackets as unbracketed, route_of, tuple_of, tuple_within as counted, tuple_at, tuples_in}
 use Rattle.sc_terms.specs.RoutingTables.{is_listed}
-use Rattle.sc_dar.specs.Tables.{Fault, has_separator, list_in, list_of, then_line, judged, table_with, table_of}
+use Rattle.sc_dar.specs.Tables.{Fault, has_separator, list_in, list_of, then_line, lists_with as judged, table_with, table_of}
 
 abbrev names : List Bytes
 names = codes "a0" ∷ codes "a1" ∷ codes "a2" ∷ []

@@ -16,8 +16,8 @@ use Rattle.sc_tokens.specs.Bytes.{Bytes}
 use Rattle.sc_dar.specs.Answers.{IsJudged}
 use Rattle.sc_dar.specs.declared.refused.DarRefused.{DarRefused}
 use Rattle.sc_dar.specs.Lines.{Line, lines, is_comment}
-use Rattle.sc_dar.specs.Tuples.{BAD_TUPLE, BAD_REGION, BAD_MODIFIER, BAD_ORDER, UNKNOWN_APPLICATION, BAD_ROUTE, TOO_MANY, TupleTexts, then_read, given, parts, unquoted, region_of, modifier_of, order_of, of_32, app_of, route_of, tuple_of, counted, is_parted, parted, tuple_at, tuples_in}
-use Rattle.sc_dar.specs.Tables.{NO_SEPARATOR, LONG, DOUBLE_METHOD, Fault, method_in, behind_method, list_in, list_of, then_line, judged, table_with, table_of}
+use Rattle.sc_dar.specs.Tuples.{BAD_TUPLE, BAD_REGION, BAD_MODIFIER, BAD_ORDER, UNKNOWN_APPLICATION, BAD_ROUTE, TOO_MANY, TupleTexts, then_read, or_refusal as given, parts, without_quotes as unquoted, region_of, modifier_of, order_of, of_32, app_of, route_of, tuple_of, tuple_within as counted, is_parted, tuple_before_comma as parted, tuple_at, tuples_in}
+use Rattle.sc_dar.specs.Tables.{NO_SEPARATOR, LONG, DOUBLE_METHOD, Fault, method_in, behind_method, list_in, list_of, then_line, lists_with as judged, table_with, table_of}
 
 -- ## What an Ok says
 

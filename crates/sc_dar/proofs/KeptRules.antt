@@ -15,7 +15,7 @@ use Rattle.sc_tokens.specs.Quoted.{token_end}
 use Rattle.sc_syntax.proofs.ClassLaws.{not_true}
 use Rattle.sc_dar.specs.Lines.{Line, drop_blanks, is_comment}
 use Rattle.sc_dar.specs.Tuples.{BAD_TUPLE, TupleTexts, then_read, parts, tuple_at, tuples_in}
-use Rattle.sc_dar.specs.Tables.{NO_SEPARATOR, DOUBLE_METHOD, method_in, behind_method, has_separator, list_in, list_of, judged}
+use Rattle.sc_dar.specs.Tables.{NO_SEPARATOR, DOUBLE_METHOD, method_in, behind_method, has_separator, list_in, list_of, lists_with as judged}
 use Rattle.sc_dar.proofs.Kept.{ok_same, err_ok, then_ok, tuples_kept, then_line_ok}
 use Rattle.sc_dar.proofs.Parting.{some_parts}
 use Rattle.sc_dar.proofs.WrittenTables.{both, other_first, not_blank}

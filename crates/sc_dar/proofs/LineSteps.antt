@@ -5,7 +5,7 @@ use Rattle.std.specs.Option.{option_to_list}
 use Rattle.sc_terms.specs.declared.settings.MethodList.{MethodList}
 use Rattle.sc_tokens.specs.Bytes.{Bytes}
 use Rattle.sc_dar.specs.Lines.{Line, lines}
-use Rattle.sc_dar.specs.Tables.{list_of, then_line, judged}
+use Rattle.sc_dar.specs.Tables.{list_of, then_line, lists_with as judged}
 use Rattle.sc_dar.specs.Answers.{IsKind, IsAtLine, IsFault}
 use Rattle.sc_dar.specs.declared.refused.DarRefused.{DarRefused}
 use Rattle.sc_dar.specs.declared.unread.Unread.{Unread}

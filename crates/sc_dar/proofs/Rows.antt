@@ -5,7 +5,7 @@ use Rattle.std.proofs.lemmas.Bool.Decides.{nat_tests}
 use Rattle.sc_tokens.specs.Bytes.{Bytes}
 use Rattle.sc_tokens.specs.Cuts.{before, after, onto_first, pieces}
 use Rattle.sc_syntax.proofs.CutLaws.{pieces_more, pieces_last}
-use Rattle.sc_dar.specs.Lines.{Line, drop_blanks, ends, without_last, without_cr, ended, rows, onto_next, before_lines, joined, lines}
+use Rattle.sc_dar.specs.Lines.{Line, drop_blanks, ends, without_last, without_cr, lines_by_lf as ended, rows, onto_next, before_lines, lines_of_rows as joined, lines}
 
 -- ## Rows
 

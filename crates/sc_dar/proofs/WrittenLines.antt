@@ -6,7 +6,7 @@ use Rattle.sc_terms.specs.declared.settings.Tuple.{Tuple}
 use Rattle.sc_tokens.specs.Bytes.{Bytes}
 use Rattle.sc_tokens.specs.Cuts.{has, onto_first, pieces}
 use Rattle.sc_syntax.proofs.SpelledUriLaws.{lacks_joined}
-use Rattle.sc_dar.specs.Lines.{ends, without_cr, ended, rows, onto_next, before_lines, joined, lines}
+use Rattle.sc_dar.specs.Lines.{ends, without_cr, lines_by_lf as ended, rows, onto_next, before_lines, lines_of_rows as joined, lines}
 use Rattle.sc_dar.specs.Tuples.{TupleTexts}
 use Rattle.sc_dar.specs.WrittenTables.{tuple_text, tuples_text}
 use Rattle.sc_dar.specs.Rules.{IsPlain, AreNames, AreTuples}

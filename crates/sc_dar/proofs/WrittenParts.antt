@@ -8,7 +8,7 @@ use Rattle.sc_tokens.specs.Cuts.{has, after, onto_first}
 use Rattle.sc_tokens.specs.Hosts.{begins}
 use Rattle.sc_syntax.proofs.ClassLaws.{before_joined, after_joined}
 use Rattle.sc_dar.specs.Lines.{drop_blanks, is_blank_text}
-use Rattle.sc_dar.specs.Tuples.{TupleTexts, parts, behind, closed, quoted, is_closing, behind_tuple, is_parted, opening, unquoted}
+use Rattle.sc_dar.specs.Tuples.{TupleTexts, parts, behind, before_quote as closed, text_in_quotes as quoted, is_closing, behind_tuple, is_parted, opening, without_quotes as unquoted}
 use Rattle.sc_dar.specs.Rules.{IsPlain}
 use Rattle.sc_dar.proofs.Parting.{behind_front}
 

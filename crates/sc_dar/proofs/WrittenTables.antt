@@ -18,7 +18,7 @@ use Rattle.sc_syntax.proofs.SpelledUriLaws.{lacks_joined}
 use Rattle.sc_dar.specs.Lines.{Line, drop_blanks, ends, lines, is_comment}
 use Rattle.sc_dar.specs.Tuples.{then_read, parts, tuples_in}
 use Rattle.sc_terms.specs.RoutingTables.{IsMethodList, AreMethodLists, IsDar, is_listed}
-use Rattle.sc_dar.specs.Tables.{NO_SEPARATOR, LONG, DOUBLE_METHOD, has_separator, list_in, list_of, then_line, judged, table_with, table_of}
+use Rattle.sc_dar.specs.Tables.{NO_SEPARATOR, LONG, DOUBLE_METHOD, has_separator, list_in, list_of, then_line, lists_with as judged, table_with, table_of}
 use Rattle.sc_dar.specs.WrittenTables.{lead, tuple_text, tuples_text, list_text, dar_text}
 use Rattle.sc_dar.specs.Rules.{AreNames, AreTuples, AreLists, IsTable}
 use Rattle.sc_dar.proofs.Rows.{no_more}

@@ -17,7 +17,7 @@ use Rattle.sc_terms.specs.declared.settings.Modifier.TheVariants.{Route, RouteBa
 use Rattle.sc_terms.specs.declared.settings.Tuple.{Tuple}
 use Rattle.sc_tokens.specs.Bytes.{Bytes}
 use Rattle.sc_tokens.specs.Cuts.{has}
-use Rattle.sc_dar.specs.Tuples.{BAD_TUPLE, BAD_REGION, BAD_MODIFIER, BAD_ORDER, UNKNOWN_APPLICATION, BAD_ROUTE, TupleTexts, then_read, given, parts, region_of, modifier_of, order_of, of_32, app_of, route_of, tuple_of, counted, parted, tuple_at, tuples_in}
+use Rattle.sc_dar.specs.Tuples.{BAD_TUPLE, BAD_REGION, BAD_MODIFIER, BAD_ORDER, UNKNOWN_APPLICATION, BAD_ROUTE, TupleTexts, then_read, or_refusal as given, parts, region_of, modifier_of, order_of, of_32, app_of, route_of, tuple_of, tuple_within as counted, tuple_before_comma as parted, tuple_at, tuples_in}
 use Rattle.sc_dar.specs.WrittenTables.{region_text, modifier_text, route_text, between, app_text, tuple_front, tuple_back, tuple_text, lead, tuples_text}
 use Rattle.sc_dar.specs.Rules.{IsPlain, AreNames, IsTuple, AreTuples}
 use Rattle.sc_dar.proofs.WrittenParts.{ArePlain, six_text, six_parts, listed, in_part, parted_is, parts_are, unquoted_is, bracket_comma, bracket_last}

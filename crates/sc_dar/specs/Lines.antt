@@ -31,14 +31,14 @@ without_cr line = if ends 13 line then without_last line else line
 
 -- the lines of a text that is cut at each LF. What follows the last LF is a line too, unless it's
 -- empty
-unfoldable pub ended : List Bytes → List Bytes
-ended [] = []
-ended (last ∷ []) = if length last == 0 then [] else last ∷ []
-ended (line ∷ next ∷ more) = without_cr line ∷ ended (next ∷ more)
+unfoldable pub lines_by_lf : List Bytes → List Bytes
+lines_by_lf [] = []
+lines_by_lf (last ∷ []) = if length last == 0 then [] else last ∷ []
+lines_by_lf (line ∷ next ∷ more) = without_cr line ∷ lines_by_lf (next ∷ more)
 
 -- the rows of a text: what stands between its LFs, without a CR at an end
 unfoldable pub rows : Bytes → List Bytes
-rows text = ended (pieces 10 text)
+rows text = lines_by_lf (pieces 10 text)
 
 -- a line that may be joined from several rows of the text
 pub record Line : Type 0 where
@@ -54,18 +54,19 @@ onto_next row (next ∷ more) =
 
 -- the row is the front of the lines that go on after it, or a line before the fresh ones
 unfoldable pub before_lines : Bytes → List Line → List Line → List Line
-before_lines row joined fresh =
-    if ends 92 row then onto_next row joined else (record { text = row; height = 1 } ∷ fresh)
+before_lines row lines_of_rows fresh =
+    if ends 92 row then onto_next row lines_of_rows else (record { text = row; height = 1 } ∷ fresh)
 
 -- the lines of these rows, of which the first may go on a row before it, and loses its blanks then
-unfoldable pub joined : Bool → List Bytes → List Line
-joined goes_on [] = []
-joined goes_on (row ∷ more) =
-    before_lines (if goes_on then drop_blanks row else row) (joined true more) (joined false more)
+unfoldable pub lines_of_rows : Bool → List Bytes → List Line
+lines_of_rows goes_on [] = []
+lines_of_rows goes_on (row ∷ more) =
+    before_lines (if goes_on then drop_blanks row else row) (lines_of_rows true more)
+    (lines_of_rows false more)
 
 -- the lines of the text
 unfoldable pub lines : Bytes → List Line
-lines text = joined false (rows text)
+lines text = lines_of_rows false (rows text)
 
 -- the line says nothing: it is blank, or its first byte past blanks is # or !
 unfoldable pub is_comment : Bytes → Bool

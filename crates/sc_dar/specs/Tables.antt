@@ -9,7 +9,7 @@ use Rattle.sc_tokens.specs.Bytes.{Bytes}
 use Rattle.sc_tokens.specs.Hosts.{begins}
 use Rattle.sc_tokens.specs.Quoted.{token_end}
 use Rattle.sc_dar.specs.Lines.{Line, drop_blanks, is_comment, lines}
-use Rattle.sc_dar.specs.Tuples.{then_read, parts, tuples_in}
+use Rattle.sc_dar.specs.Tuples.{parts, then_read, tuples_in}
 
 -- a line's number from 1, and what is wrong with it
 pub record Fault : Type 0 where
@@ -62,12 +62,12 @@ then_line number (Ok a) next = next a
 then_line number (Err kind) next = Err (record { line = number; kind = kind })
 
 -- the lists of these lines behind the others, the first line having this number
-unfoldable pub judged : List Bytes → ℕ → List MethodList → List Line
+unfoldable pub lists_with : List Bytes → ℕ → List MethodList → List Line
     → Result (List MethodList) Fault
-judged apps number lists [] = Ok lists
-judged apps number lists (line ∷ more) =
+lists_with apps number lists [] = Ok lists
+lists_with apps number lists (line ∷ more) =
     then_line number (list_of apps lists line.text)
-    (λ found. judged apps (number + line.height) (lists ++ option_to_list found) more)
+    (λ found. lists_with apps (number + line.height) (lists ++ option_to_list found) more)
 
 -- the table of these lists, or the fault
 unfoldable pub table_with : Result (List MethodList) Fault → Result Dar Fault
@@ -79,4 +79,4 @@ table_with (Err fault) = Err fault
 unfoldable pub table_of : Bytes → List Bytes → Result Dar Fault
 table_of text apps =
     if nat_lt 65536 (length text) then Err (record { line = 0; kind = LONG })
-    else table_with (judged apps 1 [] (lines text))
+    else table_with (lists_with apps 1 [] (lines text))

@@ -54,9 +54,9 @@ then_read (Ok a) next = next a
 then_read (Err kind) next = Err kind
 
 -- what is there, else the refusal
-abbrev pub given : {A : Type 0} → ℕ → Option A → Result A ℕ
-given kind None = Err kind
-given kind (Some a) = Ok a
+abbrev pub or_refusal : {A : Type 0} → ℕ → Option A → Result A ℕ
+or_refusal kind None = Err kind
+or_refusal kind (Some a) = Ok a
 
 -- ## The six texts
 
@@ -71,10 +71,10 @@ pub record TupleTexts : Type 0 where
 
 -- the parts between the commas that stand outside quotes
 unfoldable pub parts : Bool → Bytes → List Bytes
-parts quoted [] = [] ∷ []
-parts quoted (b ∷ bs) =
-    if b == 44 && not quoted then [] ∷ parts false bs
-    else onto_first b (parts (if b == 34 then not quoted else quoted) bs)
+parts text_in_quotes [] = [] ∷ []
+parts text_in_quotes (b ∷ bs) =
+    if b == 44 && not text_in_quotes then [] ∷ parts false bs
+    else onto_first b (parts (if b == 34 then not text_in_quotes else text_in_quotes) bs)
 
 -- the parts behind a comma, none where there is none
 unfoldable pub parts_after : Option Bytes → List Bytes
@@ -103,15 +103,15 @@ behind sign text = if begins sign (drop_blanks text) then Some (drop 1 (drop_bla
 
 -- what stands before the closing quote, where that passes as the end of the text; no CR stands in
 -- it
-unfoldable pub closed : (Bytes → Bool) → Bytes → Option Bytes
-closed is_end text =
+unfoldable pub before_quote : (Bytes → Bool) → Bytes → Option Bytes
+before_quote is_end text =
     if option_map_or is_end (after 34 text) false && not (has 13 (before 34 text))
     then Some (before 34 text)
     else None
 
 -- the text in quotes, blanks before it, and such an end behind it
-unfoldable pub quoted : (Bytes → Bool) → Bytes → Option Bytes
-quoted is_end text = option_and_then (closed is_end) (behind 34 text)
+unfoldable pub text_in_quotes : (Bytes → Bool) → Bytes → Option Bytes
+text_in_quotes is_end text = option_and_then (before_quote is_end) (behind 34 text)
 
 -- the bracket closes
 unfoldable pub is_closing : Bytes → Bool
@@ -128,11 +128,11 @@ is_parted order = option_map_or is_blank_text (behind_tuple order) false
 
 -- the first of the six, behind the opening bracket
 unfoldable pub opening : Bytes → Option Bytes
-opening text = option_and_then (quoted is_blank_text) (behind 40 text)
+opening text = option_and_then (text_in_quotes is_blank_text) (behind 40 text)
 
 -- the six texts without their quotes and brackets
-unfoldable pub unquoted : TupleTexts → Option TupleTexts
-unquoted t =
+unfoldable pub without_quotes : TupleTexts → Option TupleTexts
+without_quotes t =
     option_and_then
     (λ app. option_and_then
     (λ subscriber. option_and_then
@@ -147,11 +147,11 @@ unquoted t =
       modifier = modifier;
       order = order;
     })
-    (quoted is_closing t.order))
-    (quoted is_blank_text t.modifier))
-    (quoted is_blank_text t.route))
-    (quoted is_blank_text t.region))
-    (quoted is_blank_text t.subscriber))
+    (text_in_quotes is_closing t.order))
+    (text_in_quotes is_blank_text t.modifier))
+    (text_in_quotes is_blank_text t.route))
+    (text_in_quotes is_blank_text t.region))
+    (text_in_quotes is_blank_text t.subscriber))
     (opening t.app)
 
 -- ## What they say
@@ -195,8 +195,8 @@ sip_route (Ok (Other text)) = None
 sip_route (Err fault) = None
 
 -- what stands between angle brackets, or else the whole text
-unfoldable pub unbracketed : Bytes → Option Bytes
-unbracketed text =
+unfoldable pub without_brackets : Bytes → Option Bytes
+without_brackets text =
     if begins 60 text
     then option_and_then
     (λ rest. if length rest == 0 then Some (before 62 (drop 1 text)) else None)
@@ -207,16 +207,16 @@ unbracketed text =
 unfoldable pub route_of : Bytes → Option (Option Address)
 route_of text =
     if length text == 0 then Some None
-    else option_map Some (option_and_then (λ uri. sip_route (uri_of uri)) (unbracketed text))
+    else option_map Some (option_and_then (λ uri. sip_route (uri_of uri)) (without_brackets text))
 
 -- the tuple that the texts say, at this place of its method, or the kind of the first that is wrong
 unfoldable pub tuple_of : List Bytes → ℕ → TupleTexts → Result Tuple ℕ
 tuple_of apps order t =
-    then_read (given BAD_REGION (region_of t.region)) (λ region.
-    then_read (given BAD_MODIFIER (modifier_of t.modifier)) (λ modifier.
-    then_read (given BAD_ORDER (order_of order t.order)) (λ _.
-    then_read (given UNKNOWN_APPLICATION (app_of apps t.app)) (λ app.
-    then_read (given BAD_ROUTE (route_of t.route)) (λ route.
+    then_read (or_refusal BAD_REGION (region_of t.region)) (λ region.
+    then_read (or_refusal BAD_MODIFIER (modifier_of t.modifier)) (λ modifier.
+    then_read (or_refusal BAD_ORDER (order_of order t.order)) (λ _.
+    then_read (or_refusal UNKNOWN_APPLICATION (app_of apps t.app)) (λ app.
+    then_read (or_refusal BAD_ROUTE (route_of t.route)) (λ route.
     Ok
     (record {
       app = app;
@@ -227,20 +227,20 @@ tuple_of apps order t =
     }))))))
 
 -- a method has at most 64 tuples
-unfoldable pub counted : ℕ → Tuple → Result Tuple ℕ
-counted order tuple = if nat_lt order 64 then Ok tuple else Err TOO_MANY
+unfoldable pub tuple_within : ℕ → Tuple → Result Tuple ℕ
+tuple_within order tuple = if nat_lt order 64 then Ok tuple else Err TOO_MANY
 
 -- a comma or the end comes next
-unfoldable pub parted : Bytes → Tuple → Result Tuple ℕ
-parted order tuple = if is_parted order then Ok tuple else Err BAD_TUPLE
+unfoldable pub tuple_before_comma : Bytes → Tuple → Result Tuple ℕ
+tuple_before_comma order tuple = if is_parted order then Ok tuple else Err BAD_TUPLE
 
 -- the tuple of six parts: its brackets and quotes are judged, then what it says, then whether there
 -- are too many, and what stands behind it last
 unfoldable pub tuple_at : List Bytes → ℕ → TupleTexts → Result Tuple ℕ
 tuple_at apps order t =
-    then_read (given BAD_TUPLE (unquoted t)) (λ texts.
+    then_read (or_refusal BAD_TUPLE (without_quotes t)) (λ texts.
     then_read (tuple_of apps order texts) (λ tuple.
-    then_read (counted order tuple) (parted t.order)))
+    then_read (tuple_within order tuple) (tuple_before_comma t.order)))
 
 -- the tuples of the parts, six parts each, from this order on
 unfoldable pub tuples_in : List Bytes → ℕ → List Bytes → Result (List Tuple) ℕ

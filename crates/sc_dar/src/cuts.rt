@@ -3,7 +3,7 @@
 ghost use Rattle.std.specs.Prelude.{◌≡◌, ◌≤◌, ◌<◌, IfSome, IsTrue, None, length};
 ghost use Rattle.std.specs.Option.{option_copied};
 ghost use Rattle.sc_tokens.specs.Cuts.{before, after};
-ghost use Rattle.sc_dar.specs.Lines.{drop_blanks, is_blank_text, ends, without_last};
+ghost use Rattle.sc_dar.specs.Lines.{drop_blanks, ends, is_blank_text, without_last};
 ghost use Rattle.sc_dar.specs.Tuples.{behind};
 
 use sc_ascii::{begins, is_blank, place_or_len};

@@ -2,7 +2,7 @@
 
 ghost use Rattle.std.specs.Prelude.{◌≡◌, ◌≤◌, ◌<◌, ◌+◌, ◌++◌, ◌∷◌, IfOk, length};
 ghost use Rattle.sc_tokens.specs.Hosts.{begins};
-ghost use Rattle.sc_dar.specs.Lines.{without_cr, rows, lines, is_comment};
+ghost use Rattle.sc_dar.specs.Lines.{is_comment, lines, rows, without_cr};
 
 use crate::cuts::{cut, drop_blanks, ends, without_last};
 use sc_ascii::begins;

@@ -3,7 +3,7 @@
 ghost use Rattle.std.specs.Prelude.{◌≡◌, ◌<◌, ◌==◌, ◌&&◌, ◌∷◌, IfSome, if◌then◌else◌, not, false, length, option_map};
 ghost use Rattle.std.specs.Option.{option_copied};
 ghost use Rattle.sc_dar.specs.Lines.{is_blank_text};
-ghost use Rattle.sc_dar.specs.Tuples.{parts, parts_after, first_six, closed, quoted, is_closing, behind_tuple, is_parted, opening, unquoted};
+ghost use Rattle.sc_dar.specs.Tuples.{before_quote, behind_tuple, first_six, is_closing, is_parted, opening, parts, parts_after, text_in_quotes, without_quotes};
 
 use crate::cuts::{behind, cut, is_blank_text};
 use sc_ascii::has;
@@ -29,13 +29,13 @@ impl<'a> Model for Texts<'a> {
 }
 
 fn is_parting(b: u8, quoted: bool) -> bool
-    ensures { result ≡ (b == 44 && not quoted) }
+    ensures { result ≡ (b == 44 && not text_in_quotes) }
 {
     b == b',' && !quoted
 }
 
 fn is_quoted_after(b: u8, quoted: bool) -> bool
-    ensures { result ≡ (if b == 34 then not quoted else quoted) }
+    ensures { result ≡ (if b == 34 then not text_in_quotes else text_in_quotes) }
 {
     if b == b'"' { !quoted } else { quoted }
 }
@@ -108,9 +108,9 @@ pub fn is_parted(order: &[u8]) -> bool
 }
 
 // What stands before the closing quote, with blanks alone behind it.
-#[tactic(auto, unfolding(crate::specs::Tuples::closed))]
+#[tactic(auto, unfolding(crate::specs::Tuples::before_quote))]
 fn closed(text: &[u8]) -> Option<&[u8]>
-    ensures { option_copied result ≡ closed is_blank_text text.now }
+    ensures { option_copied result ≡ before_quote is_blank_text text.now }
 {
     match cut(text, b'"') {
         (said, Some(end)) if is_blank_text(end) && !has(said, b'\r') => Some(said),
@@ -119,9 +119,9 @@ fn closed(text: &[u8]) -> Option<&[u8]>
 }
 
 // What stands before the closing quote, with the closing bracket behind it.
-#[tactic(auto, unfolding(crate::specs::Tuples::closed))]
+#[tactic(auto, unfolding(crate::specs::Tuples::before_quote))]
 fn closed_last(text: &[u8]) -> Option<&[u8]>
-    ensures { option_copied result ≡ closed is_closing text.now }
+    ensures { option_copied result ≡ before_quote is_closing text.now }
 {
     match cut(text, b'"') {
         (said, Some(end)) if is_closing(end) && !has(said, b'\r') => Some(said),
@@ -129,16 +129,16 @@ fn closed_last(text: &[u8]) -> Option<&[u8]>
     }
 }
 
-#[tactic(auto, unfolding(crate::specs::Tuples::quoted))]
+#[tactic(auto, unfolding(crate::specs::Tuples::text_in_quotes))]
 fn quoted(text: &[u8]) -> Option<&[u8]>
-    ensures { option_copied result ≡ quoted is_blank_text text.now }
+    ensures { option_copied result ≡ text_in_quotes is_blank_text text.now }
 {
     closed(behind(text, b'"')?)
 }
 
-#[tactic(auto, unfolding(crate::specs::Tuples::quoted))]
+#[tactic(auto, unfolding(crate::specs::Tuples::text_in_quotes))]
 fn quoted_last(text: &[u8]) -> Option<&[u8]>
-    ensures { option_copied result ≡ quoted is_closing text.now }
+    ensures { option_copied result ≡ text_in_quotes is_closing text.now }
 {
     closed_last(behind(text, b'"')?)
 }
@@ -151,9 +151,9 @@ fn opening(text: &[u8]) -> Option<&[u8]>
 }
 
 // The six texts without their quotes and brackets.
-#[tactic(auto, unfolding(crate::specs::Tuples::unquoted))]
+#[tactic(auto, unfolding(crate::specs::Tuples::without_quotes))]
 pub fn unquoted<'a>(texts: &Texts<'a>) -> Option<Texts<'a>>
-    ensures { result ≡ unquoted texts.now }
+    ensures { result ≡ without_quotes texts.now }
 {
     let app = opening(texts.app)?;
     let subscriber = quoted(texts.subscriber)?;

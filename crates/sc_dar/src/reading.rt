@@ -3,7 +3,7 @@
 ghost use Rattle.std.specs.Prelude.{◌≡◌, ◌≤◌, ◌++◌, ◌∷◌, ◌<◌, [], Err, IfOk, OnOk, length};
 ghost use Rattle.std.specs.List.{All};
 ghost use Rattle.sc_dar.specs.Lines.{lines};
-ghost use Rattle.sc_dar.specs.Tables.{judged, table_of};
+ghost use Rattle.sc_dar.specs.Tables.{lists_with, table_of};
 ghost use Rattle.sc_dar.specs.Answers.{IsJudged, IsAtLine};
 
 use crate::DarRefused;
@@ -76,7 +76,7 @@ fn at_line(cause: Unread, line: u64) -> DarRefused
 #[tactic(auto, using(crate::proofs::LineSteps::line_on, crate::proofs::LineSteps::comment_on, crate::proofs::LineSteps::line_fault, crate::proofs::LineSteps::all_read))]
 fn lists_in(alloc: Global, text: &[u8], apps: &[Text]) -> Result<List<MethodList>, DarRefused>
     requires { length text.now ≤ 65536 }
-    ensures { IsJudged result (judged apps.now 1 [] (lines text.now)) }
+    ensures { IsJudged result (lists_with apps.now 1 [] (lines text.now)) }
 {
     let mut lists = List::new(alloc);
     let mut rest = text;

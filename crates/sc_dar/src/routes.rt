@@ -3,7 +3,7 @@
 ghost use Rattle.std.specs.Prelude.{◌≡◌};
 ghost use Rattle.std.specs.Option.{option_copied};
 ghost use Rattle.sc_syntax.specs.Uris.{uri_of};
-ghost use Rattle.sc_dar.specs.Tuples.{BAD_ROUTE as bad_route, given, sip_route, unbracketed, route_of};
+ghost use Rattle.sc_dar.specs.Tuples.{BAD_ROUTE as bad_route, or_refusal, route_of, sip_route, without_brackets};
 ghost use Rattle.sc_dar.specs.Answers.{IsRead};
 
 use crate::cuts::cut;
@@ -14,9 +14,9 @@ use sc_value::{Address, Discard, Uri, plain_address};
 use std::alloc::Global;
 
 // What stands between angle brackets, or else the whole text.
-#[tactic(auto, unfolding(crate::specs::Tuples::unbracketed))]
+#[tactic(auto, unfolding(crate::specs::Tuples::without_brackets))]
 fn unbracketed(text: &[u8]) -> Option<&[u8]>
-    ensures { option_copied result ≡ unbracketed text.now }
+    ensures { option_copied result ≡ without_brackets text.now }
 {
     if !begins(text, b'<') {
         return Some(text);
@@ -29,7 +29,7 @@ fn unbracketed(text: &[u8]) -> Option<&[u8]>
 
 #[tactic(auto, unfolding(crate::specs::Tuples::sip_route))]
 fn sip_route(alloc: Global, text: &[u8]) -> Result<Address, Unread>
-    ensures { IsRead result (given bad_route (sip_route (uri_of text.now))) }
+    ensures { IsRead result (or_refusal bad_route (sip_route (uri_of text.now))) }
 {
     match sc_uri_text::read(alloc, text) {
         Ok(Uri::Sip(uri)) => Ok(plain_address(alloc, Uri::Sip(uri))),
@@ -45,7 +45,7 @@ fn sip_route(alloc: Global, text: &[u8]) -> Result<Address, Unread>
 // The route of a text, None of an empty one.
 #[tactic(auto, unfolding(crate::specs::Tuples::route_of))]
 pub fn route_of(alloc: Global, text: &[u8]) -> Result<Option<Address>, Unread>
-    ensures { IsRead result (given bad_route (route_of text.now)) }
+    ensures { IsRead result (or_refusal bad_route (route_of text.now)) }
 {
     if text.is_empty() {
         return Ok(None);

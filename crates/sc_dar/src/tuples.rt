@@ -1,7 +1,7 @@
 //! The tuples of a line.
 
 ghost use Rattle.std.specs.Prelude.{◌≡◌, ◌<◌, ◌++◌, ◌∷◌, [], OnOk, false};
-ghost use Rattle.sc_dar.specs.Tuples.{parts, tuple_of, tuple_at, tuples_in};
+ghost use Rattle.sc_dar.specs.Tuples.{parts, tuple_at, tuple_of, tuples_in};
 ghost use Rattle.sc_dar.specs.Answers.{IsRead};
 
 use crate::parts::{Texts, first_six, is_parted, unquoted};
@@ -50,7 +50,7 @@ fn tuple_of(alloc: Global, apps: &[Text], order: usize, texts: &Texts) -> Result
 }
 
 // The tuple of six parts; a method has at most 64. What stands behind its bracket is judged last.
-#[tactic(auto, unfolding(crate::specs::Tuples::tuple_at, crate::specs::Tuples::counted, crate::specs::Tuples::parted, crate::specs::Tuples::then_read))]
+#[tactic(auto, unfolding(crate::specs::Tuples::tuple_at, crate::specs::Tuples::tuple_within, crate::specs::Tuples::tuple_before_comma, crate::specs::Tuples::then_read))]
 fn tuple_at(alloc: Global, apps: &[Text], order: usize, parts: &Texts) -> Result<Tuple, Unread>
     ensures { IsRead result (tuple_at apps.now order parts.now) }
 {

@@ -2,7 +2,7 @@
 
 ghost use Rattle.std.specs.Prelude.{◌≡◌, decimal, position};
 ghost use Rattle.sc_tokens.specs.Names.{same_bytes};
-ghost use Rattle.sc_dar.specs.Tuples.{region_of, modifier_of, app_of};
+ghost use Rattle.sc_dar.specs.Tuples.{app_of, modifier_of, region_of};
 
 use itoa::Buffer;
 use sc_terms::Modifier;

@@ -6,7 +6,7 @@ use Rattle.sc_value.specs.declared.ids.SessId.{SessId}
 use Rattle.sc_state.specs.declared.session.Leg.{Leg}
 use Rattle.sc_state.specs.declared.session.Session.{Session}
 use Rattle.sc_hosts.specs.DerivedSessions.{loses_tag, overtaken_leg}
-use Rattle.sc_derived.specs.Marks.{marked, marked_leg}
+use Rattle.sc_derived.specs.Marks.{legs_by_marks as marked, marked_leg}
 
 pub marked_is : (session : Session) (req : ReqId) (sess : SessId) (legs : List Leg)
     → marked (map (loses_tag session req sess) legs) legs ≡ map (overtaken_leg session req sess) legs

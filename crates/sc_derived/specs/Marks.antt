@@ -7,7 +7,7 @@ unfoldable pub marked_leg : Bool → Leg → Leg
 marked_leg mark leg = if mark then record leg { overtaken = true } else leg
 
 -- the legs, each by its mark
-unfoldable pub marked : List Bool → List Leg → List Leg
-marked [] legs = legs
-marked (mark ∷ marks) [] = []
-marked (mark ∷ marks) (leg ∷ legs) = marked_leg mark leg ∷ marked marks legs
+unfoldable pub legs_by_marks : List Bool → List Leg → List Leg
+legs_by_marks [] legs = legs
+legs_by_marks (mark ∷ marks) [] = []
+legs_by_marks (mark ∷ marks) (leg ∷ legs) = marked_leg mark leg ∷ legs_by_marks marks legs

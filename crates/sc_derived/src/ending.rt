@@ -3,7 +3,7 @@
 
 ghost use Rattle.std.specs.Prelude.{◌≡◌, map, IfOk, OnOk};
 ghost use Rattle.sc_hosts.specs.DerivedSessions.{failed_session, is_overtaken, loses_tag, overtaken, overtaken_session, without_derived};
-ghost use Rattle.sc_derived.specs.Marks.{marked, marked_leg};
+ghost use Rattle.sc_derived.specs.Marks.{legs_by_marks, marked_leg};
 
 use crate::derived::is_of;
 use sc_effects::{in_state, is_early};
@@ -74,9 +74,9 @@ fn mark_leg(leg: &mut Leg, mark: bool)
     }
 }
 
-#[tactic(auto, unfolding(crate::specs::Marks::marked), using(crate::proofs::Marking::marked_step, crate::proofs::Marking::marked_past))]
+#[tactic(auto, unfolding(crate::specs::Marks::legs_by_marks), using(crate::proofs::Marking::marked_step, crate::proofs::Marking::marked_past))]
 fn mark_legs(legs: &mut [Leg], marks: &[bool])
-    ensures { legs.new ≡ marked marks.now legs.old }
+    ensures { legs.new ≡ legs_by_marks marks.now legs.old }
 {
     for i in 0..marks.len() {
         if i < legs.len() {
@@ -95,7 +95,7 @@ fn end_overtaken(known: &Known, req: ReqId, sess: SessId, view: &mut View)
 }
 
 fn mark_known(known: &mut Known, marks: &[bool])
-    ensures { known.new ≡ record known.old { legs = marked marks.now known.old.legs } }
+    ensures { known.new ≡ record known.old { legs = legs_by_marks marks.now known.old.legs } }
 {
     mark_legs(&mut known.legs.items, marks);
 }

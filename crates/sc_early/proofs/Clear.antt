@@ -7,7 +7,7 @@ use Rattle.sc_value.specs.declared.ids.ReqId.{ReqId}
 use Rattle.sc_value.specs.declared.ids.SessId.{SessId}
 use Rattle.sc_value.specs.declared.ids.TimerId.{TimerId}
 use Rattle.sc_value.specs.declared.message.Request.{Request}
-use Rattle.sc_grammar.specs.Written.{Bytes}
+use Rattle.sc_tokens.specs.Bytes.{Bytes}
 use Rattle.sc_terms.specs.declared.calls.CallRecord.{CallRecord}
 use Rattle.sc_terms.specs.declared.events.Event.{Event}
 use Rattle.sc_terms.specs.declared.events.Event.TheVariants as events
@@ -17,12 +17,12 @@ use Rattle.sc_terms.specs.declared.views.View.{View}
 use Rattle.sc_state.specs.declared.session.Session.{Session}
 use Rattle.sc_state.specs.declared.working.Play.{Play}
 use Rattle.sc_model.specs.SessionStates.{invite}
-use Rattle.sc_hosts.specs.Effects.{after_calls, begun}
+use Rattle.sc_hosts.specs.Effects.{after_calls, first_play as begun}
 use Rattle.sc_hosts.specs.HelperParts.{lists_option, strict_number}
 use Rattle.sc_hosts.specs.Histories.{History, after_turn, session_after, session_of}
 use Rattle.sc_hosts.specs.Legs.{first_view, fresh}
 use Rattle.sc_hosts.specs.Offers.{Offer, after_word, early_script, is_invite_of, late_offer, pending_offer, rel_option, session_progress}
-use Rattle.sc_hosts.specs.Scripting.{Script, attribute, played, where_some}
+use Rattle.sc_hosts.specs.Scripting.{Script, attribute, calls_of_script as played, where_some}
 use Rattle.sc_hosts.specs.Sessions.{Turn}
 use Rattle.sc_hosts.specs.Words.{prack}
 use Rattle.sc_lasting.specs.Lasting.{All, Numbered}

@@ -7,7 +7,7 @@ use Rattle.std.specs.Prelude.{◌^◌, codes, decimal, length, nat_le, nat_lt}
 use Rattle.sc_value.specs.declared.ids.ReqId.{ReqId}
 use Rattle.sc_value.specs.declared.message.Request.{Request}
 use Rattle.sc_value.specs.declared.parts.Field.{Field}
-use Rattle.sc_grammar.specs.Written.{Bytes}
+use Rattle.sc_tokens.specs.Bytes.{Bytes}
 use Rattle.sc_terms.specs.declared.calls.Answer.{Answer}
 use Rattle.sc_terms.specs.declared.calls.Call.{Call}
 use Rattle.sc_terms.specs.declared.calls.Call.TheVariants as calls
@@ -16,13 +16,13 @@ use Rattle.sc_terms.specs.declared.views.Period.TheVariants.{Once}
 use Rattle.sc_terms.specs.declared.views.RequestView.{RequestView}
 use Rattle.sc_terms.specs.declared.views.View.{View}
 use Rattle.sc_state.specs.declared.working.Play.{Play}
-use Rattle.sc_hosts.specs.Effects.{after_call, after_listed, answer_by, answer_of, accepted, begun, played_by, with_attribute}
+use Rattle.sc_hosts.specs.Effects.{after_call, after_listed, answer_by, answer_of, answer_to_call as accepted, first_play as begun, played_by, with_attribute}
 use Rattle.sc_hosts.specs.Looking.{request_in}
 use Rattle.sc_hosts.specs.Offers.{offer_text, rel_name, session_progress}
-use Rattle.sc_hosts.specs.RefusalParts.{MOST_ATTRIBUTE_BYTES, MOST_CALLS, first_of, name_refusal, named}
+use Rattle.sc_hosts.specs.RefusalParts.{MOST_ATTRIBUTE_BYTES, MOST_CALLS, first_of, name_refusal, sessions_in_call as named}
 use Rattle.sc_hosts.specs.Refusals.{attribute_bytes, is_set, is_zero_period, own_refusal, refusal}
 use Rattle.sc_hosts.specs.Scripting.{attribute, is_refused}
-use Rattle.sc_hosts.specs.ViewChanges.{answered, answered_in, tidy}
+use Rattle.sc_hosts.specs.ViewChanges.{view_with_answer as answered, answered_in, tidy}
 use Rattle.sc_promised.specs.Reliable.{Given, IsSound, Offers, Sound, next_of, offer_call, remembered_at, remembered_of}
 use Rattle.sc_promised.proofs.Attributes.{responded-attributes, same-self, timed-attributes}
 

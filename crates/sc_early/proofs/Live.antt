@@ -4,7 +4,7 @@ use Rattle.std.proofs.Math.Logic.{∥∥₁_map}
 use Rattle.std.specs.Prelude.{◌^◌, ◌&&◌, codes, cond, option_and_then, option_map}
 use Rattle.std.specs.List.{find}
 use Rattle.sc_tokens.specs.Names.{same_bytes}
-use Rattle.sc_grammar.specs.Written.{Bytes}
+use Rattle.sc_tokens.specs.Bytes.{Bytes}
 use Rattle.sc_value.specs.declared.ids.AppId.{AppId}
 use Rattle.sc_value.specs.declared.ids.Region.{Region}
 use Rattle.sc_value.specs.declared.ids.ReqId.{ReqId}
@@ -25,20 +25,20 @@ use Rattle.sc_state.specs.declared.queue.Waiting.{Waiting}
 use Rattle.sc_state.specs.declared.session.Session.{Session}
 use Rattle.sc_model.specs.SessionStates.{invite}
 use Rattle.sc_hosts.specs.Bringing.{servlet_script}
-use Rattle.sc_hosts.specs.Effects.{begun}
+use Rattle.sc_hosts.specs.Effects.{first_play as begun}
 use Rattle.sc_hosts.specs.HelperParts.{lists_option, strict_number}
 use Rattle.sc_hosts.specs.Histories.{History, as_history, as_session, session_after, session_of}
 use Rattle.sc_hosts.specs.Legs.{FIRST_SESSION, first_view, fresh}
 use Rattle.sc_hosts.specs.Offers.{after_word, early_script, is_invite_of, rel_option, session_progress}
-use Rattle.sc_hosts.specs.Preparing.{prepared, prepared_for}
-use Rattle.sc_hosts.specs.PreparingRequests.{next_id, received, showing}
-use Rattle.sc_hosts.specs.Runs.{IsLawful, chained}
+use Rattle.sc_hosts.specs.Preparing.{prepared_session as prepared, prepared_for}
+use Rattle.sc_hosts.specs.PreparingRequests.{next_id, with_received_request as received, showing}
+use Rattle.sc_hosts.specs.Runs.{IsLawful, net_from as chained}
 use Rattle.sc_hosts.specs.Scripting.{attribute}
 use Rattle.sc_hosts.specs.Sessions.{Turn}
 use Rattle.sc_hosts.specs.Steps.{live_at}
 use Rattle.sc_hosts.specs.Words.{prack}
 use Rattle.sc_walks.specs.Walks.{IsLate}
-use Rattle.sc_lived.specs.Lived.{AreLate, AreOfOne, Begins, HasLived, IsLived, Told, told, turned_events}
+use Rattle.sc_lived.specs.Lived.{AreLate, AreOfOne, Begins, HasLived, IsLived, Told, turns_in as told, turned_events}
 use Rattle.sc_lived.proofs.Sayings.{has-lived, session-lived}
 use Rattle.sc_promised.specs.Reliable.{Act, IsSound, Late, Offers, Pracks, remembered_of}
 use Rattle.sc_promised.proofs.Traces.{offers-counted}

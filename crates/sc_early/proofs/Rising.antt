@@ -11,12 +11,12 @@ use Rattle.sc_state.specs.declared.queue.Queued.TheVariants as queued
 use Rattle.sc_state.specs.declared.session.Session.{Session}
 use Rattle.sc_state.specs.declared.working.Play.{Play}
 use Rattle.sc_state.specs.declared.working.Prepared.{Prepared}
-use Rattle.sc_hosts.specs.Effects.{after_calls, created_leg, proxied, with_draft}
+use Rattle.sc_hosts.specs.Effects.{after_calls, created_leg, view_with_targets as proxied, with_draft}
 use Rattle.sc_hosts.specs.Histories.{History, after_turn, session_after}
-use Rattle.sc_hosts.specs.Looking.{removed, unlinked}
-use Rattle.sc_hosts.specs.Preparing.{prepared}
+use Rattle.sc_hosts.specs.Looking.{without_sip_session as removed, without_link as unlinked}
+use Rattle.sc_hosts.specs.Preparing.{prepared_session as prepared}
 use Rattle.sc_hosts.specs.Sessions.{Turn}
-use Rattle.sc_hosts.specs.ViewChanges.{linked, with_own_session}
+use Rattle.sc_hosts.specs.ViewChanges.{with_link as linked, with_own_session}
 use Rattle.sc_walked.specs.SessionWalks.{SessionLaws}
 use Rattle.sc_walked.proofs.WalkCalls.{worked_all-walks}
 use Rattle.sc_walked.proofs.WalkEnds.{done-any}

@@ -6,7 +6,7 @@ use Rattle.sc_value.specs.declared.ids.ReqId.{ReqId}
 use Rattle.sc_value.specs.declared.ids.SessId.{SessId}
 use Rattle.sc_value.specs.declared.ids.Region.{Region}
 use Rattle.sc_value.specs.declared.parts.Address.{Address}
-use Rattle.sc_grammar.specs.Written.{Bytes}
+use Rattle.sc_tokens.specs.Bytes.{Bytes}
 use Rattle.sc_value.specs.declared.message.Request.{Request}
 use Rattle.sc_value.specs.declared.message.Response.{Response}
 use Rattle.sc_terms.specs.declared.events.Event.{Event}
@@ -27,9 +27,9 @@ use Rattle.sc_state.specs.declared.working.Prepared.{Prepared}
 use Rattle.sc_hosts.specs.Branches.{is_supervised}
 use Rattle.sc_hosts.specs.Legs.{FIRST_SESSION, is_low, leg_of, session_for}
 use Rattle.sc_hosts.specs.Looking.{is_gone_in, request_in, session_in, timer_in}
-use Rattle.sc_hosts.specs.Preparing.{cancelled_proxy, cancelled_request, has_expired, is_invited, kept_of, prepared, prepared_branch_timer, prepared_cancel, prepared_expiry, prepared_for, prepared_timer, proxy_of, terminated}
-use Rattle.sc_hosts.specs.PreparingRequests.{next_id, prepared_request, received, showing, showing_in, silent, taken, taken_in, too_low}
-use Rattle.sc_hosts.specs.PreparingResponses.{accepts_invite, branch_placed, heard_in, is_watched, noted_final, placed, prepared_branch, prepared_own, prepared_response, responded_again, responded_in, shown_again, told}
+use Rattle.sc_hosts.specs.Preparing.{cancelled_proxy, cancelled_request, has_expired, is_invited, kept_of, prepared_session as prepared, prepared_branch_timer, prepared_cancel, prepared_expiry, prepared_for, prepared_timer, proxy_of, prepared_end as terminated}
+use Rattle.sc_hosts.specs.PreparingRequests.{next_id, prepared_request, with_received_request as received, showing, showing_in, silent, prepared_for_request as taken, taken_in, too_low}
+use Rattle.sc_hosts.specs.PreparingResponses.{accepts_invite, branch_placed, heard_in, is_watched, noted_final, session_of_response as placed, prepared_branch, prepared_own, prepared_response, responded_again, responded_in, shown_again, event_of_response as told}
 use Rattle.sc_hosts.specs.Sessions.{Turn}
 use Rattle.sc_walks.specs.Walks.{IsLate}
 use Rattle.sc_remembered.specs.Acts.{shown_in}

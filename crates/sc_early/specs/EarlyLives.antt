@@ -10,11 +10,11 @@ use Rattle.sc_parts.specs.declared.setup.Setup.{Setup}
 use Rattle.sc_state.specs.declared.queue.Waiting.{Waiting}
 use Rattle.sc_state.specs.declared.session.Session.{Session}
 use Rattle.sc_model.specs.Settings.{charters_of}
-use Rattle.sc_hosts.specs.Effects.{begun}
+use Rattle.sc_hosts.specs.Effects.{first_play}
 use Rattle.sc_hosts.specs.Histories.{History, session_after}
 use Rattle.sc_hosts.specs.Sessions.{Turn}
 use Rattle.sc_lived.specs.Lived.{HasLived, Told}
-use Rattle.sc_promised.specs.Reliable.{Act, CountFrom, Fresh, Happened, IsSound, IsTrace, offered}
+use Rattle.sc_promised.specs.Reliable.{Act, CountFrom, Fresh, Happened, IsSound, IsTrace, offered_number}
 use Rattle.sc_remembered.specs.Acts.{AreActs, shown_in}
 use Rattle.sc_remembered.specs.Early.{IsUnknown, act_of}
 use Rattle.sc_remembered.specs.Played.{event_in}
@@ -36,7 +36,7 @@ AreWhole config history (turn ∷ earlier) =
     ((told : Event) (act : Act)
     → event_in config (session_after config history earlier) turn ≡ Some told
     → act_of (shown_in config (session_after config history earlier) turn) told ≡ Some act
-    → IsSound (begun (shown_in config (session_after config history earlier) turn)) act)
+    → IsSound (first_play (shown_in config (session_after config history earlier) turn)) act)
     × AreWhole config history earlier
 
 -- numbers of requests have 64 bits
@@ -56,7 +56,7 @@ pub record HasActs (config : Config) (history : History) (n : ℕ) : Type 0 wher
   pub acts : List Happened
   pub are : AreActs config history n history.turns acts
   pub chain : IsTrace n Fresh acts
-  pub counted : CountFrom 0 (filter_map offered acts)
+  pub counted : CountFrom 0 (filter_map offered_number acts)
 
 -- what the session is comes of a history with these turns, and nothing is remembered of an INVITE
 -- that comes in it

@@ -7,9 +7,9 @@ ghost use Rattle.sc_state.specs.declared.host.Live.{Live};
 ghost use Rattle.sc_state.specs.declared.session.Session.{Session};
 ghost use Rattle.sc_hosts.specs.Histories.{History, as_history, as_session, session_of};
 ghost use Rattle.sc_hosts.specs.Offers.{early_script};
-ghost use Rattle.sc_hosts.specs.Runs.{IsLawful, chained};
+ghost use Rattle.sc_hosts.specs.Runs.{IsLawful, net_from};
 ghost use Rattle.sc_hosts.specs.Steps.{live_at};
-ghost use Rattle.sc_lived.specs.Lived.{HasLived, told};
+ghost use Rattle.sc_lived.specs.Lived.{HasLived, turns_in};
 ghost use Rattle.sc_remembered.specs.Early.{MakesActs};
 ghost use Rattle.sc_remembered.specs.Played.{ArePlayed};
 ghost use Rattle.sc_early.specs.EarlyLives.{AreUnknown, AreWhole, HasActs, HasRoom, HasUnknown, IsEarly};
@@ -39,12 +39,12 @@ pub fn played_lives_make_acts()
 pub fn first_invites_are_unknown()
     ensures history { (setup : Setup) (epoch began : ℕ) (journal : List Step) (app : AppId)
         (live : Live History) → IsLawful (as_history setup.config) setup epoch began journal
-        → live_at app (chained (as_history setup.config) setup epoch began journal) ≡ Some live
+        → live_at app (net_from (as_history setup.config) setup epoch began journal) ≡ Some live
         → AreUnknown setup.config live.session live.session.turns }
     ensures session { (setup : Setup) (epoch began : ℕ) (journal : List Step) (app : AppId)
         (live : Live Session) → IsLawful as_session setup epoch began journal
-        → live_at app (chained as_session setup epoch began journal) ≡ Some live
-        → HasUnknown setup app (told app journal) live.session live.inbox }
+        → live_at app (net_from as_session setup epoch began journal) ≡ Some live
+        → HasUnknown setup app (turns_in app journal) live.session live.inbox }
 {}
 
 /// After a lawful journal the turns of a live session of the kind that gives provisional responses
@@ -58,12 +58,12 @@ pub fn live_early_sessions_make_acts()
     ensures history { (setup : Setup) (epoch began : ℕ) (journal : List Step) (app : AppId)
         (live : Live History) (n : ℕ)
         → IsLawful (as_history setup.config) setup epoch began journal
-        → live_at app (chained (as_history setup.config) setup epoch began journal) ≡ Some live
+        → live_at app (net_from (as_history setup.config) setup epoch began journal) ≡ Some live
         → IsEarly setup app → n < 2 ^ 64 → live.session.request.head.cseq.number < 2 ^ 64
         → HasRoom (session_of setup.config live.session)
         → ∥ HasActs setup.config live.session n ∥₁ }
     ensures session { (setup : Setup) (app : AppId) (journal : List Step) (live : Live Session)
-        (n : ℕ) → (lived : HasLived setup app (told app journal) live.session live.inbox)
+        (n : ℕ) → (lived : HasLived setup app (turns_in app journal) live.session live.inbox)
         → IsEarly setup app → n < 2 ^ 64 → lived.history.request.head.cseq.number < 2 ^ 64
         → HasRoom live.session → ∥ HasActs setup.config lived.history n ∥₁ }
 {}

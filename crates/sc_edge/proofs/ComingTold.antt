@@ -6,7 +6,7 @@ use Rattle.std.proofs.lemmas.List.Sums.{sum_by-cons}
 use Rattle.sc_edge.specs.Edges.{IsWithin, polled_of}
 use Rattle.sc_edge.specs.EdgePlaces.{PlacesState, known_at}
 use Rattle.sc_edge.specs.EdgeCalls.{is_end}
-use Rattle.sc_edge.specs.EdgeComing.{ComingState, after_answer, next_answer, answer_of, is_last, count_of, counts, got_of, is_passed, joined, left_of, less, live_from, rest_of, weights}
+use Rattle.sc_edge.specs.EdgeComing.{ComingState, after_answer, next_answer, answer_of, is_last, count_of, counts, got_of, is_passed, answers_with_bytes as joined, left_of, less, live_from, rest_of, weights}
 use Rattle.sc_edge.specs.declared.edge.Got.{Got}
 use Rattle.sc_edge.specs.declared.edge.Got.TheVariants as got
 use Rattle.sc_edge.specs.declared.edge.Polled.{Polled}

@@ -7,7 +7,7 @@ use Rattle.sc_edge.proofs.PlaceGrowth.{Grows, grows_all, grows_same, now_barred,
 use Rattle.sc_edge.specs.EdgeCalls.{Answers, Appends, Ends, Names, PollBlames, is_end}
 use Rattle.sc_edge.specs.EdgeComing.{ComingState, after_answer, answer_of, got_of, live_from, next_answer}
 use Rattle.sc_edge.specs.EdgeMemory.{MemoryState, after_poll, edge_state, faults_after, next_got, places_after, told_coming}
-use Rattle.sc_edge.specs.EdgePlaces.{PlacesState, ended, failed, known_at, shut, with_known}
+use Rattle.sc_edge.specs.EdgePlaces.{PlacesState, as_ended as ended, as_failed as failed, known_at, as_shut as shut, with_known}
 use Rattle.sc_edge.specs.Edges.{CountsOn, IsWithin, Stands, Stays, is_back, polled_of}
 use Rattle.sc_edge.specs.Faults.{Rose, risen}
 use Rattle.sc_edge.specs.declared.edge.Got.{Got}

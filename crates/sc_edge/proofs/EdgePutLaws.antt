@@ -11,8 +11,8 @@ use Rattle.sc_edge.specs.EdgeMemory.{IsPut, MemoryState, after_close, after_put,
 use Rattle.sc_edge.specs.EdgeComing.{ComingState, failed_put}
 use Rattle.sc_edge.specs.declared.edge.Polled.{Polled}
 use Rattle.sc_edge.specs.declared.edge.Polled.TheVariants as polled
-use Rattle.sc_edge.specs.EdgePlaces.{PlacesState, failed, known_at, served, shut, with_known}
-use Rattle.sc_edge.specs.EdgeTaken.{byte_for, kept_of, tagged}
+use Rattle.sc_edge.specs.EdgePlaces.{PlacesState, as_failed as failed, known_at, as_served as served, as_shut as shut, with_known}
+use Rattle.sc_edge.specs.EdgeTaken.{byte_for, kept_of, bytes_of_place as tagged}
 use Rattle.sc_edge.specs.Edges.{CountsOn, Stands, Stays, is_back}
 use Rattle.sc_edge.specs.Faults.{is_listed, one_more}
 use Rattle.sc_edge.specs.Telling.{Notes}

@@ -10,7 +10,7 @@ use Rattle.sc_value.specs.Lists.{change_first}
 use Rattle.sc_value.specs.Places.{same_place}
 use Rattle.sc_value.proofs.ListFacts.{change_first_position, find_position, find_none}
 use Rattle.sc_value.proofs.PlaceLaws.{same_place-is, same_place-self}
-use Rattle.sc_edge.specs.EdgePlaces.{PlacesState, changed, grown, is_of, known_or, known_at, missed, stored, with_known}
+use Rattle.sc_edge.specs.EdgePlaces.{PlacesState, with_changed_item as changed, with_one_place as grown, is_of, known_or, known_at, without_room as missed, with_note_of as stored, with_known}
 use Rattle.sc_edge.specs.declared.mem_places.Known.{Known}
 
 -- the code's way: by the number of the item

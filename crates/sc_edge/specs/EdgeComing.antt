@@ -121,10 +121,10 @@ count_of got.NotYet = 0
 count_of got.Fault = 0
 
 -- the answers with their bytes, which stand one after the other
-abbrev pub joined : List Got → List ℕ → List Polled
-joined [] bytes = []
-joined (answer ∷ answers) bytes =
-    polled_of answer bytes ∷ joined answers (drop (count_of answer) bytes)
+abbrev pub answers_with_bytes : List Got → List ℕ → List Polled
+answers_with_bytes [] bytes = []
+answers_with_bytes (answer ∷ answers) bytes =
+    polled_of answer bytes ∷ answers_with_bytes answers (drop (count_of answer) bytes)
 
 -- how many answers an item gives at most
 abbrev pub weight : Polled → ℕ

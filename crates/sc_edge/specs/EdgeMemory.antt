@@ -3,9 +3,9 @@ use Rattle.std.specs.Prelude.{ℕ, ◌-◌, ◌<◌, ◌≤◌, min, max, Bool, 
 use Rattle.std.specs.List.{slice_get}
 use Rattle.sc_value.specs.declared.ids.Place.{Place}
 use Rattle.sc_edge.specs.EdgeComing.{ComingState, after_answer, failed_put, got_of, next_answer}
-use Rattle.sc_edge.specs.EdgePlaces.{PlacesState, ended, failed, known_at, places_of, served, shut, with_known}
+use Rattle.sc_edge.specs.EdgePlaces.{PlacesState, as_ended, as_failed, as_served, as_shut, known_at, places_of, with_known}
 use Rattle.sc_edge.specs.Edges.{EdgeState}
-use Rattle.sc_edge.specs.EdgeTaken.{TakenState, kept_of, tagged}
+use Rattle.sc_edge.specs.EdgeTaken.{TakenState, bytes_of_place, kept_of}
 use Rattle.sc_edge.specs.Faults.{is_listed, one_more, risen}
 use Rattle.sc_edge.specs.declared.edge.Closing.{Closing}
 use Rattle.sc_edge.specs.declared.edge.Got.{Got}
@@ -61,8 +61,8 @@ edge_state edge = record {
 -- the places after an answer
 abbrev pub places_after : PlacesState → Got → PlacesState
 places_after places (got.Bytes place count) = places
-places_after places (got.End place) = with_known places (ended (known_at places place))
-places_after places (got.Failed place) = with_known places (failed (known_at places place))
+places_after places (got.End place) = with_known places (as_ended (known_at places place))
+places_after places (got.Failed place) = with_known places (as_failed (known_at places place))
 places_after places got.Closed = places
 places_after places got.NotYet = places
 places_after places got.Fault = places
@@ -115,14 +115,14 @@ next_put edge to len =
 
 -- the places after a put there of a piece of this length
 abbrev pub places_put : PlacesState → Known → Put → ℕ → PlacesState
-places_put places known (put.Wrote count) len = with_known places (served known count len)
+places_put places known (put.Wrote count) len = with_known places (as_served known count len)
 places_put places known put.NotYet len = places
-places_put places known put.Failed len = with_known places (failed known)
+places_put places known put.Failed len = with_known places (as_failed known)
 
 -- what places took after a put there of these bytes
 abbrev pub taken_put : TakenState → Place → List ℕ → Put → TakenState
 taken_put taken to bytes (put.Wrote count) =
-    record taken { kept = taken.kept ++ tagged to (take count bytes) }
+    record taken { kept = taken.kept ++ bytes_of_place to (take count bytes) }
 taken_put taken to bytes put.NotYet = taken
 taken_put taken to bytes put.Failed = taken
 
@@ -163,13 +163,13 @@ closes_after (Some closes) room closing =
 -- the edge after a close of this place; how often it was polled is noted with it
 abbrev pub after_close : MemoryState → Place → MemoryState
 after_close edge at = record edge {
-  places = with_known edge.places (shut (known_at edge.places at));
+  places = with_known edge.places (as_shut (known_at edge.places at));
   closes = closes_after edge.closes edge.room (record { place = at; polls = edge.polls });
 }
 
 -- the edge as it was made
-abbrev pub made : List Polled → List Share → List ℕ → ℕ → MemoryState
-made coming shares failing room = record {
+abbrev pub new_edge : List Polled → List Share → List ℕ → ℕ → MemoryState
+new_edge coming shares failing room = record {
   coming = record { left = coming; polled = []; is_closed = false; spare = room };
   tells = true;
   places = places_of coming room;

@@ -43,52 +43,53 @@ abbrev pub known_at : PlacesState → Place → Known
 known_at places place = known_or places place (find (is_of place) places.known)
 
 -- the places with one more
-abbrev pub grown : PlacesState → Known → PlacesState
-grown places new = record places { known = places.known ++ new ∷ [] }
+abbrev pub with_one_place : PlacesState → Known → PlacesState
+with_one_place places new = record places { known = places.known ++ new ∷ [] }
 
 -- the places after one more found no room
-abbrev pub missed : PlacesState → Known → PlacesState
-missed places new = record places { others = new.faults }
+abbrev pub without_room : PlacesState → Known → PlacesState
+without_room places new = record places { others = new.faults }
 
 -- the places after an item was changed
-abbrev pub changed : PlacesState → Known → PlacesState
-changed places new =
+abbrev pub with_changed_item : PlacesState → Known → PlacesState
+with_changed_item places new =
     record places { known = change_first (is_of new.place) (λ _. new) places.known }
 
 -- the places after this was noted of one, which was found or wasn't
-abbrev pub stored : PlacesState → Known → Option Known → PlacesState
-stored places new (Some old) = changed places new
-stored places new None =
-    if nat_lt (length places.known) places.room then grown places new else missed places new
+abbrev pub with_note_of : PlacesState → Known → Option Known → PlacesState
+with_note_of places new (Some old) = with_changed_item places new
+with_note_of places new None =
+    if nat_lt (length places.known) places.room then with_one_place places new
+    else without_room places new
 
 -- the places after this was noted of one of them
 abbrev pub with_known : PlacesState → Known → PlacesState
-with_known places new = stored places new (find (is_of new.place) places.known)
+with_known places new = with_note_of places new (find (is_of new.place) places.known)
 
 -- a place that ended
-abbrev pub ended : Known → Known
-ended known =
+abbrev pub as_ended : Known → Known
+as_ended known =
     record known {
       is_silent = true;
       is_barred = known.is_barred || (not (is_back known.place) && known.is_cut);
     }
 
 -- a place that failed
-abbrev pub failed : Known → Known
-failed known =
+abbrev pub as_failed : Known → Known
+as_failed known =
     record known { is_silent = true; is_barred = is_back known.place; faults = risen known.faults }
 
 -- a place that was closed
-abbrev pub shut : Known → Known
-shut known =
+abbrev pub as_shut : Known → Known
+as_shut known =
     record known {
       is_silent = true;
       is_barred = known.is_barred || is_back known.place || known.is_cut;
     }
 
 -- a place that took so many bytes of a piece of this length
-abbrev pub served : Known → ℕ → ℕ → Known
-served known count len =
+abbrev pub as_served : Known → ℕ → ℕ → Known
+as_served known count len =
     record known {
       is_silent = known.is_silent && is_back known.place;
       is_cut = if nat_lt 0 count then nat_lt count len else known.is_cut;
@@ -100,15 +101,15 @@ fresh place =
     record { place = place; is_silent = false; is_barred = false; is_cut = false; faults = 0 }
 
 -- the place that an answer names
-abbrev pub named : Polled → List Known
-named (polled.Bytes place bytes) = fresh place ∷ []
-named (polled.End place) = fresh place ∷ []
-named (polled.Failed place) = fresh place ∷ []
-named polled.Closed = []
-named polled.NotYet = []
-named polled.Fault = []
+abbrev pub place_of_answer : Polled → List Known
+place_of_answer (polled.Bytes place bytes) = fresh place ∷ []
+place_of_answer (polled.End place) = fresh place ∷ []
+place_of_answer (polled.Failed place) = fresh place ∷ []
+place_of_answer polled.Closed = []
+place_of_answer polled.NotYet = []
+place_of_answer polled.Fault = []
 
 -- the places that answers name, with room for more
 abbrev pub places_of : List Polled → ℕ → PlacesState
 places_of coming room =
-    record { known = flat_map named coming; room = length coming + room; others = 0 }
+    record { known = flat_map place_of_answer coming; room = length coming + room; others = 0 }

@@ -12,8 +12,9 @@ pub record TakenState : Type 0 where
   pub room : ℕ
 
 -- the bytes, as ones of this place
-abbrev pub tagged : Place → List ℕ → List Kept
-tagged place bytes = map (λ b. let kept : Kept = record { place = place; byte = b } in kept) bytes
+abbrev pub bytes_of_place : Place → List ℕ → List Kept
+bytes_of_place place bytes =
+    map (λ b. let kept : Kept = record { place = place; byte = b } in kept) bytes
 
 -- the byte, if it is one of this place
 abbrev pub byte_for : Place → Kept → List ℕ

@@ -21,12 +21,13 @@ abbrev pub has_name : List ℕ → Item → Bool
 has_name name item = pointwise nat_eq item.name name
 
 -- the bytes under the name
-abbrev pub held : List Item → List ℕ → Option (List ℕ)
-held items name = option_map (λ item. item.bytes) (find (has_name name) items)
+abbrev pub bytes_under : List Item → List ℕ → Option (List ℕ)
+bytes_under items name = option_map (λ item. item.bytes) (find (has_name name) items)
 
 -- whether the next read, of this name, fails
 abbrev pub fails : ShelfState → List ℕ → Bool
-fails shelf name = is_listed shelf.failing (one_more shelf.reads) || is_none (held shelf.items name)
+fails shelf name =
+    is_listed shelf.failing (one_more shelf.reads) || is_none (bytes_under shelf.items name)
 
 -- the shelf after a read of this name
 abbrev pub after_read : ShelfState → List ℕ → ShelfState

@@ -1,6 +1,6 @@
 ghost use Rattle.std.specs.Prelude.{◌≡◌, ◌<◌, ◌≤◌, ◌+◌, ◌++◌, ◌∷◌, [], false, length, take, vec_len, vec_capacity, IfOk};
 ghost use Rattle.std.proofs.Math.ListN.{drop};
-ghost use Rattle.sc_edge.specs.EdgeComing.{after_answer, after_item, answer_of, count_of, counts, failed_put, front, got_of, is_passed, joined, left_of, less, live_from, next_answer, rest_of, weight, weights};
+ghost use Rattle.sc_edge.specs.EdgeComing.{after_answer, after_item, answer_of, answers_with_bytes, count_of, counts, failed_put, front, got_of, is_passed, left_of, less, live_from, next_answer, rest_of, weight, weights};
 ghost use Rattle.sc_edge.specs.EdgeCalls.{is_end};
 ghost use Rattle.sc_edge.specs.Edges.{polled_of};
 
@@ -27,7 +27,7 @@ pub struct Coming {
 impl Model for Coming {
     ghost use Rattle.std.specs.Prelude.{◌≡◌, ◌≤◌, ◌+◌, false, length, vec_len, vec_capacity};
     ghost use Rattle.std.proofs.Math.ListN.{drop};
-    ghost use Rattle.sc_edge.specs.EdgeComing.{ComingState, counts, joined, left_of, weights};
+    ghost use Rattle.sc_edge.specs.EdgeComing.{ComingState, answers_with_bytes, counts, left_of, weights};
 
     ghost Value = { ComingState };
 
@@ -195,8 +195,8 @@ fn note(answers: &mut Vec<Got>, bytes: &mut Vec<u8>, got: Got, room: &[u8])
     requires answers { vec_len answers.old < vec_capacity answers.old }
     requires bytes { vec_len bytes.old + count_of got ≤ vec_capacity bytes.old }
     requires counted { counts answers.old.items ≡ length bytes.old.items }
-    ensures told { joined answers.new.items bytes.new.items
-        ≡ joined answers.old.items bytes.old.items ++ polled_of got room.now ∷ [] }
+    ensures told { answers_with_bytes answers.new.items bytes.new.items
+        ≡ answers_with_bytes answers.old.items bytes.old.items ++ polled_of got room.now ∷ [] }
     ensures counted { counts answers.new.items ≡ length bytes.new.items }
     ensures answers { (vec_len answers.new ≡ vec_len answers.old + 1)
         × (vec_capacity answers.old ≤ vec_capacity answers.new) }

@@ -1,8 +1,8 @@
 ghost use Rattle.std.specs.Prelude.{◌≡◌, ◌<◌, ◌≤◌, ◌-◌, Some, true, false, length, vec_capacity, take, IfOk, option_map};
 ghost use Rattle.sc_edge.specs.EdgeCalls.{Answers, Ends, IsNoPoll, IsPart, Leaves, Names, PollBlames, PutTells, Shuts, StaysPolled, Took, cut_after};
 ghost use Rattle.sc_edge.specs.EdgeComing.{next_answer};
-ghost use Rattle.sc_edge.specs.EdgeMemory.{after_close, after_poll, after_put, IsPut, edge_state, made, next_got, next_put, told_closes};
-ghost use Rattle.sc_edge.specs.EdgePlaces.{ended, failed, known_at, shut};
+ghost use Rattle.sc_edge.specs.EdgeMemory.{IsPut, after_close, after_poll, after_put, edge_state, new_edge, next_got, next_put, told_closes};
+ghost use Rattle.sc_edge.specs.EdgePlaces.{as_ended, as_failed, as_shut, known_at};
 ghost use Rattle.sc_edge.specs.EdgeTaken.{kept_of};
 ghost use Rattle.sc_edge.specs.Edges.{CountsOn, IsWithin, Stands, Stays, is_back, polled_of};
 ghost use Rattle.sc_edge.specs.Faults.{one_more};
@@ -80,7 +80,7 @@ impl MemEdge {
         failing: List<u64>,
         room: usize,
     ) -> Result<MemEdge, NoMemory>
-        ensures { IfOk result (λ s. s ≡ made coming shares failing room) }
+        ensures { IfOk result (λ s. s ≡ new_edge coming shares failing room) }
     {
         let places = Places::of(alloc, coming.as_slice(), room)?;
         let coming = Coming::new(alloc, coming, room)?;

@@ -1,6 +1,6 @@
 ghost use Rattle.std.specs.Prelude.{◌≡◌, ◌<◌, ◌≤◌, ◌+◌, ◌++◌, IfOk, OnOk, None, option_copied};
 ghost use Rattle.std.specs.List.{find, flat_map, position};
-ghost use Rattle.sc_edge.specs.EdgePlaces.{ended, failed, fresh, is_of, known_at, named, places_of, served, shut, stored, with_known};
+ghost use Rattle.sc_edge.specs.EdgePlaces.{as_ended, as_failed, as_served, as_shut, fresh, is_of, known_at, place_of_answer, places_of, with_known, with_note_of};
 ghost use Rattle.sc_edge.specs.Edges.{is_back};
 
 use crate::Polled;
@@ -53,7 +53,7 @@ fn is_peer(place: &Place) -> bool
 impl Known {
     // The place after it ended.
     pub(crate) fn ended(self) -> Known
-        ensures { result ≡ ended self }
+        ensures { result ≡ as_ended self }
     {
         Known {
             is_silent: true,
@@ -64,7 +64,7 @@ impl Known {
 
     // The place after it failed.
     pub(crate) fn failed(self) -> Known
-        ensures { result ≡ failed self }
+        ensures { result ≡ as_failed self }
     {
         Known {
             is_silent: true,
@@ -76,7 +76,7 @@ impl Known {
 
     // The place after it was closed.
     pub(crate) fn shut(self) -> Known
-        ensures { result ≡ shut self }
+        ensures { result ≡ as_shut self }
     {
         Known {
             is_silent: true,
@@ -87,7 +87,7 @@ impl Known {
 
     // The place after it took so many bytes of a piece of this length.
     pub(crate) fn served(self, count: usize, len: usize) -> Known
-        ensures { result ≡ served self count len }
+        ensures { result ≡ as_served self count len }
     {
         Known {
             is_silent: self.is_silent && is_peer(&self.place),
@@ -112,7 +112,7 @@ fn unnoted(place: Place) -> Known
 
 // The place that the item names, at the end.
 fn add_named(known: &mut Vec<Known>, item: &Polled) -> Result<(), NoMemory>
-    ensures { OnOk result (known.new.items ≡ known.old.items ++ named item.now) }
+    ensures { OnOk result (known.new.items ≡ known.old.items ++ place_of_answer item.now) }
 {
     match item {
         Polled::Bytes(place, _) => known.push(unnoted(*place))?,
@@ -127,7 +127,8 @@ fn add_named(known: &mut Vec<Known>, item: &Polled) -> Result<(), NoMemory>
 
 // The places that the items name, at the end.
 fn add_all(known: &mut Vec<Known>, items: &[Polled]) -> Result<(), NoMemory>
-    ensures { OnOk result (known.new.items ≡ known.old.items ++ flat_map named items.now) }
+    ensures { OnOk result
+        (known.new.items ≡ known.old.items ++ flat_map place_of_answer items.now) }
 {
     for item in items {
         add_named(known, item)?;
@@ -180,7 +181,7 @@ impl Places {
 
     // Notes this of a place that it doesn't know.
     fn add(&mut self, new: Known)
-        ensures { self.new ≡ stored self.old new None }
+        ensures { self.new ≡ with_note_of self.old new None }
     {
         if self.known.len() < self.room {
             self.known.push(new).unwrap();

@@ -1,6 +1,6 @@
 ghost use Rattle.std.specs.Prelude.{◌≡◌, ◌≤◌, ℕ, List, Some, option_copied, IsTrue, ◌↔◌};
 ghost use Rattle.sc_edge.specs.Faults.{Rose};
-ghost use Rattle.sc_edge.specs.MemoryShelf.{fails, after_read, held};
+ghost use Rattle.sc_edge.specs.MemoryShelf.{after_read, bytes_under, fails};
 ghost use Rattle.sc_edge.specs.Shelving.{Gives};
 
 use crate::plan::{counted, is_planned};
@@ -66,9 +66,9 @@ impl Shelf for MemShelf {
     ghost faults = { λ s. s.faults };
 
     fn read(&mut self, name: &Text, max: usize) -> Shelved
-        ensures same { (n : List ℕ) → held self.new.items n ≡ held self.old.items n }
+        ensures same { (n : List ℕ) → bytes_under self.new.items n ≡ bytes_under self.old.items n }
         ensures later { self.old.faults ≤ self.new.faults }
-        ensures gives { Gives result (held self.old.items name.now) max
+        ensures gives { Gives result (bytes_under self.old.items name.now) max
             (Rose self.old.faults self.new.faults) }
 
         // It fails exactly where it is told to, or nothing stands under the name.
@@ -92,7 +92,7 @@ impl Shelf for MemShelf {
 
 // The bytes of the first item of this name.
 fn bytes_of<'a>(items: &'a [Item], name: &Text) -> Option<&'a Text>
-    ensures { option_copied result ≡ held items.now name.now }
+    ensures { option_copied result ≡ bytes_under items.now name.now }
 {
     items
         .iter()

@@ -1,5 +1,5 @@
 ghost use Rattle.std.specs.Prelude.{◌≡◌, ◌≤◌, ◌+◌, ◌-◌, ◌++◌, [], length, IfOk, OnOk, vec_len, vec_capacity};
-ghost use Rattle.sc_edge.specs.EdgeTaken.{byte_for, kept_of, tagged};
+ghost use Rattle.sc_edge.specs.EdgeTaken.{byte_for, bytes_of_place, kept_of};
 
 use sc_value::{NoMemory, Place, Text, same_place};
 use std::alloc::Global;
@@ -35,7 +35,7 @@ impl Model for Taken {
 // Puts bytes of a place at the end, for which there is room.
 fn keep(kept: &mut Vec<Kept>, place: Place, bytes: &[u8])
     requires { vec_len kept.old + length bytes.now ≤ vec_capacity kept.old }
-    ensures items { kept.new.items ≡ kept.old.items ++ tagged place bytes.now }
+    ensures items { kept.new.items ≡ kept.old.items ++ bytes_of_place place bytes.now }
     ensures len { vec_len kept.new ≡ vec_len kept.old + length bytes.now }
     ensures capacity { vec_capacity kept.old ≤ vec_capacity kept.new }
 {
@@ -83,7 +83,8 @@ impl Taken {
     // Takes bytes of a place, for which there is room.
     pub(crate) fn take(&mut self, place: Place, bytes: &[u8])
         requires { length bytes.now ≤ self.old.room - length self.old.kept }
-        ensures { self.new ≡ record self.old { kept = self.old.kept ++ tagged place bytes.now } }
+        ensures { self.new
+            ≡ record self.old { kept = self.old.kept ++ bytes_of_place place bytes.now } }
     {
         keep(&mut self.kept, place, bytes);
     }

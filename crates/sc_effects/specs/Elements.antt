@@ -5,7 +5,7 @@ use Rattle.sc_value.specs.declared.ids.SessId.{SessId}
 use Rattle.sc_value.specs.declared.parts.Field.{Field}
 use Rattle.sc_terms.specs.declared.views.SessionView.{SessionView}
 use Rattle.sc_terms.specs.declared.views.View.{View}
-use Rattle.sc_grammar.specs.Written.{Bytes}
+use Rattle.sc_tokens.specs.Bytes.{Bytes}
 use Rattle.sc_hosts.specs.Looking.{change_request, change_session}
 use Rattle.sc_hosts.specs.Effects.{proxied_request, proxying}
 

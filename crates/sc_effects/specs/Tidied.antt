@@ -22,5 +22,6 @@ stands_in sessions request =
     else is_none request.answered || not (length request.unacked == 0)
 
 -- the requests that are shown, as these SipSessions are
-unfoldable pub tidied : List SessionView → List RequestView → List RequestView
-tidied sessions requests = filter (stands_in sessions) (map (with_there_in sessions) requests)
+unfoldable pub visible_requests : List SessionView → List RequestView → List RequestView
+visible_requests sessions requests =
+    filter (stands_in sessions) (map (with_there_in sessions) requests)

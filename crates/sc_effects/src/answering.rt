@@ -4,7 +4,7 @@ ghost use Rattle.std.specs.Prelude.{◌≡◌, Some, is_none, ◌&&◌, IfOk, On
 ghost use Rattle.sc_value.specs.Lists.{change_first};
 ghost use Rattle.sc_hosts.specs.Looking.{is_request, is_session, request_in};
 ghost use Rattle.sc_hosts.specs.Refusals.{begun_by};
-ghost use Rattle.sc_hosts.specs.ViewChanges.{with_answer, with_response, answered_in, answered};
+ghost use Rattle.sc_hosts.specs.ViewChanges.{answered_in, view_with_answer, with_answer, with_response};
 
 use crate::states::after_response;
 use crate::tidying::tidy;
@@ -68,17 +68,17 @@ pub fn answered_in(view: &mut View, sess: SessId, request: &RequestView, tagged:
 }
 
 /// Notes an answer of this code that the application or the container gave to a request.
-#[tactic(auto, unfolding(sc_hosts::specs::ViewChanges::answered))]
+#[tactic(auto, unfolding(sc_hosts::specs::ViewChanges::view_with_answer))]
 pub fn answered(view: &mut View, request: &RequestView, code: u16)
-    ensures { view.new ≡ answered (Some request.now) code view.old }
+    ensures { view.new ≡ view_with_answer (Some request.now) code view.old }
 {
     answered_in(view, request.sess, request, true, code);
     tidy(view);
 }
 
-#[tactic(auto, unfolding(sc_hosts::specs::ViewChanges::answered))]
+#[tactic(auto, unfolding(sc_hosts::specs::ViewChanges::view_with_answer))]
 fn answered_where(view: &mut View, request: Option<RequestView>, code: u16)
-    ensures { view.new ≡ answered request code view.old }
+    ensures { view.new ≡ view_with_answer request code view.old }
 {
     match request {
         Some(request) => answered(view, &request, code),
@@ -107,7 +107,7 @@ fn begun_copy(alloc: Global, view: &View, sess: SessId) -> Result<Option<Request
 
 /// Notes an answer to the request of this number.
 pub fn answered_by(alloc: Global, view: &mut View, req: ReqId, code: u16) -> Result<(), NoMemory>
-    ensures { OnOk result (view.new ≡ answered (request_in view.old req) code view.old) }
+    ensures { OnOk result (view.new ≡ view_with_answer (request_in view.old req) code view.old) }
 {
     let request = request_copy(alloc, view, req)?;
     answered_where(view, request, code);
@@ -121,7 +121,7 @@ pub fn answered_begun(
     sess: SessId,
     code: u16,
 ) -> Result<(), NoMemory>
-    ensures { OnOk result (view.new ≡ answered (begun_by view.old sess) code view.old) }
+    ensures { OnOk result (view.new ≡ view_with_answer (begun_by view.old sess) code view.old) }
 {
     let request = begun_copy(alloc, view, sess)?;
     answered_where(view, request, code);

@@ -4,7 +4,7 @@ ghost use Rattle.std.specs.Prelude.{◌≡◌, ◌+◌, Some, None, IfOk, OnOk};
 ghost use Rattle.std.specs.List.{fold};
 ghost use Rattle.sc_model.specs.Settings.{moment_after};
 ghost use Rattle.sc_hosts.specs.Refusals.{refusal};
-ghost use Rattle.sc_hosts.specs.Effects.{after_call, accepted, answer_by, answer_of, played_by, after_listed, begun, after_calls};
+ghost use Rattle.sc_hosts.specs.Effects.{after_call, after_calls, after_listed, answer_by, answer_of, answer_to_call, first_play, played_by};
 
 use crate::answering::{answered_begun, answered_by};
 use crate::ending::invalidated;
@@ -91,9 +91,9 @@ pub fn after_call(alloc: Global, play: &mut Play, call: &Call) -> Result<(), NoM
 }
 
 /// What an accepted call answers: the number of what it made.
-#[tactic(auto, unfolding(sc_hosts::specs::Effects::accepted))]
+#[tactic(auto, unfolding(sc_hosts::specs::Effects::answer_to_call))]
 pub fn accepted(play: &Play, call: &Call) -> CallAnswer
-    ensures { result ≡ accepted play.now call.now }
+    ensures { result ≡ answer_to_call play.now call.now }
 {
     match call {
         Call::CreateRequest { .. } | Call::CreateInDialog { .. } | Call::B2bCreate { .. } => {
@@ -169,9 +169,9 @@ pub fn after_listed(alloc: Global, play: &mut Play, call: &Call) -> Result<CallA
 }
 
 /// What a turn's calls are judged by as it begins.
-#[tactic(auto, unfolding(sc_hosts::specs::Effects::begun))]
+#[tactic(auto, unfolding(sc_hosts::specs::Effects::first_play))]
 pub fn begun(alloc: Global, view: View) -> Play
-    ensures { result ≡ begun view }
+    ensures { result ≡ first_play view }
 {
     Play {
         view,

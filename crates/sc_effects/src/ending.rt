@@ -2,7 +2,7 @@
 
 ghost use Rattle.std.specs.Prelude.{◌≡◌, map};
 ghost use Rattle.sc_hosts.specs.Looking.{change_request};
-ghost use Rattle.sc_hosts.specs.ViewChanges.{invalidated, is_owed, settled_request, settled_requests, tidy, with_answer};
+ghost use Rattle.sc_hosts.specs.ViewChanges.{is_owed, settled_request, settled_requests, tidy, view_without, with_answer};
 
 use crate::answering::answer_in;
 use crate::looking::removed;
@@ -44,9 +44,9 @@ fn settled_requests(view: &mut View, sess: SessId, code: u16)
 }
 
 /// Lets a SipSession be invalidated: what waits in it is answered 500, and it is gone.
-#[tactic(auto, unfolding(sc_hosts::specs::ViewChanges::invalidated))]
+#[tactic(auto, unfolding(sc_hosts::specs::ViewChanges::view_without))]
 pub fn invalidated(view: &mut View, sess: SessId)
-    ensures { view.new ≡ invalidated sess view.old }
+    ensures { view.new ≡ view_without sess view.old }
 {
     settled_requests(view, sess, 500);
     removed(view, sess);

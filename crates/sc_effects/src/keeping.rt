@@ -6,7 +6,7 @@ ghost use Rattle.sc_tokens.specs.Names.{same_bytes};
 ghost use Rattle.sc_model.specs.Settings.{moment_after};
 ghost use Rattle.sc_hosts.specs.Looking.{is_request, is_session, is_timer, request_in};
 ghost use Rattle.sc_hosts.specs.Refusals.{is_set};
-ghost use Rattle.sc_hosts.specs.Effects.{proxied_request, proxying, proxied, with_timer, with_attribute, flagged};
+ghost use Rattle.sc_hosts.specs.Effects.{proxied_request, proxying, view_with_targets, with_attribute, with_invalidation_flag, with_timer};
 ghost use Rattle.sc_effects.specs.Elements.{proxied_at, with_flag, with_value};
 
 use sc_looking::{is_proxy, is_set, request_in, request_place, session_place, timer_place};
@@ -68,9 +68,9 @@ fn proxied_at(view: &mut View, req: ReqId, sess: SessId, count: usize) -> Result
 
 /// Notes that a request is proxied to so many targets more. Its SipSession then waits for the tag
 /// of the callee.
-#[tactic(auto, unfolding(sc_hosts::specs::Effects::proxied, crate::specs::Elements::proxied_at))]
+#[tactic(auto, unfolding(sc_hosts::specs::Effects::view_with_targets, crate::specs::Elements::proxied_at))]
 pub fn proxied(view: &mut View, req: ReqId, count: usize) -> Result<(), NoMemory>
-    ensures { OnOk result (view.new ≡ proxied (request_in view.old req) count view.old) }
+    ensures { OnOk result (view.new ≡ view_with_targets (request_in view.old req) count view.old) }
 {
     match request_in(view, req) {
         Some(request) => {
@@ -210,9 +210,9 @@ fn flag_in(sessions: &mut [SessionView], sess: SessId, flag: bool)
 }
 
 /// Sets whether the target goes away by itself once it is ready.
-#[tactic(auto, unfolding(sc_hosts::specs::Effects::flagged, crate::specs::Elements::with_flag))]
+#[tactic(auto, unfolding(sc_hosts::specs::Effects::with_invalidation_flag, crate::specs::Elements::with_flag))]
 pub fn flagged(view: &mut View, target: Target, flag: bool)
-    ensures { view.new ≡ flagged target flag view.old }
+    ensures { view.new ≡ with_invalidation_flag target flag view.old }
 {
     match target {
         Target::Application => view.ready_flag = flag,

@@ -2,8 +2,8 @@
 
 ghost use Rattle.std.specs.Prelude.{◌≡◌, Some, None};
 ghost use Rattle.sc_value.specs.Lists.{change_first};
-ghost use Rattle.sc_hosts.specs.Looking.{is_early, is_confirmed, is_uac, is_session, in_state, linked_to, unlinked_from, unlinked, removed};
-ghost use Rattle.sc_hosts.specs.ViewChanges.{linked};
+ghost use Rattle.sc_hosts.specs.Looking.{in_state, is_confirmed, is_early, is_session, is_uac, linked_to, unlinked_from, without_link, without_sip_session};
+ghost use Rattle.sc_hosts.specs.ViewChanges.{with_link};
 ghost use Rattle.sc_effects.specs.Elements.{as_gone};
 
 use sc_looking::{partner, session_place};
@@ -69,9 +69,9 @@ fn link_one(view: &mut View, sess: SessId, other: Option<SessId>)
 }
 
 /// Links two SipSessions.
-#[tactic(auto, unfolding(sc_hosts::specs::ViewChanges::linked))]
+#[tactic(auto, unfolding(sc_hosts::specs::ViewChanges::with_link))]
 pub fn linked(view: &mut View, a: SessId, b: SessId)
-    ensures { view.new ≡ linked a b view.old }
+    ensures { view.new ≡ with_link a b view.old }
 {
     link_one(view, b, Some(a));
     link_one(view, a, Some(b));
@@ -88,9 +88,9 @@ fn unlinked_from(view: &mut View, other: Option<SessId>)
 }
 
 /// Takes the link of a SipSession away, on both sides.
-#[tactic(auto, unfolding(sc_hosts::specs::Looking::unlinked))]
+#[tactic(auto, unfolding(sc_hosts::specs::Looking::without_link))]
 pub fn unlinked(view: &mut View, sess: SessId)
-    ensures { view.new ≡ unlinked sess view.old }
+    ensures { view.new ≡ without_link sess view.old }
 {
     let other = partner(view, sess);
     unlinked_from(view, other);
@@ -115,9 +115,9 @@ fn end_in(sessions: &mut [SessionView], sess: SessId)
 }
 
 /// Lets a SipSession be gone, with its link.
-#[tactic(auto, unfolding(sc_hosts::specs::Looking::removed, crate::specs::Elements::as_gone))]
+#[tactic(auto, unfolding(sc_hosts::specs::Looking::without_sip_session, crate::specs::Elements::as_gone))]
 pub fn removed(view: &mut View, sess: SessId)
-    ensures { view.new ≡ removed sess view.old }
+    ensures { view.new ≡ without_sip_session sess view.old }
 {
     unlinked(view, sess);
     end_in(&mut view.sessions.items, sess);

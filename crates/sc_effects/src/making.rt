@@ -2,8 +2,8 @@
 
 ghost use Rattle.std.specs.Prelude.{◌≡◌, ◌-◌, Some, IfOk, OnOk};
 ghost use Rattle.sc_hosts.specs.Looking.{request_in};
-ghost use Rattle.sc_hosts.specs.ViewChanges.{new_call_id, new_tag, new_session, own_session, with_own_session};
-ghost use Rattle.sc_hosts.specs.Effects.{with_draft, created, created_later, created_leg};
+ghost use Rattle.sc_hosts.specs.ViewChanges.{new_call_id, new_session, new_tag, own_session, with_own_session};
+ghost use Rattle.sc_hosts.specs.Effects.{created_later, created_leg, play_with_initial, with_draft};
 
 use crate::answering::request_copy;
 use crate::looking::linked;
@@ -115,9 +115,9 @@ fn with_draft(
 }
 
 /// Makes the draft of an initial request, with its SipSession.
-#[tactic(auto, unfolding(sc_hosts::specs::Effects::created))]
+#[tactic(auto, unfolding(sc_hosts::specs::Effects::play_with_initial))]
 pub fn created(alloc: Global, play: &mut Play, ask: &Ask) -> Result<(), NoMemory>
-    ensures { OnOk result (play.new ≡ created ask.now play.old) }
+    ensures { OnOk result (play.new ≡ play_with_initial ask.now play.old) }
 {
     let sess = new_session(&play.view)?;
     let method = ask.method.clone_in(alloc)?;

@@ -4,11 +4,11 @@ ghost use Rattle.std.specs.Prelude.{◌≡◌, ◌+◌, ◌++◌, ◌∷◌, [],
 ghost use Rattle.std.specs.List.{find};
 ghost use Rattle.std.specs.Option.{option_copied};
 ghost use Rattle.sc_value.specs.Lists.{change_first, remove_first};
-ghost use Rattle.sc_hosts.specs.Looking.{same_session, removed};
+ghost use Rattle.sc_hosts.specs.Looking.{same_session, without_sip_session};
 ghost use Rattle.sc_hosts.specs.RefusalParts.{draft_in};
 ghost use Rattle.sc_hosts.specs.Refusals.{awaits_ack};
 ghost use Rattle.sc_hosts.specs.ViewChanges.{tidy};
-ghost use Rattle.sc_hosts.specs.Effects.{sent_view, sent, discarded, without_session, acked};
+ghost use Rattle.sc_hosts.specs.Effects.{play_with_request, play_without_draft, sent_view, view_with_ack, without_session};
 
 use crate::looking::removed;
 use crate::tidying::tidy;
@@ -62,9 +62,10 @@ fn draft_at(play: &Play, number: u32) -> Option<usize>
 }
 
 /// Sends a draft: it gets its number and draws its branch.
-#[tactic(auto, unfolding(sc_hosts::specs::Effects::sent), using(sc_value::proofs::ListFacts::find_position, sc_value::proofs::ListFacts::find_none, sc_value::proofs::ListFacts::remove_first_position))]
+#[tactic(auto, unfolding(sc_hosts::specs::Effects::play_with_request), using(sc_value::proofs::ListFacts::find_position, sc_value::proofs::ListFacts::find_none, sc_value::proofs::ListFacts::remove_first_position))]
 pub fn sent(alloc: Global, play: &mut Play, number: u32) -> Result<(), NoMemory>
-    ensures { OnOk result (play.new ≡ sent number (draft_in play.old number) play.old) }
+    ensures { OnOk result
+        (play.new ≡ play_with_request number (draft_in play.old number) play.old) }
 {
     match draft_at(play, number) {
         Some(at) => {
@@ -76,7 +77,8 @@ pub fn sent(alloc: Global, play: &mut Play, number: u32) -> Result<(), NoMemory>
 }
 
 fn drop_session(view: &mut View, draft: Draft)
-    ensures { view.new ≡ (if draft.initial then tidy (removed draft.sess view.old) else view.old) }
+    ensures { view.new
+        ≡ (if draft.initial then tidy (without_sip_session draft.sess view.old) else view.old) }
 {
     if draft.initial {
         removed(view, draft.sess);
@@ -85,9 +87,9 @@ fn drop_session(view: &mut View, draft: Draft)
 }
 
 /// Drops a draft. An initial one takes its SipSession with it.
-#[tactic(auto, unfolding(sc_hosts::specs::Effects::discarded), using(sc_value::proofs::ListFacts::find_position, sc_value::proofs::ListFacts::find_none, sc_value::proofs::ListFacts::remove_first_position))]
+#[tactic(auto, unfolding(sc_hosts::specs::Effects::play_without_draft), using(sc_value::proofs::ListFacts::find_position, sc_value::proofs::ListFacts::find_none, sc_value::proofs::ListFacts::remove_first_position))]
 pub fn discarded(play: &mut Play, number: u32)
-    ensures { play.new ≡ discarded number (draft_in play.old number) play.old }
+    ensures { play.new ≡ play_without_draft number (draft_in play.old number) play.old }
 {
     match draft_at(play, number) {
         Some(at) => {
@@ -159,9 +161,9 @@ fn ack_in(requests: &mut [RequestView], sess: SessId)
 }
 
 /// Acknowledges the 2xx in a SipSession of the INVITE of lowest number: the ACK draws its branch.
-#[tactic(auto, unfolding(sc_hosts::specs::Effects::acked))]
+#[tactic(auto, unfolding(sc_hosts::specs::Effects::view_with_ack))]
 pub fn acked(view: &mut View, sess: SessId) -> Result<(), NoMemory>
-    ensures { OnOk result (view.new ≡ acked sess view.old) }
+    ensures { OnOk result (view.new ≡ view_with_ack sess view.old) }
 {
     let counter = sum(view.counter, 1)?;
     ack_in(&mut view.requests.items, sess);

@@ -2,7 +2,7 @@
 
 ghost use Rattle.std.specs.Prelude.{◌≡◌, map, filter};
 ghost use Rattle.sc_hosts.specs.ViewChanges.{tidy};
-ghost use Rattle.sc_effects.specs.Tidied.{is_there, with_there_in, stands_in, tidied};
+ghost use Rattle.sc_effects.specs.Tidied.{is_there, stands_in, visible_requests, with_there_in};
 
 use sc_looking::session_place;
 use sc_terms::{RequestView, SessionView, View};
@@ -56,9 +56,9 @@ fn keep_standing(sessions: &[SessionView], requests: &mut List<RequestView>)
     requests.items.retain(|request| stands(sessions, request));
 }
 
-#[tactic(auto, unfolding(crate::specs::Tidied::tidied))]
+#[tactic(auto, unfolding(crate::specs::Tidied::visible_requests))]
 fn tidied(sessions: &[SessionView], requests: &mut List<RequestView>)
-    ensures { requests.new ≡ tidied sessions.now requests.old }
+    ensures { requests.new ≡ visible_requests sessions.now requests.old }
 {
     all_with_there(sessions, &mut requests.items);
     keep_standing(sessions, requests);

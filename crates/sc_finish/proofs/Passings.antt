@@ -5,10 +5,10 @@ use Rattle.sc_terms.specs.declared.settings.Config.{Config}
 use Rattle.sc_state.specs.declared.orders.Order.TheVariants as orders
 use Rattle.sc_state.specs.declared.session.Kept.{Kept}
 use Rattle.sc_state.specs.declared.working.Working.{Working}
-use Rattle.sc_hosts.specs.Acting.{in_view, drawn, passed_on}
+use Rattle.sc_hosts.specs.Acting.{in_view, with_next_branch as drawn, passed_on}
 use Rattle.sc_hosts.specs.Giving.{giving}
 use Rattle.sc_hosts.specs.Working.{next_branch}
-use Rattle.sc_finish.specs.Passing.{passed, sends_on}
+use Rattle.sc_finish.specs.Passing.{request_onward as passed, sends_on}
 use Rattle.sc_model.specs.SessionStates.{ack}
 
 pub passed_on_ack : (config : Config) (kept : Kept) (working : Working) → same_bytes kept.request.method ack ≡ true

@@ -9,7 +9,7 @@ use Rattle.sc_state.specs.declared.queue.Waiting.{Waiting}
 use Rattle.sc_state.specs.declared.session.Session.{Session}
 use Rattle.sc_state.specs.declared.working.Prepared.{Prepared}
 use Rattle.sc_hosts.specs.Preparing.{has_expired}
-use Rattle.sc_hosts.specs.Finishing.{finished, is_expiry, is_ready_event, is_ready, lightened, outcome_of, swept}
+use Rattle.sc_hosts.specs.Finishing.{after_all_calls, is_expiry, is_ready, is_ready_event, outcome_of, swept, without_unneeded}
 use Rattle.sc_hosts.specs.Working.{worked_all}
 
 -- by a call, by its expiry, or as it is still ready
@@ -20,10 +20,10 @@ ends event ended session =
 
 -- what is left: of a session that ends nothing is swept
 unfoldable pub left_by : Bool → Session → Session
-left_by ends session = lightened (if ends then session else swept session)
+left_by ends session = without_unneeded (if ends then session else swept session)
 
 -- the outcome of a turn that begins with this
 unfoldable pub outcome_from : Config → Prepared → Waiting → List CallRecord → End → Outcome
 outcome_from config shown waiting made end =
     outcome_of waiting.event
-    (finished config waiting.event shown.req end (worked_all config shown made))
+    (after_all_calls config waiting.event shown.req end (worked_all config shown made))

@@ -9,14 +9,14 @@ use Rattle.sc_terms.specs.declared.views.View.{View}
 use Rattle.sc_state.specs.declared.orders.Order.TheVariants as orders
 use Rattle.sc_state.specs.declared.session.Kept.{Kept}
 use Rattle.sc_state.specs.declared.working.Working.{Working}
-use Rattle.sc_hosts.specs.ViewChanges.{answered}
+use Rattle.sc_hosts.specs.ViewChanges.{view_with_answer}
 use Rattle.sc_hosts.specs.Acting.{in_view, sent_proxy}
 use Rattle.sc_hosts.specs.Messages.{on_branch, passed_request}
 use Rattle.sc_hosts.specs.Giving.{answering, giving}
 
 -- the request as it goes on
-unfoldable pub passed : Config → View → ℕ → Request → Request
-passed config view branch request = on_branch config view branch (passed_request request)
+unfoldable pub request_onward : Config → View → ℕ → Request → Request
+request_onward config view branch request = on_branch config view branch (passed_request request)
 
 -- with a proxy of one branch
 unfoldable pub sends_on : Kept → ℕ → Request → Working → Working
@@ -30,5 +30,5 @@ sends_on kept branch sent working =
 -- the container answers a request by itself
 unfoldable pub answers_alone : Config → RequestView → Answer → Working → Working
 answers_alone config request answer working =
-    in_view (answered (Some request) answer.code working.play.view)
+    in_view (view_with_answer (Some request) answer.code working.play.view)
     (answering config (Some request) answer working)

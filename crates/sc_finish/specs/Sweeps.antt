@@ -9,9 +9,9 @@ use Rattle.sc_terms.specs.declared.views.SessionView.{SessionView}
 use Rattle.sc_state.specs.declared.session.Kept.{Kept}
 use Rattle.sc_state.specs.declared.session.Known.{Known}
 use Rattle.sc_state.specs.declared.session.Leg.{Leg}
-use Rattle.sc_hosts.specs.Finishing.{is_session_ready, is_needed}
+use Rattle.sc_hosts.specs.Finishing.{is_needed, is_session_ready}
 use Rattle.sc_hosts.specs.Legs.{is_leg_of}
-use Rattle.sc_hosts.specs.Looking.{removed}
+use Rattle.sc_hosts.specs.Looking.{without_sip_session}
 use Rattle.sc_model.specs.SessionStates.{ack}
 
 -- the SipSession is ready and goes away by itself
@@ -25,12 +25,12 @@ id_of session = session.id
 
 -- the view without this SipSession
 abbrev pub without : View → SessId → View
-without view sess = removed sess view
+without view sess = without_sip_session sess view
 
 -- the request is no received ACK
 unfoldable pub stays : RequestView → Bool
 stays request = not (request.received && same_bytes request.method ack)
 
 -- the request can still be needed
-unfoldable pub needed : View → List Leg → Kept → Bool
-needed view legs kept = is_needed view (find (is_leg_of kept.sess) legs) kept kept.way
+unfoldable pub can_be_needed : View → List Leg → Kept → Bool
+can_be_needed view legs kept = is_needed view (find (is_leg_of kept.sess) legs) kept kept.way

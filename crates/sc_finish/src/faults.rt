@@ -4,7 +4,7 @@ ghost use Rattle.std.specs.Prelude.{◌≡◌, IfOk, OnOk, option_and_then};
 ghost use Rattle.std.specs.List.{fold};
 ghost use Rattle.sc_hosts.specs.Looking.{request_in};
 ghost use Rattle.sc_hosts.specs.Messages.{bare_answer};
-ghost use Rattle.sc_hosts.specs.Acting.{without_left, drafts_ended, fault_at, faulted};
+ghost use Rattle.sc_hosts.specs.Acting.{after_fault, drafts_ended, fault_at, without_left};
 ghost use Rattle.sc_finish.specs.Passing.{answers_alone};
 ghost use Rattle.sc_model.specs.BestResponses.{server_error};
 
@@ -116,7 +116,7 @@ pub fn request_at(
 }
 
 /// After a fault the event's request is answered 500 where it was left without an answer.
-#[tactic(auto, unfolding(sc_hosts::specs::Acting::faulted))]
+#[tactic(auto, unfolding(sc_hosts::specs::Acting::after_fault))]
 pub fn faulted(
     alloc: Global,
     config: &Config,
@@ -124,7 +124,7 @@ pub fn faulted(
     end: End,
     working: &mut Working,
 ) -> Result<(), NoMemory>
-    ensures { OnOk result (working.new ≡ faulted config.now req end working.old) }
+    ensures { OnOk result (working.new ≡ after_fault config.now req end working.old) }
 {
     match end {
         End::Fault => {

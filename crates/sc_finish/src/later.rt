@@ -5,9 +5,9 @@ ghost use Rattle.sc_hosts.specs.Branches.{new_proxy};
 ghost use Rattle.sc_hosts.specs.Messages.{bare_answer, on_branch, passed_request};
 ghost use Rattle.sc_hosts.specs.Preparing.{kept_of};
 ghost use Rattle.sc_hosts.specs.Words.{too_many_hops};
-ghost use Rattle.sc_hosts.specs.Working.{next_branch, event_of};
-ghost use Rattle.sc_hosts.specs.Acting.{hops_spent, sent_proxy, passed_on, passed_later, passed_request_of, is_request_event, passes_later};
-ghost use Rattle.sc_finish.specs.Passing.{answers_alone, passed, sends_on};
+ghost use Rattle.sc_hosts.specs.Working.{event_of, next_branch};
+ghost use Rattle.sc_hosts.specs.Acting.{hops_spent, is_request_event, passed_later, passed_on, passed_request_of, passes_later, sent_proxy};
+ghost use Rattle.sc_finish.specs.Passing.{answers_alone, request_onward, sends_on};
 
 use crate::faults::{answers_alone, bare_answer, request_at};
 use sc_acting::{draw, give};
@@ -61,7 +61,7 @@ fn sent_proxy(alloc: Global, kept: &Kept, branch: u64) -> Result<Proxy, NoMemory
     Ok(proxy)
 }
 
-#[tactic(auto, unfolding(crate::specs::Passing::passed))]
+#[tactic(auto, unfolding(crate::specs::Passing::request_onward))]
 fn passed(
     alloc: Global,
     config: &Config,
@@ -69,7 +69,7 @@ fn passed(
     branch: u64,
     request: &Request,
 ) -> Result<Request, NoMemory>
-    ensures { IfOk result (λ r. r ≡ passed config.now view.entry.now branch request.now) }
+    ensures { IfOk result (λ r. r ≡ request_onward config.now view.entry.now branch request.now) }
 {
     let one_less = passed_request(alloc, request)?;
     on_branch(alloc, config, view, branch, &one_less)
@@ -82,7 +82,7 @@ fn passed_owner(
     branch: u64,
     request: &Request,
 ) -> Result<Shared<Request>, NoMemory>
-    ensures { IfOk result (λ r. r ≡ passed config.now view.entry.now branch request.now) }
+    ensures { IfOk result (λ r. r ≡ request_onward config.now view.entry.now branch request.now) }
 {
     let sent = passed(alloc, config, view, branch, request)?;
     Shared::new(alloc, sent)

@@ -6,7 +6,7 @@ ghost use Rattle.sc_hosts.specs.Legs.{FIRST_SESSION};
 ghost use Rattle.sc_hosts.specs.Messages.{own_response};
 ghost use Rattle.sc_hosts.specs.Preparing.{own_tag_of};
 ghost use Rattle.sc_hosts.specs.Words.{does_not_exist};
-ghost use Rattle.sc_hosts.specs.Finishing.{waiting_answer, goodbye};
+ghost use Rattle.sc_hosts.specs.Finishing.{goodbye, waiting_answer};
 ghost use Rattle.sc_finish.specs.Partings.{gone_order};
 
 use sc_effects::own_tag_of;

@@ -5,7 +5,7 @@ ghost use Rattle.std.specs.Prelude.{◌≡◌, not, false};
 ghost use Rattle.std.specs.List.{list_any, list_all};
 ghost use Rattle.std.specs.Option.{option_map_or};
 ghost use Rattle.sc_hosts.specs.Branches.{records_route};
-ghost use Rattle.sc_hosts.specs.Finishing.{lacks_final, is_open_in, has_left, is_idle, is_session_ready, is_session_done, is_ready};
+ghost use Rattle.sc_hosts.specs.Finishing.{has_left, is_idle, is_open_in, is_ready, is_session_done, is_session_ready, lacks_final};
 ghost use Rattle.sc_hosts.specs.Preparing.{proxy_of};
 
 use sc_branches::records_route;

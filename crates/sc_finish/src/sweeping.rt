@@ -3,9 +3,9 @@
 ghost use Rattle.std.specs.Prelude.{◌≡◌, ◌++◌, false, OnOk, IfOk, map, filter};
 ghost use Rattle.std.specs.List.{fold};
 ghost use Rattle.std.specs.Option.{option_copied, option_map_or};
-ghost use Rattle.sc_hosts.specs.Finishing.{can_derive, can_succeed, lacks_final, swept, without_acks, is_needed, lightened};
+ghost use Rattle.sc_hosts.specs.Finishing.{can_derive, can_succeed, is_needed, lacks_final, swept, without_acks, without_unneeded};
 ghost use Rattle.sc_hosts.specs.Looking.{request_in, same_request};
-ghost use Rattle.sc_finish.specs.Sweeps.{goes, id_of, without, stays, needed};
+ghost use Rattle.sc_finish.specs.Sweeps.{can_be_needed, goes, id_of, stays, without};
 
 use crate::readiness::{is_session_ready, lacks_final};
 use sc_effects::{removed, tidy};
@@ -129,9 +129,9 @@ fn can_succeed(view: &View, leg: Option<&Leg>, kept: &Kept) -> bool
         && (!is_gone_in(view, kept.sess) || can_derive(kept, leg))
 }
 
-#[tactic(auto, unfolding(sc_hosts::specs::Finishing::is_needed, crate::specs::Sweeps::needed))]
+#[tactic(auto, unfolding(sc_hosts::specs::Finishing::is_needed, crate::specs::Sweeps::can_be_needed))]
 fn needed(view: &View, legs: &[Leg], kept: &Kept) -> bool
-    ensures { result ≡ needed view.entry.now legs.now kept.now }
+    ensures { result ≡ can_be_needed view.entry.now legs.now kept.now }
 {
     match kept.way {
         Way::Received { .. } => lacks_final_of(view, kept.id),
@@ -143,15 +143,15 @@ fn needed(view: &View, legs: &[Leg], kept: &Kept) -> bool
 }
 
 fn keep_needed(view: &View, legs: &[Leg], kept: &mut List<Kept>)
-    ensures { kept.new ≡ filter (needed view.entry.now legs.now) kept.old }
+    ensures { kept.new ≡ filter (can_be_needed view.entry.now legs.now) kept.old }
 {
     kept.items.retain(|kept| needed(view, legs, kept));
 }
 
 /// Of the requests only those are kept that can still be needed.
-#[tactic(auto, unfolding(sc_hosts::specs::Finishing::lightened, sc_hosts::specs::Legs::leg_of, crate::specs::Sweeps::needed))]
+#[tactic(auto, unfolding(sc_hosts::specs::Finishing::without_unneeded, sc_hosts::specs::Legs::leg_of, crate::specs::Sweeps::can_be_needed))]
 pub fn lightened(session: &mut Session)
-    ensures { session.new ≡ lightened session.old }
+    ensures { session.new ≡ without_unneeded session.old }
 {
     let known = &mut session.known;
     keep_needed(&session.view, known.legs.as_slice(), &mut known.kept);

@@ -1,7 +1,7 @@
 //! The whole turn of an application session.
 
 ghost use Rattle.std.specs.Prelude.{◌≡◌, IfOk, OnOk};
-ghost use Rattle.sc_hosts.specs.Finishing.{is_expiry, is_ready_event, finished, outcome_of, outcome};
+ghost use Rattle.sc_hosts.specs.Finishing.{after_all_calls, is_expiry, is_ready_event, outcome, outcome_of};
 ghost use Rattle.sc_finish.specs.Ends.{ends, left_by, outcome_from};
 
 use crate::faults::{drafts_ended, faulted};
@@ -18,7 +18,7 @@ use std::alloc::Global;
 
 /// What follows the calls: drafts that were left, the answer to a fault, proxies, and a later
 /// request that is passed on.
-#[tactic(auto, unfolding(sc_hosts::specs::Finishing::finished))]
+#[tactic(auto, unfolding(sc_hosts::specs::Finishing::after_all_calls))]
 fn finished(
     alloc: Global,
     config: &Config,
@@ -27,7 +27,7 @@ fn finished(
     end: End,
     working: &mut Working,
 ) -> Result<(), NoMemory>
-    ensures { OnOk result (working.new ≡ finished config.now event.now req end working.old) }
+    ensures { OnOk result (working.new ≡ after_all_calls config.now event.now req end working.old) }
 {
     drafts_ended(working);
     faulted(alloc, config, req, end, working)?;

@@ -11,7 +11,7 @@ use Rattle.sc_state.specs.declared.net.Net.{Net}
 use Rattle.sc_state.specs.declared.session.Session.{Session}
 use Rattle.sc_model.specs.Settings.{IsSetup}
 use Rattle.sc_hosts.specs.Histories.{as_session}
-use Rattle.sc_hosts.specs.Runs.{IsLawful, all_sent, all_sent_from, chained, chained_from, start}
+use Rattle.sc_hosts.specs.Runs.{IsLawful, all_sent, all_sent_from, net_from as chained, chained_from, start}
 use Rattle.sc_runs.specs.Following.{Does, DoesPart, Follows, FollowsFrom, IsPartRun, Streams, Upto, UptoFrom}
 use Rattle.sc_runs.specs.Hearing.{HearsPart}
 use Rattle.sc_switch.specs.declared.refused.StepRefused.{StepRefused}

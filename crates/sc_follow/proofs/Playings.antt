@@ -189,7 +189,7 @@ pub took_turn : (old new : Known) (done : Done) (answer : Committed) → IsLent 
 unfolding TookTurnOf Received step_of kept_after
 took_turn old new done answer is taken received =
     let r = rw taken at received in
-    let step = steps.Turn done.lease.app done.lease.event_number done.lease.shown.now done.calls done.end in
+    let step = steps.Turn done.end done.lease.app done.lease.event_number done.lease.shown.now done.calls in
     let none : kept_after step old.kept ≡ [] = rw is.kept_is (none-left done.lease) in
     let at = subst (λ (k : Known). TookStep old k step) (sym r.1) (turned old done.lease step none is) in
     (done.calls, done.end, rw is.now_is at at)
@@ -310,11 +310,11 @@ unfolding IsPartRun
 playing_start known untaken free = record { free = free; turns = []; came = came-none known untaken; part = tt }
 
 part-more : (setup : Setup) (net : Net Session) (turns : List Step) (next : Next) (now : ℕ) (calls : List CallRecord) (end : End) → IsPartRun as_session setup net turns
-    → next_event (chained_from as_session setup net turns) ≡ Some next → now ≡ (chained_from as_session setup net turns).moment → IsPartRun as_session setup net (turns ++ steps.Turn next.app next.number now calls end ∷ [])
+    → next_event (chained_from as_session setup net turns) ≡ Some next → now ≡ (chained_from as_session setup net turns).moment → IsPartRun as_session setup net (turns ++ steps.Turn end next.app next.number now calls ∷ [])
 unfolding IsPartRun chained_from
 part-more setup net [] next now calls end part next_is now_is = (next_is, now_is, tt)
-part-more setup net (steps.Turn app event at made ending ∷ later) next now calls end part next_is now_is =
-    (part.0, part.1, part-more setup (after_step as_session setup net (steps.Turn app event at made ending)) later next now calls end part.2 next_is now_is)
+part-more setup net (steps.Turn ending app event at made ∷ later) next now calls end part next_is now_is =
+    (part.0, part.1, part-more setup (after_step as_session setup net (steps.Turn ending app event at made)) later next now calls end part.2 next_is now_is)
 part-more setup net (step ∷ later) next now calls end part next_is now_is = absurd part
 
 -- a turn of the lowest event is one more

@@ -10,7 +10,7 @@ use Rattle.sc_terms.specs.declared.steps.Step.TheVariants as steps
 use Rattle.sc_servlets.specs.declared.lease.Lease.{Lease}
 use Rattle.sc_model.specs.JournalSizes.{HasNoRoom, step_size}
 use Rattle.sc_hosts.specs.Histories.{as_session}
-use Rattle.sc_hosts.specs.Runs.{IsAllowed, after_step, chained, chained_from, start}
+use Rattle.sc_hosts.specs.Runs.{IsAllowed, after_step, net_from as chained, chained_from, start}
 use Rattle.sc_hosts.specs.Steps.{live_at}
 use Rattle.sc_switch.specs.declared.refused.StepRefused.{StepRefused}
 use Rattle.sc_switch.specs.declared.refused.StepRefused.TheVariants as refused
@@ -41,7 +41,7 @@ none-after (steps.In from message) kept none = none
 none-after (steps.Bad from bad) kept none = none
 none-after (steps.Lost place) kept none = none
 none-after (steps.Tick now) kept none = none
-none-after (steps.Turn app event now calls end) kept none = rw none refl
+none-after (steps.Turn end app event now calls) kept none = rw none refl
 none-after (steps.Withdraw app) kept none = rw none refl
 
 -- with these leases, so many given

@@ -18,7 +18,7 @@ use Rattle.sc_follow.specs.Moving.{IsDue, IsUntaken, TookStep}
 
 -- a turn of this event at the last moment
 abbrev pub turn_at : Known → AppId → ℕ → List CallRecord → End → Step
-turn_at known app event calls end = steps.Turn app event (net_of known).moment calls end
+turn_at known app event calls end = steps.Turn end app event (net_of known).moment calls
 
 -- a turn of this event was taken
 unfoldable pub TookTurnOf : Known → Known → AppId → ℕ → Type 0

@@ -6,10 +6,10 @@ use Rattle.sc_forms.proofs.ListMaps.{if-maps}
 use Rattle.sc_forms.proofs.NetMaps.{host_at-maps, put-maps, placed-maps, named_host-maps}
 use Rattle.sc_forms.proofs.TakingMaps.{server_for-maps, takes-maps}
 use Rattle.sc_forms.specs.Simulations.{map_host, map_net, IsSimulation}
-use Rattle.sc_grammar.specs.Written.{Bytes}
+use Rattle.sc_tokens.specs.Bytes.{Bytes}
 use Rattle.sc_hosts.specs.declared.sorts.Sort.{Sort}
 use Rattle.sc_hosts.specs.declared.sorts.Sort.TheVariants.{Cancels, Acks, Repeats, Later, Begins, Nobodys}
-use Rattle.sc_hosts.specs.Arrivals.{first_host, host_takes, taken_at, edge_answer, begins_by, initial_arrives, response_by, arrived, bad_by, sort_in, arrives_as}
+use Rattle.sc_hosts.specs.Arrivals.{first_host, host_takes, taken_at, edge_answer, begins_by, initial_arrives, response_by, after_arrival as arrived, bad_by, sort_in, arrives_as}
 use Rattle.sc_hosts.specs.Nets.{host_at, named_host, deliver_at, deliver_entry, deliver_first}
 use Rattle.sc_hosts.specs.Routes.{unrouted_initial, popped_route}
 use Rattle.sc_hosts.specs.Sessions.{Form}

@@ -8,8 +8,8 @@ use Rattle.sc_forms.proofs.NetMaps.{obeyed-maps}
 use Rattle.sc_forms.proofs.RunMaps.{start-maps, moment-maps, after_step-maps, chained-maps, all_sent-maps}
 use Rattle.sc_forms.proofs.StepMaps.{live_at-maps, outcome_by-maps, turned_at-maps, turn_of-maps}
 use Rattle.sc_forms.specs.Simulations.{map_live, map_host, map_net, IsSimulation}
-use Rattle.sc_hosts.specs.EventLists.{waiting_in, opened, opened_first, opened_by, before_end, queued_by, queued_from, queued, waiting, purged_by, purged_from, purged, live_from, listing_of}
-use Rattle.sc_hosts.specs.Runs.{start, after_step, chained, live_count, waiting_count, is_idle_host, is_idle, Epoch, net_of, IsLawfulAfter, AreLawful, all_sent_by}
+use Rattle.sc_hosts.specs.EventLists.{waiting_in, after_sending as opened, opened_first, opened_by, before_end, queued_by, queued_from, events_of_session as queued, waiting, purged_by, purged_from, dropped_events as purged, live_from, listing_of}
+use Rattle.sc_hosts.specs.Runs.{start, after_step, net_from as chained, live_count, waiting_count, is_idle_host, is_idle, Epoch, net_of, IsLawfulAfter, AreLawful, all_sent_by}
 use Rattle.sc_hosts.specs.Sessions.{Form, Turn}
 use Rattle.sc_hosts.specs.Steps.{live_at, turn_of}
 use Rattle.sc_hosts.specs.Transacting.{is_same_app}
@@ -105,7 +105,7 @@ module _ {S T : Type 0} (change : S → T) (setup : Setup) (form : Form S) (othe
   before_end-maps app net (steps.Bad from bad) = refl
   before_end-maps app net (steps.Lost place) = refl
   before_end-maps app net (steps.Tick now) = refl
-  before_end-maps app net (steps.Turn own event now made end) = if-maps (map_net change) (is_same_app app own) (opened_at-maps own now made end net) refl
+  before_end-maps app net (steps.Turn end own event now made) = if-maps (map_net change) (is_same_app app own) (opened_at-maps own now made end net) refl
   before_end-maps app net (steps.Withdraw own) = refl
 
   queued_by-maps : (app : AppId) (net : Net S) (step : Step) → queued_by other setup app (map_net change net) step ≡ queued_by form setup app net step

@@ -7,9 +7,9 @@ use Rattle.sc_forms.proofs.LawfulMaps.{lawful-maps, lawful_back}
 use Rattle.sc_forms.proofs.RunMaps.{all_sent-maps, chained-maps}
 use Rattle.sc_forms.proofs.StepMaps.{live_at-maps}
 use Rattle.sc_forms.specs.Simulations.{map_live, map_net}
-use Rattle.sc_hosts.specs.EventLists.{queued, waiting, purged, listing_of}
+use Rattle.sc_hosts.specs.EventLists.{events_of_session as queued, waiting, dropped_events as purged, listing_of}
 use Rattle.sc_hosts.specs.Histories.{as_history, as_session, session_of}
-use Rattle.sc_hosts.specs.Runs.{chained, all_sent, IsLawful, live_count, waiting_count, is_idle, Epoch, all_sent_by, AreLawful}
+use Rattle.sc_hosts.specs.Runs.{net_from as chained, all_sent, IsLawful, live_count, waiting_count, is_idle, Epoch, all_sent_by, AreLawful}
 use Rattle.sc_hosts.specs.Steps.{live_at}
 use Rattle.sc_parts.specs.declared.setup.Setup.{Setup}
 use Rattle.sc_terms.specs.declared.steps.Step.{Step}

@@ -3,9 +3,9 @@ use Rattle.std.proofs.Common.{refl}
 use Rattle.std.specs.Prelude.{◌≡◌, ℕ, ◌+◌, List, Bool, not, ◌&&◌, ◌||◌, Option, None, Some, is_some, map, option_map}
 use Rattle.sc_forms.proofs.ListMaps.{if-maps, is_some-maps, option_map_or-maps, list_any-maps, find-maps, filter-same, change_first-maps}
 use Rattle.sc_forms.specs.Simulations.{map_live, map_host, map_taken}
-use Rattle.sc_grammar.specs.Written.{Bytes}
-use Rattle.sc_hosts.specs.Inboxes.{is_live, live_in, with_event, quiet, queue, is_full, is_full_at}
-use Rattle.sc_hosts.specs.TakingResponses.{told, told_by, cancelling, with_reply, response_for, response_to, take_response}
+use Rattle.sc_tokens.specs.Bytes.{Bytes}
+use Rattle.sc_hosts.specs.Inboxes.{is_live, live_in, with_event, without_answer as quiet, queue, is_full, is_full_at}
+use Rattle.sc_hosts.specs.TakingResponses.{take_provisional as told, told_by, cancelling, with_reply, response_for, response_to, take_response}
 use Rattle.sc_hosts.specs.Transacting.{lives_here, is_kept_client, is_kept_server, tidied, is_cancel_client, client_for, pass_client, ringing_branches, pass_server}
 use Rattle.sc_model.specs.SessionStates.{is_final}
 use Rattle.sc_parts.specs.declared.transactions.ClientItem.{ClientItem}

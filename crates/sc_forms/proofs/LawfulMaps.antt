@@ -5,7 +5,7 @@ use Rattle.sc_forms.proofs.ListMaps.{is_some-maps}
 use Rattle.sc_forms.proofs.RunMaps.{start-maps, moment-maps, after_step-maps}
 use Rattle.sc_forms.proofs.StepMaps.{live_at-maps, ringing_at-maps}
 use Rattle.sc_forms.specs.Simulations.{map_live, map_net, IsSimulation}
-use Rattle.sc_hosts.specs.Runs.{start, after_step, shown, AllowedBy, MayTurn, IsAllowed, IsLawfulFrom, IsLawful}
+use Rattle.sc_hosts.specs.Runs.{start, after_step, prepared_turn as shown, AllowedBy, MayTurn, IsAllowed, IsLawfulFrom, IsLawful}
 use Rattle.sc_hosts.specs.Sessions.{Form}
 use Rattle.sc_hosts.specs.Steps.{live_at}
 use Rattle.sc_model.specs.Settings.{charters_of}
@@ -71,7 +71,7 @@ module _ {S T : Type 0} (change : S → T) (setup : Setup) (form : Form S) (othe
   allowed-maps net (steps.Bad from bad) allowed = allowed
   allowed-maps net (steps.Lost place) allowed = allowed
   allowed-maps net (steps.Tick now) allowed = allowed
-  allowed-maps net (steps.Turn app event now made end) allowed = may_turn net app event now made end allowed
+  allowed-maps net (steps.Turn end app event now made) allowed = may_turn net app event now made end allowed
   allowed-maps net (steps.Withdraw app) allowed = is_some_at app net ∙ allowed
 
   allowed_back : (net : Net S) (step : Step) → IsAllowed other setup (map_net change net) step → IsAllowed form setup net step
@@ -80,7 +80,7 @@ module _ {S T : Type 0} (change : S → T) (setup : Setup) (form : Form S) (othe
   allowed_back net (steps.Bad from bad) allowed = allowed
   allowed_back net (steps.Lost place) allowed = allowed
   allowed_back net (steps.Tick now) allowed = allowed
-  allowed_back net (steps.Turn app event now made end) allowed = may_turn_back net app event now made end allowed
+  allowed_back net (steps.Turn end app event now made) allowed = may_turn_back net app event now made end allowed
   allowed_back net (steps.Withdraw app) allowed = sym (is_some_at app net) ∙ allowed
 
   -- so is each step of a journal

@@ -6,10 +6,10 @@ use Rattle.sc_forms.proofs.HostMaps.{tidied-maps, pass_client-maps, queue-maps}
 use Rattle.sc_forms.proofs.ListMaps.{if-maps, is_some-maps, change_nth-maps, fold-maps}
 use Rattle.sc_forms.proofs.TakingMaps.{named_live-maps}
 use Rattle.sc_forms.specs.Simulations.{map_host, map_taken, map_net}
-use Rattle.sc_grammar.specs.Written.{Bytes}
+use Rattle.sc_tokens.specs.Bytes.{Bytes}
 use Rattle.sc_hosts.specs.Destinations.{next_uri, destination}
 use Rattle.sc_hosts.specs.Messages.{cancel_of}
-use Rattle.sc_hosts.specs.Nets.{host_at, change_host, put, put_reply, placed, queued_at, queue_for, tell_own, send_to, leave_for, leave, with_routes, begin_by, has_named, named_from, named_host, send_named, send_later, acknowledge, send_cancel, cancel_by, cancel_for, client_at, answered_server, respond_by, server_at, obey, obeyed, is_busy, weight}
+use Rattle.sc_hosts.specs.Nets.{host_at, change_host, with_message as put, put_reply, with_host_after as placed, queued_at, queue_for, tell_own, send_to, leave_for, leave, with_routes, begin_by, has_named, named_from, named_host, send_named, send_later, acknowledge, send_cancel, cancel_by, cancel_for, client_at, answered_server, respond_by, server_at, obey, after_orders as obeyed, is_busy, weight}
 use Rattle.sc_hosts.specs.TakingResponses.{cancelling}
 use Rattle.sc_hosts.specs.Transacting.{is_proceeding, is_invite_client, state_of_client, is_invite_server, tidied, out_of_client, pass_client, with_client, is_server}
 use Rattle.sc_hosts.specs.Words.{does_not_exist, not_found, unavailable}

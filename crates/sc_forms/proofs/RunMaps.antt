@@ -7,7 +7,7 @@ use Rattle.sc_forms.proofs.NetMaps.{is_busy-maps, weight-maps}
 use Rattle.sc_forms.proofs.StepMaps.{stepped-maps}
 use Rattle.sc_forms.specs.Simulations.{map_host, map_net, IsSimulation}
 use Rattle.sc_hosts.specs.Nets.{is_busy, deliver_first, weight}
-use Rattle.sc_hosts.specs.Runs.{quiet_host, start, delivered, after_step, chained_from, chained, all_sent_from, all_sent}
+use Rattle.sc_hosts.specs.Runs.{quiet_host, start, after_delivery as delivered, after_step, chained_from, net_from as chained, all_sent_from, all_sent}
 use Rattle.sc_hosts.specs.Sessions.{Form}
 use Rattle.sc_hosts.specs.Settle.{steps, settle}
 use Rattle.sc_parts.specs.declared.setup.Setup.{Setup}

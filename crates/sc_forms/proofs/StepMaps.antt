@@ -10,7 +10,7 @@ use Rattle.sc_forms.specs.Simulations.{map_live, map_host, map_net, IsSimulation
 use Rattle.sc_hosts.specs.Finishing.{goodbye, is_ready}
 use Rattle.sc_hosts.specs.Nets.{host_at, change_host}
 use Rattle.sc_hosts.specs.Sessions.{Turn, Form}
-use Rattle.sc_hosts.specs.Steps.{live_of, live_at, ringing_at, outcome_by, turned_live, without_live, with_ready, inbox_of, invalidated, closed_turn, turned, turn_of, turns_first, turns, withdrawn, stepped}
+use Rattle.sc_hosts.specs.Steps.{live_of, live_at, ringing_at, outcome_by, turned_live, without_live, with_ready, inbox_of, without_application as invalidated, closed_turn, net_after_turn as turned, turn_of, turns_first, turns, withdrawn, before_delivery as stepped}
 use Rattle.sc_hosts.specs.Inboxes.{is_live}
 use Rattle.sc_hosts.specs.Transacting.{tidied}
 use Rattle.sc_parts.specs.declared.setup.Setup.{Setup}
@@ -144,5 +144,5 @@ module _ {S T : Type 0} (change : S → T) (setup : Setup) (form : Form S) (othe
   stepped-maps (steps.Bad from bad) net = bad_by-maps change setup.config from bad.heads net
   stepped-maps (steps.Lost place) net = lost-maps change setup.config place net
   stepped-maps (steps.Tick now) net = ticked-maps change setup.config form other like now net
-  stepped-maps (steps.Turn app event now made end) net = rw (live_at-maps change app net) (turns-maps app (live_at app net) now made end net)
+  stepped-maps (steps.Turn end app event now made) net = rw (live_at-maps change app net) (turns-maps app (live_at app net) now made end net)
   stepped-maps (steps.Withdraw app) net = rw (live_at-maps change app net) (withdrawn-maps app (live_at app net) net)

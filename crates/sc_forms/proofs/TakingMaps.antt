@@ -5,14 +5,14 @@ use Rattle.std.proofs.lemmas.List.{map-append, length-map}
 use Rattle.sc_forms.proofs.HostMaps.{pass_server-maps, quiet-maps, queue-maps, take_response-maps}
 use Rattle.sc_forms.proofs.ListMaps.{if-maps, find-maps}
 use Rattle.sc_forms.specs.Simulations.{map_live, map_host, map_taken, IsSimulation}
-use Rattle.sc_grammar.specs.Written.{Bytes}
+use Rattle.sc_tokens.specs.Bytes.{Bytes}
 use Rattle.std.specs.Option.{option_map_or}
 use Rattle.sc_hosts.specs.declared.sorts.Sort.{Sort}
 use Rattle.sc_hosts.specs.declared.sorts.Sort.TheVariants.{Cancels, Acks, Repeats, Later, Begins, Nobodys}
 use Rattle.sc_hosts.specs.Messages.{own_response}
 use Rattle.sc_hosts.specs.Sessions.{Form}
-use Rattle.sc_hosts.specs.Inboxes.{MOST_LIVE, quiet, is_full, replying}
-use Rattle.sc_hosts.specs.Taking.{cancelled, last_again, again_if, repeated, refuse, own_uri, is_named_live, named_live, with_server, with_trying, queue_later, begun_live, begun, take_initial, is_never_initial, takes, server_for, sort_of, sort_at, taken_as}
+use Rattle.sc_hosts.specs.Inboxes.{MOST_LIVE, without_answer as quiet, is_full, replying}
+use Rattle.sc_hosts.specs.Taking.{take_cancel as cancelled, last_again, again_if, take_repeated as repeated, refuse, own_uri, is_named_live, named_live, with_server, with_trying, queue_later, begun_live, take_new as begun, take_initial, is_never_initial, takes, server_for, sort_of, sort_at, taken_as}
 use Rattle.sc_hosts.specs.Transacting.{method_of, has_final}
 use Rattle.sc_hosts.specs.Words.{ok, does_not_exist, unavailable}
 use Rattle.sc_model.specs.Dialogs.{tag_of}

@@ -5,11 +5,11 @@ use Rattle.sc_forms.proofs.HostMaps.{pass_server-maps}
 use Rattle.sc_forms.proofs.ListMaps.{if-maps, flat_map-maps, change_first-maps, fold-maps}
 use Rattle.sc_forms.proofs.NetMaps.{change_host-maps, pass_client_at-maps, queue_for-maps}
 use Rattle.sc_forms.specs.Simulations.{map_live, map_host, map_net, IsSimulation}
-use Rattle.sc_grammar.specs.Written.{Bytes}
+use Rattle.sc_tokens.specs.Bytes.{Bytes}
 use Rattle.sc_hosts.specs.Nets.{change_host}
 use Rattle.sc_hosts.specs.Sessions.{Form}
 use Rattle.sc_hosts.specs.Inboxes.{is_live}
-use Rattle.sc_hosts.specs.Ticks.{told_at, passes, clients_of, clients_to, lost, DueItem, live_dated, host_dated, hosts_dated, all_dated, due_items, mark_fired, fires, ticked, Of_session, Of_client, Of_server}
+use Rattle.sc_hosts.specs.Ticks.{told_at, passes, clients_of, clients_to, net_after_loss as lost, DueItem, live_dated, host_dated, hosts_dated, all_dated, due_items, mark_fired, fires, net_after_tick as ticked, Of_session, Of_client, Of_server}
 use Rattle.sc_hosts.specs.Transacting.{is_cancel_client, pass_server}
 use Rattle.sc_hosts.specs.Words.{request_timeout, unavailable}
 use Rattle.sc_model.specs.Timers.{DueEntry}

@@ -2,9 +2,9 @@ ghost use Rattle.std.specs.Prelude.{◌≡◌, ℕ, List, option_map};
 ghost use Rattle.sc_value.specs.declared.ids.AppId.{AppId};
 ghost use Rattle.sc_terms.specs.declared.steps.Step.{Step};
 ghost use Rattle.sc_parts.specs.declared.setup.Setup.{Setup};
-ghost use Rattle.sc_hosts.specs.EventLists.{queued, waiting, purged, listing_of};
+ghost use Rattle.sc_hosts.specs.EventLists.{dropped_events, events_of_session, listing_of, waiting};
 ghost use Rattle.sc_hosts.specs.Histories.{as_history, as_session, session_of};
-ghost use Rattle.sc_hosts.specs.Runs.{chained, all_sent, IsLawful, live_count, waiting_count, is_idle, Epoch, all_sent_by, AreLawful};
+ghost use Rattle.sc_hosts.specs.Runs.{AreLawful, Epoch, IsLawful, all_sent, all_sent_by, is_idle, live_count, net_from, waiting_count};
 ghost use Rattle.sc_hosts.specs.Steps.{live_at};
 ghost use Rattle.sc_forms.specs.Simulations.{map_live, map_net};
 
@@ -16,9 +16,9 @@ pub fn forms_agree()
         → all_sent (as_history setup.config) setup epoch began journal
         ≡ all_sent as_session setup epoch began journal }
     ensures net { (setup : Setup) (epoch began : ℕ) (journal : List Step)
-        → chained as_session setup epoch began journal
+        → net_from as_session setup epoch began journal
         ≡ map_net (session_of setup.config)
-        (chained (as_history setup.config) setup epoch began journal) }
+        (net_from (as_history setup.config) setup epoch began journal) }
     ensures lawful { (setup : Setup) (epoch began : ℕ) (journal : List Step)
         → IsLawful (as_history setup.config) setup epoch began journal
         → IsLawful as_session setup epoch began journal }
@@ -32,27 +32,27 @@ pub fn forms_agree()
 /// nothing.
 pub fn readers_agree()
     ensures live { (setup : Setup) (epoch began : ℕ) (journal : List Step)
-        → live_count (chained as_session setup epoch began journal)
-        ≡ live_count (chained (as_history setup.config) setup epoch began journal) }
+        → live_count (net_from as_session setup epoch began journal)
+        ≡ live_count (net_from (as_history setup.config) setup epoch began journal) }
     ensures waiting_count { (setup : Setup) (epoch began : ℕ) (journal : List Step)
-        → waiting_count (chained as_session setup epoch began journal)
-        ≡ waiting_count (chained (as_history setup.config) setup epoch began journal) }
+        → waiting_count (net_from as_session setup epoch began journal)
+        ≡ waiting_count (net_from (as_history setup.config) setup epoch began journal) }
     ensures idle { (setup : Setup) (epoch began : ℕ) (journal : List Step)
-        → is_idle (chained as_session setup epoch began journal)
-        ≡ is_idle (chained (as_history setup.config) setup epoch began journal) }
+        → is_idle (net_from as_session setup epoch began journal)
+        ≡ is_idle (net_from (as_history setup.config) setup epoch began journal) }
     ensures session { (setup : Setup) (epoch began : ℕ) (app : AppId) (journal : List Step)
-        → live_at app (chained as_session setup epoch began journal)
+        → live_at app (net_from as_session setup epoch began journal)
         ≡ option_map (map_live (session_of setup.config))
-        (live_at app (chained (as_history setup.config) setup epoch began journal)) }
+        (live_at app (net_from (as_history setup.config) setup epoch began journal)) }
     ensures queued { (setup : Setup) (epoch began : ℕ) (app : AppId) (journal : List Step)
-        → queued as_session setup epoch began app journal
-        ≡ queued (as_history setup.config) setup epoch began app journal }
+        → events_of_session as_session setup epoch began app journal
+        ≡ events_of_session (as_history setup.config) setup epoch began app journal }
     ensures waiting { (setup : Setup) (epoch began : ℕ) (app : AppId) (journal : List Step)
         → waiting as_session setup epoch began app journal
         ≡ waiting (as_history setup.config) setup epoch began app journal }
     ensures purged { (setup : Setup) (epoch began : ℕ) (app : AppId) (journal : List Step)
-        → purged as_session setup epoch began app journal
-        ≡ purged (as_history setup.config) setup epoch began app journal }
+        → dropped_events as_session setup epoch began app journal
+        ≡ dropped_events (as_history setup.config) setup epoch began app journal }
     ensures listing { (setup : Setup) (epoch began : ℕ) (journal : List Step)
         → listing_of as_session setup epoch began journal
         ≡ listing_of (as_history setup.config) setup epoch began journal }

@@ -31,12 +31,12 @@ use Rattle.sc_state.specs.declared.working.Draft.{Draft}
 use Rattle.sc_state.specs.declared.working.Prepared.{Prepared}
 use Rattle.sc_state.specs.declared.working.Working.{Working}
 use Rattle.sc_state.specs.declared.working.Written.{Written}
-use Rattle.sc_grammar.specs.Written.{Bytes}
+use Rattle.sc_tokens.specs.Bytes.{Bytes}
 use Rattle.sc_model.specs.Dialogs.{DialogState}
 use Rattle.sc_hosts.specs.Giving.{answer_order, answers, answering, writes, drafts_own, drafts_later, drafts_leg, directs, forgets, is_written}
 use Rattle.sc_hosts.specs.Messages.{from_here, with_contact}
 use Rattle.sc_hosts.specs.ViewChanges.{is_owed, new_call_id, new_tag}
-use Rattle.sc_hosts.specs.Working.{starts, keeps_sent, sends_initial, sends_later, sends_in, sends_written, sends, ack_with, acknowledges, cancels, owed_answer, goodbyes, invalidates, does, does_by, worked, worked_all, next_branch}
+use Rattle.sc_hosts.specs.Working.{starts, keeps_sent, sends_initial, sends_later, sends_in, sends_written, sends, ack_with, acknowledges, cancels, owed_answer, goodbyes, invalidates, effects_of_call as does, does_by, after_one_call as worked, worked_all, next_branch}
 use Rattle.sc_hosts.specs.Refusals.{refusal}
 use Rattle.sc_lasting.specs.Lasting.{All}
 use Rattle.sc_lasting.proofs.Parts.{all-append, all-both, all-first, all-flat, all-found, all-removed}

@@ -20,7 +20,7 @@ use Rattle.sc_state.specs.declared.orders.Order.TheVariants as orders
 use Rattle.sc_state.specs.declared.proxy.Passing.{Passing}
 use Rattle.sc_state.specs.declared.proxy.Proxy.{Proxy}
 use Rattle.sc_state.specs.declared.working.Working.{Working}
-use Rattle.sc_hosts.specs.Acting.{drafts_ended, fault_at, faulted, started, forwarded_view, forwards, passes, forwards_best, chooses, closes, proxy_now, sends_cancels, with_subscribed, acted, acts, all_act}
+use Rattle.sc_hosts.specs.Acting.{drafts_ended, fault_at, after_fault as faulted, after_start as started, forwarded_view, forwards, passes, forwards_best, chooses, closes, proxy_now, sends_cancels, with_subscribed, after_proxy as acted, acts, all_act}
 use Rattle.sc_hosts.specs.Branches.{has_open, is_parallel, starting}
 use Rattle.sc_hosts.specs.Looking.{request_in}
 use Rattle.sc_hosts.specs.ViewChanges.{answered_in, tidy}

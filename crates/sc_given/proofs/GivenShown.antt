@@ -17,10 +17,10 @@ use Rattle.sc_state.specs.declared.session.Invited.{Invited}
 use Rattle.sc_state.specs.declared.session.Kept.{Kept}
 use Rattle.sc_state.specs.declared.session.Session.{Session}
 use Rattle.sc_state.specs.declared.working.Prepared.{Prepared}
-use Rattle.sc_grammar.specs.Written.{Bytes}
+use Rattle.sc_tokens.specs.Bytes.{Bytes}
 use Rattle.sc_hosts.specs.Branches.{is_supervised}
-use Rattle.sc_hosts.specs.Preparing.{prepared_for, terminated, cancelled_proxy, cancelled_request, prepared_cancel, prepared_timer, prepared_expiry, prepared_branch_timer}
-use Rattle.sc_hosts.specs.PreparingRequests.{silent, showing, showing_in, refused, too_low, taken, taken_in, prepared_request}
+use Rattle.sc_hosts.specs.Preparing.{prepared_for, prepared_end as terminated, cancelled_proxy, cancelled_request, prepared_cancel, prepared_timer, prepared_expiry, prepared_branch_timer}
+use Rattle.sc_hosts.specs.PreparingRequests.{silent, showing, showing_in, refusal_orders as refused, too_low, prepared_for_request as taken, taken_in, prepared_request}
 use Rattle.sc_hosts.specs.PreparingResponses.{responded_in, responded_again, prepared_own, heard_in, prepared_branch, prepared_response}
 use Rattle.sc_lasting.specs.Lasting.{All}
 

@@ -22,7 +22,7 @@ use Rattle.sc_state.specs.declared.session.Kept.{Kept}
 use Rattle.sc_state.specs.declared.working.Asked.{Asked}
 use Rattle.sc_state.specs.declared.working.Asked.TheVariants as asked
 use Rattle.sc_state.specs.declared.working.Working.{Working}
-use Rattle.sc_grammar.specs.Written.{Bytes}
+use Rattle.sc_tokens.specs.Bytes.{Bytes}
 use Rattle.sc_model.specs.DialogRequests.{ack_request, next_request}
 use Rattle.sc_model.specs.Dialogs.{DialogState}
 use Rattle.sc_hosts.specs.Acting.{is_request_event}

@@ -3,6 +3,7 @@
 -- Content-Length; one line an item.
 use Rattle.std.specs.Prelude.{ℕ, List, [], ◌∷◌, ◌++◌, Option, None, Some, codes, decimal, length}
 use Rattle.std.specs.List.{flat_map}
+use Rattle.sc_tokens.specs.Bytes.{Bytes}
 use Rattle.sc_tokens.specs.HeaderNames.{via_name, route_name, record_route_name, max_forwards_name, from_name, to_name, call_id_name, cseq_name, contact_name, content_length_name}
 use Rattle.sc_value.specs.declared.parts.Param.{Param}
 use Rattle.sc_value.specs.declared.parts.SipUri.{SipUri}
@@ -19,10 +20,6 @@ use Rattle.sc_value.specs.declared.message.Request.{Request}
 use Rattle.sc_value.specs.declared.message.Response.{Response}
 use Rattle.sc_value.specs.declared.message.Message.{Message}
 use Rattle.sc_value.specs.declared.message.Message.TheVariants as messages
-
--- a text as its bytes, each 0 to 255
-abbrev pub Bytes : Type 0
-Bytes = List ℕ
 
 -- the end of a line
 unfoldable pub crlf : Bytes
@@ -161,7 +158,7 @@ status_line response =
     version ++ codes " " ++ decimal response.code ++ codes " " ++ response.reason ++ crlf
 
 -- the written form
-unfoldable pub written : Message → Bytes
-written (messages.Request request) =
+unfoldable pub text_of_message : Message → Bytes
+text_of_message (messages.Request request) =
     request_line request ++ head_text (Some request.hops) request.head
-written (messages.Response response) = status_line response ++ head_text None response.head
+text_of_message (messages.Response response) = status_line response ++ head_text None response.head

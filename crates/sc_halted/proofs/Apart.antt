@@ -27,17 +27,17 @@ use Rattle.sc_state.specs.declared.net.Note.{Note}
 use Rattle.sc_state.specs.declared.queue.Queued.{Queued}
 use Rattle.sc_state.specs.declared.queue.Queued.TheVariants as queued
 use Rattle.sc_state.specs.declared.session.Session.{Session}
-use Rattle.sc_grammar.specs.Written.{Bytes}
+use Rattle.sc_tokens.specs.Bytes.{Bytes}
 use Rattle.sc_model.specs.DialogRequests.{cancel}
 use Rattle.sc_model.specs.Names.{branch_text, edge_tag}
 use Rattle.sc_model.specs.Responses.{response_head, response_to as made_to}
 use Rattle.sc_model.specs.SessionStates.{ack}
 use Rattle.sc_hosts.proofs.EachSort.{takes-by}
-use Rattle.sc_hosts.specs.Inboxes.{MOST_LIVE, is_live, live_in, queue, quiet, replying, with_event}
+use Rattle.sc_hosts.specs.Inboxes.{MOST_LIVE, is_live, live_in, queue, without_answer as quiet, replying, with_event}
 use Rattle.sc_hosts.specs.Messages.{ack_of, cancel_of, kin, own_response, trying_response, without_via}
 use Rattle.sc_hosts.specs.Sessions.{Form}
-use Rattle.sc_hosts.specs.Taking.{again_if, begun, cancelled, last_again, queue_later, refuse, repeated, take_initial, takes, tried, unrouted, with_server, with_trying, server_for}
-use Rattle.sc_hosts.specs.TakingResponses.{cancelling, response_for, response_to, take_response, told, told_by, with_reply}
+use Rattle.sc_hosts.specs.Taking.{again_if, take_new as begun, take_cancel as cancelled, last_again, queue_later, refuse, take_repeated as repeated, take_initial, takes, server_after_trying as tried, without_own_route as unrouted, with_server, with_trying, server_for}
+use Rattle.sc_hosts.specs.TakingResponses.{cancelling, response_for, response_to, take_response, take_provisional as told, told_by, with_reply}
 use Rattle.sc_hosts.specs.Transacting.{branch_of, client_for, client_passed, has_final, is_answered_by, is_cancel_client, is_client, is_kept_client, is_over, is_repeated_by, is_server, method_of, pass_client, pass_server, server_passed, state_of_client, takes_from, tidied, top_via, with_client, is_acked_by, is_cancelled_by}
 use Rattle.sc_hosts.specs.Words.{does_not_exist, ok as fine_reason, trying, unavailable}
 use Rattle.sc_lasting.specs.Lasting.{All}

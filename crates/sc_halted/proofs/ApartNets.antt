@@ -33,7 +33,7 @@ use Rattle.sc_state.specs.declared.orders.Outcome.{Outcome}
 use Rattle.sc_state.specs.declared.queue.Queued.{Queued}
 use Rattle.sc_state.specs.declared.queue.Queued.TheVariants as queued
 use Rattle.sc_state.specs.declared.session.Session.{Session}
-use Rattle.sc_grammar.specs.Written.{Bytes}
+use Rattle.sc_tokens.specs.Bytes.{Bytes}
 use Rattle.sc_model.specs.Names.{branch_text}
 use Rattle.sc_model.specs.OwnHosts.{is_own}
 use Rattle.sc_model.specs.ServerTransactions.{is_sent}
@@ -41,7 +41,7 @@ use Rattle.sc_hosts.specs.Destinations.{next_uri}
 use Rattle.sc_hosts.specs.Finishing.{is_ready}
 use Rattle.sc_hosts.specs.Histories.{as_session}
 use Rattle.sc_hosts.specs.Messages.{cancel_of, kin}
-use Rattle.sc_hosts.specs.Nets.{acknowledge, answered_server, begin_by, cancel_by, cancel_for, change_host, client_at, deliver_at, deliver_entry, deliver_first, host_at, leave, leave_for, named_host, obey, obeyed, placed, put, put_reply, queue_for, queued_at, respond_by, send_cancel, send_later, send_named, send_to, tell_own, with_routes}
+use Rattle.sc_hosts.specs.Nets.{acknowledge, answered_server, begin_by, cancel_by, cancel_for, change_host, client_at, deliver_at, deliver_entry, deliver_first, host_at, leave, leave_for, named_host, obey, after_orders as obeyed, with_host_after as placed, with_message as put, put_reply, queue_for, queued_at, respond_by, send_cancel, send_later, send_named, send_to, tell_own, with_routes}
 use Rattle.sc_hosts.specs.Steps.{with_ready}
 use Rattle.sc_hosts.specs.Taking.{takes}
 use Rattle.sc_hosts.specs.TakingResponses.{cancelling}

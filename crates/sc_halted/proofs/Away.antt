@@ -24,7 +24,7 @@ use Rattle.sc_state.specs.declared.queue.Queued.{Queued}
 use Rattle.sc_state.specs.declared.queue.Queued.TheVariants as queued
 use Rattle.sc_state.specs.declared.queue.Waiting.{Waiting}
 use Rattle.sc_state.specs.declared.session.Session.{Session}
-use Rattle.sc_grammar.specs.Written.{Bytes}
+use Rattle.sc_tokens.specs.Bytes.{Bytes}
 use Rattle.sc_model.specs.DialogRequests.{cancel}
 use Rattle.sc_model.specs.Dialogs.{tag_of}
 use Rattle.sc_model.specs.Names.{IsOf64, edge_tag}
@@ -36,9 +36,9 @@ use Rattle.sc_hosts.specs.Finishing.{goodbye}
 use Rattle.sc_hosts.specs.Histories.{as_session}
 use Rattle.sc_hosts.specs.Inboxes.{is_live, queue, with_event}
 use Rattle.sc_hosts.specs.Messages.{bare_answer, own_response, without_via}
-use Rattle.sc_hosts.specs.Nets.{acknowledge, change_host, host_at, named_host, obey, obeyed, peer_of_host, placed, put, queue_for, queued_at, send_later, send_named, send_to, tell_own}
-use Rattle.sc_hosts.specs.Runs.{after_step, delivered}
-use Rattle.sc_hosts.specs.Steps.{closed_turn, inbox_of, invalidated, live_at, stepped, turned, turned_live, turns, turns_first}
+use Rattle.sc_hosts.specs.Nets.{acknowledge, change_host, host_at, named_host, obey, after_orders as obeyed, peer_of_host, with_host_after as placed, with_message as put, queue_for, queued_at, send_later, send_named, send_to, tell_own}
+use Rattle.sc_hosts.specs.Runs.{after_step, after_delivery as delivered}
+use Rattle.sc_hosts.specs.Steps.{closed_turn, inbox_of, without_application as invalidated, live_at, before_delivery as stepped, net_after_turn as turned, turned_live, turns, turns_first}
 use Rattle.sc_hosts.specs.Taking.{named_live, names, own_uri}
 use Rattle.sc_hosts.specs.Transacting.{is_over, is_same_app, method_of, state_of_client, with_client}
 use Rattle.sc_hosts.specs.Words.{does_not_exist, unavailable}
@@ -127,10 +127,10 @@ module _ (setup : Setup) (net : Net Session) (app : AppId) (live : Live Session)
   Start = record net { sent = [] }
 
   abbrev pub Stepped : Net Session
-  Stepped = stepped as_session setup (steps.Turn app event now made end) Start
+  Stepped = stepped as_session setup (steps.Turn end app event now made) Start
 
   abbrev pub After : Net Session
-  After = after_step as_session setup net (steps.Turn app event now made end)
+  After = after_step as_session setup net (steps.Turn end app event now made)
 
   stepped-is : live_at app net ≡ Some live → slice_get live.inbox 0 ≡ Some waiting
       → Stepped ≡ closed_turn setup app (Done setup net app live waiting event now made end) Ends (obeyed setup app (Done setup net app live waiting event now made end).orders Moved)

@@ -26,20 +26,20 @@ use Rattle.sc_state.specs.declared.queue.Queued.{Queued}
 use Rattle.sc_state.specs.declared.queue.Queued.TheVariants as queued
 use Rattle.sc_state.specs.declared.queue.Waiting.{Waiting}
 use Rattle.sc_state.specs.declared.session.Session.{Session}
-use Rattle.sc_grammar.specs.Written.{Bytes}
+use Rattle.sc_tokens.specs.Bytes.{Bytes}
 use Rattle.sc_model.specs.DialogRequests.{cancel}
 use Rattle.sc_model.specs.Names.{branch_text, edge_tag}
 use Rattle.sc_model.specs.Responses.{response_head, response_to as made_to}
 use Rattle.sc_model.specs.SessionStates.{invite, is_final}
 use Rattle.sc_model.specs.Transactions.{client_out, client_state, decision, first_in_time, has_provisional, out_from, state_from, told_waiting}
 use Rattle.sc_hosts.specs.Histories.{as_session}
-use Rattle.sc_hosts.specs.Inboxes.{is_live, live_in, queue, quiet, replying, with_event}
+use Rattle.sc_hosts.specs.Inboxes.{is_live, live_in, queue, without_answer as quiet, replying, with_event}
 use Rattle.sc_hosts.specs.Messages.{ack_of, bare_answer, cancel_of, own_response, own_via, without_via}
-use Rattle.sc_hosts.specs.Nets.{deliver_at, deliver_entry, deliver_first, host_at, placed}
-use Rattle.sc_hosts.specs.Runs.{delivered}
+use Rattle.sc_hosts.specs.Nets.{deliver_at, deliver_entry, deliver_first, host_at, with_host_after as placed}
+use Rattle.sc_hosts.specs.Runs.{after_delivery as delivered}
 use Rattle.sc_hosts.specs.Steps.{live_at}
 use Rattle.sc_hosts.specs.Taking.{takes}
-use Rattle.sc_hosts.specs.TakingResponses.{cancelling, response_for, response_to, take_response, told, told_by, with_reply}
+use Rattle.sc_hosts.specs.TakingResponses.{cancelling, response_for, response_to, take_response, take_provisional as told, told_by, with_reply}
 use Rattle.sc_hosts.specs.Transacting.{branch_of, client_for, is_answered_by, is_cancel_client, is_over, method_of, out_of_client, pass_client, state_of_client, takes_from, tidied, top_via, with_client}
 use Rattle.sc_hosts.proofs.Deliveries.{one-delivery}
 use Rattle.sc_walks.proofs.WalkNets.{delivered-walks}

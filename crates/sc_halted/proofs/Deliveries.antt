@@ -12,7 +12,7 @@ use Rattle.sc_state.specs.declared.net.Net.{Net}
 use Rattle.sc_state.specs.declared.queue.Queued.TheVariants as queued
 use Rattle.sc_state.specs.declared.queue.Waiting.{Waiting}
 use Rattle.sc_state.specs.declared.session.Session.{Session}
-use Rattle.sc_grammar.specs.Written.{Bytes}
+use Rattle.sc_tokens.specs.Bytes.{Bytes}
 use Rattle.sc_model.specs.DialogRequests.{cancel}
 use Rattle.sc_model.specs.Dialogs.{tag_of}
 use Rattle.sc_model.specs.Names.{IsOf64}
@@ -20,9 +20,9 @@ use Rattle.sc_model.specs.SessionStates.{ack, is_final}
 use Rattle.sc_hosts.specs.Histories.{as_session}
 use Rattle.sc_hosts.specs.Inboxes.{is_full}
 use Rattle.sc_hosts.specs.Nets.{deliver_first}
-use Rattle.sc_hosts.specs.Runs.{delivered}
+use Rattle.sc_hosts.specs.Runs.{after_delivery as delivered}
 use Rattle.sc_hosts.specs.Steps.{live_at}
-use Rattle.sc_hosts.specs.Taking.{names, own_uri, unrouted}
+use Rattle.sc_hosts.specs.Taking.{names, own_uri, without_own_route as unrouted}
 use Rattle.sc_hosts.specs.Transacting.{method_of}
 use Rattle.sc_hosts.specs.Words.{does_not_exist, unavailable}
 use Rattle.sc_hosts.proofs.Deliveries.{one-delivery}
@@ -36,7 +36,7 @@ use Rattle.sc_reached.specs.Reached.{AllSmall, answered_at_once}
 use Rattle.sc_reached.proofs.Delivering.{delivers}
 use Rattle.sc_keyed.specs.Keyed.{IsOn}
 use Rattle.sc_hops.specs.Hops.{IsOnWay}
-use Rattle.sc_stopped.specs.Stopped.{IsFirstTo, answer_back, returned}
+use Rattle.sc_stopped.specs.Stopped.{IsFirstTo, answer_back, net_with_return as returned}
 use Rattle.sc_stopped.proofs.Stops.{full-back, gone-back}
 use Rattle.sc_ways.proofs.Counts.{H as RisesAt, Rises, hosts as rise-hosts, nets as rise-nets, small-net}
 use Rattle.sc_ways.proofs.Epochs.{H as EpochAt, P as SameEpoch, hosts as epoch-hosts, nets as epoch-nets}

@@ -17,7 +17,7 @@ use Rattle.sc_state.specs.declared.net.Net.{Net}
 use Rattle.sc_state.specs.declared.orders.Order.{Order}
 use Rattle.sc_state.specs.declared.orders.Order.TheVariants as orders
 use Rattle.sc_state.specs.declared.session.Session.{Session}
-use Rattle.sc_grammar.specs.Written.{Bytes}
+use Rattle.sc_tokens.specs.Bytes.{Bytes}
 use Rattle.sc_model.specs.Names.{IsOf64, branch_text}
 use Rattle.sc_model.proofs.Names.{branch_same}
 use Rattle.sc_hosts.specs.Histories.{as_session}

@@ -39,26 +39,26 @@ use Rattle.sc_state.specs.declared.working.Draft.{Draft}
 use Rattle.sc_state.specs.declared.working.Prepared.{Prepared}
 use Rattle.sc_state.specs.declared.working.Working.{Working}
 use Rattle.sc_state.specs.declared.working.Written.{Written}
-use Rattle.sc_grammar.specs.Written.{Bytes}
+use Rattle.sc_tokens.specs.Bytes.{Bytes}
 use Rattle.sc_model.specs.BestResponses.{best_response, server_error}
 use Rattle.sc_model.specs.Dialogs.{DialogState}
 use Rattle.sc_model.specs.SessionStates.{ack}
-use Rattle.sc_hosts.specs.Acting.{acted, acts, all_act, chooses, closed_session, closes, drafts_ended, drawn, fault_at, faulted, forwards, forwards_best, hops_spent, in_view, is_request_event, passed_later, passed_on, passed_request_of, passes, passes_later, proxy_now, sends_cancels, sent_proxy, started}
+use Rattle.sc_hosts.specs.Acting.{after_proxy as acted, acts, all_act, chooses, closed_session, closes, drafts_ended, with_next_branch as drawn, fault_at, after_fault as faulted, forwards, forwards_best, hops_spent, in_view, is_request_event, passed_later, passed_on, passed_request_of, passes, passes_later, proxy_now, sends_cancels, sent_proxy, after_start as started}
 use Rattle.sc_hosts.specs.Branches.{can_choose, can_pass, is_exhausted, starting}
-use Rattle.sc_hosts.specs.Effects.{after_listed, begun, played_by}
-use Rattle.sc_hosts.specs.Finishing.{finished, goodbye, is_ended, is_needed, lacks_final, lightened, outcome, outcome_of, session_in_play, swept, without_acks}
+use Rattle.sc_hosts.specs.Effects.{after_listed, first_play as begun, played_by}
+use Rattle.sc_hosts.specs.Finishing.{after_all_calls as finished, goodbye, is_ended, is_needed, lacks_final, without_unneeded as lightened, outcome, outcome_of, session_in_play, swept, without_acks}
 use Rattle.sc_hosts.specs.Giving.{answering, answers, directs, drafts_later, drafts_leg, drafts_own, forgets, giving, writes}
 use Rattle.sc_hosts.specs.Legs.{leg_of}
 use Rattle.sc_hosts.specs.Looking.{is_request, request_in, same_request, same_session}
 use Rattle.sc_hosts.specs.Messages.{bare_answer, given_response, on_branch, passed_request}
 use Rattle.sc_hosts.specs.Preparing.{kept_of, own_tag_of}
-use Rattle.sc_hosts.specs.PreparingRequests.{taken}
+use Rattle.sc_hosts.specs.PreparingRequests.{prepared_for_request as taken}
 use Rattle.sc_hosts.specs.PreparingResponses.{is_invalid}
 use Rattle.sc_hosts.specs.RefusalParts.{draft_in}
 use Rattle.sc_hosts.specs.Refusals.{refusal}
-use Rattle.sc_hosts.specs.ViewChanges.{answered, is_owed}
+use Rattle.sc_hosts.specs.ViewChanges.{view_with_answer as answered, is_owed}
 use Rattle.sc_hosts.specs.Words.{too_many_hops}
-use Rattle.sc_hosts.specs.Working.{ack_with, acknowledges, cancels, dialog_in, does, does_by, goodbyes, invalidates, keeps_sent, next_branch, owed_answer, sends, sends_in, sends_initial, sends_later, sends_written, starts, worked, worked_all}
+use Rattle.sc_hosts.specs.Working.{ack_with, acknowledges, cancels, dialog_in, effects_of_call as does, does_by, goodbyes, invalidates, keeps_sent, next_branch, owed_answer, sends, sends_in, sends_initial, sends_later, sends_written, starts, after_one_call as worked, worked_all}
 use Rattle.sc_lasting.specs.Lasting.{All}
 use Rattle.sc_lasting.proofs.Began.{same-number, test-found}
 use Rattle.sc_lasting.proofs.Parts.{all-filter, all-found}

@@ -31,7 +31,7 @@ use Rattle.sc_state.specs.declared.queue.Queued.TheVariants as queued
 use Rattle.sc_state.specs.declared.queue.Waiting.{Waiting}
 use Rattle.sc_state.specs.declared.session.Session.{Session}
 use Rattle.sc_state.specs.declared.working.Prepared.{Prepared}
-use Rattle.sc_grammar.specs.Written.{Bytes}
+use Rattle.sc_tokens.specs.Bytes.{Bytes}
 use Rattle.sc_model.specs.BestResponses.{server_error}
 use Rattle.sc_model.specs.DialogRequests.{cancel}
 use Rattle.sc_model.specs.Dialogs.{tag_of}
@@ -45,12 +45,12 @@ use Rattle.sc_hosts.specs.Legs.{is_low, leg_of, session_for, takes_request}
 use Rattle.sc_hosts.specs.Looking.{is_proxy, session_in}
 use Rattle.sc_hosts.specs.Messages.{on_branch, passed_request}
 use Rattle.sc_hosts.specs.Nets.{host_at}
-use Rattle.sc_hosts.specs.Preparing.{prepared}
-use Rattle.sc_hosts.specs.PreparingRequests.{next_id, showing, taken}
+use Rattle.sc_hosts.specs.Preparing.{prepared_session as prepared}
+use Rattle.sc_hosts.specs.PreparingRequests.{next_id, showing, prepared_for_request as taken}
 use Rattle.sc_hosts.specs.PreparingResponses.{is_invalid}
-use Rattle.sc_hosts.specs.Runs.{AllowedBy, IsAllowed, IsLawful, MayTurn, after_step, chained, shown}
+use Rattle.sc_hosts.specs.Runs.{AllowedBy, IsAllowed, IsLawful, MayTurn, after_step, net_from as chained, prepared_turn as shown}
 use Rattle.sc_hosts.specs.Sessions.{Turn}
-use Rattle.sc_hosts.specs.Steps.{live_at, outcome_by, ringing_at, stepped, turn_of}
+use Rattle.sc_hosts.specs.Steps.{live_at, outcome_by, ringing_at, before_delivery as stepped, turn_of}
 use Rattle.sc_hosts.specs.Taking.{names}
 use Rattle.sc_hosts.specs.Words.{does_not_exist}
 use Rattle.sc_hosts.specs.Working.{worked_all}
@@ -166,7 +166,7 @@ module _ (setup : Setup) (epoch : ℕ) (small : epoch < 2 ^ 64) (moment : Moment
   Goal = ComesNext moment got to ⊎ IsHalted setup moment got to turn
 
   abbrev Turning : Step
-  Turning = steps.Turn got.app turn.event turn.now turn.made turn.end
+  Turning = steps.Turn turn.end got.app turn.event turn.now turn.made
 
   abbrev Ringing : List ℕ
   Ringing = ringing_at got.app (host_at got.app.host net)

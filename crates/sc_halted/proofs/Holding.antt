@@ -31,23 +31,23 @@ use Rattle.sc_state.specs.declared.working.Draft.{Draft}
 use Rattle.sc_state.specs.declared.working.Prepared.{Prepared}
 use Rattle.sc_state.specs.declared.working.Working.{Working}
 use Rattle.sc_state.specs.declared.working.Written.{Written}
-use Rattle.sc_grammar.specs.Written.{Bytes}
+use Rattle.sc_tokens.specs.Bytes.{Bytes}
 use Rattle.sc_model.specs.Dialogs.{DialogState}
 use Rattle.sc_hosts.specs.Branches.{with_targets}
-use Rattle.sc_hosts.specs.Effects.{begun}
+use Rattle.sc_hosts.specs.Effects.{first_play as begun}
 use Rattle.sc_hosts.specs.Giving.{answering, directs, drafts_later, drafts_leg, drafts_own, forgets, writes}
 use Rattle.sc_hosts.specs.Histories.{as_session, session_of}
 use Rattle.sc_hosts.specs.Legs.{change_leg, in_dialog, is_leg_of, leg_of, new_leg, session_for, takes_request, with_request}
 use Rattle.sc_hosts.specs.Looking.{is_proxy, is_session}
 use Rattle.sc_hosts.specs.Preparing.{kept_of, proxy_of}
-use Rattle.sc_hosts.specs.PreparingRequests.{received, showing, taken}
+use Rattle.sc_hosts.specs.PreparingRequests.{with_received_request as received, showing, prepared_for_request as taken}
 use Rattle.sc_hosts.specs.PreparingResponses.{change_proxy, is_invalid}
 use Rattle.sc_hosts.specs.RefusalParts.{draft_in}
 use Rattle.sc_hosts.specs.Refusals.{refusal}
-use Rattle.sc_hosts.specs.Runs.{chained}
+use Rattle.sc_hosts.specs.Runs.{net_from as chained}
 use Rattle.sc_hosts.specs.Steps.{live_at}
 use Rattle.sc_hosts.specs.ViewChanges.{new_session}
-use Rattle.sc_hosts.specs.Working.{ack_with, acknowledges, cancels, dialog_in, does, does_by, invalidates, keeps_sent, proxies, proxies_first, sends, sends_in, sends_initial, sends_later, sends_written, starts, worked, worked_all}
+use Rattle.sc_hosts.specs.Working.{ack_with, acknowledges, cancels, dialog_in, effects_of_call as does, does_by, invalidates, keeps_sent, proxies, proxies_first, sends, sends_in, sends_initial, sends_later, sends_written, starts, after_one_call as worked, worked_all}
 use Rattle.sc_walked.proofs.WalkParts.{each-first}
 use Rattle.sc_lasting.proofs.Began.{test-found}
 use Rattle.sc_lasting.proofs.Lives.{live-is}

@@ -11,7 +11,7 @@ use Rattle.sc_state.specs.declared.host.Live.{Live}
 use Rattle.sc_state.specs.declared.net.Net.{Net}
 use Rattle.sc_state.specs.declared.queue.Queued.{Queued}
 use Rattle.sc_state.specs.declared.session.Session.{Session}
-use Rattle.sc_hosts.specs.Inboxes.{is_live, live_in, queue, quiet, with_event}
+use Rattle.sc_hosts.specs.Inboxes.{is_live, live_in, queue, without_answer as quiet, with_event}
 use Rattle.sc_hosts.specs.Nets.{change_host, host_at}
 use Rattle.sc_hosts.specs.Steps.{live_at, live_of, without_live}
 use Rattle.sc_hosts.specs.Ticks.{mark_fired}

@@ -28,17 +28,17 @@ use Rattle.sc_state.specs.declared.session.Known.{Known}
 use Rattle.sc_state.specs.declared.session.Leg.{Leg}
 use Rattle.sc_state.specs.declared.session.Session.{Session}
 use Rattle.sc_state.specs.declared.working.Prepared.{Prepared}
-use Rattle.sc_grammar.specs.Written.{Bytes}
+use Rattle.sc_tokens.specs.Bytes.{Bytes}
 use Rattle.sc_model.specs.Dialogs.{tag_of}
 use Rattle.sc_model.specs.Transactions.{is_failure}
 use Rattle.sc_hosts.specs.Branches.{is_supervised}
 use Rattle.sc_hosts.specs.DerivedSessions.{Derives, Handling, In, Takes, derived_leg, derived_session, failed_session, handled_in, handling, is_overtaken, loses_tag, overtaken, overtaken_leg, overtaken_session, without_derived}
 use Rattle.sc_hosts.specs.Legs.{FIRST_SESSION, answered_leg, change_leg, in_dialog, is_leg_of, is_low, leg_of, new_leg, session_for, with_answer, with_request}
-use Rattle.sc_hosts.specs.Looking.{change_session, in_state, is_gone_in, is_proxy, is_session, linked_to, removed, request_in, session_in}
-use Rattle.sc_hosts.specs.Preparing.{cancelled_proxy, cancelled_request, fired, has_expired, kept_of, prepared, prepared_branch_timer, prepared_cancel, prepared_expiry, prepared_for, prepared_timer, proxy_of, renewed, showing_cancel, terminated, timed_out}
-use Rattle.sc_hosts.specs.PreparingRequests.{next_id, prepared_request, received, showing, showing_in, silent, taken, taken_in, too_low}
-use Rattle.sc_hosts.specs.PreparingResponses.{accepts_invite, branch_placed, heard_in, is_first_success, is_invalid, is_watched, noted_final, placed, prepared_branch, prepared_own, prepared_response, responded, responded_again, responded_in, settled_legs, shown_again, with_branches, with_request_again}
-use Rattle.sc_hosts.specs.ViewChanges.{answered, answered_in, new_session, tidy, with_response}
+use Rattle.sc_hosts.specs.Looking.{change_session, in_state, is_gone_in, is_proxy, is_session, linked_to, without_sip_session as removed, request_in, session_in}
+use Rattle.sc_hosts.specs.Preparing.{cancelled_proxy, cancelled_request, after_timer as fired, has_expired, kept_of, prepared_session as prepared, prepared_branch_timer, prepared_cancel, prepared_expiry, prepared_for, prepared_timer, proxy_of, next_firing as renewed, showing_cancel, prepared_end as terminated, timed_out}
+use Rattle.sc_hosts.specs.PreparingRequests.{next_id, prepared_request, with_received_request as received, showing, showing_in, silent, prepared_for_request as taken, taken_in, too_low}
+use Rattle.sc_hosts.specs.PreparingResponses.{accepts_invite, branch_placed, heard_in, is_first_success, is_invalid, is_watched, noted_final, session_of_response as placed, prepared_branch, prepared_own, prepared_response, with_handled_response as responded, responded_again, responded_in, settled_legs, shown_again, with_branches, with_request_again}
+use Rattle.sc_hosts.specs.ViewChanges.{view_with_answer as answered, answered_in, new_session, tidy, with_response}
 use Rattle.sc_walked.specs.SessionWalks.{Each}
 use Rattle.sc_walked.proofs.WalkParts.{each-first, each-map}
 use Rattle.sc_once.proofs.Finding.{find-changed, find-other}

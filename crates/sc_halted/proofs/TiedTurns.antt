@@ -37,27 +37,27 @@ use Rattle.sc_state.specs.declared.working.Play.{Play}
 use Rattle.sc_state.specs.declared.working.Prepared.{Prepared}
 use Rattle.sc_state.specs.declared.working.Working.{Working}
 use Rattle.sc_state.specs.declared.working.Written.{Written}
-use Rattle.sc_grammar.specs.Written.{Bytes}
+use Rattle.sc_tokens.specs.Bytes.{Bytes}
 use Rattle.sc_model.specs.BestResponses.{best_response, server_error}
 use Rattle.sc_model.specs.Dialogs.{DialogState, Passed, tag_of}
 use Rattle.sc_model.specs.SessionStates.{ack}
-use Rattle.sc_hosts.specs.Acting.{acted, acts, all_act, chooses, closed_session, closes, drafts_ended, drawn, fault_at, faulted, forwarded_view, forwards, forwards_best, hops_spent, in_view, is_request_event, moved_on, passed_later, passed_on, passed_request_of, passes, passes_later, proxy_now, sends_cancels, started, subscribed_tag, with_subscribed, without_left}
+use Rattle.sc_hosts.specs.Acting.{after_proxy as acted, acts, all_act, chooses, closed_session, closes, drafts_ended, with_next_branch as drawn, fault_at, after_fault as faulted, forwarded_view, forwards, forwards_best, hops_spent, in_view, is_request_event, moved_on, passed_later, passed_on, passed_request_of, passes, passes_later, proxy_now, sends_cancels, after_start as started, subscribed_tag, with_subscribed, without_left}
 use Rattle.sc_hosts.specs.Branches.{can_choose, can_pass, is_exhausted, starting, with_targets}
-use Rattle.sc_hosts.specs.Effects.{acked, after_call, after_listed, begun, created, created_later, created_leg, discarded, flagged, played_by, proxied, proxied_request, proxying, sent, with_draft, with_timer}
-use Rattle.sc_hosts.specs.Finishing.{finished, is_ended, is_session_ready, lightened, outcome, outcome_of, session_in_play, swept, swept_one, without_acks}
+use Rattle.sc_hosts.specs.Effects.{view_with_ack as acked, after_call, after_listed, first_play as begun, play_with_initial as created, created_later, created_leg, play_without_draft as discarded, with_invalidation_flag as flagged, played_by, view_with_targets as proxied, proxied_request, proxying, play_with_request as sent, with_draft, with_timer}
+use Rattle.sc_hosts.specs.Finishing.{after_all_calls as finished, is_ended, is_session_ready, without_unneeded as lightened, outcome, outcome_of, session_in_play, swept, swept_one, without_acks}
 use Rattle.sc_hosts.specs.Giving.{answering, directs, drafts_later, drafts_leg, drafts_own, forgets, is_written, writes}
 use Rattle.sc_hosts.specs.Histories.{History, after_turn, session_after}
 use Rattle.sc_hosts.specs.Legs.{change_leg, first_known, first_leg, first_session, first_view, fresh, in_dialog, new_leg}
-use Rattle.sc_hosts.specs.Looking.{change_request, change_session, in_state, is_proxy, removed, request_in, session_in, unlinked}
+use Rattle.sc_hosts.specs.Looking.{change_request, change_session, in_state, is_proxy, without_sip_session as removed, request_in, session_in, without_link as unlinked}
 use Rattle.sc_hosts.specs.Messages.{bare_answer}
-use Rattle.sc_hosts.specs.Preparing.{kept_of, prepared, proxy_of}
+use Rattle.sc_hosts.specs.Preparing.{kept_of, prepared_session as prepared, proxy_of}
 use Rattle.sc_hosts.specs.PreparingResponses.{change_proxy, is_invalid}
-use Rattle.sc_hosts.specs.RefusalParts.{draft_in, known_session, name_refusal, named}
+use Rattle.sc_hosts.specs.RefusalParts.{draft_in, known_session, name_refusal, sessions_in_call as named}
 use Rattle.sc_hosts.specs.Refusals.{begun_by, own_refusal, refusal}
 use Rattle.sc_hosts.specs.Sessions.{Turn}
-use Rattle.sc_hosts.specs.ViewChanges.{answered, invalidated, is_owed, linked, new_session, own_session, settled_requests, tidy, with_own_session}
+use Rattle.sc_hosts.specs.ViewChanges.{view_with_answer as answered, view_without as invalidated, is_owed, with_link as linked, new_session, own_session, settled_requests, tidy, with_own_session}
 use Rattle.sc_hosts.specs.Words.{too_many_hops}
-use Rattle.sc_hosts.specs.Working.{ack_with, acknowledges, cancels, dialog_in, does, does_by, invalidates, keeps_sent, proxies, proxies_first, sends, sends_in, sends_initial, sends_later, sends_written, starts, worked, worked_all}
+use Rattle.sc_hosts.specs.Working.{ack_with, acknowledges, cancels, dialog_in, effects_of_call as does, does_by, invalidates, keeps_sent, proxies, proxies_first, sends, sends_in, sends_initial, sends_later, sends_written, starts, after_one_call as worked, worked_all}
 use Rattle.sc_walked.proofs.WalkParts.{each-map}
 use Rattle.sc_lasting.proofs.Began.{or-left, or-right}
 use Rattle.sc_lasting.proofs.Parts.{linked-each, unlinked-each}

@@ -27,10 +27,10 @@ use Rattle.sc_state.specs.declared.queue.Queued.TheVariants as queued
 use Rattle.sc_state.specs.declared.session.Session.{Session}
 use Rattle.sc_state.specs.declared.working.Play.{Play}
 use Rattle.sc_state.specs.declared.working.Prepared.{Prepared}
-use Rattle.sc_grammar.specs.Written.{Bytes}
+use Rattle.sc_tokens.specs.Bytes.{Bytes}
 use Rattle.sc_model.specs.BestResponses.{server_error}
 use Rattle.sc_model.specs.SessionStates.{ack}
-use Rattle.sc_hosts.specs.Effects.{after_listed, begun}
+use Rattle.sc_hosts.specs.Effects.{after_listed, first_play}
 use Rattle.sc_hosts.specs.Finishing.{outcome}
 use Rattle.sc_hosts.specs.Histories.{as_session}
 use Rattle.sc_hosts.specs.Inboxes.{is_full}
@@ -38,16 +38,16 @@ use Rattle.sc_hosts.specs.Legs.{is_low, leg_of, session_for}
 use Rattle.sc_hosts.specs.Looking.{is_proxy, session_in}
 use Rattle.sc_hosts.specs.Messages.{on_branch, passed_request}
 use Rattle.sc_hosts.specs.Nets.{deliver_first, host_at}
-use Rattle.sc_hosts.specs.Preparing.{prepared}
-use Rattle.sc_hosts.specs.PreparingRequests.{next_id, refused}
+use Rattle.sc_hosts.specs.Preparing.{prepared_session}
+use Rattle.sc_hosts.specs.PreparingRequests.{next_id, refusal_orders}
 use Rattle.sc_hosts.specs.Refusals.{refusal}
-use Rattle.sc_hosts.specs.Steps.{live_at, ringing_at, stepped}
+use Rattle.sc_hosts.specs.Steps.{before_delivery, live_at, ringing_at}
 use Rattle.sc_hosts.specs.Transacting.{branch_of, method_of, top_via}
 use Rattle.sc_hosts.specs.Words.{does_not_exist, unavailable}
 use Rattle.sc_paths.specs.Moments.{Got, Moment, given_in, got_in}
 use Rattle.sc_lasting.specs.Lasting.{All}
 use Rattle.sc_keyed.specs.Keyed.{IsIn}
-use Rattle.sc_stopped.specs.Stopped.{RefusesFirst, returned}
+use Rattle.sc_stopped.specs.Stopped.{RefusesFirst, net_with_return}
 use Rattle.sc_onward.specs.Onward.{AnswersLast, ComesToProxy, PassesLast, TurnsTo}
 
 -- ## In the turn of its session
@@ -69,7 +69,7 @@ EndsThere sess play (one ∷ made) =
 -- what a turn at this moment shows of a later request that came with this event
 abbrev pub shown_of : Config → List ℕ → Session → ℕ → Request → ℕ → Prepared
 shown_of config ringing session number request now =
-    prepared config ringing session
+    prepared_session config ringing session
     (record { number = number; event = queued.Request request }) now
 
 -- what the session's turn gives for it
@@ -104,7 +104,7 @@ pub record IsAnsweredBack (setup : Setup) (net : Net Session) (entry : Entry) (r
   pub count : ℕ
   pub first : slice_get (after_deliveries setup count net).wire 0 ≡ Some entry
   pub answered : deliver_first as_session setup (after_deliveries setup count net)
-      ≡ returned setup.config entry code reason request (after_deliveries setup count net)
+      ≡ net_with_return setup.config entry code reason request (after_deliveries setup count net)
 
 -- as the wire of this net is delivered, the request of this session comes to the host of that one
 -- when as many events wait for that one as may, and is answered 503
@@ -155,7 +155,7 @@ ComesBack setup moment app request order code =
 -- the net of the moment as the wire begins to be delivered
 abbrev pub put_out : Setup → Moment → Net Session
 put_out setup moment =
-    stepped as_session setup moment.step (record moment.before { sent = [] })
+    before_delivery as_session setup moment.step (record moment.before { sent = [] })
 
 -- what comes of a request that a session sends by this order, by an own URI that names this
 -- session, and that isn't queued there. That session doesn't live before the step: the container
@@ -202,13 +202,13 @@ IsRefusedFirst setup moment got to turn code reason =
     RefusesFirst setup.config (ringing_at got.app (host_at got.app.host moment.before))
     turn.live.session
     (record { number = got.waiting.number; event = queued.Request turn.request }) turn.now
-    turn.made turn.end (refused got.waiting.number code reason turn.request)
+    turn.made turn.end (refusal_orders got.waiting.number code reason turn.request)
 
 -- a call of the turn of the moment that is accepted ends this SipSession
 abbrev pub IsEndedIn : (setup : Setup) (moment : Moment) (got : Got) (to : AppId)
     → TurnsTo setup moment got to → SessId → Type 0
 IsEndedIn setup moment got to turn sess =
-    EndsThere sess (begun (shown_at setup moment got to turn).view) turn.made
+    EndsThere sess (first_play (shown_at setup moment got to turn).view) turn.made
 
 -- what stops a later request on its way, and the answer there. No SipSession of the session has its
 -- dialog: the turn answers 481. Its number is too low: 500. Its SipSession isn't a proxy's: the

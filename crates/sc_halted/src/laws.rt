@@ -10,11 +10,11 @@ ghost use Rattle.sc_state.specs.declared.queue.Queued.TheVariants as queued;
 ghost use Rattle.sc_state.specs.declared.queue.Waiting.{Waiting};
 ghost use Rattle.sc_state.specs.declared.session.Session.{Session};
 ghost use Rattle.sc_model.specs.Names.{IsOf64};
-ghost use Rattle.sc_hosts.specs.Effects.{begun};
+ghost use Rattle.sc_hosts.specs.Effects.{first_play};
 ghost use Rattle.sc_hosts.specs.Finishing.{goodbye, outcome};
 ghost use Rattle.sc_hosts.specs.Histories.{as_history, as_session};
 ghost use Rattle.sc_hosts.specs.PreparingResponses.{is_invalid};
-ghost use Rattle.sc_hosts.specs.Runs.{IsLawful, chained};
+ghost use Rattle.sc_hosts.specs.Runs.{IsLawful, net_from};
 ghost use Rattle.sc_hosts.specs.Working.{worked_all};
 ghost use Rattle.sc_paths.specs.Moments.{Got, Moment, moments};
 ghost use Rattle.sc_ways.specs.Ways.{AreSmallDraws};
@@ -33,14 +33,14 @@ pub fn later_requests_are_passed_on_or_answered()
         (request : Request) (now : ℕ) (made : List CallRecord) (end : End) → AreCounted session
         → (comes : ComesToProxy session request)
         → EndsThere comes.found.id
-        (begun (shown_of config ringing session number request now).view) made
+        (first_play (shown_of config ringing session number request now).view) made
         → AnswersIn number 500 request
         (given_for config ringing session number request now made end) }
     ensures onward { (config : Config) (ringing : List ℕ) (session : Session) (number : ℕ)
         (request : Request) (now : ℕ) (made : List CallRecord) (end : End) (hops : ℕ)
         → AreCounted session → (comes : ComesToProxy session request)
         → (EndsThere comes.found.id
-        (begun (shown_of config ringing session number request now).view) made → ⊥)
+        (first_play (shown_of config ringing session number request now).view) made → ⊥)
         → is_invalid
         (worked_all config (shown_of config ringing session number request now) made).known
         comes.found.id ≡ false
@@ -51,7 +51,7 @@ pub fn later_requests_are_passed_on_or_answered()
         (request : Request) (now : ℕ) (made : List CallRecord) (end : End) → AreCounted session
         → (comes : ComesToProxy session request)
         → (EndsThere comes.found.id
-        (begun (shown_of config ringing session number request now).view) made → ⊥)
+        (first_play (shown_of config ringing session number request now).view) made → ⊥)
         → is_invalid
         (worked_all config (shown_of config ringing session number request now) made).known
         comes.found.id ≡ false
@@ -62,7 +62,7 @@ pub fn later_requests_are_passed_on_or_answered()
         (request : Request) (now : ℕ) (made : List CallRecord) (end : End) (hops : ℕ)
         → AreCounted session → (comes : ComesToProxy session request)
         → (EndsThere comes.found.id
-        (begun (shown_of config ringing session number request now).view) made → ⊥)
+        (first_play (shown_of config ringing session number request now).view) made → ⊥)
         → is_invalid
         (worked_all config (shown_of config ringing session number request now) made).known
         comes.found.id ≡ false
@@ -96,7 +96,7 @@ pub fn later_requests_are_passed_on_or_answered()
 pub fn later_requests_go_on_or_are_answered()
     ensures session { (setup : Setup) (epoch began : ℕ) (journal : List Step)
         → IsLawful as_session setup epoch began journal
-        → AreSmallNumbers setup epoch (chained as_session setup epoch began journal)
+        → AreSmallNumbers setup epoch (net_from as_session setup epoch began journal)
         → AreSmallDraws setup (moments setup epoch began journal)
         → (place : ℕ) (moment : Moment) (got : Got) (to : AppId)
         → slice_get (moments setup epoch began journal) place ≡ Some moment
@@ -104,7 +104,7 @@ pub fn later_requests_go_on_or_are_answered()
         → ComesNext moment got to ⊎ IsHalted setup moment got to turn }
     ensures history { (setup : Setup) (epoch began : ℕ) (journal : List Step)
         → IsLawful (as_history setup.config) setup epoch began journal
-        → AreSmallNumbers setup epoch (chained as_session setup epoch began journal)
+        → AreSmallNumbers setup epoch (net_from as_session setup epoch began journal)
         → AreSmallDraws setup (moments setup epoch began journal)
         → (place : ℕ) (moment : Moment) (got : Got) (to : AppId)
         → slice_get (moments setup epoch began journal) place ≡ Some moment

@@ -5,10 +5,10 @@ use Rattle.std.specs.Option.{option_map_or}
 use Rattle.std.proofs.lemmas.List.Folds.{list_all-append}
 use Rattle.sc_tokens.specs.Bytes.{Bytes}
 use Rattle.sc_tokens.specs.Tokens.{is_line_break, is_one_line}
-use Rattle.sc_tokens.specs.Blanks.{trimmed}
+use Rattle.sc_tokens.specs.Blanks.{without_blanks as trimmed}
 use Rattle.sc_syntax.specs.declared.scan.Scan.{Scan}
 use Rattle.sc_syntax.specs.Scanning.{parts}
-use Rattle.sc_syntax.specs.SpelledUris.{led}
+use Rattle.sc_syntax.specs.SpelledUris.{behind_sign as led}
 use Rattle.sc_syntax.specs.SpelledParts.{Padded}
 use Rattle.sc_syntax.proofs.BlankLaws.{both, and_true, trimmed_is_padded}
 use Rattle.sc_syntax.proofs.ListedLaws.{glued, parts_text, some_part}

@@ -9,7 +9,7 @@ use Rattle.sc_tokens.specs.Tokens.{is_one_line}
 use Rattle.sc_tokens.specs.HeaderTokens.{IsDisplay}
 use Rattle.sc_value.specs.declared.parts.Param.{Param}
 use Rattle.sc_value.specs.ParamRules.{IsLineParam, AreHeaderParams}
-use Rattle.sc_syntax.specs.SpelledUris.{led}
+use Rattle.sc_syntax.specs.SpelledUris.{behind_sign as led}
 use Rattle.sc_syntax.specs.SpelledParts.{header_param, IsParamSpelled}
 use Rattle.sc_syntax.specs.UriParts.{sent_at}
 use Rattle.sc_syntax.specs.Scanning.{with_first, all_read}

@@ -10,9 +10,10 @@ use Rattle.sc_value.specs.declared.parts.Address.{Address}
 use Rattle.sc_value.specs.declared.parts.Contact.{Contact}
 use Rattle.sc_value.specs.declared.parts.Contact.TheVariants.{Star, At}
 use Rattle.sc_value.specs.declared.parts.CSeq.{CSeq}
-use Rattle.sc_grammar.specs.Written.{Bytes, version, signed_text, param_text, params_text, ended_text, port_text, uri_text, address_text, contact_text, via_text, cseq_text}
+use Rattle.sc_tokens.specs.Bytes.{Bytes}
+use Rattle.sc_grammar.specs.Written.{version, signed_text, param_text, params_text, ended_text, port_text, uri_text, address_text, contact_text, via_text, cseq_text}
 use Rattle.sc_uri_text.proofs.WrittenLaws.{written_is_spelled}
-use Rattle.sc_syntax.specs.SpelledUris.{led, IsPortSpelled, IsUriSpelled}
+use Rattle.sc_syntax.specs.SpelledUris.{behind_sign as led, IsPortSpelled, IsUriSpelled}
 use Rattle.sc_syntax.specs.SpelledParts.{IsBlanks, Padded, AreLed, AreListed, header_param, AreParamsSpelled}
 use Rattle.sc_syntax.specs.SpelledVias.{IsViaSpelled}
 use Rattle.sc_syntax.specs.SpelledAddresses.{IsAddressIn, IsContactSpelled}

@@ -4,7 +4,7 @@ ghost use Rattle.std.specs.Prelude.{◌≡◌, ◌≤◌, length};
 ghost use Rattle.std.specs.List.{list_all};
 ghost use Rattle.std.specs.Option.{option_copied, option_map};
 ghost use Rattle.sc_tokens.specs.HeaderTokens.{is_display_byte};
-ghost use Rattle.sc_syntax.specs.Addresses.{enclosed, in_brackets, named_in, quoted_named, token_named, unless_empty};
+ghost use Rattle.sc_syntax.specs.Addresses.{in_brackets, named_in, quoted_named, token_named, unless_empty, uri_in_brackets};
 ghost use Rattle.sc_head_text.specs.Seen.{seen};
 
 use sc_ascii::{begins, cut, is_blank, is_token_byte, quoted_end, trim};
@@ -89,9 +89,9 @@ fn in_brackets(text: &[u8]) -> Option<&[u8]>
 }
 
 // Up to the closing bracket, which ends the text.
-#[tactic(auto, unfolding(sc_syntax::specs::Addresses::enclosed, sc_tokens::specs::Hosts::is_none_left))]
+#[tactic(auto, unfolding(sc_syntax::specs::Addresses::uri_in_brackets, sc_tokens::specs::Hosts::is_none_left))]
 fn enclosed(text: &[u8]) -> Option<&[u8]>
-    ensures { option_copied result ≡ enclosed text.now }
+    ensures { option_copied result ≡ uri_in_brackets text.now }
 {
     match cut(text, b'>') {
         (uri, Some(rest)) if rest.is_empty() => Some(uri),

@@ -1,7 +1,7 @@
 //! The first word of a text.
 
 ghost use Rattle.std.specs.Prelude.{◌≡◌};
-ghost use Rattle.sc_tokens.specs.Blanks.{first_word, behind_word};
+ghost use Rattle.sc_tokens.specs.Blanks.{behind_word, first_word};
 
 use sc_ascii::{trim, word_len};
 

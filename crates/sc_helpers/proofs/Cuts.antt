@@ -1,6 +1,6 @@
 -- The first piece of a text, and what stands behind it.
 use Rattle.std.proofs.Common.{◌≡◌, ℕ, false, Option, None, Some, List, [], ◌∷◌, refl, ap}
-use Rattle.sc_grammar.specs.Written.{Bytes}
+use Rattle.sc_tokens.specs.Bytes.{Bytes}
 use Rattle.sc_tokens.specs.Cuts.{before, after, pieces}
 use Rattle.sc_syntax.proofs.CutLaws.{pieces_more, pieces_last}
 use Rattle.sc_hosts.specs.Offers.{offer_in}

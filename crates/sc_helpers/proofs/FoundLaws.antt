@@ -8,7 +8,7 @@ use Rattle.sc_value.specs.declared.ids.TimerId.{TimerId}
 use Rattle.sc_terms.specs.declared.views.View.{View}
 use Rattle.sc_terms.specs.declared.views.TimerView.{TimerView}
 use Rattle.sc_terms.specs.declared.calls.Call.TheVariants as calls
-use Rattle.sc_grammar.specs.Written.{Bytes}
+use Rattle.sc_tokens.specs.Bytes.{Bytes}
 use Rattle.sc_syntax.proofs.CutLaws.{none_some, some_same}
 use Rattle.sc_hosts.specs.HelperParts.{accepted_then, cancel_then, remove_then}
 use Rattle.sc_hosts.specs.Looking.{is_timer, timer_in}

@@ -2,8 +2,8 @@
 use Rattle.std.proofs.Common.{◌≡◌, true, false, ◌||◌, Option, None, Some, refl, sym, ◌∙◌}
 use Rattle.std.specs.List.{list_any}
 use Rattle.sc_tokens.specs.Names.{same_name}
-use Rattle.sc_grammar.specs.Written.{Bytes}
-use Rattle.sc_tokens.specs.Blanks.{trimmed}
+use Rattle.sc_tokens.specs.Bytes.{Bytes}
+use Rattle.sc_tokens.specs.Blanks.{without_blanks as trimmed}
 use Rattle.sc_tokens.specs.Cuts.{before, after}
 use Rattle.sc_syntax.proofs.CutLaws.{pieces_more, pieces_last}
 use Rattle.sc_hosts.specs.HelperParts.{items_of}

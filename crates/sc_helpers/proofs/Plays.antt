@@ -3,7 +3,7 @@ use Rattle.std.proofs.Common.{◌≡◌, None, refl, sym, ap, subst, ◌∙◌}
 use Rattle.sc_terms.specs.declared.calls.Call.{Call}
 use Rattle.sc_terms.specs.declared.calls.CallAnswer.{CallAnswer}
 use Rattle.sc_state.specs.declared.working.Play.{Play}
-use Rattle.sc_hosts.specs.Effects.{accepted, after_listed, answer_by, answer_of}
+use Rattle.sc_hosts.specs.Effects.{answer_to_call as accepted, after_listed, answer_by, answer_of}
 use Rattle.sc_hosts.specs.Refusals.{refusal}
 use Rattle.sc_hosts.specs.Scripting.{Script, Done, Make, is_refused}
 use Rattle.sc_turn.specs.Working.{Working, play_of, after_made, IsAccepted as IsTaken}

@@ -9,8 +9,8 @@ use Rattle.sc_terms.specs.declared.calls.CallAnswer.{CallAnswer}
 use Rattle.sc_terms.specs.declared.calls.CallAnswer.TheVariants as answers
 use Rattle.sc_terms.specs.declared.calls.Refusal.{Refusal}
 use Rattle.sc_terms.specs.declared.calls.Refusal.TheVariants.{NoMemory}
-use Rattle.sc_hosts.specs.Effects.{accepted}
-use Rattle.sc_grammar.specs.Written.{Bytes}
+use Rattle.sc_hosts.specs.Effects.{answer_to_call as accepted}
+use Rattle.sc_tokens.specs.Bytes.{Bytes}
 use Rattle.sc_hosts.specs.HelperParts.{accepted_then, send_in}
 use Rattle.sc_hosts.specs.RefusalParts.{MOST_CALLS}
 use Rattle.sc_hosts.specs.Scripting.{Script, Done, Make, is_refused, only, where_some, with_number}

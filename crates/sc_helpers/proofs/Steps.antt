@@ -10,7 +10,7 @@ use Rattle.sc_terms.specs.declared.calls.CallAnswer.TheVariants as answers
 use Rattle.sc_terms.specs.declared.calls.Refusal.{Refusal}
 use Rattle.sc_terms.specs.declared.calls.Refusal.TheVariants.{NoMemory}
 use Rattle.sc_hosts.specs.Scripting.{Script, Done, Make, is_refused, only, with_number}
-use Rattle.sc_grammar.specs.Written.{Bytes}
+use Rattle.sc_tokens.specs.Bytes.{Bytes}
 use Rattle.sc_hosts.specs.HelperParts.{accepted_then, send_in}
 use Rattle.sc_turn.specs.Working.{Working, after_made, Answers, IsAccepted, IsRefused}
 use Rattle.sc_apps.proofs.Playing as playing

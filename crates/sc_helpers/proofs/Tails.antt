@@ -9,7 +9,7 @@ use Rattle.sc_terms.specs.declared.calls.CallAnswer.{CallAnswer}
 use Rattle.sc_terms.specs.declared.calls.CallAnswer.TheVariants as answers
 use Rattle.sc_terms.specs.declared.calls.Refusal.{Refusal}
 use Rattle.sc_state.specs.declared.working.Play.{Play}
-use Rattle.sc_hosts.specs.Effects.{accepted}
+use Rattle.sc_hosts.specs.Effects.{answer_to_call as accepted}
 use Rattle.sc_hosts.specs.HelperParts.{accepted_then}
 use Rattle.sc_hosts.specs.Scripting.{Script, Done, is_refused}
 use Rattle.sc_turn.specs.Working.{Working, play_of, after_made}

@@ -1,7 +1,7 @@
 -- What three pieces tell, and that others tell nothing.
 use Rattle.std.proofs.Common.{◌≡◌, false, Option, None, List, [], ◌∷◌, refl, ap, sym, ◌∙◌}
 use Rattle.std.proofs.lemmas.Bool.{false≢true}
-use Rattle.sc_grammar.specs.Written.{Bytes}
+use Rattle.sc_tokens.specs.Bytes.{Bytes}
 use Rattle.sc_tokens.specs.Cuts.{pieces}
 use Rattle.sc_hosts.specs.SessionTimers.{Timed, timed_in, timed_of}
 use Rattle.sc_hosts.specs.Subscriptions.{subscription_in}

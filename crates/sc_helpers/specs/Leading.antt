@@ -3,7 +3,7 @@ use Rattle.std.specs.Prelude.{ℕ, Bool, true, false, Option, None, Some, option
 use Rattle.sc_value.specs.declared.ids.TimerId.{TimerId}
 use Rattle.sc_terms.specs.declared.views.View.{View}
 use Rattle.sc_terms.specs.declared.calls.Call.TheVariants as calls
-use Rattle.sc_grammar.specs.Written.{Bytes}
+use Rattle.sc_tokens.specs.Bytes.{Bytes}
 use Rattle.sc_hosts.specs.Looking.{timer_in}
 use Rattle.sc_hosts.specs.Scripting.{Script}
 use Rattle.sc_hosts.specs.HelperParts.{accepted_then}

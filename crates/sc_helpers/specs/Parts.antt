@@ -3,7 +3,7 @@ use Rattle.std.specs.Prelude.{ℕ, List, [], ◌∷◌, Bool, true, false, ◌&&
 use Rattle.std.specs.List.{list_any}
 use Rattle.sc_value.specs.declared.parts.Field.{Field}
 use Rattle.sc_tokens.specs.Names.{same_name}
-use Rattle.sc_grammar.specs.Written.{Bytes}
+use Rattle.sc_tokens.specs.Bytes.{Bytes}
 use Rattle.sc_tokens.specs.Cuts.{pieces}
 use Rattle.sc_hosts.specs.HelperParts.{items_of, require_word, supported_word}
 

@@ -5,8 +5,8 @@ use Rattle.sc_value.specs.declared.no_memory.NoMemory as no
 use Rattle.sc_terms.specs.declared.calls.Call.{Call}
 use Rattle.sc_terms.specs.declared.calls.Refusal.{Refusal}
 use Rattle.sc_terms.specs.declared.calls.Refusal.TheVariants.{NoMemory}
-use Rattle.sc_hosts.specs.Effects.{accepted}
-use Rattle.sc_hosts.specs.Scripting.{Script, Done, Make, with_number}
+use Rattle.sc_hosts.specs.Effects.{answer_to_call}
+use Rattle.sc_hosts.specs.Scripting.{Done, Make, Script, with_number}
 use Rattle.sc_turn.specs.Working.{Working, play_of, after_made, IsAccepted, IsRefused}
 use Rattle.sc_helpers.specs.declared.stopping.Stopped.{Stopped}
 
@@ -16,8 +16,8 @@ use Rattle.sc_helpers.specs.declared.stopping.Stopped.{Stopped}
 unfoldable pub GoesThrough : Script → Working → Working → Type 0
 GoesThrough Done old new = new ≡ old
 GoesThrough (Make call next) old new =
-    IsAccepted call old (accepted (play_of old) call) (after_made call old)
-    × GoesThrough (next (accepted (play_of old) call)) (after_made call old) new
+    IsAccepted call old (answer_to_call (play_of old) call) (after_made call old)
+    × GoesThrough (next (answer_to_call (play_of old) call)) (after_made call old) new
 
 -- the turn refused the first call of the script
 unfoldable pub IsFirstRefused : Script → Working → Refusal → Working → Type 0
@@ -31,8 +31,8 @@ StopsAfter zero script old refused new =
     ((refused ≡ NoMemory) × (new ≡ old)) ⊎ IsFirstRefused script old refused new
 StopsAfter (suc made) Done old refused new = ⊥
 StopsAfter (suc made) (Make call next) old refused new =
-    IsAccepted call old (accepted (play_of old) call) (after_made call old)
-    × StopsAfter made (next (accepted (play_of old) call)) (after_made call old) refused new
+    IsAccepted call old (answer_to_call (play_of old) call) (after_made call old)
+    × StopsAfter made (next (answer_to_call (play_of old) call)) (after_made call old) refused new
 
 -- the calls of the script went through, or they stopped
 unfoldable pub IsDone : Script → Working → Result (Unit {0}) Stopped → Working → Type 0

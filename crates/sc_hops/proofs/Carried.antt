@@ -31,17 +31,17 @@ use Rattle.sc_state.specs.declared.orders.Order.{Order}
 use Rattle.sc_state.specs.declared.orders.Order.TheVariants as orders
 use Rattle.sc_state.specs.declared.queue.Queued.{Queued}
 use Rattle.sc_state.specs.declared.queue.Queued.TheVariants as queued
-use Rattle.sc_grammar.specs.Written.{Bytes}
+use Rattle.sc_tokens.specs.Bytes.{Bytes}
 use Rattle.sc_model.specs.Dialogs.{tag_of}
 use Rattle.sc_model.specs.OwnHosts.{is_own}
 use Rattle.sc_model.specs.DialogRequests.{cancel}
 use Rattle.sc_hosts.specs.Destinations.{next_uri}
 use Rattle.sc_hosts.specs.Messages.{cancel_of}
-use Rattle.sc_hosts.specs.Nets.{host_at, change_host, put, put_reply, placed, queued_at, queue_for, tell_own, send_to, leave_for, leave, begin_by, client_at, named_host, with_routes, send_named, send_later, peer_of_host, peer_of_place, acknowledge, send_cancel, cancel_by, cancel_for, respond_by, obey, obeyed, is_busy, deliver_at, deliver_entry, deliver_first, weight}
-use Rattle.sc_hosts.specs.Runs.{delivered}
+use Rattle.sc_hosts.specs.Nets.{host_at, change_host, with_message as put, put_reply, with_host_after as placed, queued_at, queue_for, tell_own, send_to, leave_for, leave, begin_by, client_at, named_host, with_routes, send_named, send_later, peer_of_host, peer_of_place, acknowledge, send_cancel, cancel_by, cancel_for, respond_by, obey, after_orders as obeyed, is_busy, deliver_at, deliver_entry, deliver_first, weight}
+use Rattle.sc_hosts.specs.Runs.{after_delivery as delivered}
 use Rattle.sc_hosts.specs.Sessions.{Form}
 use Rattle.sc_hosts.specs.Settle.{steps, settle}
-use Rattle.sc_hosts.specs.Taking.{named_live, is_named_live, names, own_uri, unrouted, takes}
+use Rattle.sc_hosts.specs.Taking.{named_live, is_named_live, names, own_uri, without_own_route as unrouted, takes}
 use Rattle.sc_hosts.specs.TakingResponses.{cancelling}
 use Rattle.sc_hosts.specs.Transacting.{is_client, tidied, pass_client, with_client, method_of}
 use Rattle.sc_lasting.specs.Lasting.{All}

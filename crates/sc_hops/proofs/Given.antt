@@ -21,18 +21,18 @@ use Rattle.sc_state.specs.declared.session.Session.{Session}
 use Rattle.sc_state.specs.declared.working.Prepared.{Prepared}
 use Rattle.sc_state.specs.declared.working.Working.{Working}
 use Rattle.sc_tokens.specs.Names.{same_bytes}
-use Rattle.sc_grammar.specs.Written.{Bytes}
+use Rattle.sc_tokens.specs.Bytes.{Bytes}
 use Rattle.sc_model.specs.Dialogs.{tag_of}
 use Rattle.sc_model.specs.OwnHosts.{is_own}
 use Rattle.sc_model.specs.SessionStates.{ack}
-use Rattle.sc_hosts.specs.Acting.{all_act, drafts_ended, faulted, passes_later}
+use Rattle.sc_hosts.specs.Acting.{all_act, drafts_ended, after_fault as faulted, passes_later}
 use Rattle.sc_hosts.specs.Destinations.{next_uri}
-use Rattle.sc_hosts.specs.Finishing.{finished, outcome, outcome_of}
+use Rattle.sc_hosts.specs.Finishing.{after_all_calls as finished, outcome, outcome_of}
 use Rattle.sc_hosts.specs.Legs.{change_leg, is_low, leg_of, session_for}
 use Rattle.sc_hosts.specs.Looking.{is_proxy, is_request, request_in, same_request, session_in}
 use Rattle.sc_hosts.specs.Messages.{on_branch, passed_request}
-use Rattle.sc_hosts.specs.Preparing.{prepared, prepared_for}
-use Rattle.sc_hosts.specs.PreparingRequests.{next_id, prepared_request, refused, showing, silent, taken, taken_in, too_low}
+use Rattle.sc_hosts.specs.Preparing.{prepared_session as prepared, prepared_for}
+use Rattle.sc_hosts.specs.PreparingRequests.{next_id, prepared_request, refusal_orders as refused, showing, silent, prepared_for_request as taken, taken_in, too_low}
 use Rattle.sc_hosts.specs.Working.{next_branch, worked_all}
 use Rattle.sc_walked.proofs.WalkCalls.{session_at, worked_all-walks}
 use Rattle.sc_walked.proofs.WalkEnds.{all_act-goes, done-any, drafts_ended-goes, faulted-goes}

@@ -16,12 +16,12 @@ use Rattle.sc_state.specs.declared.session.Known.{Known}
 use Rattle.sc_state.specs.declared.session.Session.{Session}
 use Rattle.sc_state.specs.declared.working.Draft.{Draft}
 use Rattle.sc_state.specs.declared.working.Play.{Play}
-use Rattle.sc_hosts.specs.Effects.{created_leg, proxied, proxied_request, sent_view, with_draft}
+use Rattle.sc_hosts.specs.Effects.{created_leg, view_with_targets as proxied, proxied_request, sent_view, with_draft}
 use Rattle.sc_hosts.specs.Legs.{new_leg}
-use Rattle.sc_hosts.specs.Looking.{is_request, removed, request_in, unlinked}
-use Rattle.sc_hosts.specs.PreparingRequests.{next_id, received, request_view}
+use Rattle.sc_hosts.specs.Looking.{is_request, without_sip_session as removed, request_in, without_link as unlinked}
+use Rattle.sc_hosts.specs.PreparingRequests.{next_id, with_received_request as received, request_view}
 use Rattle.sc_hosts.specs.Refusals.{refusal}
-use Rattle.sc_hosts.specs.ViewChanges.{linked, new_session, with_own_session}
+use Rattle.sc_hosts.specs.ViewChanges.{with_link as linked, new_session, with_own_session}
 use Rattle.sc_hosts.specs.Working.{proxies}
 use Rattle.sc_walked.specs.SessionWalks.{Brings, IsSameRequest, IsShownAgain, SessionLaws, sent_kept, with_legs}
 use Rattle.sc_lasting.specs.Lasting.{All, Numbered}

@@ -23,7 +23,7 @@ use Rattle.sc_state.specs.declared.queue.Queued.{Queued}
 use Rattle.sc_state.specs.declared.queue.Queued.TheVariants as queued
 use Rattle.sc_state.specs.declared.queue.Waiting.{Waiting}
 use Rattle.sc_state.specs.declared.session.Session.{Session}
-use Rattle.sc_grammar.specs.Written.{Bytes}
+use Rattle.sc_tokens.specs.Bytes.{Bytes}
 use Rattle.sc_model.specs.OwnHosts.{is_own}
 use Rattle.sc_hosts.specs.EventLists.{waiting_in}
 use Rattle.sc_hosts.specs.Finishing.{outcome}
@@ -33,7 +33,7 @@ use Rattle.sc_hosts.specs.Messages.{kin}
 use Rattle.sc_hosts.specs.Nets.{host_at}
 use Rattle.sc_hosts.specs.Runs.{after_step}
 use Rattle.sc_hosts.specs.Steps.{live_at, outcome_by, ringing_at, turn_of}
-use Rattle.sc_hosts.specs.Taking.{unrouted}
+use Rattle.sc_hosts.specs.Taking.{without_own_route as unrouted}
 use Rattle.sc_lives.specs.Numbers.{AreNumbered, IsNumbered, IsNumberedAt}
 use Rattle.sc_lives.proofs.NumberedNets.{host_at-numbered}
 use Rattle.sc_lives.proofs.Serials.{found-rising}
@@ -143,7 +143,7 @@ module _ (setup : Setup) (net : Net Session) (app : AppId) (live : Live Session)
   pub turn-fits : live_at app net ≡ Some live → slice_get live.inbox 0 ≡ Some event → Numbered live.session → AreNumbered net
       → ((app : AppId) → IsBetween (waiting_in app net) 0 net.count) → net.wire ≡ []
       → All IsUntagged (outcome_by as_session setup.config live.session (turn_of (record net { sent = [] }) app event now made end)).orders
-      → Holds {S = Session} (WayAt setup.config live.session now request) IsAny HasMoreVias (PassedAt setup.config live.session now request) setup net.epoch net.count (passed-kinds setup.config live.session now request) (after_step as_session setup net (steps.Turn app number now made end))
+      → Holds {S = Session} (WayAt setup.config live.session now request) IsAny HasMoreVias (PassedAt setup.config live.session now request) setup net.epoch net.count (passed-kinds setup.config live.session now request) (after_step as_session setup net (steps.Turn end app number now made))
   turn-fits lives first ok numbered within quiet untagged =
       let Sent : Request → Type 0 = PassedAt setup.config live.session now request in
       let Way : Request → Type 0 = WayAt setup.config live.session now request in
@@ -170,7 +170,7 @@ undated setup epoch live request now app queued.Ready fits = tt
 
 -- of what the turn of a later request queues
 pub turn-passes : (setup : Setup) (net : Net Session) (app : AppId) (number : ℕ) (request : Request) (now : ℕ) (made : List CallRecord) (end : End) → IsSettled net
-    → (takes : TakesLater setup net app number request now made end) → (place : ℕ) (host : Host Session) → host_at place (after_step as_session setup net (steps.Turn app number now made end)) ≡ Some host
+    → (takes : TakesLater setup net app number request now made end) → (place : ℕ) (host : Host Session) → host_at place (after_step as_session setup net (steps.Turn end app number now made)) ≡ Some host
     → AreFit (IsFit HasMoreVias (IsPassedBy setup.config takes.live.session request) setup.config net.epoch) net.count place host.sessions
 turn-passes setup net app number request now made end settled takes place host at =
     let holds = turn-fits setup net app takes.live number request now made end takes.lives takes.first takes.below settled.numbered settled.within settled.quiet takes.untagged in

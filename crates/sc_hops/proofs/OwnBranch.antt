@@ -20,7 +20,7 @@ use Rattle.sc_state.specs.declared.orders.Order.{Order}
 use Rattle.sc_state.specs.declared.orders.Order.TheVariants as orders
 use Rattle.sc_state.specs.declared.queue.Waiting.{Waiting}
 use Rattle.sc_state.specs.declared.session.Session.{Session}
-use Rattle.sc_grammar.specs.Written.{Bytes}
+use Rattle.sc_tokens.specs.Bytes.{Bytes}
 use Rattle.sc_hosts.specs.Histories.{as_session}
 use Rattle.sc_hosts.specs.Messages.{kin}
 use Rattle.sc_hosts.specs.Nets.{host_at, with_routes}
@@ -108,7 +108,7 @@ pub branch-turn : (setup : Setup) (net : Net Session) (app : AppId) (live : Live
     → IsSettled net → live_at app net ≡ Some live → slice_get live.inbox 0 ≡ Some waiting
     → slice_get (outcome_by as_session setup.config live.session (turn_of (record net { sent = [] }) app waiting now made end)).orders place ≡ Some order → Sends request order
     → AreOtherBranches request (outcome_by as_session setup.config live.session (turn_of (record net { sent = [] }) app waiting now made end)).orders place → HasNoClient request net
-    → Holds {S = Session} (GoesAsBranch request) (GoesAsBranch request) (HasBranchOf request) (GoesAs request) setup net.epoch net.count (branch-kinds request) (after_step as_session setup net (steps.Turn app event now made end))
+    → Holds {S = Session} (GoesAsBranch request) (GoesAsBranch request) (HasBranchOf request) (GoesAs request) setup net.epoch net.count (branch-kinds request) (after_step as_session setup net (steps.Turn end app event now made))
 branch-turn setup net app live waiting event now made end place request order settled lives first at sends others none =
     turn-holds {S = Session} (GoesAsBranch request) (GoesAsBranch request) (HasBranchOf request) (GoesAs request) setup net.epoch net.count (branch-kinds request) as_session app net live waiting event now made end lives first
     (given-ordered _ place setup.config request order at sends others)
@@ -120,7 +120,7 @@ branch-turn setup net app live waiting event now made end place request order se
 
 -- as a law
 pub turn-sends : (setup : Setup) (net : Net Session) (app : AppId) (event now : ℕ) (made : List CallRecord) (end : End) (place : ℕ) (request : Request) → IsSettled net
-    → SendsLater setup net app now made end place request → (number : ℕ) (host : Host Session) → host_at number (after_step as_session setup net (steps.Turn app event now made end)) ≡ Some host
+    → SendsLater setup net app now made end place request → (number : ℕ) (host : Host Session) → host_at number (after_step as_session setup net (steps.Turn end app event now made)) ≡ Some host
     → AreFit (IsFit (HasBranchOf request) (GoesAs request) setup.config net.epoch) net.count number host.sessions
 turn-sends setup net app event now made end place request settled out number host at =
     let holds = branch-turn setup net app out.live out.waiting event now made end place request out.order settled out.lives out.first out.at out.sends out.others out.clients in

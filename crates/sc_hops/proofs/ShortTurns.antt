@@ -12,7 +12,7 @@ use Rattle.sc_state.specs.declared.orders.Order.{Order}
 use Rattle.sc_state.specs.declared.working.Prepared.{Prepared}
 use Rattle.sc_state.specs.declared.working.Working.{Working}
 use Rattle.sc_model.specs.DialogRequests.{ack_request, later_head, later_request, next_request}
-use Rattle.sc_hosts.specs.Acting.{all_act, drafts_ended, faulted}
+use Rattle.sc_hosts.specs.Acting.{all_act, drafts_ended, after_fault as faulted}
 use Rattle.sc_hosts.specs.Messages.{on_branch, own_via}
 use Rattle.sc_hosts.specs.Working.{worked_all}
 use Rattle.sc_lasting.specs.Lasting.{All}

@@ -23,16 +23,16 @@ use Rattle.sc_state.specs.declared.queue.Queued.{Queued}
 use Rattle.sc_state.specs.declared.queue.Queued.TheVariants as queued
 use Rattle.sc_state.specs.declared.queue.Waiting.{Waiting}
 use Rattle.sc_tokens.specs.Names.{same_bytes}
-use Rattle.sc_grammar.specs.Written.{Bytes}
+use Rattle.sc_tokens.specs.Bytes.{Bytes}
 use Rattle.sc_model.specs.SessionStates.{invite}
 use Rattle.sc_model.specs.Dialogs.{tag_of}
 use Rattle.sc_model.specs.DialogRequests.{cancel}
 use Rattle.sc_hosts.proofs.EachSort.{takes-by}
-use Rattle.sc_hosts.specs.Inboxes.{is_live, live_in, queue, quiet, replying, with_event}
+use Rattle.sc_hosts.specs.Inboxes.{is_live, live_in, queue, without_answer as quiet, replying, with_event}
 use Rattle.sc_hosts.specs.Messages.{ack_of, cancel_of, kin, trying_response}
 use Rattle.sc_hosts.specs.Sessions.{Form}
-use Rattle.sc_hosts.specs.Taking.{cancelled, last_again, again_if, repeated, begun_live, refuse, named_live, own_uri, unrouted, tried, with_server, with_trying, queue_later, begun, take_initial, takes}
-use Rattle.sc_hosts.specs.TakingResponses.{cancelling, told, told_by, with_reply, response_for, response_to, take_response}
+use Rattle.sc_hosts.specs.Taking.{take_cancel as cancelled, last_again, again_if, take_repeated as repeated, begun_live, refuse, named_live, own_uri, without_own_route as unrouted, server_after_trying as tried, with_server, with_trying, queue_later, take_new as begun, take_initial, takes}
+use Rattle.sc_hosts.specs.TakingResponses.{cancelling, take_provisional as told, told_by, with_reply, response_for, response_to, take_response}
 use Rattle.sc_hosts.specs.Transacting.{client_for, client_passed, has_final, is_answered_by, is_server, method_of, tidied, pass_client, pass_server}
 use Rattle.sc_hosts.specs.Words.{trying}
 use Rattle.sc_lasting.specs.Lasting.{All}

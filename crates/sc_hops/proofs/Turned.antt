@@ -18,10 +18,10 @@ use Rattle.sc_state.specs.declared.queue.Waiting.{Waiting}
 use Rattle.sc_state.specs.declared.session.Session.{Session}
 use Rattle.sc_state.specs.declared.session.Way.{Way}
 use Rattle.sc_hosts.specs.Inboxes.{is_live}
-use Rattle.sc_hosts.specs.Nets.{change_host, obeyed}
+use Rattle.sc_hosts.specs.Nets.{change_host, after_orders as obeyed}
 use Rattle.sc_hosts.specs.Runs.{after_step}
 use Rattle.sc_hosts.specs.Sessions.{Form, Turn}
-use Rattle.sc_hosts.specs.Steps.{closed_turn, invalidated, live_at, outcome_by, stepped, turn_of, turned, turned_live, turns, turns_first, with_ready, without_live}
+use Rattle.sc_hosts.specs.Steps.{closed_turn, without_application as invalidated, live_at, outcome_by, before_delivery as stepped, turn_of, net_after_turn as turned, turned_live, turns, turns_first, with_ready, without_live}
 use Rattle.sc_hosts.specs.Transacting.{tidied}
 use Rattle.sc_lasting.specs.Lasting.{All}
 use Rattle.sc_lasting.proofs.Parts.{all-filter, all-first, all-removed}
@@ -92,7 +92,7 @@ module _ {S : Type 0} (Way Sound Told Sent : Request → Type 0) (setup : Setup)
   pub turn-holds : (form : Form S) (app : AppId) (net : Net S) (live : Live S) (waiting : Waiting) (event now : ℕ) (made : List CallRecord) (end : End)
       → live_at app net ≡ Some live → slice_get live.inbox 0 ≡ Some waiting
       → All (IsOrdered setup.config Way Sound) (outcome_by form setup.config live.session (turn_of (record net { sent = [] }) app waiting now made end)).orders
-      → Holding (record net { sent = [] }) → Holding (after_step form setup net (steps.Turn app event now made end))
+      → Holding (record net { sent = [] }) → Holding (after_step form setup net (steps.Turn end app event now made))
   unfolding after_step stepped turns turns_first
   turn-holds form app net live waiting event now made end lives first ok holds =
       let start : Net S = record net { sent = [] } in

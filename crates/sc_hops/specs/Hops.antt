@@ -26,7 +26,7 @@ use Rattle.sc_state.specs.declared.queue.Queued.{Queued}
 use Rattle.sc_state.specs.declared.queue.Queued.TheVariants as queued
 use Rattle.sc_state.specs.declared.queue.Waiting.{Waiting}
 use Rattle.sc_state.specs.declared.session.Session.{Session}
-use Rattle.sc_grammar.specs.Written.{Bytes}
+use Rattle.sc_tokens.specs.Bytes.{Bytes}
 use Rattle.sc_model.specs.Dialogs.{tag_of}
 use Rattle.sc_model.specs.OwnHosts.{is_own}
 use Rattle.sc_model.specs.DialogRequests.{cancel}
@@ -38,7 +38,7 @@ use Rattle.sc_hosts.specs.Looking.{is_proxy, session_in}
 use Rattle.sc_hosts.specs.Messages.{kin, on_branch, passed_request}
 use Rattle.sc_hosts.specs.Nets.{host_at, with_routes}
 use Rattle.sc_hosts.specs.Steps.{live_at, outcome_by, turn_of}
-use Rattle.sc_hosts.specs.Taking.{names, own_uri, unrouted}
+use Rattle.sc_hosts.specs.Taking.{names, own_uri, without_own_route}
 use Rattle.sc_hosts.specs.Transacting.{same_top, method_of}
 use Rattle.sc_lives.specs.Numbers.{AreNumbered}
 use Rattle.sc_once.specs.Growing.{IsBetween}
@@ -60,7 +60,7 @@ pub record IsBrought (Sent : Request → Type 0) (config : Config) (epoch : ℕ)
     (request : Request) : Type 0 where
   pub sent : Request
   pub is : Sent sent
-  pub popped : request ≡ unrouted config sent
+  pub popped : request ≡ without_own_route config sent
   pub uri : Uri
   pub by : own_uri config sent ≡ Some uri
   pub named : names epoch app uri ≡ true
@@ -123,7 +123,8 @@ pub record AreKinds (Way Sound Told Sent : Request → Type 0) : Type 0 where
       → Sound (kin method to request)
   pub way_sound : (request : Request) → Way request → Sound request
   pub sent : (config : Config) (request : Request) → Way request
-      → is_some (tag_of request.head.to) ≡ true → Told (unrouted config request) → Sent request
+      → is_some (tag_of request.head.to) ≡ true → Told (without_own_route config request)
+      → Sent request
 
 -- ## What a turn gives to send
 

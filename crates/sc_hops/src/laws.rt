@@ -23,7 +23,7 @@ pub fn turns_pass_on_what_came()
         (now : ℕ) (made : List CallRecord) (end : End) → IsSettled net
         → (takes : TakesLater setup net app number request now made end)
         → (place : ℕ) (host : Host Session)
-        → host_at place (after_step as_session setup net (steps.Turn app number now made end))
+        → host_at place (after_step as_session setup net (steps.Turn end app number now made))
         ≡ Some host
         → AreFit
         (IsFit HasMoreVias (IsPassedBy setup.config takes.live.session request) setup.config
@@ -38,7 +38,7 @@ pub fn requests_go_their_way()
     ensures { (setup : Setup) (net : Net Session) (app : AppId) (event now : ℕ)
         (made : List CallRecord) (end : End) (place : ℕ) (request : Request) → IsSettled net
         → SendsLater setup net app now made end place request → (number : ℕ) (host : Host Session)
-        → host_at number (after_step as_session setup net (steps.Turn app event now made end))
+        → host_at number (after_step as_session setup net (steps.Turn end app event now made))
         ≡ Some host
         → AreFit (IsFit (HasBranchOf request) (GoesAs request) setup.config net.epoch) net.count
         number host.sessions }

@@ -20,7 +20,7 @@ use Rattle.sc_state.specs.declared.host.Server.{Server}
 use Rattle.sc_state.specs.declared.host.Taken.{Taken}
 use Rattle.sc_state.specs.declared.net.Note.{Note}
 use Rattle.sc_state.specs.declared.queue.Queued.{Queued}
-use Rattle.sc_grammar.specs.Written.{Bytes}
+use Rattle.sc_tokens.specs.Bytes.{Bytes}
 use Rattle.sc_model.specs.Responses.{response_to, response_head}
 use Rattle.sc_parts.specs.declared.transactions.ClientItem.{ClientItem}
 use Rattle.sc_parts.specs.declared.transactions.ClientItem.TheVariants as client_items
@@ -34,13 +34,13 @@ use Rattle.sc_state.specs.declared.host.Peer.TheVariants as peers
 use Rattle.sc_state.specs.declared.net.Entry.{Entry}
 use Rattle.sc_state.specs.declared.net.Net.{Net}
 use Rattle.sc_hosts.proofs.SettleLaws.{Falls, settle-ends, settle-next, settle-idle}
-use Rattle.sc_hosts.specs.Runs.{delivered}
-use Rattle.sc_hosts.specs.Nets.{put, put_reply, placed, host_at, is_busy, deliver_at, deliver_entry, deliver_first, weight, rank, rank_of_request, rank_of_response}
+use Rattle.sc_hosts.specs.Runs.{after_delivery as delivered}
+use Rattle.sc_hosts.specs.Nets.{with_message as put, put_reply, with_host_after as placed, host_at, is_busy, deliver_at, deliver_entry, deliver_first, weight, rank, rank_of_request, rank_of_response}
 use Rattle.sc_hosts.specs.Sessions.{Form}
-use Rattle.sc_hosts.specs.Inboxes.{quiet, queue, replying}
-use Rattle.sc_hosts.specs.TakingResponses.{told, told_by, with_reply, response_for, response_to as answer_to, take_response}
+use Rattle.sc_hosts.specs.Inboxes.{without_answer as quiet, queue, replying}
+use Rattle.sc_hosts.specs.TakingResponses.{take_provisional as told, told_by, with_reply, response_for, response_to as answer_to, take_response}
 use Rattle.sc_hosts.proofs.EachSort.{by_sort}
-use Rattle.sc_hosts.specs.Taking.{refuse, cancelled, repeated, again_if, last_again, with_trying, queue_later, begun, take_initial, sort_of, sort_at, taken_as, takes}
+use Rattle.sc_hosts.specs.Taking.{refuse, take_cancel as cancelled, take_repeated as repeated, again_if, last_again, with_trying, queue_later, take_new as begun, take_initial, sort_of, sort_at, taken_as, takes}
 use Rattle.sc_hosts.specs.Transacting.{method_of, takes_from, is_over, state_of_client, is_answered_by, client_for, out_of_client, is_invite_client}
 use Rattle.sc_model.specs.DialogRequests.{cancel}
 

@@ -21,10 +21,10 @@ use Rattle.sc_model.specs.SessionStates.{ack}
 use Rattle.sc_model.specs.DialogRequests.{cancel}
 use Rattle.sc_hosts.specs.declared.sorts.Sort.{Sort}
 use Rattle.sc_hosts.specs.declared.sorts.Sort.TheVariants.{Cancels, Acks, Repeats, Later, Begins, Nobodys}
-use Rattle.sc_hosts.specs.Arrivals.{taken_at, edge_answer, initial_arrives, sort_in, arrives_as, arrived}
-use Rattle.sc_hosts.specs.Inboxes.{quiet}
+use Rattle.sc_hosts.specs.Arrivals.{taken_at, edge_answer, initial_arrives, sort_in, arrives_as, after_arrival as arrived}
+use Rattle.sc_hosts.specs.Inboxes.{without_answer as quiet}
 use Rattle.sc_hosts.specs.Sessions.{Form}
-use Rattle.sc_hosts.specs.Taking.{cancelled, repeated, refuse, own_uri, named_live, queue_later, take_initial, is_never_initial, server_for, sort_of, sort_at, taken_as, takes}
+use Rattle.sc_hosts.specs.Taking.{take_cancel as cancelled, take_repeated as repeated, refuse, own_uri, named_live, queue_later, take_initial, is_never_initial, server_for, sort_of, sort_at, taken_as, takes}
 use Rattle.sc_hosts.specs.Transacting.{method_of, pass_server}
 use Rattle.sc_hosts.specs.Words.{does_not_exist}
 

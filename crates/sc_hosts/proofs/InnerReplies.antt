@@ -23,14 +23,14 @@ use Rattle.sc_state.specs.declared.net.Entry.{Entry}
 use Rattle.sc_state.specs.declared.net.Net.{Net}
 use Rattle.sc_state.specs.declared.net.Note.{Note}
 use Rattle.sc_state.specs.declared.queue.Queued.{Queued}
-use Rattle.sc_grammar.specs.Written.{Bytes}
+use Rattle.sc_tokens.specs.Bytes.{Bytes}
 use Rattle.sc_hosts.proofs.Deliveries.{found-passes, both}
-use Rattle.sc_hosts.specs.Nets.{put, put_reply, placed, host_at, deliver_at, deliver_entry, deliver_first}
+use Rattle.sc_hosts.specs.Nets.{with_message as put, put_reply, with_host_after as placed, host_at, deliver_at, deliver_entry, deliver_first}
 use Rattle.sc_hosts.specs.Sessions.{Form}
-use Rattle.sc_hosts.specs.Inboxes.{quiet, queue, replying}
-use Rattle.sc_hosts.specs.TakingResponses.{told, told_by, with_reply, response_for, response_to as answer_to, take_response}
+use Rattle.sc_hosts.specs.Inboxes.{without_answer as quiet, queue, replying}
+use Rattle.sc_hosts.specs.TakingResponses.{take_provisional as told, told_by, with_reply, response_for, response_to as answer_to, take_response}
 use Rattle.sc_hosts.proofs.EachSort.{takes-by}
-use Rattle.sc_hosts.specs.Taking.{refuse, cancelled, repeated, again_if, last_again, with_trying, queue_later, begun, take_initial, server_for, takes}
+use Rattle.sc_hosts.specs.Taking.{refuse, take_cancel as cancelled, take_repeated as repeated, again_if, last_again, with_trying, queue_later, take_new as begun, take_initial, server_for, takes}
 use Rattle.sc_hosts.specs.Transacting.{method_of, takes_from, is_over, state_of_client, state_of_server, same_top, is_kin, is_invite_server, is_cancelled_by, is_acked_by, is_repeated_by, is_answered_by, client_for, out_of_client}
 use Rattle.sc_model.specs.SessionStates.{ack}
 use Rattle.sc_model.specs.DialogRequests.{cancel}

@@ -7,7 +7,7 @@ use Rattle.sc_state.specs.declared.net.Net.{Net}
 use Rattle.sc_hosts.proofs.InnerReplies.{delivery-sends-nothing}
 use Rattle.sc_hosts.proofs.SettleLaws.{settle-keeps}
 use Rattle.sc_hosts.specs.Nets.{is_busy, deliver_first, weight}
-use Rattle.sc_hosts.specs.Runs.{delivered, after_step, chained_from, all_sent_from, all_sent, start, chained}
+use Rattle.sc_hosts.specs.Runs.{after_delivery as delivered, after_step, chained_from, all_sent_from, all_sent, start, net_from as chained}
 use Rattle.sc_hosts.specs.Sessions.{Form}
 
 -- deliveries send nothing outside

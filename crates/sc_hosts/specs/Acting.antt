@@ -26,21 +26,21 @@ use Rattle.sc_state.specs.declared.session.Kept.{Kept}
 use Rattle.sc_state.specs.declared.session.Known.{Known}
 use Rattle.sc_state.specs.declared.working.Draft.{Draft}
 use Rattle.sc_state.specs.declared.working.Working.{Working}
-use Rattle.sc_grammar.specs.Written.{Bytes}
+use Rattle.sc_tokens.specs.Bytes.{Bytes}
 use Rattle.sc_model.specs.BestResponses.{best_response, server_error}
 use Rattle.sc_model.specs.Dialogs.{tag_of, subscribe}
 use Rattle.sc_model.specs.Transactions.{is_success}
 use Rattle.sc_model.specs.SessionStates.{is_final, ack}
-use Rattle.sc_hosts.specs.Branches.{starting, new_branch, new_proxy, records_route, can_pass, can_choose, cancelled_now, is_exhausted}
-use Rattle.sc_hosts.specs.ViewChanges.{answered, answered_in, is_owed, tidy}
+use Rattle.sc_hosts.specs.Branches.{can_choose, can_pass, cancelled_now, is_exhausted, new_branch, new_proxy, records_route, starting}
+use Rattle.sc_hosts.specs.ViewChanges.{answered_in, is_owed, tidy, view_with_answer}
 use Rattle.sc_hosts.specs.DerivedSessions.{is_of}
-use Rattle.sc_hosts.specs.Looking.{change_session, same_session, request_in, is_early, is_initial_state, in_state, removed}
+use Rattle.sc_hosts.specs.Looking.{change_session, in_state, is_early, is_initial_state, request_in, same_session, without_sip_session}
 use Rattle.sc_hosts.specs.Messages.{bare_answer, on_branch, proxied_request, passed_request}
 use Rattle.sc_hosts.specs.Preparing.{kept_of, proxy_of}
 use Rattle.sc_hosts.specs.PreparingResponses.{change_proxy, is_invalid}
 use Rattle.sc_hosts.specs.States.{after_initial}
 use Rattle.sc_hosts.specs.Giving.{answering, giving}
-use Rattle.sc_hosts.specs.Working.{next_branch, event_of}
+use Rattle.sc_hosts.specs.Working.{event_of, next_branch}
 use Rattle.sc_hosts.specs.Words.{too_many_hops}
 
 -- the turn with another view
@@ -48,15 +48,15 @@ abbrev pub in_view : View → Working → Working
 in_view view working = record working { play = record working.play { view = view } }
 
 -- a branch is drawn
-abbrev pub drawn : View → View
-drawn view = record view { counter = view.counter + 1 }
+abbrev pub with_next_branch : View → View
+with_next_branch view = record view { counter = view.counter + 1 }
 
 -- ## Drafts that were left
 
 -- the view without a draft that was left unsent; the SipSession that an initial one made goes with
 -- it
 unfoldable pub without_left : View → Draft → View
-without_left view draft = if draft.initial then removed draft.sess view else view
+without_left view draft = if draft.initial then without_sip_session draft.sess view else view
 
 -- the turn without the drafts that the application left unsent
 unfoldable pub drafts_ended : Working → Working
@@ -70,15 +70,15 @@ unfoldable pub fault_at : Config → Option RequestView → Working → Working
 fault_at config None working = working
 fault_at config (Some request) working =
     if is_owed request && not request.proxied
-    then in_view (answered (Some request) 500 working.play.view)
+    then in_view (view_with_answer (Some request) 500 working.play.view)
     (answering config (Some request) (bare_answer 500 server_error) working) else working
 
 -- what follows from how the turn ended: only a fault of the application has an answer
-unfoldable pub faulted : Config → Option ReqId → End → Working → Working
-faulted config req ends.Fine working = working
-faulted config req ends.Fault working =
+unfoldable pub after_fault : Config → Option ReqId → End → Working → Working
+after_fault config req ends.Fine working = working
+after_fault config req ends.Fault working =
     fault_at config (option_and_then (request_in working.play.view) req) working
-faulted config req ends.Starved working = working
+after_fault config req ends.Starved working = working
 
 -- ## Proxies act
 
@@ -88,15 +88,15 @@ in_proxy req change working = record working { known = change_proxy req change w
 
 -- a target gets the next branch: the router is asked to go on behind the place of the application,
 -- the branch is drawn, and the proxy has it in place of the target (RFC 3261 section 16.6)
-unfoldable pub started : Config → Proxy → Working → Uri → Working
-started config proxy working uri =
+unfoldable pub after_start : Config → Proxy → Working → Uri → Working
+after_start config proxy working uri =
     let branch : ℕ = next_branch working in
     let sent : Request = on_branch config working.play.view branch
     (proxied_request config working.play.view (records_route proxy) uri proxy.request) in
     let asks : Working = giving
     (orders.Begin branch Continue working.known.region (Some (working.known.order + 1)) sent ∷ [])
     working in
-    let draws : Working = in_view (drawn working.play.view) asks in
+    let draws : Working = in_view (with_next_branch working.play.view) asks in
     in_proxy proxy.req
     (λ p.
     record p {
@@ -194,8 +194,8 @@ unfoldable pub rested_branch : Branch → Branch
 rested_branch branch = record branch { cancelled = false }
 
 -- the proxy between turns: nothing waits to be forwarded, to be cancelled or to be looked at
-unfoldable pub rested : Proxy → Proxy
-rested proxy =
+unfoldable pub at_rest : Proxy → Proxy
+at_rest proxy =
     record proxy {
       branches = map rested_branch proxy.branches;
       passing = None;
@@ -212,17 +212,17 @@ sends_cancels proxy working =
     giving (map (λ branch. orders.Cancel branch) (cancelled_now (proxy_now proxy working))) working
 
 -- new branches, then what is forwarded, then CANCELs in the order of branches
-unfoldable pub acted : Config → Proxy → Working → Working
-acted config proxy working =
-    let begun : Working = fold (started config proxy) working (starting proxy) in
+unfoldable pub after_proxy : Config → Proxy → Working → Working
+after_proxy config proxy working =
+    let begun : Working = fold (after_start config proxy) working (starting proxy) in
     let passed : Working = passes (proxy_now proxy begun) proxy.passing begun in
     let chosen : Working = chooses (proxy_now proxy passed) passed in
-    in_proxy proxy.req rested (closes (proxy_now proxy chosen) (sends_cancels proxy chosen))
+    in_proxy proxy.req at_rest (closes (proxy_now proxy chosen) (sends_cancels proxy chosen))
 
 -- a proxy whose SipSession the application ended does nothing
 unfoldable pub acts : Config → Working → Proxy → Working
 acts config working proxy =
-    if is_invalid working.known proxy.sess then working else acted config proxy working
+    if is_invalid working.known proxy.sess then working else after_proxy config proxy working
 
 -- in order of the requests' numbers
 unfoldable pub all_act : Config → Working → Working
@@ -234,7 +234,7 @@ all_act config working = fold (acts config) working working.known.proxies
 unfoldable pub hops_spent : Config → RequestView → Working → Working
 hops_spent config request working =
     if is_owed request
-    then in_view (answered (Some request) 483 working.play.view)
+    then in_view (view_with_answer (Some request) 483 working.play.view)
     (answering config (Some request) (bare_answer 483 too_many_hops) working) else working
 
 -- a proxy of one branch
@@ -250,7 +250,7 @@ unfoldable pub passed_on : Config → Kept → Working → Working
 passed_on config kept working =
     let sent : Request = on_branch config working.play.view (next_branch working)
     (passed_request kept.request) in
-    in_view (drawn working.play.view)
+    in_view (with_next_branch working.play.view)
     (if same_bytes kept.request.method ack then giving (orders.Acknowledge sent ∷ []) working
     else giving (orders.Send (next_branch working) sent ∷ [])
     (record working { known = record working.known { proxies = working.known.proxies ++ sent_proxy kept (next_branch working) ∷ [] } }))

@@ -17,13 +17,13 @@ use Rattle.sc_state.specs.Hosts.{Host}
 use Rattle.sc_state.specs.declared.host.Peer.TheVariants as peers
 use Rattle.sc_state.specs.declared.net.Net.{Net}
 use Rattle.sc_state.specs.declared.net.Note.{Note}
-use Rattle.sc_grammar.specs.Written.{Bytes}
+use Rattle.sc_tokens.specs.Bytes.{Bytes}
 use Rattle.sc_model.specs.Choices.{choice_of}
 use Rattle.sc_model.specs.Names.{edge_tag}
 use Rattle.sc_hosts.specs.declared.sorts.Sort.{Sort}
 use Rattle.sc_hosts.specs.declared.sorts.Sort.TheVariants.{Cancels, Acks, Repeats, Later, Begins, Nobodys}
 use Rattle.sc_hosts.specs.Messages.{bad_response, own_response}
-use Rattle.sc_hosts.specs.Nets.{host_at, placed, put, named_host}
+use Rattle.sc_hosts.specs.Nets.{host_at, named_host, with_host_after, with_message}
 use Rattle.sc_hosts.specs.Routes.{Position, position_of, unrouted_initial, popped_route}
 use Rattle.sc_hosts.specs.Sessions.{Form}
 use Rattle.sc_hosts.specs.Taking.{own_uri, server_for, sort_of, takes}
@@ -44,7 +44,7 @@ unfoldable pub host_takes : {S : Type 0} → Form S → Setup → Place → Opti
     → Option (Host S) → Net S → Net S
 host_takes form setup from noted message number None net = net
 host_takes form setup from noted message number (Some host) net =
-    placed number
+    with_host_after number
     (takes form setup.config
     (record {
       host = number;
@@ -64,7 +64,7 @@ taken_at form setup from noted message number net =
 unfoldable pub edge_answer : {S : Type 0} → Config → Place → ℕ → Bytes → Request → Net S → Net S
 edge_answer config from code reason request net =
     if same_bytes (method_of request) ack then net
-    else put 0 (peers.Outside from)
+    else with_message 0 (peers.Outside from)
     (messages.Response (own_response (edge_tag config.salt) code reason request)) None net
 
 -- a request without To tag begins a session where the router has an application for it
@@ -129,10 +129,10 @@ response_by form setup from response (Some number) net =
     taken_at form setup from None (messages.Response response) number net
 
 -- what a message that comes from outside makes of the net
-unfoldable pub arrived : {S : Type 0} → Form S → Setup → Place → Message → Net S → Net S
-arrived form setup from (messages.Request request) net =
+unfoldable pub after_arrival : {S : Type 0} → Form S → Setup → Place → Message → Net S → Net S
+after_arrival form setup from (messages.Request request) net =
     arrives_as form setup from request (sort_in setup.config from request net) net
-arrived form setup from (messages.Response response) net =
+after_arrival form setup from (messages.Response response) net =
     response_by form setup from response
     (first_host
     (λ host.
@@ -146,4 +146,5 @@ unfoldable pub bad_by : {S : Type 0} → Config → Place → Option Answerable 
 bad_by config from None net = net
 bad_by config from (Some heads) net =
     if same_bytes heads.cseq.method ack then net
-    else put 0 (peers.Outside from) (messages.Response (bad_response config.salt heads)) None net
+    else with_message 0 (peers.Outside from) (messages.Response (bad_response config.salt heads))
+    None net

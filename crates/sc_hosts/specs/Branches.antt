@@ -98,16 +98,18 @@ unfoldable pub was_tried : List Uri → Uri → Bool
 was_tried tried uri = list_any (λ t. same_bytes (uri_text t) (uri_text uri)) tried
 
 -- those whose written text was not tried, each once
-unfoldable pub untried : List Uri → List Uri → List Uri
-untried tried [] = []
-untried tried (uri ∷ uris) =
-    if was_tried tried uri then untried tried uris else (uri ∷ untried (tried ++ uri ∷ []) uris)
+unfoldable pub new_targets : List Uri → List Uri → List Uri
+new_targets tried [] = []
+new_targets tried (uri ∷ uris) =
+    if was_tried tried uri then new_targets tried uris
+    else (uri ∷ new_targets (tried ++ uri ∷ []) uris)
 
 -- the targets that a response adds
 unfoldable pub added_targets : Proxy → Response → List Uri
 added_targets proxy response =
     if is_redirect response.code && recurses proxy && not proxy.settled
-    then take (MOST_BRANCHES - length proxy.tried) (untried proxy.tried (contacts_of response)) else
+    then take (MOST_BRANCHES - length proxy.tried) (new_targets proxy.tried (contacts_of response))
+    else
     []
 
 -- ## What a response makes of it
@@ -122,13 +124,13 @@ unfoldable pub cancelled_branch : Branch → Branch
 cancelled_branch branch = if is_open branch then record branch { cancelled = true } else branch
 
 -- no further target, and a CANCEL to each open branch
-unfoldable pub stopped : Proxy → Proxy
-stopped proxy =
+unfoldable pub without_search : Proxy → Proxy
+without_search proxy =
     record proxy { targets = []; settled = true; branches = map cancelled_branch proxy.branches }
 
 -- a 101 to 199 begins the timer again
-unfoldable pub rung : ℕ → ℕ → Proxy → Proxy
-rung number now proxy =
+unfoldable pub after_ringing : ℕ → ℕ → Proxy → Proxy
+after_ringing number now proxy =
     change_branch number (λ branch. record branch { due = branch_due proxy now }) proxy
 
 -- the branch with the code of its final response; its timer runs no more
@@ -160,21 +162,21 @@ passing_on sess response proxy =
 unfoldable pub ended_by : ℕ → SessId → Response → Proxy → Proxy
 ended_by number sess response proxy =
     let ended = with_targets (added_targets proxy response) (with_candidate response (ended_branch number response.code proxy)) in
-    if is_success response.code then passing_on sess response (stopped ended)
-    else (if is_global response.code then stopped ended else ended)
+    if is_success response.code then passing_on sess response (without_search ended)
+    else (if is_global response.code then without_search ended else ended)
 
 -- a response on a branch that has its final response, or that its timer ended: a 2xx is forwarded
 -- and ends the search, nothing else counts
 unfoldable pub after_end : SessId → Response → Proxy → Proxy
 after_end sess response proxy =
-    if is_success response.code then passing_on sess response (stopped proxy) else proxy
+    if is_success response.code then passing_on sess response (without_search proxy) else proxy
 
 -- what a response on this branch makes of the proxy, handled in this SipSession at this moment
-unfoldable pub heard : ℕ → SessId → Response → ℕ → Proxy → Proxy
-heard number sess response now proxy =
+unfoldable pub proxy_after_response : ℕ → SessId → Response → ℕ → Proxy → Proxy
+proxy_after_response number sess response now proxy =
     if not (option_map_or is_open (branch_in proxy number) false) then after_end sess response proxy
     else (if is_final response.code then ended_by number sess response proxy
-    else passing_on sess response (rung number now proxy))
+    else passing_on sess response (after_ringing number now proxy))
 
 -- ## What the application is told
 

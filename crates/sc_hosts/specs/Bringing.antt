@@ -10,7 +10,7 @@ use Rattle.sc_terms.specs.declared.charters.ListenerCharter.TheVariants as liste
 use Rattle.sc_terms.specs.declared.calls.CallRecord.{CallRecord}
 use Rattle.sc_terms.specs.declared.calls.End.{End}
 use Rattle.sc_terms.specs.declared.calls.End.TheVariants as ends
-use Rattle.sc_hosts.specs.Scripting.{IsAnswered, Script, played}
+use Rattle.sc_hosts.specs.Scripting.{IsAnswered, Script, calls_of_script}
 use Rattle.sc_hosts.specs.Charters.{answer_script, forward_script, block_script, fork_script, b2b_script, reverse_script, dial_script, ringer_script, extend_script}
 use Rattle.sc_hosts.specs.Offers.{early_script}
 use Rattle.sc_hosts.specs.SessionTimers.{timed_script}
@@ -40,7 +40,7 @@ listener_script listeners.Free view event = None
 -- the calls are those of the script, and the turn ends well; without a script any will do
 unfoldable pub Plays : View → Option Script → List CallRecord → End → Type 0
 Plays view None made end = Unit {0}
-Plays view (Some script) made end = (made ≡ played view script) × (end ≡ ends.Fine)
+Plays view (Some script) made end = (made ≡ calls_of_script view script) × (end ≡ ends.Fine)
 
 -- the listener is told of the application session's own events, the servlet of all others
 unfoldable pub is_listened : Event → Bool

@@ -22,11 +22,11 @@ use Rattle.sc_terms.specs.declared.calls.Call.TheVariants as calls
 use Rattle.sc_terms.specs.declared.calls.CallAnswer.{CallAnswer}
 use Rattle.sc_terms.specs.declared.calls.CallAnswer.TheVariants as answers
 use Rattle.sc_terms.specs.declared.calls.ProxyOptions.{ProxyOptions}
-use Rattle.sc_grammar.specs.Written.{Bytes}
+use Rattle.sc_tokens.specs.Bytes.{Bytes}
 use Rattle.sc_model.specs.SessionStates.{invite, is_final, ack}
-use Rattle.sc_hosts.specs.Looking.{request_in, partner}
+use Rattle.sc_hosts.specs.Looking.{partner, request_in}
 use Rattle.sc_hosts.specs.Words.{options, ok, ringing, forbidden, too_many_hops}
-use Rattle.sc_hosts.specs.Scripting.{Script, only, then_make, with_number, where_some, reply, same_answer, small_number, readable, param_at, uri_param, attribute, is_no_hops, is_bad_text, is_refused, Done, Make}
+use Rattle.sc_hosts.specs.Scripting.{Done, Make, Script, attribute, is_bad_text, is_no_hops, is_refused, only, param_at, readable, reply, same_answer, small_number, then_make, uri_param, where_some, with_number}
 use Rattle.sc_model.specs.BestResponses.{server_error}
 
 -- ## answer

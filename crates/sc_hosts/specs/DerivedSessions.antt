@@ -14,11 +14,11 @@ use Rattle.sc_state.specs.declared.session.Got.{Got}
 use Rattle.sc_state.specs.declared.session.Known.{Known}
 use Rattle.sc_state.specs.declared.session.Leg.{Leg}
 use Rattle.sc_state.specs.declared.session.Session.{Session}
-use Rattle.sc_grammar.specs.Written.{Bytes}
+use Rattle.sc_tokens.specs.Bytes.{Bytes}
 use Rattle.sc_model.specs.Dialogs.{tag_of, subscribe}
 use Rattle.sc_model.specs.SessionStates.{invite}
 use Rattle.sc_model.specs.Transactions.{is_success}
-use Rattle.sc_hosts.specs.Looking.{same_request, same_session, session_in, is_early, is_uac, change_session, in_state, session_count}
+use Rattle.sc_hosts.specs.Looking.{change_session, in_state, is_early, is_uac, same_request, same_session, session_count, session_in}
 use Rattle.sc_hosts.specs.Messages.{makes_dialog}
 use Rattle.sc_hosts.specs.RefusalParts.{MOST_SESSIONS}
 use Rattle.sc_hosts.specs.Legs.{first_got, leg_of, new_leg, same_tag}

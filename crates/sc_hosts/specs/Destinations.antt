@@ -11,7 +11,7 @@ use Rattle.sc_value.specs.declared.parts.Uri.TheVariants.{Sip, Other}
 use Rattle.sc_value.specs.declared.message.Request.{Request}
 use Rattle.sc_tokens.specs.Names.{same_name}
 use Rattle.sc_terms.specs.declared.settings.Config.{Config}
-use Rattle.sc_grammar.specs.Written.{Bytes}
+use Rattle.sc_tokens.specs.Bytes.{Bytes}
 
 -- the name of 127.0.0.1; compared without case
 unfoldable pub localhost : Bytes

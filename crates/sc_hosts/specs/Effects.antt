@@ -23,13 +23,13 @@ use Rattle.sc_terms.specs.declared.calls.Target.TheVariants as targets
 use Rattle.sc_terms.specs.declared.inside.Inside.{Inside}
 use Rattle.sc_state.specs.declared.working.Draft.{Draft}
 use Rattle.sc_state.specs.declared.working.Play.{Play}
-use Rattle.sc_grammar.specs.Written.{Bytes}
+use Rattle.sc_tokens.specs.Bytes.{Bytes}
 use Rattle.sc_model.specs.Settings.{moment_after}
-use Rattle.sc_hosts.specs.Looking.{same_session, is_timer, request_in, is_proxy, change_request, change_session, unlinked, removed}
+use Rattle.sc_hosts.specs.Looking.{change_request, change_session, is_proxy, is_timer, request_in, same_session, without_link, without_sip_session}
 use Rattle.sc_hosts.specs.RefusalParts.{draft_in}
 use Rattle.sc_hosts.specs.Refusals.{awaits_ack, begun_by, is_set, refusal}
 use Rattle.sc_hosts.specs.States.{ends_subscription}
-use Rattle.sc_hosts.specs.ViewChanges.{tidy, answered, invalidated, new_session, with_own_session, linked}
+use Rattle.sc_hosts.specs.ViewChanges.{new_session, tidy, view_with_answer, view_without, with_link, with_own_session}
 
 -- ## Drafts
 
@@ -54,8 +54,8 @@ abbrev pub with_view : View → Play → Play
 with_view view play = record play { view = view }
 
 -- an initial request of one's own is drafted, in a SipSession of its own
-unfoldable pub created : Ask → Play → Play
-created ask play =
+unfoldable pub play_with_initial : Ask → Play → Play
+play_with_initial ask play =
     with_draft ask.method 70 true (ends_subscription ask.method ask.fields) (new_session play.view)
     (with_view (with_own_session play.view) play)
 
@@ -69,7 +69,7 @@ unfoldable pub created_leg : Option RequestView → Play → Play
 created_leg None play = play
 created_leg (Some request) play =
     with_draft request.method (request.hops - 1) true request.ends (new_session play.view)
-    (with_view (linked request.sess (new_session play.view) (with_own_session play.view)) play)
+    (with_view (with_link request.sess (new_session play.view) (with_own_session play.view)) play)
 
 -- the draft as a request that was sent
 unfoldable pub sent_view : View → Draft → RequestView
@@ -93,20 +93,21 @@ without_draft number play =
     record play { drafts = remove_first (λ draft. draft.number == number) play.drafts }
 
 -- a request is sent: it gets its number and draws its branch
-unfoldable pub sent : ℕ → Option Draft → Play → Play
-sent number None play = play
-sent number (Some draft) play = without_draft number (with_view (record play.view {
+unfoldable pub play_with_request : ℕ → Option Draft → Play → Play
+play_with_request number None play = play
+play_with_request number (Some draft) play = without_draft number (with_view (record play.view {
   requests = play.view.requests ++ sent_view play.view draft ∷ [];
   next_request = play.view.next_request + 1;
   counter = play.view.counter + 1;
 }) play)
 
 -- an initial draft that is dropped takes its SipSession with it
-unfoldable pub discarded : ℕ → Option Draft → Play → Play
-discarded number None play = play
-discarded number (Some draft) play =
+unfoldable pub play_without_draft : ℕ → Option Draft → Play → Play
+play_without_draft number None play = play
+play_without_draft number (Some draft) play =
     without_draft number
-    (if draft.initial then with_view (tidy (removed draft.sess play.view)) play else play)
+    (if draft.initial then with_view (tidy (without_sip_session draft.sess play.view)) play
+    else play)
 
 -- ## ACK
 
@@ -116,8 +117,8 @@ without_session sess request =
     record request { unacked = remove_first (same_session sess) request.unacked }
 
 -- the ACK of the sent INVITE of lowest number draws its branch
-unfoldable pub acked : SessId → View → View
-acked sess view =
+unfoldable pub view_with_ack : SessId → View → View
+view_with_ack sess view =
     tidy
     (record view {
       requests = change_first (awaits_ack sess) (without_session sess) view.requests;
@@ -138,9 +139,9 @@ proxying session =
     else record session { role = roles.Proxy; peer_tag = None }
 
 -- the view once a received request is proxied to so many targets
-unfoldable pub proxied : Option RequestView → ℕ → View → View
-proxied None count view = view
-proxied (Some request) count view =
+unfoldable pub view_with_targets : Option RequestView → ℕ → View → View
+view_with_targets None count view = view
+view_with_targets (Some request) count view =
     change_session request.sess proxying (change_request request.id (proxied_request count) view)
 
 -- ## Timers, attributes, flags
@@ -168,9 +169,9 @@ with_attribute name value fields =
     else fields ++ record { name = name; value = value } ∷ []
 
 -- the application session, or a SipSession, goes away by itself once ready, or doesn't
-unfoldable pub flagged : Target → Bool → View → View
-flagged targets.Application flag view = record view { ready_flag = flag }
-flagged (targets.Session sess) flag view =
+unfoldable pub with_invalidation_flag : Target → Bool → View → View
+with_invalidation_flag targets.Application flag view = record view { ready_flag = flag }
+with_invalidation_flag (targets.Session sess) flag view =
     change_session sess (λ session. record session { ready_flag = flag }) view
 
 -- ## Each call
@@ -178,22 +179,22 @@ flagged (targets.Session sess) flag view =
 -- what is left of the view and the drafts after an accepted call
 unfoldable pub after_call : Play → Call → Play
 after_call play (calls.Respond req answer) =
-    with_view (answered (request_in play.view req) answer.code play.view) play
-after_call play (calls.CreateRequest ask) = created ask play
+    with_view (view_with_answer (request_in play.view req) answer.code play.view) play
+after_call play (calls.CreateRequest ask) = play_with_initial ask play
 after_call play (calls.CreateInDialog sess ask) = created_later sess ask play
 after_call play (calls.B2bCreate req uri) = created_leg (request_in play.view req) play
 after_call play (calls.SetDirective draft directive origin) = play
-after_call play (calls.Send draft) = sent draft (draft_in play draft) play
-after_call play (calls.Discard draft) = discarded draft (draft_in play draft) play
-after_call play (calls.Ack sess body) = with_view (acked sess play.view) play
+after_call play (calls.Send draft) = play_with_request draft (draft_in play draft) play
+after_call play (calls.Discard draft) = play_without_draft draft (draft_in play draft) play
+after_call play (calls.Ack sess body) = with_view (view_with_ack sess play.view) play
 after_call play (calls.Cancel req) = play
 after_call play (calls.ProxyTo req uris how) =
-    with_view (proxied (request_in play.view req) (length uris) play.view) play
+    with_view (view_with_targets (request_in play.view req) (length uris) play.view) play
 after_call play (calls.ProxyCancel req) = play
 after_call play (calls.B2bRespond sess answer) =
-    with_view (answered (begun_by play.view sess) answer.code play.view) play
-after_call play (calls.Link a b) = with_view (linked a b play.view) play
-after_call play (calls.Unlink a) = with_view (unlinked a play.view) play
+    with_view (view_with_answer (begun_by play.view sess) answer.code play.view) play
+after_call play (calls.Link a b) = with_view (with_link a b play.view) play
+after_call play (calls.Unlink a) = with_view (without_link a play.view) play
 after_call play (calls.StartTimer delay period info) =
     with_view (with_timer delay period info play.view) play
 after_call play (calls.CancelTimer id) =
@@ -208,40 +209,41 @@ after_call play (calls.RemoveAttribute name) =
     }) play
 after_call play (calls.SetExpires minutes) =
     with_view (record play.view { expires = moment_after play.view.now minutes }) play
-after_call play (calls.SetReadyFlag target flag) = with_view (flagged target flag play.view) play
-after_call play (calls.InvalidateSession sess) = with_view (invalidated sess play.view) play
+after_call play (calls.SetReadyFlag target flag) =
+    with_view (with_invalidation_flag target flag play.view) play
+after_call play (calls.InvalidateSession sess) = with_view (view_without sess play.view) play
 after_call play calls.InvalidateApplication = record play { ended = true }
 
 -- ## What a call answers
 
 -- what an accepted call answers: the number of what it made, where it made something
-unfoldable pub accepted : Play → Call → CallAnswer
-accepted play (calls.Respond req answer) = answers.Fine
-accepted play (calls.CreateRequest ask) = answers.Number (play.drafted + 1)
-accepted play (calls.CreateInDialog sess ask) = answers.Number (play.drafted + 1)
-accepted play (calls.B2bCreate req uri) = answers.Number (play.drafted + 1)
-accepted play (calls.SetDirective draft directive origin) = answers.Fine
-accepted play (calls.Send draft) = answers.Number play.view.next_request
-accepted play (calls.Discard draft) = answers.Fine
-accepted play (calls.Ack sess body) = answers.Fine
-accepted play (calls.Cancel req) = answers.Fine
-accepted play (calls.ProxyTo req uris how) = answers.Fine
-accepted play (calls.ProxyCancel req) = answers.Fine
-accepted play (calls.B2bRespond sess answer) = answers.Fine
-accepted play (calls.Link a b) = answers.Fine
-accepted play (calls.Unlink a) = answers.Fine
-accepted play (calls.StartTimer delay period info) = answers.Number play.view.next_timer
-accepted play (calls.CancelTimer id) = answers.Fine
-accepted play (calls.SetAttribute name value) = answers.Fine
-accepted play (calls.RemoveAttribute name) = answers.Fine
-accepted play (calls.SetExpires minutes) = answers.Fine
-accepted play (calls.SetReadyFlag target flag) = answers.Fine
-accepted play (calls.InvalidateSession sess) = answers.Fine
-accepted play calls.InvalidateApplication = answers.Fine
+unfoldable pub answer_to_call : Play → Call → CallAnswer
+answer_to_call play (calls.Respond req answer) = answers.Fine
+answer_to_call play (calls.CreateRequest ask) = answers.Number (play.drafted + 1)
+answer_to_call play (calls.CreateInDialog sess ask) = answers.Number (play.drafted + 1)
+answer_to_call play (calls.B2bCreate req uri) = answers.Number (play.drafted + 1)
+answer_to_call play (calls.SetDirective draft directive origin) = answers.Fine
+answer_to_call play (calls.Send draft) = answers.Number play.view.next_request
+answer_to_call play (calls.Discard draft) = answers.Fine
+answer_to_call play (calls.Ack sess body) = answers.Fine
+answer_to_call play (calls.Cancel req) = answers.Fine
+answer_to_call play (calls.ProxyTo req uris how) = answers.Fine
+answer_to_call play (calls.ProxyCancel req) = answers.Fine
+answer_to_call play (calls.B2bRespond sess answer) = answers.Fine
+answer_to_call play (calls.Link a b) = answers.Fine
+answer_to_call play (calls.Unlink a) = answers.Fine
+answer_to_call play (calls.StartTimer delay period info) = answers.Number play.view.next_timer
+answer_to_call play (calls.CancelTimer id) = answers.Fine
+answer_to_call play (calls.SetAttribute name value) = answers.Fine
+answer_to_call play (calls.RemoveAttribute name) = answers.Fine
+answer_to_call play (calls.SetExpires minutes) = answers.Fine
+answer_to_call play (calls.SetReadyFlag target flag) = answers.Fine
+answer_to_call play (calls.InvalidateSession sess) = answers.Fine
+answer_to_call play calls.InvalidateApplication = answers.Fine
 
 -- the answer of an accepted call, or the refusal
 unfoldable pub answer_by : Play → Call → Option Refusal → CallAnswer
-answer_by play call None = accepted play call
+answer_by play call None = answer_to_call play call
 answer_by play call (Some refused) = answers.Refused refused
 
 -- the answer that a call lists
@@ -260,9 +262,9 @@ after_listed play call =
     record after { listed = after.listed + 1 }
 
 -- as a turn begins
-unfoldable pub begun : View → Play
-begun view = record { view = view; drafts = []; drafted = 0; listed = 0; ended = false }
+unfoldable pub first_play : View → Play
+first_play view = record { view = view; drafts = []; drafted = 0; listed = 0; ended = false }
 
 -- the play after all calls of a list, in their order
 unfoldable pub after_calls : View → List CallRecord → Play
-after_calls view made = fold (λ play made. after_listed play made.call) (begun view) made
+after_calls view made = fold (λ play made. after_listed play made.call) (first_play view) made

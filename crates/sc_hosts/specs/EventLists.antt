@@ -17,10 +17,10 @@ use Rattle.sc_state.specs.declared.net.Net.{Net}
 use Rattle.sc_state.specs.declared.orders.Outcome.{Outcome}
 use Rattle.sc_state.specs.declared.queue.Waiting.{Waiting}
 use Rattle.sc_hosts.specs.Inboxes.{is_live}
-use Rattle.sc_hosts.specs.Nets.{change_host, obeyed}
-use Rattle.sc_hosts.specs.Runs.{after_step, start, chained, waiting_count}
+use Rattle.sc_hosts.specs.Nets.{after_orders, change_host}
+use Rattle.sc_hosts.specs.Runs.{after_step, net_from, start, waiting_count}
 use Rattle.sc_hosts.specs.Sessions.{Form, Turn}
-use Rattle.sc_hosts.specs.Steps.{live_at, outcome_by, turned_live, turn_of}
+use Rattle.sc_hosts.specs.Steps.{live_at, outcome_by, turn_of, turned_live}
 use Rattle.sc_hosts.specs.Transacting.{is_same_app}
 
 -- the numbers of the events that wait in a session
@@ -31,9 +31,10 @@ waiting_in app net =
 -- ## What a turn queues before it ends its session
 
 -- what the turn sends is sent
-unfoldable pub opened : {S : Type 0} → Form S → Setup → AppId → Turn → Outcome → Net S → Net S
-opened form setup app turn done net =
-    obeyed setup app done.orders
+unfoldable pub after_sending : {S : Type 0} → Form S → Setup → AppId → Turn → Outcome → Net S
+    → Net S
+after_sending form setup app turn done net =
+    after_orders setup app done.orders
     (change_host app.host
     (λ host.
     record host {
@@ -46,7 +47,7 @@ unfoldable pub opened_first : {S : Type 0} → Form S → Setup → AppId → Li
     → List CallRecord → End → Net S → Net S
 opened_first form setup app live None now made end net = net
 opened_first form setup app live (Some waiting) now made end net =
-    opened form setup app (turn_of net app waiting now made end)
+    after_sending form setup app (turn_of net app waiting now made end)
     (outcome_by form setup.config live.session (turn_of net app waiting now made end)) net
 
 -- the same for a session that may not live
@@ -58,7 +59,7 @@ opened_by form setup app (Some live) now made end net =
 
 -- the net as its own turn is about to end a session
 unfoldable pub before_end : {S : Type 0} → Form S → Setup → AppId → Net S → Step → Net S
-before_end form setup app net (steps.Turn other event now made end) =
+before_end form setup app net (steps.Turn end other event now made) =
     if is_same_app app other
     then opened_by form setup other (live_at other net) now made end (record net { sent = [] })
     else net
@@ -85,25 +86,27 @@ queued_from form setup app net (step ∷ steps) =
     ++ queued_from form setup app (after_step form setup net step) steps
 
 -- all events of a session, in the order in which they were queued
-unfoldable pub queued : {S : Type 0} → Form S → Setup → ℕ → ℕ → AppId → List Step → List ℕ
-queued form setup epoch began app journal =
+unfoldable pub events_of_session : {S : Type 0} → Form S → Setup → ℕ → ℕ → AppId → List Step
+    → List ℕ
+events_of_session form setup epoch began app journal =
     queued_from form setup app (start setup epoch began) journal
 
 -- ## Handled, and waiting
 
 -- the event of a step that is a turn of this session
 unfoldable pub handled_by : AppId → Step → Option ℕ
-handled_by app (steps.Turn other event now calls end) =
+handled_by app (steps.Turn end other event now calls) =
     if is_same_app app other then Some event else None
 handled_by app step = None
 
 -- those of the session's turns
-unfoldable pub handled : AppId → List Step → List ℕ
-handled app journal = filter_map (handled_by app) journal
+unfoldable pub turns_of : AppId → List Step → List ℕ
+turns_of app journal = filter_map (handled_by app) journal
 
 -- the events that wait in a session after a journal
 unfoldable pub waiting : {S : Type 0} → Form S → Setup → ℕ → ℕ → AppId → List Step → List ℕ
-waiting form setup epoch began app journal = waiting_in app (chained form setup epoch began journal)
+waiting form setup epoch began app journal =
+    waiting_in app (net_from form setup epoch began journal)
 
 -- ## Purged
 
@@ -121,8 +124,8 @@ purged_from form setup app net (step ∷ steps) =
     ++ purged_from form setup app (after_step form setup net step) steps
 
 -- those that were dropped, or answered, as the session ended
-unfoldable pub purged : {S : Type 0} → Form S → Setup → ℕ → ℕ → AppId → List Step → List ℕ
-purged form setup epoch began app journal =
+unfoldable pub dropped_events : {S : Type 0} → Form S → Setup → ℕ → ℕ → AppId → List Step → List ℕ
+dropped_events form setup epoch began app journal =
     purged_from form setup app (start setup epoch began) journal
 
 -- ## Listings
@@ -146,6 +149,6 @@ unfoldable pub listing_of : {S : Type 0} → Form S → Setup → ℕ → ℕ �
 listing_of form setup epoch began journal = record {
   epoch = epoch;
   steps = length journal;
-  live = live_from 0 (chained form setup epoch began journal).hosts;
-  waiting = waiting_count (chained form setup epoch began journal);
+  live = live_from 0 (net_from form setup epoch began journal).hosts;
+  waiting = waiting_count (net_from form setup epoch began journal);
 }

@@ -27,17 +27,17 @@ use Rattle.sc_state.specs.declared.session.Way.{Way}
 use Rattle.sc_state.specs.declared.session.Way.TheVariants.{Received, Sent}
 use Rattle.sc_state.specs.declared.working.Prepared.{Prepared}
 use Rattle.sc_state.specs.declared.working.Working.{Working}
-use Rattle.sc_grammar.specs.Written.{Bytes}
+use Rattle.sc_tokens.specs.Bytes.{Bytes}
 use Rattle.sc_model.specs.SessionStates.{invite, ack}
 use Rattle.sc_hosts.specs.Branches.{records_route}
 use Rattle.sc_hosts.specs.ViewChanges.{tidy}
-use Rattle.sc_hosts.specs.Legs.{leg_of, FIRST_SESSION}
-use Rattle.sc_hosts.specs.Looking.{same_request, same_session, request_in, session_in, is_gone, is_confirmed, is_initial_state, is_terminated, is_proxy, is_uac, removed}
+use Rattle.sc_hosts.specs.Legs.{FIRST_SESSION, leg_of}
+use Rattle.sc_hosts.specs.Looking.{is_confirmed, is_gone, is_initial_state, is_proxy, is_terminated, is_uac, request_in, same_request, same_session, session_in, without_sip_session}
 use Rattle.sc_hosts.specs.Messages.{own_response}
-use Rattle.sc_hosts.specs.Preparing.{own_tag_of, proxy_of, has_expired, prepared}
+use Rattle.sc_hosts.specs.Preparing.{has_expired, own_tag_of, prepared_session, proxy_of}
 use Rattle.sc_hosts.specs.Working.{goodbyes, worked_all}
 use Rattle.sc_hosts.specs.Words.{does_not_exist}
-use Rattle.sc_hosts.specs.Acting.{drafts_ended, faulted, all_act, passes_later}
+use Rattle.sc_hosts.specs.Acting.{after_fault, all_act, drafts_ended, passes_later}
 
 -- ## Readiness (JSR 289 sections 6.1.2.2 and 6.2.4)
 
@@ -87,7 +87,7 @@ is_ready session =
 unfoldable pub swept_one : Known → View → View → SessionView → View
 swept_one known before view session =
     if session.ready_flag && not session.gone && is_session_ready known before session
-    then removed session.id view
+    then without_sip_session session.id view
     else view
 
 -- each ready SipSession with its flag set
@@ -124,8 +124,8 @@ is_needed view leg kept (Sent branch) =
     is_some (request_in view kept.id) || can_succeed view leg kept
 
 -- the session without the requests that aren't needed any more
-unfoldable pub lightened : Session → Session
-lightened session = record session {
+unfoldable pub without_unneeded : Session → Session
+without_unneeded session = record session {
   known =
       record session.known {
         kept = filter
@@ -158,15 +158,16 @@ is_ended event working =
     || (is_ready_event event && is_ready (session_in_play working) && working.play.view.ready_flag)
 
 -- what follows the calls
-unfoldable pub finished : Config → Queued → Option ReqId → End → Working → Working
-finished config event req end working =
-    passes_later config event req (all_act config (faulted config req end (drafts_ended working)))
+unfoldable pub after_all_calls : Config → Queued → Option ReqId → End → Working → Working
+after_all_calls config event req end working =
+    passes_later config event req
+    (all_act config (after_fault config req end (drafts_ended working)))
 
 -- what a turn leaves: the session, what it sends, and whether it ends
 unfoldable pub outcome_of : Queued → Working → Outcome
 outcome_of event working = record {
   session =
-      lightened
+      without_unneeded
       (if is_ended event working then session_in_play working else swept (session_in_play working));
   orders = working.orders;
   ends = is_ended event working;
@@ -175,9 +176,9 @@ outcome_of event working = record {
 -- the outcome of a turn
 unfoldable pub outcome : Config → List ℕ → Session → Waiting → ℕ → List CallRecord → End → Outcome
 outcome config heard session waiting now made end =
-    let shown : Prepared = prepared config heard session waiting now in
+    let shown : Prepared = prepared_session config heard session waiting now in
     outcome_of waiting.event
-    (finished config waiting.event shown.req end (worked_all config shown made))
+    (after_all_calls config waiting.event shown.req end (worked_all config shown made))
 
 -- ## Goodbye: what invalidation sends
 

@@ -11,11 +11,11 @@ use Rattle.sc_tokens.specs.Names.{same_bytes, same_name}
 use Rattle.sc_terms.specs.declared.views.View.{View}
 use Rattle.sc_terms.specs.declared.calls.Call.{Call}
 use Rattle.sc_terms.specs.declared.calls.Call.TheVariants as calls
-use Rattle.sc_grammar.specs.Written.{Bytes}
-use Rattle.sc_tokens.specs.Blanks.{trimmed}
+use Rattle.sc_tokens.specs.Bytes.{Bytes}
+use Rattle.sc_tokens.specs.Blanks.{without_blanks}
 use Rattle.sc_tokens.specs.Cuts.{pieces}
 use Rattle.sc_tokens.specs.Numbers.{number_of}
-use Rattle.sc_hosts.specs.Scripting.{Script, Done, Make, only, with_number, where_some, attribute, is_refused}
+use Rattle.sc_hosts.specs.Scripting.{Done, Make, Script, attribute, is_refused, only, where_some, with_number}
 use Rattle.sc_hosts.specs.Looking.{timer_in}
 
 -- ## Texts
@@ -43,7 +43,7 @@ field_of name request =
 
 -- the items between commas
 unfoldable pub items_of : Bytes → List Bytes
-items_of value = map trimmed (pieces 44 value)
+items_of value = map without_blanks (pieces 44 value)
 
 -- the words between blanks
 unfoldable pub words_of : Bytes → List Bytes

@@ -36,18 +36,18 @@ with_event number now event live = record live {
 }
 
 -- the host took a message and answers nothing
-unfoldable pub quiet : {S : Type 0} → Host S → ℕ → Taken S
-quiet host count = record { host = host; reply = None; count = count }
+unfoldable pub without_answer : {S : Type 0} → Host S → ℕ → Taken S
+without_answer host count = record { host = host; reply = None; count = count }
 
 -- an event is queued where its session lives; else it is dropped
 unfoldable pub queue : {S : Type 0} → ℕ → ℕ → Queued → ℕ → Host S → Taken S
 queue serial now event count host =
     if is_some (live_in serial host)
-    then quiet
+    then without_answer
     (record host {
       sessions = change_first (is_live serial) (with_event (count + 1) now event) host.sessions;
     }) (count + 1)
-    else quiet host count
+    else without_answer host count
 
 -- as many events wait as may
 unfoldable pub is_full : {S : Type 0} → Live S → Bool

@@ -22,7 +22,7 @@ use Rattle.sc_state.specs.declared.session.Got.{Got}
 use Rattle.sc_state.specs.declared.session.Known.{Known}
 use Rattle.sc_state.specs.declared.session.Leg.{Leg}
 use Rattle.sc_state.specs.declared.session.Session.{Session}
-use Rattle.sc_grammar.specs.Written.{Bytes}
+use Rattle.sc_tokens.specs.Bytes.{Bytes}
 use Rattle.sc_model.specs.Dialogs.{Called, Calling, Passed, By_peer, By_self, DialogState, dialog_of, tag_of, request_target, response_target, subscribe}
 use Rattle.sc_model.specs.Names.{tag_text}
 use Rattle.sc_model.specs.SessionStates.{invite, ack}
@@ -204,21 +204,21 @@ is_low leg request =
 -- ## The dialog after a message
 
 -- the peer's last word on the target
-unfoldable pub retargeted : DialogState → Passed → DialogState
-retargeted dialog (By_peer (messages.Request request)) = record dialog {
+unfoldable pub with_target : DialogState → Passed → DialogState
+with_target dialog (By_peer (messages.Request request)) = record dialog {
   target = unwrap_or (request_target request) dialog.target;
   received = max dialog.received request.head.cseq.number;
 }
-retargeted dialog (By_peer (messages.Response response)) =
+with_target dialog (By_peer (messages.Response response)) =
     record dialog { target = unwrap_or (response_target dialog.begun_by response) dialog.target }
-retargeted dialog (By_self (messages.Request request)) =
+with_target dialog (By_self (messages.Request request)) =
     record dialog { sent = max dialog.sent request.head.cseq.number }
-retargeted dialog (By_self (messages.Response response)) = dialog
+with_target dialog (By_self (messages.Response response)) = dialog
 
 -- the dialog of the leg after a message
 unfoldable pub in_dialog : Passed → Leg → Leg
 in_dialog passed leg =
-    record leg { dialog = option_map (λ dialog. retargeted dialog passed) leg.dialog }
+    record leg { dialog = option_map (λ dialog. with_target dialog passed) leg.dialog }
 
 -- the leg after a request of the peer
 unfoldable pub with_request : Request → Leg → Leg

@@ -140,10 +140,11 @@ unlinked_from None view = view
 unlinked_from (Some other) view = change_session other (linked_to None) view
 
 -- the link of a SipSession taken away, on both sides
-unfoldable pub unlinked : SessId → View → View
-unlinked sess view = change_session sess (linked_to None) (unlinked_from (partner view sess) view)
+unfoldable pub without_link : SessId → View → View
+without_link sess view =
+    change_session sess (linked_to None) (unlinked_from (partner view sess) view)
 
 -- the SipSession gone, with its link
-unfoldable pub removed : SessId → View → View
-removed sess view =
-    change_session sess (λ session. record session { gone = true }) (unlinked sess view)
+unfoldable pub without_sip_session : SessId → View → View
+without_sip_session sess view =
+    change_session sess (λ session. record session { gone = true }) (without_link sess view)

@@ -17,11 +17,11 @@ use Rattle.sc_terms.specs.declared.calls.Answer.{Answer}
 use Rattle.sc_terms.specs.declared.calls.Ask.{Ask}
 use Rattle.sc_value.specs.declared.answerable.Answerable.{Answerable}
 use Rattle.sc_terms.specs.declared.views.View.{View}
-use Rattle.sc_grammar.specs.Written.{Bytes}
+use Rattle.sc_tokens.specs.Bytes.{Bytes}
 use Rattle.sc_model.specs.Dialogs.{sets_target, subscribe}
 use Rattle.sc_model.specs.Names.{branch_text, session_uri, edge_tag}
 use Rattle.sc_model.specs.Records.{ip_text}
-use Rattle.sc_model.specs.Responses.{kept_field, response_to, tagged, untagged, with_tag}
+use Rattle.sc_model.specs.Responses.{address_with_tag, address_without_tag, kept_field, response_to, with_tag}
 use Rattle.sc_model.specs.SessionStates.{invite, ack}
 use Rattle.sc_hosts.specs.Words.{bad_request}
 use Rattle.sc_model.specs.DialogRequests.{cancel}
@@ -83,8 +83,8 @@ asked_request call_id tag ask = record {
     via = [];
     route = [];
     record_route = [];
-    from = tagged tag ask.from;
-    to = untagged ask.to;
+    from = address_with_tag tag ask.from;
+    to = address_without_tag ask.to;
     call_id = call_id;
     cseq = record { number = 1; method = ask.method };
     contact = ask.contact;
@@ -104,8 +104,8 @@ leg_request call_id tag uri request = record {
     via = [];
     route = request.head.route;
     record_route = [];
-    from = tagged tag request.head.from;
-    to = untagged request.head.to;
+    from = address_with_tag tag request.head.from;
+    to = address_without_tag request.head.to;
     call_id = call_id;
     cseq = record { number = 1; method = request.method };
     contact = [];

@@ -33,7 +33,7 @@ use Rattle.sc_state.specs.declared.orders.Order.{Order}
 use Rattle.sc_state.specs.declared.orders.Order.TheVariants as orders
 use Rattle.sc_state.specs.declared.queue.Queued.{Queued}
 use Rattle.sc_state.specs.declared.queue.Queued.TheVariants as queued
-use Rattle.sc_grammar.specs.Written.{Bytes}
+use Rattle.sc_tokens.specs.Bytes.{Bytes}
 use Rattle.sc_model.specs.Choices.{choice_of}
 use Rattle.sc_model.specs.Names.{edge_tag}
 use Rattle.sc_model.specs.OwnHosts.{is_own}
@@ -62,24 +62,24 @@ change_host number change net = record net { hosts = change_nth number change ne
 -- ## Messages on their way
 
 -- outside at once, or onto the wire
-unfoldable pub put : {S : Type 0} → ℕ → Peer → Message → Option Note → Net S → Net S
-put sender (peers.Outside place) message noted net =
+unfoldable pub with_message : {S : Type 0} → ℕ → Peer → Message → Option Note → Net S → Net S
+with_message sender (peers.Outside place) message noted net =
     record net { sent = net.sent ++ record { place = place; message = message } ∷ [] }
-put sender (peers.Inside host) message noted net =
+with_message sender (peers.Inside host) message noted net =
     record net {
       wire = net.wire
           ++ record { sender = sender; receiver = host; message = message; note = noted } ∷ [];
     }
-put sender peers.Nowhere message noted net = net
+with_message sender peers.Nowhere message noted net = net
 
 -- what a host answers at once, sent
 unfoldable pub put_reply : {S : Type 0} → ℕ → Option Reply → Net S → Net S
 put_reply sender None net = net
-put_reply sender (Some reply) net = put sender reply.peer reply.message None net
+put_reply sender (Some reply) net = with_message sender reply.peer reply.message None net
 
 -- the host of this number took a message
-unfoldable pub placed : {S : Type 0} → ℕ → Taken S → Net S → Net S
-placed number taken net =
+unfoldable pub with_host_after : {S : Type 0} → ℕ → Taken S → Net S → Net S
+with_host_after number taken net =
     put_reply number taken.reply
     (record (change_host number (λ host. taken.host) net) { count = taken.count })
 
@@ -87,7 +87,7 @@ placed number taken net =
 unfoldable pub queued_at : {S : Type 0} → AppId → Queued → Option (Host S) → Net S → Net S
 queued_at app event None net = net
 queued_at app event (Some host) net =
-    placed app.host (queue app.serial net.moment event net.count host) net
+    with_host_after app.host (queue app.serial net.moment event net.count host) net
 
 -- an event for a session, where its host is there
 unfoldable pub queue_for : {S : Type 0} → AppId → Queued → Net S → Net S
@@ -105,7 +105,7 @@ tell_own config app branch code reason request net =
 -- a request with its client transaction
 unfoldable pub send_to : {S : Type 0} → AppId → ℕ → Peer → Option Note → Request → Net S → Net S
 send_to app branch peer noted request net =
-    put app.host peer (messages.Request request) noted
+    with_message app.host peer (messages.Request request) noted
     (change_host app.host
     (with_client
     (record {
@@ -188,7 +188,7 @@ peer_of_place (Some place) = peers.Outside place
 -- an ACK has no transaction; where it can't go it is dropped
 unfoldable pub acknowledge : {S : Type 0} → Config → AppId → Request → Net S → Net S
 acknowledge config app request net =
-    put app.host
+    with_message app.host
     (if is_own config (next_uri request) then peer_of_host (named_host (next_uri request) net)
     else peer_of_place (destination config request))
     (messages.Request request) None net
@@ -196,7 +196,7 @@ acknowledge config app request net =
 -- a CANCEL goes with its own client transaction
 unfoldable pub send_cancel : {S : Type 0} → AppId → Client → Net S → Net S
 send_cancel app client net =
-    put app.host client.peer (messages.Request (cancel_of client.request)) None
+    with_message app.host client.peer (messages.Request (cancel_of client.request)) None
     (change_host app.host (with_client (cancelling net.moment client)) net)
 
 -- a CANCEL is asked for: it goes now, or waits for a provisional response (RFC 3261 section 9.1)
@@ -234,7 +234,7 @@ unfoldable pub respond_by : {S : Type 0} → ℕ → ℕ → Response → Option
 respond_by number event response None net = net
 respond_by number event response (Some server) net =
     if is_sent (is_invite_server server) server.passed response.code
-    then put number server.peer (messages.Response response) None
+    then with_message number server.peer (messages.Response response) None
     (change_host number
     (λ host.
     tidied
@@ -264,8 +264,8 @@ obey setup app net (orders.CancelNow branch) =
     cancel_for app branch true (client_at app branch (host_at app.host net)) net
 
 -- all of them, in their order
-unfoldable pub obeyed : {S : Type 0} → Setup → AppId → List Order → Net S → Net S
-obeyed setup app given net = fold (obey setup app) net given
+unfoldable pub after_orders : {S : Type 0} → Setup → AppId → List Order → Net S → Net S
+after_orders setup app given net = fold (obey setup app) net given
 
 -- ## Deliveries
 
@@ -277,7 +277,7 @@ is_busy net = not (length net.wire == 0)
 unfoldable pub deliver_at : {S : Type 0} → Form S → Setup → Entry → Option (Host S) → Net S → Net S
 deliver_at form setup entry None net = net
 deliver_at form setup entry (Some host) net =
-    placed entry.receiver
+    with_host_after entry.receiver
     (takes form setup.config
     (record {
       host = entry.receiver;

@@ -15,13 +15,13 @@ use Rattle.sc_terms.specs.declared.views.Period.TheVariants.{Once}
 use Rattle.sc_terms.specs.declared.events.Event.{Event}
 use Rattle.sc_terms.specs.declared.events.Event.TheVariants as events
 use Rattle.sc_terms.specs.declared.calls.Call.TheVariants as calls
-use Rattle.sc_grammar.specs.Written.{Bytes}
+use Rattle.sc_tokens.specs.Bytes.{Bytes}
 use Rattle.sc_tokens.specs.Cuts.{pieces}
 use Rattle.sc_tokens.specs.Numbers.{number_of}
 use Rattle.sc_model.specs.SessionStates.{invite}
-use Rattle.sc_hosts.specs.Scripting.{Script, Done, Make, only, then_make, with_number, where_some, reply, attribute}
+use Rattle.sc_hosts.specs.Scripting.{Done, Make, Script, attribute, only, reply, then_make, where_some, with_number}
 use Rattle.sc_hosts.specs.Charters.{reply_ok}
-use Rattle.sc_hosts.specs.Looking.{same_session, request_in}
+use Rattle.sc_hosts.specs.Looking.{request_in, same_session}
 use Rattle.sc_hosts.specs.Words.{prack, ok, ringing, does_not_exist}
 use Rattle.sc_hosts.specs.HelperParts.{strict_number, field_of, words_of, require_word, lists_option, answer_with, field, accepted_then, cancel_then, cancel_first_timer}
 use Rattle.sc_model.specs.BestResponses.{server_error}

@@ -23,16 +23,16 @@ use Rattle.sc_state.specs.declared.session.Kept.{Kept}
 use Rattle.sc_state.specs.declared.session.Known.{Known}
 use Rattle.sc_state.specs.declared.session.Session.{Session}
 use Rattle.sc_state.specs.declared.working.Prepared.{Prepared}
-use Rattle.sc_grammar.specs.Written.{Bytes}
+use Rattle.sc_tokens.specs.Bytes.{Bytes}
 use Rattle.sc_model.specs.Names.{edge_tag}
-use Rattle.sc_hosts.specs.Branches.{is_supervised, has_branch, stopped, is_timed_out, to_cancel, ended_by, is_invite}
-use Rattle.sc_hosts.specs.ViewChanges.{answered}
+use Rattle.sc_hosts.specs.Branches.{ended_by, has_branch, is_invite, is_supervised, is_timed_out, to_cancel, without_search}
+use Rattle.sc_hosts.specs.ViewChanges.{view_with_answer}
 use Rattle.sc_hosts.specs.Legs.{FIRST_SESSION, session_for}
-use Rattle.sc_hosts.specs.Looking.{same_request, is_timer, request_in, session_in, timer_in}
+use Rattle.sc_hosts.specs.Looking.{is_timer, request_in, same_request, session_in, timer_in}
 use Rattle.sc_hosts.specs.Messages.{own_response}
 use Rattle.sc_hosts.specs.Words.{request_terminated, request_timeout}
-use Rattle.sc_hosts.specs.PreparingRequests.{silent, showing, showing_in, next_id, received, prepared_request}
-use Rattle.sc_hosts.specs.PreparingResponses.{is_sent_on, change_proxy, is_invalid, prepared_response}
+use Rattle.sc_hosts.specs.PreparingRequests.{next_id, prepared_request, showing, showing_in, silent, with_received_request}
+use Rattle.sc_hosts.specs.PreparingResponses.{change_proxy, is_invalid, is_sent_on, prepared_response}
 
 -- ## CANCEL
 
@@ -55,10 +55,11 @@ showing_cancel session invited =
     []
 
 -- 487 to an INVITE without final response that isn't proxied (RFC 3261 section 9.2)
-unfoldable pub terminated : Session → Invited → RequestView → Option Kept → Prepared
-terminated session invited request None = showing_cancel session invited
-terminated session invited request (Some kept) =
-    showing_in (record session { view = answered (Some request) 487 session.view }) invited.sess
+unfoldable pub prepared_end : Session → Invited → RequestView → Option Kept → Prepared
+prepared_end session invited request None = showing_cancel session invited
+prepared_end session invited request (Some kept) =
+    showing_in (record session { view = view_with_answer (Some request) 487 session.view })
+    invited.sess
     (events.Cancelled invited.req invited.sess) (Some invited.req)
     (orders.Respond invited.event
     (own_response (own_tag_of session.view invited.sess) 487 request_terminated kept.request)
@@ -69,7 +70,8 @@ terminated session invited request (Some kept) =
 unfoldable pub cancelled_proxy : Session → Invited → Option Proxy → Prepared
 cancelled_proxy session invited None = showing_cancel session invited
 cancelled_proxy session invited (Some proxy) =
-    let after : Session = record session { known = change_proxy proxy.req stopped session.known } in
+    let after : Session =
+    record session { known = change_proxy proxy.req without_search session.known } in
     if is_supervised proxy then showing_cancel after invited else silent after []
 
 -- the proxy of this request, if it is proxied
@@ -85,7 +87,7 @@ cancelled_request session invited (Some request) =
     if request.proxied then cancelled_proxy session invited (proxy_of session.known invited.req)
     else
     (if is_none request.answered
-    then terminated session invited request (kept_of session.known invited.req)
+    then prepared_end session invited request (kept_of session.known invited.req)
     else showing_cancel session invited)
 
 -- a CANCEL that came for an INVITE
@@ -97,8 +99,8 @@ prepared_cancel session (Some invited) =
 -- ## Timers
 
 -- a timer that fires once ends; another is due this long after its last moment, or after this turn
-unfoldable pub renewed : ℕ → TimerView → Option ℕ
-renewed now timer = next_due now timer.due timer.period
+unfoldable pub next_firing : ℕ → TimerView → Option ℕ
+next_firing now timer = next_due now timer.due timer.period
   where
     next_due : ℕ → ℕ → Period → Option ℕ
     next_due now due Once = None
@@ -106,9 +108,9 @@ renewed now timer = next_due now timer.due timer.period
     next_due now due (Delay n) = Some (now + n)
 
 -- the view after a timer has fired, by when it is due again
-unfoldable pub fired : View → TimerView → Option ℕ → View
-fired view timer None = record view { timers = remove_first (is_timer timer.id) view.timers }
-fired view timer (Some due) =
+unfoldable pub after_timer : View → TimerView → Option ℕ → View
+after_timer view timer None = record view { timers = remove_first (is_timer timer.id) view.timers }
+after_timer view timer (Some due) =
     record view {
       timers = change_first (is_timer timer.id) (λ t. record t { due = due }) view.timers;
     }
@@ -117,7 +119,10 @@ fired view timer (Some due) =
 unfoldable pub prepared_timer : Session → Option TimerView → Prepared
 prepared_timer session None = silent session []
 prepared_timer session (Some timer) =
-    showing (record session { view = fired session.view timer (renewed session.view.now timer) })
+    showing
+    (record session {
+      view = after_timer session.view timer (next_firing session.view.now timer);
+    })
     (events.Timer timer.id timer.info) None []
 
 -- the expiry that has come and wasn't moved
@@ -157,7 +162,7 @@ prepared_branch_timer config ringing session branch due (Some proxy) =
 -- what each event makes of the session, under the number of the event
 unfoldable pub prepared_for : Config → List ℕ → Session → ℕ → Queued → Prepared
 prepared_for config ringing session number (queued.Initial region subscriber popped request) =
-    showing (received session number FIRST_SESSION true false request)
+    showing (with_received_request session number FIRST_SESSION true false request)
     (events.Initial (next_id session) FIRST_SESSION region subscriber popped request)
     (Some (next_id session)) []
 prepared_for config ringing session number (queued.Request request) =
@@ -177,7 +182,7 @@ prepared_for config ringing session number queued.Ready = showing session events
 
 -- the session as a turn at this moment shows it. The branches are given whose INVITE has had a
 -- provisional response
-unfoldable pub prepared : Config → List ℕ → Session → Waiting → ℕ → Prepared
-prepared config ringing session waiting now =
+unfoldable pub prepared_session : Config → List ℕ → Session → Waiting → ℕ → Prepared
+prepared_session config ringing session waiting now =
     prepared_for config ringing (record session { view = record session.view { now = now } })
     waiting.number waiting.event

@@ -15,11 +15,11 @@ use Rattle.sc_state.specs.declared.session.Known.{Known}
 use Rattle.sc_state.specs.declared.session.Session.{Session}
 use Rattle.sc_state.specs.declared.session.Way.TheVariants.{Received}
 use Rattle.sc_state.specs.declared.working.Prepared.{Prepared}
-use Rattle.sc_grammar.specs.Written.{Bytes}
+use Rattle.sc_tokens.specs.Bytes.{Bytes}
 use Rattle.sc_model.specs.SessionStates.{invite, ack}
-use Rattle.sc_hosts.specs.ViewChanges.{answered}
-use Rattle.sc_hosts.specs.Legs.{change_leg, leg_of, is_low, with_request}
-use Rattle.sc_hosts.specs.Looking.{request_in, session_in, is_gone_in, is_proxy}
+use Rattle.sc_hosts.specs.ViewChanges.{view_with_answer}
+use Rattle.sc_hosts.specs.Legs.{change_leg, is_low, leg_of, with_request}
+use Rattle.sc_hosts.specs.Looking.{is_gone_in, is_proxy, request_in, session_in}
 use Rattle.sc_hosts.specs.Messages.{own_response}
 use Rattle.sc_hosts.specs.States.{ends_subscription}
 use Rattle.sc_hosts.specs.Words.{does_not_exist}
@@ -77,8 +77,8 @@ request_view req sess initial passed request = record {
 }
 
 -- a number for a request is used up
-abbrev pub numbered : Session → Session
-numbered session =
+abbrev pub with_number_used : Session → Session
+with_number_used session =
     record session { view = record session.view { next_request = session.view.next_request + 1 } }
 
 -- an INVITE is noted, as it can be cancelled
@@ -91,10 +91,10 @@ with_invited number req sess request known =
     else known
 
 -- the request is there, with its number
-unfoldable pub received : Session → ℕ → SessId → Bool → Bool → Request → Session
-received session number sess initial passed request = record {
+unfoldable pub with_received_request : Session → ℕ → SessId → Bool → Bool → Request → Session
+with_received_request session number sess initial passed request = record {
   view =
-      record (numbered session).view {
+      record (with_number_used session).view {
         requests = session.view.requests
             ++ request_view (next_id session) sess initial passed request ∷ [];
       };
@@ -109,38 +109,40 @@ received session number sess initial passed request = record {
 -- ## A later request
 
 -- an answer of the container to a request that has a To tag; an ACK has none
-unfoldable pub refused : ℕ → ℕ → Bytes → Request → List Order
-refused number code reason request =
+unfoldable pub refusal_orders : ℕ → ℕ → Bytes → Request → List Order
+refusal_orders number code reason request =
     if same_bytes request.method ack then []
     else orders.Respond number (own_response [] code reason request) ∷ []
 
 -- a number that is too low: the answer counts in the SipSession like any other
 unfoldable pub too_low : Session → ℕ → SessId → Request → Prepared
 too_low session number sess request =
-    let after : Session = record (received session number sess false false request) {
+    let after : Session = record (with_received_request session number sess false false request) {
       view =
-          answered
-          (request_in (received session number sess false false request).view (next_id session)) 500
-          (received session number sess false false request).view;
-    } in silent after (refused number 500 server_error request)
+          view_with_answer
+          (request_in (with_received_request session number sess false false request).view
+          (next_id session)) 500
+          (with_received_request session number sess false false request).view;
+    } in silent after (refusal_orders number 500 server_error request)
 
 -- a request of the dialog is shown; in a proxied dialog it is one that is passed on
-unfoldable pub taken : Session → ℕ → SessionView → Request → Prepared
-taken session number found request =
-    let after : Session = received session number found.id false (is_proxy found.role) request in
+unfoldable pub prepared_for_request : Session → ℕ → SessionView → Request → Prepared
+prepared_for_request session number found request =
+    let after : Session = with_received_request session number found.id false (is_proxy found.role)
+    request in
     showing (record after { known = change_leg found.id (with_request request) after.known })
     (events.Request (next_id session) found.id request) (Some (next_id session)) []
 
 -- a later request in its SipSession, by its sequence number (RFC 3261 section 12.2.2)
 unfoldable pub taken_in : Session → ℕ → SessId → Option SessionView → Request → Prepared
-taken_in session number sess None request = silent (numbered session) []
+taken_in session number sess None request = silent (with_number_used session) []
 taken_in session number sess (Some found) request =
     if is_low (leg_of session.known sess) request then too_low session number sess request
-    else taken session number found request
+    else prepared_for_request session number found request
 
 -- a later request; where no SipSession has its dialog it is answered 481, and nobody is called
 unfoldable pub prepared_request : Session → ℕ → Request → Option SessId → Prepared
 prepared_request session number request None =
-    silent (numbered session) (refused number 481 does_not_exist request)
+    silent (with_number_used session) (refusal_orders number 481 does_not_exist request)
 prepared_request session number request (Some sess) =
     taken_in session number sess (session_in session.view sess) request

@@ -24,12 +24,12 @@ use Rattle.sc_state.specs.declared.working.Prepared.{Prepared}
 use Rattle.sc_model.specs.Dialogs.{tag_of}
 use Rattle.sc_model.specs.SessionStates.{invite}
 use Rattle.sc_model.specs.Transactions.{is_success, is_failure}
-use Rattle.sc_hosts.specs.Branches.{is_told_whole, heard, added_targets}
+use Rattle.sc_hosts.specs.Branches.{added_targets, is_told_whole, proxy_after_response}
 use Rattle.sc_hosts.specs.ViewChanges.{answered_in, tidy, with_answer as with_final}
 use Rattle.sc_hosts.specs.DerivedSessions.{handling, handled_in, overtaken, without_derived}
 use Rattle.sc_hosts.specs.Legs.{change_leg, leg_of, with_answer}
-use Rattle.sc_hosts.specs.Looking.{same_request, request_in, session_in, is_gone_in, change_request}
-use Rattle.sc_hosts.specs.PreparingRequests.{silent, showing, showing_in}
+use Rattle.sc_hosts.specs.Looking.{change_request, is_gone_in, request_in, same_request, session_in}
+use Rattle.sc_hosts.specs.PreparingRequests.{showing, showing_in, silent}
 
 -- ## A response to a request of one's own
 
@@ -71,8 +71,8 @@ settled_legs request sess response session =
     else session)
 
 -- a response handled in this SipSession
-unfoldable pub responded : Kept → RequestView → Response → SessId → Session → Session
-responded kept request response sess session =
+unfoldable pub with_handled_response : Kept → RequestView → Response → SessId → Session → Session
+with_handled_response kept request response sess session =
     let after : Session = settled_legs request sess response session in record {
       view =
           tidy
@@ -82,10 +82,10 @@ responded kept request response sess session =
     }
 
 -- the SipSession of a response, which may be a derived one
-unfoldable pub placed : Session → Kept → RequestView → Response → Option SessionView
+unfoldable pub session_of_response : Session → Kept → RequestView → Response → Option SessionView
     → SessId × Session
-placed session kept request response None = (request.sess, session)
-placed session kept request response (Some original) =
+session_of_response session kept request response None = (request.sess, session)
+session_of_response session kept request response (Some original) =
     if request.initial
     then handled_in session request.id original None
     (handling session request.id original kept.request response)
@@ -100,7 +100,7 @@ noted_final req code session =
 unfoldable pub responded_in : Kept → RequestView → Response → SessId × Session → Prepared
 responded_in kept request response (sess, session) =
     if is_gone_in session.view sess then silent (noted_final kept.id response.code session) []
-    else showing (responded kept request response sess session)
+    else showing (with_handled_response kept request response sess session)
     (events.Response kept.id sess response) None []
 
 -- ## A 2xx to an INVITE that the view shows no more: it comes again, or from a further place (RFC 3261 section
@@ -146,7 +146,8 @@ with_request_again request session =
 unfoldable pub responded_again : Kept → RequestView → Response → SessId × Session → Prepared
 responded_again kept request response (sess, session) =
     if is_gone_in session.view sess then silent session []
-    else showing (responded kept request response sess (with_request_again request session))
+    else showing
+    (with_handled_response kept request response sess (with_request_again request session))
     (events.Response kept.id sess response) None []
 
 -- a 2xx to an INVITE
@@ -158,12 +159,12 @@ unfoldable pub prepared_own : Session → Kept → Response → Option RequestVi
 prepared_own session kept response None =
     if accepts_invite kept response
     then responded_again kept (shown_again session.known kept response.code) response
-    (placed session kept (shown_again session.known kept response.code) response
+    (session_of_response session kept (shown_again session.known kept response.code) response
     (session_in session.view kept.sess))
     else silent session []
 prepared_own session kept response (Some request) =
     responded_in kept request response
-    (placed session kept request response (session_in session.view request.sess))
+    (session_of_response session kept request response (session_in session.view request.sess))
 
 -- ## A response on a branch of a proxied request
 
@@ -176,8 +177,8 @@ change_proxy req change known =
 
 -- the response as the application is told of it: of the whole request, or of one branch (JSR 289
 -- section 10)
-unfoldable pub told : Proxy → ℕ → Response → SessId → Event
-told proxy branch response sess =
+unfoldable pub event_of_response : Proxy → ℕ → Response → SessId → Event
+event_of_response proxy branch response sess =
     if is_told_whole branch response proxy then events.Response proxy.req sess response
     else events.Branch proxy.req sess response
 
@@ -216,11 +217,11 @@ heard_in proxy branch response (sess, session) =
     let after : Session = record {
       view = with_branches proxy response session.view;
       known =
-          change_proxy proxy.req (heard branch sess response session.view.now)
+          change_proxy proxy.req (proxy_after_response branch sess response session.view.now)
           (change_leg sess (with_answer proxy.request response) session.known);
     } in
     if is_watched session.known proxy
-    then showing_in after sess (told proxy branch response sess) None []
+    then showing_in after sess (event_of_response proxy branch response sess) None []
     else silent after []
 
 -- the SipSession of a response to a proxied request, a derived one maybe

@@ -19,8 +19,8 @@ use Rattle.sc_terms.specs.declared.calls.Refusal.{Refusal}
 use Rattle.sc_terms.specs.declared.calls.Refusal.TheVariants.{NotYours, Invalidated, BadText}
 use Rattle.sc_state.specs.declared.working.Draft.{Draft}
 use Rattle.sc_state.specs.declared.working.Play.{Play}
-use Rattle.sc_grammar.specs.Written.{Bytes}
-use Rattle.sc_hosts.specs.Looking.{request_in, session_in, is_gone_in}
+use Rattle.sc_tokens.specs.Bytes.{Bytes}
+use Rattle.sc_hosts.specs.Looking.{is_gone_in, request_in, session_in}
 use Rattle.sc_hosts.specs.Words.{register, options}
 use Rattle.sc_model.specs.SessionStates.{ack}
 use Rattle.sc_model.specs.DialogRequests.{cancel, is_bad_field}
@@ -76,31 +76,32 @@ of_origin play None = []
 of_origin play (Some req) = session_of_request play req ∷ []
 
 -- the SipSessions that the call names by themselves, by a request or by a draft
-unfoldable pub named : Play → Call → List (Option SessId)
-named play (calls.Respond req answer) = session_of_request play req ∷ []
-named play (calls.CreateRequest ask) = of_origin play ask.origin
-named play (calls.CreateInDialog sess ask) = known_session play sess ∷ []
-named play (calls.B2bCreate req uri) = session_of_request play req ∷ []
-named play (calls.SetDirective draft directive origin) =
+unfoldable pub sessions_in_call : Play → Call → List (Option SessId)
+sessions_in_call play (calls.Respond req answer) = session_of_request play req ∷ []
+sessions_in_call play (calls.CreateRequest ask) = of_origin play ask.origin
+sessions_in_call play (calls.CreateInDialog sess ask) = known_session play sess ∷ []
+sessions_in_call play (calls.B2bCreate req uri) = session_of_request play req ∷ []
+sessions_in_call play (calls.SetDirective draft directive origin) =
     session_of_draft play draft ∷ of_origin play origin
-named play (calls.Send draft) = session_of_draft play draft ∷ []
-named play (calls.Discard draft) = session_of_draft play draft ∷ []
-named play (calls.Ack sess body) = known_session play sess ∷ []
-named play (calls.Cancel req) = session_of_request play req ∷ []
-named play (calls.ProxyTo req uris how) = session_of_request play req ∷ []
-named play (calls.ProxyCancel req) = session_of_request play req ∷ []
-named play (calls.B2bRespond sess answer) = known_session play sess ∷ []
-named play (calls.Link a b) = known_session play a ∷ known_session play b ∷ []
-named play (calls.Unlink a) = known_session play a ∷ []
-named play (calls.StartTimer delay period info) = []
-named play (calls.CancelTimer id) = []
-named play (calls.SetAttribute name value) = []
-named play (calls.RemoveAttribute name) = []
-named play (calls.SetExpires minutes) = []
-named play (calls.SetReadyFlag (targets.Session sess) flag) = known_session play sess ∷ []
-named play (calls.SetReadyFlag targets.Application flag) = []
-named play (calls.InvalidateSession sess) = known_session play sess ∷ []
-named play calls.InvalidateApplication = []
+sessions_in_call play (calls.Send draft) = session_of_draft play draft ∷ []
+sessions_in_call play (calls.Discard draft) = session_of_draft play draft ∷ []
+sessions_in_call play (calls.Ack sess body) = known_session play sess ∷ []
+sessions_in_call play (calls.Cancel req) = session_of_request play req ∷ []
+sessions_in_call play (calls.ProxyTo req uris how) = session_of_request play req ∷ []
+sessions_in_call play (calls.ProxyCancel req) = session_of_request play req ∷ []
+sessions_in_call play (calls.B2bRespond sess answer) = known_session play sess ∷ []
+sessions_in_call play (calls.Link a b) = known_session play a ∷ known_session play b ∷ []
+sessions_in_call play (calls.Unlink a) = known_session play a ∷ []
+sessions_in_call play (calls.StartTimer delay period info) = []
+sessions_in_call play (calls.CancelTimer id) = []
+sessions_in_call play (calls.SetAttribute name value) = []
+sessions_in_call play (calls.RemoveAttribute name) = []
+sessions_in_call play (calls.SetExpires minutes) = []
+sessions_in_call play (calls.SetReadyFlag (targets.Session sess) flag) =
+    known_session play sess ∷ []
+sessions_in_call play (calls.SetReadyFlag targets.Application flag) = []
+sessions_in_call play (calls.InvalidateSession sess) = known_session play sess ∷ []
+sessions_in_call play calls.InvalidateApplication = []
 
 -- some number names nothing, and then some SipSession that is named is gone
 unfoldable pub name_refusal : View → List (Option SessId) → Option Refusal

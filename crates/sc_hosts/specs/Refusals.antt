@@ -26,10 +26,10 @@ use Rattle.sc_terms.specs.declared.calls.Refusal.TheVariants.{NotYours, AlreadyA
 use Rattle.sc_terms.specs.declared.inside.Inside.{Inside}
 use Rattle.sc_state.specs.declared.working.Draft.{Draft}
 use Rattle.sc_state.specs.declared.working.Play.{Play}
-use Rattle.sc_grammar.specs.Written.{Bytes}
+use Rattle.sc_tokens.specs.Bytes.{Bytes}
 use Rattle.sc_model.specs.SessionStates.{invite, ack}
-use Rattle.sc_hosts.specs.Looking.{same_session, request_in, session_in, timer_in, is_initial_state, is_open_state, is_terminated, is_proxy, session_count, partner}
-use Rattle.sc_hosts.specs.RefusalParts.{MOST_CALLS, MOST_SESSIONS, MOST_BRANCHES, MOST_TIMERS, MOST_ATTRIBUTE_BYTES, first_of, draft_in, named, name_refusal, has_system_name, answer_text, asked_text, has_system_answer, has_system_ask}
+use Rattle.sc_hosts.specs.Looking.{is_initial_state, is_open_state, is_proxy, is_terminated, partner, request_in, same_session, session_count, session_in, timer_in}
+use Rattle.sc_hosts.specs.RefusalParts.{MOST_ATTRIBUTE_BYTES, MOST_BRANCHES, MOST_CALLS, MOST_SESSIONS, MOST_TIMERS, answer_text, asked_text, draft_in, first_of, has_system_answer, has_system_ask, has_system_name, name_refusal, sessions_in_call}
 
 -- what `respond` refuses of a request
 unfoldable pub respond_refusal : RequestView → Answer → Option Refusal
@@ -262,4 +262,4 @@ refusal play call =
     option_or
     (first_of
     ((nat_le MOST_CALLS play.listed, Limit MOST_CALLS) ∷ (play.ended, Invalidated) ∷ []))
-    (option_or (name_refusal play.view (named play call)) (own_refusal play call))
+    (option_or (name_refusal play.view (sessions_in_call play call)) (own_refusal play call))

@@ -14,7 +14,7 @@ use Rattle.sc_value.specs.declared.parts.Uri.TheVariants.{Sip, Other}
 use Rattle.sc_tokens.specs.Names.{same_bytes}
 use Rattle.sc_value.specs.Params.{param_value}
 use Rattle.sc_terms.specs.declared.settings.Config.{Config}
-use Rattle.sc_grammar.specs.Written.{Bytes}
+use Rattle.sc_tokens.specs.Bytes.{Bytes}
 use Rattle.sc_tokens.specs.Cuts.{before}
 use Rattle.sc_tokens.specs.Numbers.{number_below}
 use Rattle.sc_model.specs.Names.{ar_name, ar_value}

@@ -19,11 +19,11 @@ use Rattle.sc_state.specs.declared.queue.Waiting.{Waiting}
 use Rattle.sc_state.specs.declared.working.Prepared.{Prepared}
 use Rattle.sc_model.specs.Settings.{Charters, charters_of}
 use Rattle.sc_hosts.specs.Bringing.{Allowed}
-use Rattle.sc_hosts.specs.Nets.{host_at, is_busy, deliver_first, weight}
-use Rattle.sc_hosts.specs.Preparing.{prepared}
+use Rattle.sc_hosts.specs.Nets.{deliver_first, host_at, is_busy, weight}
+use Rattle.sc_hosts.specs.Preparing.{prepared_session}
 use Rattle.sc_hosts.specs.Sessions.{Form}
 use Rattle.sc_hosts.specs.Settle.{settle}
-use Rattle.sc_hosts.specs.Steps.{live_at, ringing_at, stepped}
+use Rattle.sc_hosts.specs.Steps.{before_delivery, live_at, ringing_at}
 use Rattle.sc_value.specs.Places.{same_place}
 use Rattle.sc_hosts.specs.Transacting.{state_of_client, state_of_server, is_over}
 
@@ -46,21 +46,21 @@ start setup epoch began =
     }
 
 -- the wire is emptied
-unfoldable pub delivered : {S : Type 0} → Form S → Setup → Net S → Net S
-delivered form setup net = settle is_busy (deliver_first form setup) weight net
+unfoldable pub after_delivery : {S : Type 0} → Form S → Setup → Net S → Net S
+after_delivery form setup net = settle is_busy (deliver_first form setup) weight net
 
 -- a step begins with nothing sent, and ends once the wire is empty
 unfoldable pub after_step : {S : Type 0} → Form S → Setup → Net S → Step → Net S
 after_step form setup net step =
-    delivered form setup (stepped form setup step (record net { sent = [] }))
+    after_delivery form setup (before_delivery form setup step (record net { sent = [] }))
 
 -- the net after these steps, from this one on
 unfoldable pub chained_from : {S : Type 0} → Form S → Setup → Net S → List Step → Net S
 chained_from form setup net journal = fold (after_step form setup) net journal
 
 -- the run of a journal of this epoch, begun at this moment
-unfoldable pub chained : {S : Type 0} → Form S → Setup → ℕ → ℕ → List Step → Net S
-chained form setup epoch began journal = chained_from form setup (start setup epoch began) journal
+unfoldable pub net_from : {S : Type 0} → Form S → Setup → ℕ → ℕ → List Step → Net S
+net_from form setup epoch began journal = chained_from form setup (start setup epoch began) journal
 
 -- ## What it sends
 
@@ -83,17 +83,18 @@ sent_to place sent = map (λ s. s.message) (filter (λ s. same_place place s.pla
 
 -- the turn that a live session may take: of its first event, at a moment since when that is first,
 -- with what the charters of its application allow on what is shown
-unfoldable pub shown : {S : Type 0} → Form S → Setup → Net S → AppId → Live S → Waiting → ℕ
+unfoldable pub prepared_turn : {S : Type 0} → Form S → Setup → Net S → AppId → Live S → Waiting → ℕ
     → Prepared
-shown form setup net app live waiting now =
-    prepared setup.config (ringing_at app (host_at app.host net)) (form.read live.session) waiting
+prepared_turn form setup net app live waiting now =
+    prepared_session setup.config (ringing_at app (host_at app.host net)) (form.read live.session)
+    waiting
     now
 
 -- what the charters of an application allow; where there is no application, nothing
 unfoldable pub AllowedBy : Option Charters → Prepared → List CallRecord → End → Type 0
-AllowedBy None shown made end = ⊥
-AllowedBy (Some charters) shown made end =
-    Allowed charters.0 charters.1 shown.view shown.event made end
+AllowedBy None prepared_turn made end = ⊥
+AllowedBy (Some charters) prepared_turn made end =
+    Allowed charters.0 charters.1 prepared_turn.view prepared_turn.event made end
 
 -- a turn that may be taken: the session lives, the event is its first, the moment is between that
 -- at which the event became first and the net's, and the charters allow what was made
@@ -106,7 +107,8 @@ pub record MayTurn {S : Type 0} (form : Form S) (setup : Setup) (net : Net S) (a
   pub event_is : waiting.number ≡ event
   pub since : live.since ≤ now
   pub until : now ≤ net.moment
-  pub allowed : ∥ AllowedBy (charters_of setup app.host) (shown form setup net app live waiting now)
+  pub allowed : ∥ AllowedBy (charters_of setup app.host)
+      (prepared_turn form setup net app live waiting now)
       made end ∥₁
 
 -- a message that comes has a Via
@@ -121,7 +123,7 @@ IsAllowed form setup net (steps.In from message) = HasVia message
 IsAllowed form setup net (steps.Bad from bad) = Unit {0}
 IsAllowed form setup net (steps.Lost place) = Unit {0}
 IsAllowed form setup net (steps.Tick now) = (net.moment ≤ now) × (now ≤ 2 ^ 63)
-IsAllowed form setup net (steps.Turn app event now made end) =
+IsAllowed form setup net (steps.Turn end app event now made) =
     MayTurn form setup net app event now made end
 IsAllowed form setup net (steps.Withdraw app) = is_some (live_at app net) ≡ true
 
@@ -163,7 +165,7 @@ pub record Epoch : Type 0 where
 
 -- the net after an epoch's journal
 unfoldable pub net_of : {S : Type 0} → Form S → Setup → Epoch → Net S
-net_of form setup epoch = chained form setup epoch.number epoch.began epoch.journal
+net_of form setup epoch = net_from form setup epoch.number epoch.began epoch.journal
 
 -- epochs follow each other: each begins at the last moment of the one before, which leaves an idle
 -- net

@@ -15,11 +15,11 @@ use Rattle.sc_terms.specs.declared.calls.CallAnswer.TheVariants as answers
 use Rattle.sc_terms.specs.declared.calls.CallRecord.{CallRecord}
 use Rattle.sc_terms.specs.declared.calls.Refusal.TheVariants as refusals
 use Rattle.sc_state.specs.declared.working.Play.{Play}
-use Rattle.sc_grammar.specs.Written.{Bytes}
+use Rattle.sc_tokens.specs.Bytes.{Bytes}
 use Rattle.sc_tokens.specs.Numbers.{number_below}
 use Rattle.sc_syntax.specs.Uris.{uri_of}
 use Rattle.sc_hosts.specs.RefusalParts.{MOST_CALLS}
-use Rattle.sc_hosts.specs.Effects.{begun, answer_of, after_listed}
+use Rattle.sc_hosts.specs.Effects.{after_listed, answer_of, first_play}
 
 -- ## Lists of calls
 
@@ -32,7 +32,7 @@ IsAnsweredFrom play (made ∷ later) =
 
 -- a list of calls that a turn on this view takes
 abbrev pub IsAnswered : View → List CallRecord → Type 0
-IsAnswered view made = IsAnsweredFrom (begun view) made
+IsAnswered view made = IsAnsweredFrom (first_play view) made
 
 -- ## Scripts: calls, each chosen with the answers before it
 
@@ -49,8 +49,8 @@ played_from play (Make call next) =
     ∷ played_from (after_listed play call) (next (answer_of play call))
 
 -- the calls that the script makes of a turn on this view
-abbrev pub played : View → Script → List CallRecord
-played view script = played_from (begun view) script
+abbrev pub calls_of_script : View → Script → List CallRecord
+calls_of_script view script = played_from (first_play view) script
 
 -- one call, and no more
 unfoldable pub only : Call → Script

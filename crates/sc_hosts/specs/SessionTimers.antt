@@ -15,14 +15,14 @@ use Rattle.sc_terms.specs.declared.views.Period.TheVariants.{Once}
 use Rattle.sc_terms.specs.declared.events.Event.{Event}
 use Rattle.sc_terms.specs.declared.events.Event.TheVariants as events
 use Rattle.sc_terms.specs.declared.calls.Call.TheVariants as calls
-use Rattle.sc_grammar.specs.Written.{Bytes}
-use Rattle.sc_tokens.specs.Blanks.{trimmed}
+use Rattle.sc_tokens.specs.Bytes.{Bytes}
+use Rattle.sc_tokens.specs.Blanks.{without_blanks}
 use Rattle.sc_tokens.specs.Cuts.{before, after, pieces}
 use Rattle.sc_tokens.specs.Numbers.{number_of}
 use Rattle.sc_model.specs.Dialogs.{update}
 use Rattle.sc_model.specs.SessionStates.{invite, bye}
 use Rattle.sc_model.specs.Transactions.{is_success, is_failure}
-use Rattle.sc_hosts.specs.Scripting.{Script, Done, Make, only, then_make, with_number, where_some, reply, attribute, param_at, small_number}
+use Rattle.sc_hosts.specs.Scripting.{Done, Make, Script, attribute, only, param_at, reply, small_number, then_make, where_some, with_number}
 use Rattle.sc_hosts.specs.Charters.{reply_ok}
 use Rattle.sc_hosts.specs.Words.{ok}
 use Rattle.sc_hosts.specs.HelperParts.{strict_number, supported_word, require_word, lists_option, answer_with, field, accepted_then, send_in, remove_then, cancel_then, session_number}
@@ -57,13 +57,14 @@ leading_number value = number_of (take_while is_ascii_digit value)
 
 -- the first parameter `refresher` says that the called side refreshes
 unfoldable pub is_refresher : Bytes → Bool
-is_refresher param = same_name (trimmed (before 61 param)) (codes "refresher")
+is_refresher param = same_name (without_blanks (before 61 param)) (codes "refresher")
 
 -- the value's parameter `refresher` is `uas`
 unfoldable pub refreshes_uas : Bytes → Bool
 refreshes_uas value =
     option_map_or
-    (λ param. option_map_or (λ v. same_name (trimmed v) (codes "uas")) (after 61 param) false)
+    (λ param.
+    option_map_or (λ v. same_name (without_blanks v) (codes "uas")) (after 61 param) false)
     (find is_refresher (drop 1 (pieces 59 value))) false
 
 -- by the interval asked for and the least one: a caller without support gets no 422, and doesn't
@@ -76,8 +77,8 @@ granted_by supports least value (Some n) =
     else On n (refreshes_uas value || not supports))
 
 -- what is granted to a request; where it asks for nothing, nothing
-unfoldable pub granted : Request → ℕ → Granted
-granted request least =
+unfoldable pub grant_to : Request → ℕ → Granted
+grant_to request least =
     option_map_or
     (λ value. granted_by (lists_option timer_option request) least value (leading_number value))
     (interval_text request) Off
@@ -181,7 +182,7 @@ grant_by view req sess other =
 
 -- the answer to an INVITE or UPDATE, by what it asks for
 unfoldable pub grant : View → ReqId → SessId → Request → Script
-grant view req sess request = grant_by view req sess (granted request (least_interval view))
+grant view req sess request = grant_by view req sess (grant_to request (least_interval view))
 
 -- the attribute that names the timer, with its session
 pub record Named : Type 0 where
@@ -213,8 +214,8 @@ refresh_by named = refresh_as named.timed.me
         send_in named.sess bye [] [] (only (calls.RemoveAttribute (timed_name named.sess)))
 
 -- a refresh was answered: a 2xx begins the timer anew, and after a failure the session ends
-unfoldable pub refreshed : View → SessId → ℕ → Timed → Script
-refreshed view sess code timed =
+unfoldable pub script_after_refresh : View → SessId → ℕ → Timed → Script
+script_after_refresh view sess code timed =
     if not (timed.me && timed.timer == 0) then Done
     else (if is_success code then begin_timed sess view (On timed.seconds true)
     else
@@ -238,7 +239,7 @@ timed_script view (events.Request req sess request) =
 timed_script view (events.Response req sess response) =
     if same_bytes response.head.cseq.method update
     then where_some (option_and_then timed_of (attribute (timed_name sess) view))
-    (refreshed view sess response.code)
+    (script_after_refresh view sess response.code)
     else Done
 timed_script view (events.Branch req sess response) = Done
 timed_script view (events.Cancelled req sess) = Done

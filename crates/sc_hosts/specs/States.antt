@@ -12,7 +12,7 @@ use Rattle.sc_terms.specs.declared.views.State.TheVariants.{Initial, Early, Conf
 use Rattle.sc_terms.specs.declared.views.Role.{Role}
 use Rattle.sc_terms.specs.declared.views.Role.TheVariants.{Uac, Uas, Proxy}
 use Rattle.sc_terms.specs.declared.views.RequestView.{RequestView}
-use Rattle.sc_grammar.specs.Written.{Bytes}
+use Rattle.sc_tokens.specs.Bytes.{Bytes}
 use Rattle.sc_model.specs.Dialogs.{subscribe, notify}
 use Rattle.sc_model.specs.SessionStates.{invite, bye, is_final, ended_state}
 use Rattle.sc_model.specs.Transactions.{is_success, is_failure}

@@ -19,13 +19,13 @@ use Rattle.sc_state.specs.declared.orders.Outcome.{Outcome}
 use Rattle.sc_state.specs.declared.queue.Queued.TheVariants as queued
 use Rattle.sc_state.specs.declared.queue.Waiting.{Waiting}
 use Rattle.sc_state.specs.declared.session.Session.{Session}
-use Rattle.sc_hosts.specs.Nets.{host_at, change_host, queue_for, obeyed}
+use Rattle.sc_hosts.specs.Nets.{after_orders, change_host, host_at, queue_for}
 use Rattle.sc_hosts.specs.Sessions.{Form, Turn, entries_of}
 use Rattle.sc_hosts.specs.Finishing.{goodbye, is_ready, outcome}
 use Rattle.sc_hosts.specs.Inboxes.{is_live, live_in}
 use Rattle.sc_hosts.specs.Transacting.{tidied, ringing_branches}
-use Rattle.sc_hosts.specs.Arrivals.{arrived, bad_by}
-use Rattle.sc_hosts.specs.Ticks.{lost, ticked}
+use Rattle.sc_hosts.specs.Arrivals.{after_arrival, bad_by}
+use Rattle.sc_hosts.specs.Ticks.{net_after_loss, net_after_tick}
 
 -- ## A session takes a turn
 
@@ -85,22 +85,24 @@ inbox_of None = []
 inbox_of (Some live) = live.inbox
 
 -- invalidation: what it sends, and the session goes
-unfoldable pub invalidated : {S : Type 0} → Setup → AppId → Session → List Waiting → Net S → Net S
-invalidated setup app session inbox net =
-    without_live app (obeyed setup app (goodbye setup.config session inbox) net)
+unfoldable pub without_application : {S : Type 0} → Setup → AppId → Session → List Waiting → Net S
+    → Net S
+without_application setup app session inbox net =
+    without_live app (after_orders setup app (goodbye setup.config session inbox) net)
 
 -- a turn ends: its session is invalidated, or waits for what is next
 unfoldable pub closed_turn : {S : Type 0} → Setup → AppId → Outcome → Bool → Net S → Net S
 closed_turn setup app done true net =
-    invalidated setup app done.session (inbox_of (live_at app net)) net
+    without_application setup app done.session (inbox_of (live_at app net)) net
 closed_turn setup app done false net = with_ready app done (live_at app net) net
 
 -- the turn leaves the inbox, what it sends is sent, and then the session ends or waits for what is
 -- next
-unfoldable pub turned : {S : Type 0} → Form S → Setup → AppId → Turn → Outcome → Net S → Net S
-turned form setup app turn done net =
+unfoldable pub net_after_turn : {S : Type 0} → Form S → Setup → AppId → Turn → Outcome → Net S
+    → Net S
+net_after_turn form setup app turn done net =
     closed_turn setup app done done.ends
-    (obeyed setup app done.orders
+    (after_orders setup app done.orders
     (change_host app.host
     (λ host.
     record host {
@@ -124,7 +126,7 @@ unfoldable pub turns_first : {S : Type 0} → Form S → Setup → AppId → Liv
     → List CallRecord → End → Net S → Net S
 turns_first form setup app live None now made end net = net
 turns_first form setup app live (Some waiting) now made end net =
-    turned form setup app (turn_of net app waiting now made end)
+    net_after_turn form setup app (turn_of net app waiting now made end)
     (outcome_by form setup.config live.session (turn_of net app waiting now made end)) net
 
 -- a turn of a session, where it lives
@@ -140,16 +142,16 @@ turns form setup app (Some live) now made end net =
 unfoldable pub withdrawn : {S : Type 0} → Form S → Setup → AppId → Option (Live S) → Net S → Net S
 withdrawn form setup app None net = net
 withdrawn form setup app (Some live) net =
-    invalidated setup app (form.read live.session) live.inbox net
+    without_application setup app (form.read live.session) live.inbox net
 
 -- ## Each step
 
 -- the net after a step, before anything is delivered
-unfoldable pub stepped : {S : Type 0} → Form S → Setup → Step → Net S → Net S
-stepped form setup (steps.In from message) net = arrived form setup from message net
-stepped form setup (steps.Bad from bad) net = bad_by setup.config from bad.heads net
-stepped form setup (steps.Lost place) net = lost setup.config place net
-stepped form setup (steps.Tick now) net = ticked form setup.config now net
-stepped form setup (steps.Turn app event now made end) net =
+unfoldable pub before_delivery : {S : Type 0} → Form S → Setup → Step → Net S → Net S
+before_delivery form setup (steps.In from message) net = after_arrival form setup from message net
+before_delivery form setup (steps.Bad from bad) net = bad_by setup.config from bad.heads net
+before_delivery form setup (steps.Lost place) net = net_after_loss setup.config place net
+before_delivery form setup (steps.Tick now) net = net_after_tick form setup.config now net
+before_delivery form setup (steps.Turn end app event now made) net =
     turns form setup app (live_at app net) now made end net
-stepped form setup (steps.Withdraw app) net = withdrawn form setup app (live_at app net) net
+before_delivery form setup (steps.Withdraw app) net = withdrawn form setup app (live_at app net) net

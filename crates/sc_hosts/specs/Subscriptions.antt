@@ -15,13 +15,13 @@ use Rattle.sc_terms.specs.declared.events.Event.{Event}
 use Rattle.sc_terms.specs.declared.events.Event.TheVariants as events
 use Rattle.sc_terms.specs.declared.calls.Call.{Call}
 use Rattle.sc_terms.specs.declared.calls.Call.TheVariants as calls
-use Rattle.sc_grammar.specs.Written.{Bytes}
-use Rattle.sc_tokens.specs.Blanks.{trimmed}
+use Rattle.sc_tokens.specs.Bytes.{Bytes}
+use Rattle.sc_tokens.specs.Blanks.{without_blanks}
 use Rattle.sc_tokens.specs.Cuts.{before, pieces}
 use Rattle.sc_tokens.specs.Numbers.{number_of}
 use Rattle.sc_model.specs.Dialogs.{subscribe, notify}
 use Rattle.sc_model.specs.Transactions.{is_failure}
-use Rattle.sc_hosts.specs.Scripting.{Script, Done, Make, only, then_make, with_number, where_some, reply, attribute, small_number}
+use Rattle.sc_hosts.specs.Scripting.{Done, Make, Script, attribute, only, reply, small_number, then_make, where_some, with_number}
 use Rattle.sc_hosts.specs.Charters.{reply_ok}
 use Rattle.sc_hosts.specs.Words.{ok}
 use Rattle.sc_hosts.specs.HelperParts.{strict_number, field_of, answer_with, field, accepted_then, send_in, remove_then, cancel_then, session_number}
@@ -65,7 +65,7 @@ event_value request = option_map (λ field. field.value) (find is_event request.
 -- the request is for the rule's package, whatever the parameters behind it
 unfoldable pub names_package : Rule → Request → Bool
 names_package rule request =
-    option_map_or (λ value. same_bytes (trimmed (before 59 value)) rule.event_package)
+    option_map_or (λ value. same_bytes (without_blanks (before 59 value)) rule.event_package)
     (event_value request) false
 
 -- for how many seconds a subscription is asked

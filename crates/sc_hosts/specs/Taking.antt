@@ -23,7 +23,7 @@ use Rattle.sc_state.specs.declared.host.Server.{Server}
 use Rattle.sc_state.specs.declared.host.Taken.{Taken}
 use Rattle.sc_state.specs.declared.net.Note.{Note}
 use Rattle.sc_state.specs.declared.queue.Queued.TheVariants as queued
-use Rattle.sc_grammar.specs.Written.{Bytes}
+use Rattle.sc_tokens.specs.Bytes.{Bytes}
 use Rattle.sc_model.specs.Dialogs.{tag_of, update}
 use Rattle.sc_model.specs.Names.{ap_name, ap_value, edge_tag, tag_text}
 use Rattle.sc_model.specs.OwnHosts.{is_own}
@@ -35,17 +35,17 @@ use Rattle.sc_hosts.specs.Messages.{own_response, trying_response}
 use Rattle.sc_hosts.specs.Sessions.{Form}
 use Rattle.sc_hosts.specs.Transacting.{method_of, is_cancelled_by, is_acked_by, is_repeated_by, has_final, is_server, pass_server}
 use Rattle.sc_hosts.specs.Words.{prack, ok, trying, does_not_exist, unavailable}
-use Rattle.sc_hosts.specs.Inboxes.{MOST_LIVE, quiet, queue, is_full, replying}
+use Rattle.sc_hosts.specs.Inboxes.{MOST_LIVE, is_full, queue, replying, without_answer}
 use Rattle.sc_hosts.specs.TakingResponses.{take_response}
 use Rattle.sc_model.specs.DialogRequests.{cancel}
 
 -- ## CANCEL, ACK and repeated requests
 
 -- 200, and the session is told where its INVITE has no final response
-unfoldable pub cancelled : {S : Type 0} → Peer → ℕ → Server → Request → ℕ → Host S → Taken S
-cancelled from now server request count host =
+unfoldable pub take_cancel : {S : Type 0} → Peer → ℕ → Server → Request → ℕ → Host S → Taken S
+take_cancel from now server request count host =
     replying from (messages.Response (own_response server.tag 200 ok request))
-    (if has_final server then quiet host count
+    (if has_final server then without_answer host count
     else queue server.app.serial now (queued.Cancelled server.event) count host)
 
 -- the last response of a server transaction, once more
@@ -60,19 +60,19 @@ again_if false server taken = taken
 
 -- a request that came before: it gets the last answer again where its state has it so (RFC 3261
 -- section 17.2)
-unfoldable pub repeated : {S : Type 0} → Server → ℕ → Host S → Taken S
-repeated server count host =
+unfoldable pub take_repeated : {S : Type 0} → Server → ℕ → Host S → Taken S
+take_repeated server count host =
     again_if (is_sent_again (same_bytes (method_of server.request) invite) server.passed) server
-    (quiet (pass_server server.event server_items.RequestAgain host) count)
+    (without_answer (pass_server server.event server_items.RequestAgain host) count)
 
 -- ## Answers without a transaction; an ACK gets none
 
 -- an answer of the container by itself, with the edge tag
 unfoldable pub refuse : {S : Type 0} → Config → Peer → ℕ → Bytes → Request → ℕ → Host S → Taken S
 refuse config from code reason request count host =
-    if same_bytes (method_of request) ack then quiet host count
+    if same_bytes (method_of request) ack then without_answer host count
     else replying from (messages.Response (own_response (edge_tag config.salt) code reason request))
-    (quiet host count)
+    (without_answer host count)
 
 -- ## Requests with a To tag
 
@@ -89,8 +89,8 @@ own_uri config request =
     else (if is_own config request.uri then Some request.uri else None)
 
 -- the own top Route is taken off
-unfoldable pub unrouted : Config → Request → Request
-unrouted config request =
+unfoldable pub without_own_route : Config → Request → Request
+without_own_route config request =
     if option_map_or (λ route. is_own config route.uri) (slice_get request.head.route 0) false
     then record request { head = record request.head { route = drop 1 request.head.route } } else
     request
@@ -126,8 +126,8 @@ with_server app event peer tag request host =
     }
 
 -- a server transaction that was answered 100
-unfoldable pub tried : Request → ℕ → Server → Server
-tried request now server =
+unfoldable pub server_after_trying : Request → ℕ → Server → Server
+server_after_trying request now server =
     record server {
       passed = server_items.AnswerGiven 100 now ∷ server.passed;
       last = Some (trying_response trying request);
@@ -140,7 +140,9 @@ with_trying from now request taken =
     then replying from (messages.Response (trying_response trying request)) (record taken {
       host =
           record taken.host {
-            servers = change_first (is_server taken.count) (tried request now) taken.host.servers;
+            servers =
+                change_first (is_server taken.count) (server_after_trying request now)
+                taken.host.servers;
           };
     }) else taken
 
@@ -154,9 +156,9 @@ queue_later config coming request live host =
     let app : AppId = record { host = coming.host; serial = live.serial } in
     if is_full live then refuse config coming.from 503 unavailable request coming.count host
     else with_trying coming.from coming.now request
-    (queue live.serial coming.now (queued.Request (unrouted config request)) coming.count
+    (queue live.serial coming.now (queued.Request (without_own_route config request)) coming.count
     (with_server app (coming.count + 1) coming.from (own_tag config coming.epoch app)
-    (unrouted config request) host))
+    (without_own_route config request) host))
 
 -- ## Requests that begin a session
 
@@ -176,11 +178,12 @@ begun_live form config epoch app now noted request number = record {
 }
 
 -- a session begins with a request and its server transaction; its serial is the next one
-unfoldable pub begun : {S : Type 0} → Form S → Config → Coming → Note → Request → Host S → Taken S
-begun form config coming noted request host =
+unfoldable pub take_new : {S : Type 0} → Form S → Config → Coming → Note → Request → Host S
+    → Taken S
+take_new form config coming noted request host =
     let app : AppId = record { host = coming.host; serial = host.last + 1 } in
     with_trying coming.from coming.now request
-    (quiet (with_server app (coming.count + 1) coming.from (own_tag config coming.epoch app) request (record host {
+    (without_answer (with_server app (coming.count + 1) coming.from (own_tag config coming.epoch app) request (record host {
       sessions =
           host.sessions
           ++ begun_live form config coming.epoch app coming.now noted request (coming.count + 1)
@@ -196,7 +199,7 @@ take_initial form config coming None request host =
 take_initial form config coming (Some noted) request host =
     if nat_le MOST_LIVE (length host.sessions)
     then refuse config coming.from 503 unavailable request coming.count host
-    else begun form config coming noted request host
+    else take_new form config coming noted request host
 
 -- ## The sorts of requests
 
@@ -243,11 +246,11 @@ sort_at config coming request host =
 unfoldable pub taken_as : {S : Type 0} → Form S → Config → Coming → Option Note → Request
     → Sort Server (Live S) → Host S → Taken S
 taken_as form config coming noted request (Cancels server) host =
-    cancelled coming.from coming.now server request coming.count host
+    take_cancel coming.from coming.now server request coming.count host
 taken_as form config coming noted request (Acks server) host =
-    quiet (pass_server server.event server_items.AckCame host) coming.count
+    without_answer (pass_server server.event server_items.AckCame host) coming.count
 taken_as form config coming noted request (Repeats server) host =
-    repeated server coming.count host
+    take_repeated server coming.count host
 taken_as form config coming noted request (Later live) host =
     queue_later config coming request live host
 taken_as form config coming noted request Begins host =

@@ -13,23 +13,23 @@ use Rattle.sc_state.specs.declared.queue.Queued.TheVariants as queued
 use Rattle.sc_model.specs.SessionStates.{is_final}
 use Rattle.sc_hosts.specs.Messages.{ack_of, cancel_of, without_via}
 use Rattle.sc_hosts.specs.Transacting.{client_for, out_of_client, pass_client, with_client, is_cancel_client}
-use Rattle.sc_hosts.specs.Inboxes.{quiet, queue, is_full_at, replying}
+use Rattle.sc_hosts.specs.Inboxes.{is_full_at, queue, replying, without_answer}
 
 -- ## Responses
 
 -- a provisional response finds no room in a full inbox
-unfoldable pub told : {S : Type 0} → ℕ → Client → Response → ℕ → Host S → Taken S
-told now client response count host =
+unfoldable pub take_provisional : {S : Type 0} → ℕ → Client → Response → ℕ → Host S → Taken S
+take_provisional now client response count host =
     if is_cancel_client client
     || (not (is_final response.code) && is_full_at client.app.serial host)
-    then quiet host count
+    then without_answer host count
     else queue client.app.serial now (queued.Response client.branch (without_via response)) count
     host
 
 -- the same, where the transaction tells its session anything
 unfoldable pub told_by : {S : Type 0} → Option ℕ → ℕ → Client → Response → ℕ → Host S → Taken S
-told_by None now client response count host = quiet host count
-told_by (Some code) now client response count host = told now client response count host
+told_by None now client response count host = without_answer host count
+told_by (Some code) now client response count host = take_provisional now client response count host
 
 -- the client transaction of a CANCEL
 unfoldable pub cancelling : ℕ → Client → Client
@@ -56,7 +56,7 @@ response_for now client response count host =
 
 -- the same, where there is such a transaction
 unfoldable pub response_to : {S : Type 0} → ℕ → Option Client → Response → ℕ → Host S → Taken S
-response_to now None response count host = quiet host count
+response_to now None response count host = without_answer host count
 response_to now (Some client) response count host = response_for now client response count host
 
 -- a response that belongs to no client transaction is dropped

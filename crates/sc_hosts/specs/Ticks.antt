@@ -23,7 +23,7 @@ use Rattle.sc_state.specs.declared.net.Net.{Net}
 use Rattle.sc_state.specs.declared.queue.Queued.{Queued}
 use Rattle.sc_state.specs.declared.queue.Queued.TheVariants as queued
 unfoldable pub use Rattle.sc_state.specs.Entries.{is_fired}
-use Rattle.sc_grammar.specs.Written.{Bytes}
+use Rattle.sc_tokens.specs.Bytes.{Bytes}
 use Rattle.sc_model.specs.Names.{edge_tag}
 use Rattle.sc_model.specs.Timers.{DueEntry, due_order, in_order, is_due}
 use Rattle.sc_hosts.specs.Messages.{own_response, without_via}
@@ -72,8 +72,8 @@ clients_to place net =
     (filter (λ client. goes_to place client.peer) (clients_of net))
 
 -- a place is lost: each of these transactions tells 503 (RFC 3261 sections 8.1.3.1 and 16.9)
-unfoldable pub lost : {S : Type 0} → Config → Place → Net S → Net S
-lost config place net =
+unfoldable pub net_after_loss : {S : Type 0} → Config → Place → Net S → Net S
+net_after_loss config place net =
     fold (passes config client_items.PlaceLost unavailable) net (clients_to place net)
 
 -- what is due in a net
@@ -88,9 +88,9 @@ pub record Dated : Type 0 where
   pub item : DueItem
 
 -- an entry of this moment, none where nothing runs
-unfoldable pub dated : AppId → TimerName → DueItem → Option ℕ → List Dated
-dated app timer item None = []
-dated app timer item (Some due) =
+unfoldable pub dated_entry : AppId → TimerName → DueItem → Option ℕ → List Dated
+dated_entry app timer item None = []
+dated_entry app timer item (Some due) =
     record { entry = record { due = due; app = app; timer = timer }; item = item } ∷ []
 
 -- the name of the timer of a client transaction: that of its branch, or of the branch's CANCEL
@@ -101,18 +101,18 @@ client_timer client =
 -- the timer of a client transaction
 unfoldable pub client_dated : Client → List Dated
 client_dated client =
-    dated client.app (client_timer client) (Of_client client) (due_of_client client)
+    dated_entry client.app (client_timer client) (Of_client client) (due_of_client client)
 
 -- the timer of a server transaction
 unfoldable pub server_dated : Server → List Dated
 server_dated server =
-    dated server.app (timers.Server server.event) (Of_server server) (due_of_server server)
+    dated_entry server.app (timers.Server server.event) (Of_server server) (due_of_server server)
 
 -- what is due in a live session and hasn't had its event
 unfoldable pub live_dated : {S : Type 0} → Form S → ℕ → Live S → List Dated
 live_dated form host live =
     flat_map (λ entry. if is_fired live.fired entry.due entry.timer then []
-    else dated (record { host = host; serial = live.serial }) entry.timer
+    else dated_entry (record { host = host; serial = live.serial }) entry.timer
     (Of_session (record { host = host; serial = live.serial }) entry.event) (Some entry.due))
     (entries_of (form.read live.session))
 
@@ -163,7 +163,7 @@ fires config now net entry (Of_server server) =
     change_host server.app.host (pass_server server.event (server_items.MomentCame now)) net
 
 -- time goes on to this moment, and what is due happens, in its order; nothing is sent by it
-unfoldable pub ticked : {S : Type 0} → Form S → Config → ℕ → Net S → Net S
-ticked form config now net =
+unfoldable pub net_after_tick : {S : Type 0} → Form S → Config → ℕ → Net S → Net S
+net_after_tick form config now net =
     fold (λ net d. fires config now net d.entry d.item) (record net { moment = now })
     (due_items form now net)

@@ -19,7 +19,7 @@ use Rattle.sc_state.specs.Hosts.{Host}
 use Rattle.sc_state.specs.declared.host.Peer.{Peer}
 use Rattle.sc_state.specs.declared.host.Peer.TheVariants as peers
 use Rattle.sc_state.specs.declared.host.Server.{Server}
-use Rattle.sc_grammar.specs.Written.{Bytes}
+use Rattle.sc_tokens.specs.Bytes.{Bytes}
 use Rattle.sc_model.specs.Names.{branch_text}
 use Rattle.sc_model.specs.ServerTransactions.{final_answer}
 use Rattle.sc_model.specs.Transactions.{client_out, has_provisional}

@@ -6,12 +6,12 @@ use Rattle.sc_terms.specs.declared.views.RequestView.{RequestView}
 use Rattle.sc_terms.specs.declared.views.SessionView.{SessionView}
 use Rattle.sc_terms.specs.declared.views.State.TheVariants.{Initial}
 use Rattle.sc_terms.specs.declared.views.Role.TheVariants as roles
-use Rattle.sc_grammar.specs.Written.{Bytes}
+use Rattle.sc_tokens.specs.Bytes.{Bytes}
 use Rattle.sc_model.specs.Names.{tag_text, call_id_text}
 use Rattle.sc_model.specs.Records.{ip_text}
 use Rattle.sc_tokens.specs.Names.{same_bytes}
 use Rattle.sc_model.specs.SessionStates.{ack, is_final}
-use Rattle.sc_hosts.specs.Looking.{is_gone_in, change_request, change_session, linked_to, removed, same_session}
+use Rattle.sc_hosts.specs.Looking.{change_request, change_session, is_gone_in, linked_to, same_session, without_sip_session}
 use Rattle.sc_hosts.specs.States.{after_response}
 
 -- ## Which requests the view shows
@@ -56,9 +56,9 @@ answered_in sess request tagged code view =
     (change_request request.id (with_answer code) view)
 
 -- after an answer that the application or the container gave
-unfoldable pub answered : Option RequestView → ℕ → View → View
-answered None code view = view
-answered (Some request) code view = tidy (answered_in request.sess request true code view)
+unfoldable pub view_with_answer : Option RequestView → ℕ → View → View
+view_with_answer None code view = view
+view_with_answer (Some request) code view = tidy (answered_in request.sess request true code view)
 
 -- ## What an application ends
 
@@ -80,8 +80,8 @@ settled_requests sess code view =
     record view { requests = map (settled_request sess code) view.requests }
 
 -- a SipSession that is invalidated: what waits in it is answered 500, and it is gone
-unfoldable pub invalidated : SessId → View → View
-invalidated sess view = tidy (removed sess (settled_requests sess 500 view))
+unfoldable pub view_without : SessId → View → View
+view_without sess view = tidy (without_sip_session sess (settled_requests sess 500 view))
 
 -- ## SipSessions that calls make
 
@@ -117,5 +117,6 @@ with_own_session view =
     record view { sessions = view.sessions ++ own_session view ∷ []; counter = view.counter + 2 }
 
 -- two SipSessions linked
-unfoldable pub linked : SessId → SessId → View → View
-linked a b view = change_session a (linked_to (Some b)) (change_session b (linked_to (Some a)) view)
+unfoldable pub with_link : SessId → SessId → View → View
+with_link a b view =
+    change_session a (linked_to (Some b)) (change_session b (linked_to (Some a)) view)

@@ -1,6 +1,6 @@
 -- Methods and reason phrases (RFC 3261 sections 7.1 and 21).
 use Rattle.std.specs.Prelude.{codes}
-use Rattle.sc_grammar.specs.Written.{Bytes}
+use Rattle.sc_tokens.specs.Bytes.{Bytes}
 
 -- the method that binds an address (RFC 3261 section 10)
 unfoldable pub register : Bytes

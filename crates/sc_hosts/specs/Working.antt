@@ -32,14 +32,14 @@ use Rattle.sc_state.specs.declared.working.Draft.{Draft}
 use Rattle.sc_state.specs.declared.working.Prepared.{Prepared}
 use Rattle.sc_state.specs.declared.working.Working.{Working}
 use Rattle.sc_state.specs.declared.working.Written.{Written}
-use Rattle.sc_grammar.specs.Written.{Bytes}
+use Rattle.sc_tokens.specs.Bytes.{Bytes}
 use Rattle.sc_model.specs.DialogRequests.{next_request, ack_request}
 use Rattle.sc_model.specs.Dialogs.{DialogState, By_self}
 use Rattle.sc_model.specs.SessionStates.{invite}
-use Rattle.sc_hosts.specs.Branches.{new_proxy, with_targets, stopped, is_invite}
-use Rattle.sc_hosts.specs.Effects.{begun, after_listed}
-use Rattle.sc_hosts.specs.Legs.{leg_of, change_leg, in_dialog}
-use Rattle.sc_hosts.specs.Looking.{same_session, request_in}
+use Rattle.sc_hosts.specs.Branches.{is_invite, new_proxy, with_targets, without_search}
+use Rattle.sc_hosts.specs.Effects.{after_listed, first_play}
+use Rattle.sc_hosts.specs.Legs.{change_leg, in_dialog, leg_of}
+use Rattle.sc_hosts.specs.Looking.{request_in, same_session}
 use Rattle.sc_hosts.specs.Messages.{from_here, on_branch}
 use Rattle.sc_hosts.specs.Preparing.{kept_of, proxy_of}
 use Rattle.sc_hosts.specs.PreparingResponses.{change_proxy}
@@ -52,7 +52,12 @@ use Rattle.sc_model.specs.BestResponses.{server_error}
 -- as the calls begin
 unfoldable pub starts : Prepared → Working
 starts shown =
-    record { play = begun shown.view; known = shown.known; written = []; orders = shown.orders }
+    record {
+      play = first_play shown.view;
+      known = shown.known;
+      written = [];
+      orders = shown.orders;
+    }
 
 -- ## Sending
 
@@ -237,47 +242,47 @@ invalidates config sess working =
 -- ## Each call
 
 -- what an accepted call does beside what it leaves of the view; most do nothing more
-unfoldable pub does : Config → Working → Call → Working
-does config working (calls.Respond req answer) =
+unfoldable pub effects_of_call : Config → Working → Call → Working
+effects_of_call config working (calls.Respond req answer) =
     answering config (request_in working.play.view req) answer working
-does config working (calls.CreateRequest ask) = drafts_own ask working
-does config working (calls.CreateInDialog sess ask) = drafts_later ask working
-does config working (calls.B2bCreate req uri) =
+effects_of_call config working (calls.CreateRequest ask) = drafts_own ask working
+effects_of_call config working (calls.CreateInDialog sess ask) = drafts_later ask working
+effects_of_call config working (calls.B2bCreate req uri) =
     drafts_leg req uri (kept_of working.known req) working
-does config working (calls.SetDirective draft directive origin) =
+effects_of_call config working (calls.SetDirective draft directive origin) =
     directs draft directive origin working
-does config working (calls.Send draft) =
+effects_of_call config working (calls.Send draft) =
     sends config draft (find (is_written draft) working.written) (draft_in working.play draft)
     working
-does config working (calls.Discard draft) = forgets draft working
-does config working (calls.Ack sess body) =
+effects_of_call config working (calls.Discard draft) = forgets draft working
+effects_of_call config working (calls.Ack sess body) =
     acknowledges config sess body (find (awaits_ack sess) working.play.view.requests) working
-does config working (calls.Cancel req) = cancels (kept_of working.known req) working
-does config working (calls.ProxyTo req uris how) =
+effects_of_call config working (calls.Cancel req) = cancels (kept_of working.known req) working
+effects_of_call config working (calls.ProxyTo req uris how) =
     record working { known = proxies req uris how working.known }
-does config working (calls.ProxyCancel req) =
-    record working { known = change_proxy req stopped working.known }
-does config working (calls.B2bRespond sess answer) =
+effects_of_call config working (calls.ProxyCancel req) =
+    record working { known = change_proxy req without_search working.known }
+effects_of_call config working (calls.B2bRespond sess answer) =
     answering config (begun_by working.play.view sess) answer working
-does config working (calls.Link a b) = working
-does config working (calls.Unlink a) = working
-does config working (calls.StartTimer delay period info) = working
-does config working (calls.CancelTimer id) = working
-does config working (calls.SetAttribute name value) = working
-does config working (calls.RemoveAttribute name) = working
-does config working (calls.SetExpires minutes) = working
-does config working (calls.SetReadyFlag target flag) = working
-does config working (calls.InvalidateSession sess) = invalidates config sess working
-does config working calls.InvalidateApplication = working
+effects_of_call config working (calls.Link a b) = working
+effects_of_call config working (calls.Unlink a) = working
+effects_of_call config working (calls.StartTimer delay period info) = working
+effects_of_call config working (calls.CancelTimer id) = working
+effects_of_call config working (calls.SetAttribute name value) = working
+effects_of_call config working (calls.RemoveAttribute name) = working
+effects_of_call config working (calls.SetExpires minutes) = working
+effects_of_call config working (calls.SetReadyFlag target flag) = working
+effects_of_call config working (calls.InvalidateSession sess) = invalidates config sess working
+effects_of_call config working calls.InvalidateApplication = working
 
 -- a refused call does nothing
 unfoldable pub does_by : Config → Working → Call → Option Refusal → Working
-does_by config working call None = does config working call
+does_by config working call None = effects_of_call config working call
 does_by config working call (Some refused) = working
 
 -- after one call more
-unfoldable pub worked : Config → Working → Call → Working
-worked config working call =
+unfoldable pub after_one_call : Config → Working → Call → Working
+after_one_call config working call =
     record (does_by config working call (refusal working.play call)) {
       play = after_listed working.play call;
     }
@@ -285,4 +290,4 @@ worked config working call =
 -- after all calls of a turn, in their order
 unfoldable pub worked_all : Config → Prepared → List CallRecord → Working
 worked_all config shown made =
-    fold (λ working made. worked config working made.call) (starts shown) made
+    fold (λ working made. after_one_call config working made.call) (starts shown) made

@@ -4,8 +4,8 @@ ghost use Rattle.sc_parts.specs.declared.setup.Setup.{Setup};
 ghost use Rattle.sc_state.specs.declared.net.Net.{Net};
 ghost use Rattle.sc_state.specs.declared.session.Session.{Session};
 ghost use Rattle.sc_hosts.specs.Histories.{History};
-ghost use Rattle.sc_hosts.specs.Nets.{is_busy, deliver_first};
-ghost use Rattle.sc_hosts.specs.Runs.{delivered, chained, all_sent, all_sent_from};
+ghost use Rattle.sc_hosts.specs.Nets.{deliver_first, is_busy};
+ghost use Rattle.sc_hosts.specs.Runs.{after_delivery, all_sent, all_sent_from, net_from};
 ghost use Rattle.sc_hosts.specs.Sessions.{Form};
 
 /// Deliveries come to an end: then the wire is empty. They are one delivery and then the rest, none
@@ -13,17 +13,17 @@ ghost use Rattle.sc_hosts.specs.Sessions.{Form};
 /// in which sessions are kept, and the call does nothing.
 pub fn deliveries_end()
     ensures empty { (form : Form Session) (setup : Setup) (net : Net Session)
-        → is_busy (delivered form setup net) ≡ false }
+        → is_busy (after_delivery form setup net) ≡ false }
     ensures next { (form : Form Session) (setup : Setup) (net : Net Session) → is_busy net ≡ true
-        → delivered form setup net ≡ delivered form setup (deliver_first form setup net) }
+        → after_delivery form setup net ≡ after_delivery form setup (deliver_first form setup net) }
     ensures idle { (form : Form Session) (setup : Setup) (net : Net Session) → is_busy net ≡ false
-        → delivered form setup net ≡ net }
+        → after_delivery form setup net ≡ net }
     ensures inside { (form : Form Session) (setup : Setup) (net : Net Session)
-        → (delivered form setup net).sent ≡ net.sent }
+        → (after_delivery form setup net).sent ≡ net.sent }
     ensures history_empty { (form : Form History) (setup : Setup) (net : Net History)
-        → is_busy (delivered form setup net) ≡ false }
+        → is_busy (after_delivery form setup net) ≡ false }
     ensures history_inside { (form : Form History) (setup : Setup) (net : Net History)
-        → (delivered form setup net).sent ≡ net.sent }
+        → (after_delivery form setup net).sent ≡ net.sent }
 {}
 
 /// What the beginning of a journal sends is the beginning of what it sends. The contract is the
@@ -32,5 +32,5 @@ pub fn beginnings_send_beginnings()
     ensures { (form : Form Session) (setup : Setup) (epoch began : ℕ) (begun later : List Step)
         → all_sent form setup epoch began (begun ++ later)
         ≡ all_sent form setup epoch began begun
-        ++ all_sent_from form setup (chained form setup epoch began begun) later }
+        ++ all_sent_from form setup (net_from form setup epoch began begun) later }
 {}

@@ -12,7 +12,7 @@ use Rattle.sc_state.specs.declared.session.Session.{Session}
 use Rattle.sc_state.specs.Hosts.{Host}
 use Rattle.sc_state.specs.Standing.{is_server}
 use Rattle.sc_hosts.specs.Inboxes.{is_live, with_event}
-use Rattle.sc_hosts.specs.Taking.{tried}
+use Rattle.sc_hosts.specs.Taking.{server_after_trying as tried}
 
 -- what a change leaves is this too
 pub then_same : {A E X : Type 0} (r : Result A E) (a b c : X) → b ≡ c → OnOk r (a ≡ b) → OnOk r (a ≡ c)

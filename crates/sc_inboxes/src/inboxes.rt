@@ -3,7 +3,7 @@
 ghost use Rattle.std.specs.Prelude.{◌≡◌, ◌==◌, length, if◌then◌else◌, IfOk, OnOk};
 ghost use Rattle.std.specs.Option.{option_copied};
 ghost use Rattle.sc_value.specs.Lists.{change_first};
-ghost use Rattle.sc_hosts.specs.Inboxes.{is_live, live_in, with_event, queue, is_full, is_full_at};
+ghost use Rattle.sc_hosts.specs.Inboxes.{is_full, is_full_at, is_live, live_in, queue, with_event};
 ghost use Rattle.sc_inboxes.specs.TakenParts.{taken_by};
 
 use crate::told::{Told, quiet};
@@ -68,7 +68,7 @@ fn queue_in(
 }
 
 /// Queues an event where its session lives; else it is dropped.
-#[tactic(auto, unfolding(sc_hosts::specs::Inboxes::queue, sc_hosts::specs::Inboxes::quiet))]
+#[tactic(auto, unfolding(sc_hosts::specs::Inboxes::queue, sc_hosts::specs::Inboxes::without_answer))]
 pub fn queue(
     alloc: Global,
     serial: u64,

@@ -35,7 +35,7 @@ pub fn edge_response(
 }
 
 // An ACK gets no answer.
-#[tactic(auto, unfolding(sc_hosts::specs::Taking::refuse, sc_hosts::specs::Inboxes::quiet))]
+#[tactic(auto, unfolding(sc_hosts::specs::Taking::refuse, sc_hosts::specs::Inboxes::without_answer))]
 fn refuse(
     alloc: Global,
     config: &Config,

@@ -4,7 +4,7 @@
 ghost use Rattle.std.specs.Prelude.{◌≡◌, [], None, IfOk, OnOk};
 ghost use Rattle.sc_value.specs.Lists.{change_first};
 ghost use Rattle.sc_hosts.specs.Messages.{trying_response};
-ghost use Rattle.sc_hosts.specs.Taking.{with_server, tried, with_trying};
+ghost use Rattle.sc_hosts.specs.Taking.{server_after_trying, with_server, with_trying};
 ghost use Rattle.sc_hosts.specs.Transacting.{is_server};
 ghost use Rattle.sc_hosts.specs.Words.{trying};
 ghost use Rattle.sc_inboxes.specs.TakenParts.{taken_by};
@@ -78,14 +78,14 @@ fn trying(alloc: Global, request: &Request) -> Result<Response, NoMemory>
     trying_response(alloc, b"Trying", request)
 }
 
-#[tactic(auto, unfolding(sc_hosts::specs::Taking::tried))]
+#[tactic(auto, unfolding(sc_hosts::specs::Taking::server_after_trying))]
 fn tried(
     alloc: Global,
     request: &Request,
     now: u64,
     server: &Server,
 ) -> Result<Shared<Server>, NoMemory>
-    ensures { IfOk result (λ own. own ≡ tried request.now now server.now) }
+    ensures { IfOk result (λ own. own ≡ server_after_trying request.now now server.now) }
 {
     let last = Shared::new(alloc, trying(alloc, request)?)?;
     let mut own = server.clone_in(alloc)?;
@@ -112,7 +112,7 @@ fn try_in(
     ensures { OnOk result
         (host.new
         ≡ record host.old {
-          servers = change_first (is_server event) (tried request.now now) host.old.servers;
+          servers = change_first (is_server event) (server_after_trying request.now now) host.old.servers;
         }) }
 {
     let own = match host.server(event) {

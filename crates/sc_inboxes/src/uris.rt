@@ -6,7 +6,7 @@ ghost use Rattle.sc_value.specs.Params.{param_value, is_named};
 ghost use Rattle.sc_model.specs.Names.{ap_value};
 ghost use Rattle.sc_model.specs.OwnHosts.{is_own};
 ghost use Rattle.sc_state.specs.Groups.{serial_number};
-ghost use Rattle.sc_hosts.specs.Taking.{ap_of, own_uri, unrouted, names, is_named_live, named_live};
+ghost use Rattle.sc_hosts.specs.Taking.{ap_of, is_named_live, named_live, names, own_uri, without_own_route};
 ghost use Rattle.sc_inboxes.specs.UriParams.{uri_param};
 
 use itoa::Buffer;
@@ -226,13 +226,13 @@ pub fn without_top(alloc: Global, request: &Request) -> Result<Request, NoMemory
 }
 
 /// The own top Route is taken off.
-#[tactic(auto, unfolding(sc_hosts::specs::Taking::unrouted))]
+#[tactic(auto, unfolding(sc_hosts::specs::Taking::without_own_route))]
 pub fn unrouted(
     alloc: Global,
     config: &Config,
     request: &Shared<Request>,
 ) -> Result<Shared<Request>, NoMemory>
-    ensures { IfOk result (λ r. r ≡ unrouted config.now request.now) }
+    ensures { IfOk result (λ r. r ≡ without_own_route config.now request.now) }
 {
     if is_own_routed(alloc, config, request.get())? {
         Shared::new(alloc, without_top(alloc, request.get())?)

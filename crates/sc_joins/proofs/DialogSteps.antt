@@ -5,7 +5,7 @@ use Rattle.std.specs.List.{filter_map, cons_option}
 use Rattle.sc_value.specs.declared.message.Message.TheVariants as messages
 use Rattle.sc_value.specs.declared.parts.Uri.{Uri}
 use Rattle.sc_model.specs.Dialogs.{Beginning, Passed, By_peer, By_self, DialogState, dialog_of, messages_of, given_target, begun_by, first_target, target_of, greatest, Follows}
-use Rattle.sc_hosts.specs.Legs.{retargeted}
+use Rattle.sc_hosts.specs.Legs.{with_target as retargeted}
 
 first-some : {A : Type 0} (found : Option A) (all : List A) (otherwise : A) → unwrap_or (slice_get (cons_option found all) 0) otherwise ≡ unwrap_or found (unwrap_or (slice_get all 0) otherwise)
 first-some None all otherwise = refl

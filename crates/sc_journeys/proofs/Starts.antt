@@ -17,15 +17,15 @@ use Rattle.sc_parts.specs.declared.setup.Setup.{Setup}
 use Rattle.sc_state.specs.declared.host.Peer.TheVariants as peers
 use Rattle.sc_state.specs.declared.net.Net.{Net}
 use Rattle.sc_state.specs.declared.session.Session.{Session}
-use Rattle.sc_grammar.specs.Written.{Bytes}
+use Rattle.sc_tokens.specs.Bytes.{Bytes}
 use Rattle.sc_model.specs.Names.{IsOf64}
 use Rattle.sc_hosts.specs.Histories.{as_session}
 use Rattle.sc_hosts.specs.Runs.{HasVia, IsAllowed}
-use Rattle.sc_hosts.specs.Taking.{names, own_uri, unrouted}
+use Rattle.sc_hosts.specs.Taking.{names, own_uri, without_own_route as unrouted}
 use Rattle.sc_lasting.specs.Lasting.{All}
 use Rattle.sc_paths.specs.LaterRequests.{SetOut, has_vias, later_in, leads, set_out_by, visits_from}
 use Rattle.sc_paths.specs.Moments.{Got, Moment, given_in, got_in, moments_from}
-use Rattle.sc_paths.specs.Pieces.{Dialog, Direction, Piece, ahead, along, end_of, listed, recorders}
+use Rattle.sc_paths.specs.Pieces.{Dialog, Direction, Piece, ahead, along, end_of, list_of_option as listed, recorders}
 use Rattle.sc_hops.specs.Hops.{GoesAs}
 use Rattle.sc_hops.proofs.OneTurn.{unrouted-vias}
 use Rattle.sc_hops.proofs.OwnBranch.{goes-itself}

@@ -13,7 +13,7 @@ use Rattle.sc_parts.specs.declared.setup.Setup.{Setup}
 use Rattle.sc_state.specs.declared.net.Net.{Net}
 use Rattle.sc_state.specs.declared.queue.Waiting.{Waiting}
 use Rattle.sc_state.specs.declared.session.Session.{Session}
-use Rattle.sc_grammar.specs.Written.{Bytes}
+use Rattle.sc_tokens.specs.Bytes.{Bytes}
 use Rattle.sc_model.specs.DialogRequests.{cancel}
 use Rattle.sc_model.specs.Dialogs.{tag_of}
 use Rattle.sc_model.specs.Names.{IsOf64}
@@ -21,12 +21,12 @@ use Rattle.sc_model.specs.OwnHosts.{is_own}
 use Rattle.sc_hosts.specs.Destinations.{next_uri}
 use Rattle.sc_hosts.specs.Histories.{as_session}
 use Rattle.sc_hosts.specs.Runs.{IsAllowed, MayTurn, after_step}
-use Rattle.sc_hosts.specs.Taking.{names, unrouted}
+use Rattle.sc_hosts.specs.Taking.{names, without_own_route as unrouted}
 use Rattle.sc_hosts.specs.Transacting.{method_of}
 use Rattle.sc_lasting.specs.Lasting.{All}
 use Rattle.sc_paths.specs.LaterRequests.{is_passed_on, is_turn_of, leads, visits_from}
 use Rattle.sc_paths.specs.Moments.{Got, Moment, got_in, moments_from}
-use Rattle.sc_paths.specs.Pieces.{listed}
+use Rattle.sc_paths.specs.Pieces.{list_of_option as listed}
 use Rattle.sc_ways.proofs.FirstHop.{found-some}
 use Rattle.sc_ways.proofs.Follows.{EndsAt, Goes, IsTurn, end-follows, goes-on, named-same, passes, sent-leads, turn-of, waits-on}
 use Rattle.sc_ways.proofs.OneHop.{IsFine, IsNext, allowed-turn}

@@ -2,7 +2,7 @@ ghost use Rattle.std.specs.Prelude.{◌≡◌, ℕ, List, true};
 ghost use Rattle.sc_terms.specs.declared.steps.Step.{Step};
 ghost use Rattle.sc_parts.specs.declared.setup.Setup.{Setup};
 ghost use Rattle.sc_hosts.specs.Histories.{as_history, as_session};
-ghost use Rattle.sc_hosts.specs.Runs.{IsLawful, chained};
+ghost use Rattle.sc_hosts.specs.Runs.{IsLawful, net_from};
 ghost use Rattle.sc_paths.specs.LaterRequests.{Occurrence, carries};
 ghost use Rattle.sc_paths.specs.Moments.{moments};
 ghost use Rattle.sc_paths.specs.Pieces.{Dialog, Direction, IsPiece, Piece};
@@ -23,7 +23,7 @@ pub fn later_requests_go_all_the_way_or_stop()
         → IsLawful as_session setup epoch began journal
         → IsPiece setup epoch (moments setup epoch began journal) dialog piece
         → IsApart (moments setup epoch began journal) dialog piece
-        → AreSmallNames setup epoch (chained as_session setup epoch began journal) piece
+        → AreSmallNames setup epoch (net_from as_session setup epoch began journal) piece
         → AreSmallDraws setup (moments setup epoch began journal)
         → carries setup (moments setup epoch began journal) dialog direction piece occurrence ≡ true
         → Ends setup (moments setup epoch began journal) direction piece occurrence }
@@ -32,7 +32,7 @@ pub fn later_requests_go_all_the_way_or_stop()
         → IsLawful (as_history setup.config) setup epoch began journal
         → IsPiece setup epoch (moments setup epoch began journal) dialog piece
         → IsApart (moments setup epoch began journal) dialog piece
-        → AreSmallNames setup epoch (chained as_session setup epoch began journal) piece
+        → AreSmallNames setup epoch (net_from as_session setup epoch began journal) piece
         → AreSmallDraws setup (moments setup epoch began journal)
         → carries setup (moments setup epoch began journal) dialog direction piece occurrence ≡ true
         → Ends setup (moments setup epoch began journal) direction piece occurrence }

@@ -37,20 +37,20 @@ use Rattle.sc_state.specs.declared.working.Play.{Play}
 use Rattle.sc_state.specs.declared.working.Prepared.{Prepared}
 use Rattle.sc_state.specs.declared.working.Working.{Working}
 use Rattle.sc_state.specs.declared.working.Written.{Written}
-use Rattle.sc_grammar.specs.Written.{Bytes}
+use Rattle.sc_tokens.specs.Bytes.{Bytes}
 use Rattle.sc_model.specs.Dialogs.{DialogState}
-use Rattle.sc_hosts.specs.Acting.{in_view, drawn, without_left, drafts_ended, fault_at, faulted, started, forwarded_view, with_subscribed, forwards, passes, forwards_best, chooses, closes, proxy_now, sends_cancels, acted, acts, all_act, hops_spent, passed_on, passed_later, passed_request_of, is_request_event, passes_later}
+use Rattle.sc_hosts.specs.Acting.{in_view, with_next_branch as drawn, without_left, drafts_ended, fault_at, after_fault as faulted, after_start as started, forwarded_view, with_subscribed, forwards, passes, forwards_best, chooses, closes, proxy_now, sends_cancels, after_proxy as acted, acts, all_act, hops_spent, passed_on, passed_later, passed_request_of, is_request_event, passes_later}
 use Rattle.sc_hosts.specs.Branches.{starting}
-use Rattle.sc_hosts.specs.Effects.{after_call, after_listed, begun, played_by, created, created_later, created_leg, with_draft, sent, discarded, acked, proxied, with_timer, flagged}
-use Rattle.sc_hosts.specs.Finishing.{swept_one, swept, without_acks, lightened, session_in_play, is_ended, finished, outcome_of, outcome}
+use Rattle.sc_hosts.specs.Effects.{after_call, after_listed, first_play as begun, played_by, play_with_initial as created, created_later, created_leg, with_draft, play_with_request as sent, play_without_draft as discarded, view_with_ack as acked, view_with_targets as proxied, with_timer, with_invalidation_flag as flagged}
+use Rattle.sc_hosts.specs.Finishing.{swept_one, swept, without_acks, without_unneeded as lightened, session_in_play, is_ended, after_all_calls as finished, outcome_of, outcome}
 use Rattle.sc_hosts.specs.Giving.{giving, answering, writes, drafts_own, drafts_later, drafts_leg, directs, forgets}
-use Rattle.sc_hosts.specs.Looking.{removed, request_in, unlinked, unlinked_from}
+use Rattle.sc_hosts.specs.Looking.{without_sip_session as removed, request_in, without_link as unlinked, unlinked_from}
 use Rattle.sc_hosts.specs.Messages.{on_branch, passed_request}
-use Rattle.sc_hosts.specs.Preparing.{prepared}
-use Rattle.sc_hosts.specs.PreparingRequests.{received}
+use Rattle.sc_hosts.specs.Preparing.{prepared_session as prepared}
+use Rattle.sc_hosts.specs.PreparingRequests.{with_received_request as received}
 use Rattle.sc_hosts.specs.PreparingResponses.{is_invalid}
-use Rattle.sc_hosts.specs.ViewChanges.{answered, answered_in, invalidated, linked, settled_requests, tidy, with_own_session}
-use Rattle.sc_hosts.specs.Working.{starts, keeps_sent, sends_initial, sends_later, sends_in, sends_written, sends, ack_with, acknowledges, cancels, invalidates, does, does_by, worked, worked_all, next_branch}
+use Rattle.sc_hosts.specs.ViewChanges.{view_with_answer as answered, answered_in, view_without as invalidated, with_link as linked, settled_requests, tidy, with_own_session}
+use Rattle.sc_hosts.specs.Working.{starts, keeps_sent, sends_initial, sends_later, sends_in, sends_written, sends, ack_with, acknowledges, cancels, invalidates, effects_of_call as does, does_by, after_one_call as worked, worked_all, next_branch}
 use Rattle.sc_once.specs.Growing.{IsBetween}
 use Rattle.sc_once.proofs.Bounds.{from-lower}
 use Rattle.sc_walked.specs.SessionWalks.{SessionLaws}

@@ -24,15 +24,15 @@ use Rattle.sc_state.specs.declared.host.Server.{Server}
 use Rattle.sc_state.specs.declared.host.Taken.{Taken}
 use Rattle.sc_state.specs.declared.net.Note.{Note}
 use Rattle.sc_state.specs.declared.queue.Queued.{Queued}
-use Rattle.sc_grammar.specs.Written.{Bytes}
+use Rattle.sc_tokens.specs.Bytes.{Bytes}
 use Rattle.sc_model.specs.DialogRequests.{cancel}
 use Rattle.sc_model.specs.SessionStates.{invite}
 use Rattle.sc_model.specs.Timers.{DueEntry}
 use Rattle.sc_hosts.proofs.EachSort.{takes-by}
-use Rattle.sc_hosts.specs.Inboxes.{is_live, live_in, quiet, queue, with_event}
+use Rattle.sc_hosts.specs.Inboxes.{is_live, live_in, without_answer as quiet, queue, with_event}
 use Rattle.sc_hosts.specs.Sessions.{Form}
-use Rattle.sc_hosts.specs.Taking.{begun_live, cancelled, last_again, again_if, repeated, refuse, with_server, with_trying, tried, queue_later, is_named_live, named_live, own_uri, begun, take_initial, takes}
-use Rattle.sc_hosts.specs.TakingResponses.{told, told_by, cancelling, with_reply, response_for, response_to, take_response}
+use Rattle.sc_hosts.specs.Taking.{begun_live, take_cancel as cancelled, last_again, again_if, take_repeated as repeated, refuse, with_server, with_trying, server_after_trying as tried, queue_later, is_named_live, named_live, own_uri, take_new as begun, take_initial, takes}
+use Rattle.sc_hosts.specs.TakingResponses.{take_provisional as told, told_by, cancelling, with_reply, response_for, response_to, take_response}
 use Rattle.sc_hosts.specs.Ticks.{mark_fired}
 use Rattle.sc_hosts.specs.Transacting.{client_for, is_answered_by, method_of, out_of_client, pass_client, pass_server, server_passed, tidied, with_client}
 use Rattle.sc_hosts.proofs.Deliveries.{same_bytes-equal}

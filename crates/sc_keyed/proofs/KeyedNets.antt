@@ -31,11 +31,11 @@ use Rattle.sc_state.specs.declared.net.Note.{Note}
 use Rattle.sc_state.specs.declared.orders.Order.{Order}
 use Rattle.sc_state.specs.declared.orders.Order.TheVariants as orders
 use Rattle.sc_state.specs.declared.queue.Queued.{Queued}
-use Rattle.sc_grammar.specs.Written.{Bytes}
+use Rattle.sc_tokens.specs.Bytes.{Bytes}
 use Rattle.sc_model.specs.Choices.{choice_of}
-use Rattle.sc_hosts.specs.Inboxes.{is_live, queue, quiet, with_event}
-use Rattle.sc_hosts.specs.Nets.{host_at, change_host, put, put_reply, placed, queued_at, queue_for, tell_own, send_to, leave_for, leave, begin_by, send_named, send_later, acknowledge, send_cancel, cancel_by, cancel_for, client_at, respond_by, answered_server, obey, obeyed, is_busy, deliver_at, deliver_entry, deliver_first, weight}
-use Rattle.sc_hosts.specs.Runs.{delivered}
+use Rattle.sc_hosts.specs.Inboxes.{is_live, queue, without_answer as quiet, with_event}
+use Rattle.sc_hosts.specs.Nets.{host_at, change_host, with_message as put, put_reply, with_host_after as placed, queued_at, queue_for, tell_own, send_to, leave_for, leave, begin_by, send_named, send_later, acknowledge, send_cancel, cancel_by, cancel_for, client_at, respond_by, answered_server, obey, after_orders as obeyed, is_busy, deliver_at, deliver_entry, deliver_first, weight}
+use Rattle.sc_hosts.specs.Runs.{after_delivery as delivered}
 use Rattle.sc_hosts.specs.Sessions.{Form}
 use Rattle.sc_hosts.specs.Taking.{takes}
 use Rattle.sc_hosts.specs.TakingResponses.{cancelling}

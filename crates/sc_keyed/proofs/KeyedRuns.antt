@@ -13,9 +13,9 @@ use Rattle.sc_state.specs.Standing.{is_server}
 use Rattle.sc_state.specs.declared.host.Server.{Server}
 use Rattle.sc_state.specs.declared.net.Net.{Net}
 use Rattle.sc_hosts.specs.Histories.{History, after_turn, as_history, as_session, session_after, session_of, turned_history}
-use Rattle.sc_hosts.specs.Runs.{after_step, chained, chained_from, quiet_host, start}
+use Rattle.sc_hosts.specs.Runs.{after_step, net_from as chained, chained_from, quiet_host, start}
 use Rattle.sc_hosts.specs.Sessions.{Form, Turn}
-use Rattle.sc_hosts.specs.Steps.{stepped}
+use Rattle.sc_hosts.specs.Steps.{before_delivery as stepped}
 use Rattle.sc_lives.specs.Numbers.{IsRising}
 use Rattle.sc_once.specs.Growing.{IsBetween}
 use Rattle.sc_keyed.specs.Keyed.{AreApart, HaveOwnKeys, IsIn, is_same_server}
@@ -50,7 +50,7 @@ module _ {S : Type 0} (form : Form S) (setup : Setup) (turns : Turns form setup.
   stepped-keyed (steps.Bad from bad) net keyed = bad_by-keyed form NoTurn 0 0 setup.config from bad.heads net keyed
   stepped-keyed (steps.Lost place) net keyed = lost-keyed form NoTurn 0 0 setup.config place net keyed
   stepped-keyed (steps.Tick now) net keyed = ticked-keyed form NoTurn 0 0 setup.config now net keyed
-  stepped-keyed (steps.Turn app event now made end) net keyed = turns-keyed form setup app _ now made end net refl turns keyed
+  stepped-keyed (steps.Turn end app event now made) net keyed = turns-keyed form setup app _ now made end net refl turns keyed
   stepped-keyed (steps.Withdraw app) net keyed = withdrawn-keyed form setup app _ net keyed
 
   after_step-keyed : (net : Net S) (step : Step) → AllKeyed form NoTurn 0 0 net → AllKeyed form NoTurn 0 0 (after_step form setup net step)

@@ -25,15 +25,15 @@ use Rattle.sc_state.specs.declared.net.Net.{Net}
 use Rattle.sc_state.specs.declared.net.Note.{Note}
 use Rattle.sc_state.specs.declared.orders.Outcome.{Outcome}
 use Rattle.sc_state.specs.declared.queue.Queued.TheVariants as queued
-use Rattle.sc_grammar.specs.Written.{Bytes}
+use Rattle.sc_tokens.specs.Bytes.{Bytes}
 use Rattle.sc_model.specs.Timers.{DueEntry}
 use Rattle.sc_hosts.proofs.EachSort.{arrives-each}
-use Rattle.sc_hosts.specs.Arrivals.{host_takes, taken_at, edge_answer, begins_by, initial_arrives, response_by, arrived, bad_by}
+use Rattle.sc_hosts.specs.Arrivals.{host_takes, taken_at, edge_answer, begins_by, initial_arrives, response_by, after_arrival as arrived, bad_by}
 use Rattle.sc_hosts.specs.Nets.{host_at}
 use Rattle.sc_hosts.specs.Routes.{unrouted_initial, popped_route}
 use Rattle.sc_hosts.specs.Sessions.{Form}
 use Rattle.sc_hosts.specs.Steps.{with_ready}
-use Rattle.sc_hosts.specs.Ticks.{told_at, passes, clients_to, lost, Dated, DueItem, Of_session, Of_client, Of_server, mark_fired, fires, due_items, ticked}
+use Rattle.sc_hosts.specs.Ticks.{told_at, passes, clients_to, net_after_loss as lost, Dated, DueItem, Of_session, Of_client, Of_server, mark_fired, fires, due_items, net_after_tick as ticked}
 use Rattle.sc_hosts.specs.Transacting.{pass_client}
 use Rattle.sc_hosts.specs.Words.{unavailable}
 use Rattle.sc_keyed.proofs.KeyedHosts.{marks-keyed, pass_client-keyed, pass_server-keyed, takes-keyed}

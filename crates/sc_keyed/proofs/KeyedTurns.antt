@@ -19,9 +19,9 @@ use Rattle.sc_state.specs.declared.session.Session.{Session}
 use Rattle.sc_hosts.specs.Finishing.{goodbye, outcome}
 use Rattle.sc_hosts.specs.Histories.{after_turn}
 use Rattle.sc_hosts.specs.Inboxes.{is_live}
-use Rattle.sc_hosts.specs.Nets.{change_host, host_at, obeyed}
+use Rattle.sc_hosts.specs.Nets.{change_host, host_at, after_orders as obeyed}
 use Rattle.sc_hosts.specs.Sessions.{Form, Turn}
-use Rattle.sc_hosts.specs.Steps.{live_at, live_of, outcome_by, turned_live, without_live, with_ready, invalidated, closed_turn, turned, turn_of, turns_first, turns, withdrawn}
+use Rattle.sc_hosts.specs.Steps.{live_at, live_of, outcome_by, turned_live, without_live, with_ready, without_application as invalidated, closed_turn, net_after_turn as turned, turn_of, turns_first, turns, withdrawn}
 use Rattle.sc_lives.specs.Numbers.{IsRising}
 use Rattle.sc_lives.proofs.Serials.{change-rising, remove-rising}
 use Rattle.sc_once.specs.Growing.{IsBetween}

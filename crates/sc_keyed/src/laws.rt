@@ -8,7 +8,7 @@ ghost use Rattle.sc_state.specs.declared.queue.Waiting.{Waiting};
 ghost use Rattle.sc_state.specs.declared.session.Session.{Session};
 ghost use Rattle.sc_hosts.specs.Finishing.{outcome};
 ghost use Rattle.sc_hosts.specs.Histories.{as_history, as_session};
-ghost use Rattle.sc_hosts.specs.Runs.{chained};
+ghost use Rattle.sc_hosts.specs.Runs.{net_from};
 ghost use Rattle.sc_once.specs.Growing.{IsBetween};
 ghost use Rattle.sc_keyed.specs.Keyed.{AreOn, HaveOwnKeys, new_branches};
 
@@ -37,7 +37,7 @@ pub fn branches_are_new()
 /// sessions are kept, and the call does nothing.
 pub fn keys_are_own()
     ensures session { (setup : Setup) (epoch began : ℕ) (journal : List Step)
-        → HaveOwnKeys (chained as_session setup epoch began journal) }
+        → HaveOwnKeys (net_from as_session setup epoch began journal) }
     ensures history { (setup : Setup) (epoch began : ℕ) (journal : List Step)
-        → HaveOwnKeys (chained (as_history setup.config) setup epoch began journal) }
+        → HaveOwnKeys (net_from (as_history setup.config) setup epoch began journal) }
 {}

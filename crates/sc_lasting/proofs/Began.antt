@@ -24,17 +24,17 @@ use Rattle.sc_state.specs.declared.working.Draft.{Draft}
 use Rattle.sc_state.specs.declared.working.Play.{Play}
 use Rattle.sc_hosts.specs.Acting.{sent_proxy}
 use Rattle.sc_hosts.specs.Branches.{new_proxy, with_targets}
-use Rattle.sc_hosts.specs.Effects.{created_leg, proxied, proxied_request, sent_view, with_draft}
+use Rattle.sc_hosts.specs.Effects.{created_leg, view_with_targets as proxied, proxied_request, sent_view, with_draft}
 use Rattle.sc_hosts.specs.Histories.{History, session_after}
 use Rattle.sc_hosts.specs.Legs.{fresh, first_view, first_known, new_leg}
-use Rattle.sc_hosts.specs.Looking.{is_request, same_request, request_in, unlinked, removed}
+use Rattle.sc_hosts.specs.Looking.{is_request, same_request, request_in, without_link as unlinked, without_sip_session as removed}
 use Rattle.sc_hosts.specs.Preparing.{kept_of, proxy_of}
-use Rattle.sc_hosts.specs.PreparingRequests.{next_id, received, request_view}
+use Rattle.sc_hosts.specs.PreparingRequests.{next_id, with_received_request as received, request_view}
 use Rattle.sc_hosts.specs.PreparingResponses.{change_proxy}
 use Rattle.sc_hosts.specs.RefusalParts.{first_of}
 use Rattle.sc_hosts.specs.Refusals.{refusal, own_refusal, proxy_refusal}
 use Rattle.sc_hosts.specs.Sessions.{Turn}
-use Rattle.sc_hosts.specs.ViewChanges.{linked, new_session, with_own_session}
+use Rattle.sc_hosts.specs.ViewChanges.{with_link as linked, new_session, with_own_session}
 use Rattle.sc_hosts.specs.Working.{proxies, proxies_first, event_of}
 use Rattle.sc_walked.specs.SessionWalks.{Each, Brings, IsKeptProxy, IsSameRequest, IsSameProxy, SessionLaws, with_legs, sent_kept}
 use Rattle.sc_walked.proofs.WalkParts.{each-first, same-proxy}

@@ -7,14 +7,14 @@ use Rattle.sc_terms.specs.declared.views.SessionView.{SessionView}
 use Rattle.sc_terms.specs.declared.views.View.{View}
 use Rattle.sc_state.specs.declared.queue.Queued.{Queued}
 use Rattle.sc_state.specs.declared.working.Play.{Play}
-use Rattle.sc_grammar.specs.Written.{Bytes}
+use Rattle.sc_tokens.specs.Bytes.{Bytes}
 use Rattle.sc_hosts.specs.DerivedSessions.{derived_session}
 use Rattle.sc_hosts.specs.Effects.{created_leg, with_draft}
 use Rattle.sc_hosts.specs.Histories.{History, session_after}
 use Rattle.sc_hosts.specs.Legs.{fresh, first_view, first_session}
-use Rattle.sc_hosts.specs.Looking.{is_proxy, is_session, linked_to, unlinked, removed}
+use Rattle.sc_hosts.specs.Looking.{is_proxy, is_session, linked_to, without_link as unlinked, without_sip_session as removed}
 use Rattle.sc_hosts.specs.Sessions.{Turn}
-use Rattle.sc_hosts.specs.ViewChanges.{linked, new_session, own_session, with_own_session}
+use Rattle.sc_hosts.specs.ViewChanges.{with_link as linked, new_session, own_session, with_own_session}
 use Rattle.sc_walked.specs.SessionWalks.{Each, IsMoved, SessionLaws}
 use Rattle.sc_lasting.specs.Lasting.{All, IsDirect, AreDirect, Directly, IsLife}
 use Rattle.sc_lasting.proofs.Parts.{all-append, all-each, all-found, unlinked-each, removed-each, linked-each, received-holds}

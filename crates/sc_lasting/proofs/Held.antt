@@ -15,12 +15,12 @@ use Rattle.sc_terms.specs.declared.views.View.{View}
 use Rattle.sc_state.specs.declared.queue.Queued.{Queued}
 use Rattle.sc_state.specs.declared.session.Session.{Session}
 use Rattle.sc_state.specs.declared.working.Play.{Play}
-use Rattle.sc_hosts.specs.Effects.{created_leg, proxied, proxying, with_draft}
+use Rattle.sc_hosts.specs.Effects.{created_leg, view_with_targets as proxied, proxying, with_draft}
 use Rattle.sc_hosts.specs.Histories.{History, session_after, after_turn}
 use Rattle.sc_hosts.specs.Legs.{fresh}
-use Rattle.sc_hosts.specs.Looking.{is_proxy, is_session, linked_to, unlinked, removed}
+use Rattle.sc_hosts.specs.Looking.{is_proxy, is_session, linked_to, without_link as unlinked, without_sip_session as removed}
 use Rattle.sc_hosts.specs.Sessions.{Turn}
-use Rattle.sc_hosts.specs.ViewChanges.{linked, new_session, own_session, with_own_session}
+use Rattle.sc_hosts.specs.ViewChanges.{with_link as linked, new_session, own_session, with_own_session}
 use Rattle.sc_walked.specs.SessionWalks.{Each, IsMoved, SessionLaws}
 use Rattle.sc_walked.proofs.WalkParts.{each-first, if-is}
 use Rattle.sc_walked.proofs.WalkEnds.{after_turn-walks, done-any}

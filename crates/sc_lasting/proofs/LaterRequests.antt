@@ -12,8 +12,8 @@ use Rattle.sc_state.specs.declared.session.Session.{Session}
 use Rattle.sc_state.specs.declared.working.Prepared.{Prepared}
 use Rattle.sc_hosts.specs.Legs.{change_leg, is_low, leg_of, with_request}
 use Rattle.sc_hosts.specs.Looking.{is_proxy, request_in, session_in}
-use Rattle.sc_hosts.specs.PreparingRequests.{next_id, numbered, prepared_request, received, refused, showing, silent, taken, taken_in, too_low}
-use Rattle.sc_hosts.specs.ViewChanges.{answered}
+use Rattle.sc_hosts.specs.PreparingRequests.{next_id, with_number_used as numbered, prepared_request, with_received_request as received, refusal_orders as refused, showing, silent, prepared_for_request as taken, taken_in, too_low}
+use Rattle.sc_hosts.specs.ViewChanges.{view_with_answer as answered}
 use Rattle.sc_hosts.specs.Words.{does_not_exist}
 use Rattle.sc_walked.proofs.WalkParts.{if-is}
 

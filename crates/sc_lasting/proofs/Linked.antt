@@ -18,16 +18,16 @@ use Rattle.sc_terms.specs.declared.views.View.{View}
 use Rattle.sc_state.specs.declared.queue.Queued.{Queued}
 use Rattle.sc_state.specs.declared.session.Session.{Session}
 use Rattle.sc_state.specs.declared.working.Play.{Play}
-use Rattle.sc_grammar.specs.Written.{Bytes}
+use Rattle.sc_tokens.specs.Bytes.{Bytes}
 use Rattle.sc_hosts.specs.DerivedSessions.{derived_session}
-use Rattle.sc_hosts.specs.Effects.{created_leg, proxied, proxying, with_draft}
+use Rattle.sc_hosts.specs.Effects.{created_leg, view_with_targets as proxied, proxying, with_draft}
 use Rattle.sc_hosts.specs.Histories.{History, session_of, session_after}
 use Rattle.sc_hosts.specs.Legs.{fresh, first_view, first_session}
-use Rattle.sc_hosts.specs.Looking.{is_session, is_gone, linked_to, partner, session_in, request_in, same_session, unlinked_from, unlinked, removed}
-use Rattle.sc_hosts.specs.RefusalParts.{name_refusal, named, known_session, session_of_request}
+use Rattle.sc_hosts.specs.Looking.{is_session, is_gone, linked_to, partner, session_in, request_in, same_session, unlinked_from, without_link as unlinked, without_sip_session as removed}
+use Rattle.sc_hosts.specs.RefusalParts.{name_refusal, sessions_in_call as named, known_session, session_of_request}
 use Rattle.sc_hosts.specs.Refusals.{refusal, own_refusal, link_refusal, linked_refusal, b2b_refusal}
 use Rattle.sc_hosts.specs.Sessions.{Turn}
-use Rattle.sc_hosts.specs.ViewChanges.{linked, new_session, own_session, with_own_session}
+use Rattle.sc_hosts.specs.ViewChanges.{with_link as linked, new_session, own_session, with_own_session}
 use Rattle.sc_walked.specs.SessionWalks.{Each, IsMoved, SessionLaws}
 use Rattle.sc_walked.proofs.WalkParts.{each-first, if-is}
 use Rattle.sc_walked.proofs.WalkEnds.{life-keeps}

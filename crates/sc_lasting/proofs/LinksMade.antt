@@ -13,11 +13,11 @@ use Rattle.sc_state.specs.declared.queue.Queued.{Queued}
 use Rattle.sc_state.specs.declared.queue.Queued.TheVariants as queued
 use Rattle.sc_state.specs.declared.working.Play.{Play}
 use Rattle.sc_hosts.specs.DerivedSessions.{derived_session}
-use Rattle.sc_hosts.specs.Effects.{created_leg, proxied, proxying, with_draft}
+use Rattle.sc_hosts.specs.Effects.{created_leg, view_with_targets as proxied, proxying, with_draft}
 use Rattle.sc_hosts.specs.Histories.{History, session_after}
-use Rattle.sc_hosts.specs.Looking.{is_gone_in, is_gone, is_session, linked_to, partner, unlinked, removed}
+use Rattle.sc_hosts.specs.Looking.{is_gone_in, is_gone, is_session, linked_to, partner, without_link as unlinked, without_sip_session as removed}
 use Rattle.sc_hosts.specs.Sessions.{Turn}
-use Rattle.sc_hosts.specs.ViewChanges.{linked, new_session, own_session, with_own_session}
+use Rattle.sc_hosts.specs.ViewChanges.{with_link as linked, new_session, own_session, with_own_session}
 use Rattle.sc_walked.specs.SessionWalks.{Each, IsMoved, SessionLaws}
 use Rattle.sc_walked.proofs.WalkParts.{each-first}
 use Rattle.sc_lasting.specs.Lasting.{IsSince, LeavesApart, are_both}

@@ -7,7 +7,7 @@ use Rattle.sc_parts.specs.declared.setup.Setup.{Setup}
 use Rattle.sc_state.specs.declared.host.Live.{Live}
 use Rattle.sc_state.specs.declared.session.Session.{Session}
 use Rattle.sc_hosts.specs.Histories.{History, as_history, as_session, session_of}
-use Rattle.sc_hosts.specs.Runs.{chained}
+use Rattle.sc_hosts.specs.Runs.{net_from as chained}
 use Rattle.sc_hosts.specs.Steps.{live_at}
 use Rattle.sc_forms.specs.Simulations.{map_live}
 use Rattle.sc_forms.proofs.HistoryLaws.{live_at-histories}

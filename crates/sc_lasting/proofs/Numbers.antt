@@ -15,12 +15,12 @@ use Rattle.sc_state.specs.declared.session.Kept.{Kept}
 use Rattle.sc_state.specs.declared.session.Known.{Known}
 use Rattle.sc_state.specs.declared.session.Session.{Session}
 use Rattle.sc_state.specs.declared.working.Play.{Play}
-use Rattle.sc_hosts.specs.Effects.{created_leg, proxied, proxied_request, sent_view, with_draft}
+use Rattle.sc_hosts.specs.Effects.{created_leg, view_with_targets as proxied, proxied_request, sent_view, with_draft}
 use Rattle.sc_hosts.specs.Histories.{History, session_of}
 use Rattle.sc_hosts.specs.Legs.{new_leg, fresh, first_view, first_known}
-use Rattle.sc_hosts.specs.Looking.{is_request, unlinked, removed}
+use Rattle.sc_hosts.specs.Looking.{is_request, without_link as unlinked, without_sip_session as removed}
 use Rattle.sc_hosts.specs.PreparingRequests.{request_view}
-use Rattle.sc_hosts.specs.ViewChanges.{linked, new_session, with_own_session}
+use Rattle.sc_hosts.specs.ViewChanges.{with_link as linked, new_session, with_own_session}
 use Rattle.sc_hosts.specs.Working.{proxies, proxies_first}
 use Rattle.sc_walked.specs.SessionWalks.{Each, IsSameRequest, IsShownAgain, SessionLaws, with_legs}
 use Rattle.sc_walked.proofs.WalkParts.{each-first}

@@ -7,7 +7,7 @@ use Rattle.sc_value.specs.Lists.{change_first}
 use Rattle.sc_value.specs.declared.ids.SessId.{SessId}
 use Rattle.sc_terms.specs.declared.views.SessionView.{SessionView}
 use Rattle.sc_hosts.specs.Looking.{is_session, linked_to}
-use Rattle.sc_hosts.specs.ViewChanges.{linked}
+use Rattle.sc_hosts.specs.ViewChanges.{with_link as linked}
 use Rattle.sc_walked.specs.SessionWalks.{Each}
 
 -- the SipSession to which this one is linked

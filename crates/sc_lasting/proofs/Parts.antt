@@ -15,10 +15,10 @@ use Rattle.sc_state.specs.declared.session.Invited.{Invited}
 use Rattle.sc_state.specs.declared.session.Session.{Session}
 use Rattle.sc_state.specs.declared.session.Way.TheVariants.{Received}
 use Rattle.sc_model.specs.SessionStates.{invite}
-use Rattle.sc_hosts.specs.Looking.{is_session, partner, unlinked_from, unlinked, removed, linked_to}
-use Rattle.sc_hosts.specs.PreparingRequests.{next_id, numbered, received, request_view, with_invited}
+use Rattle.sc_hosts.specs.Looking.{is_session, partner, unlinked_from, without_link as unlinked, without_sip_session as removed, linked_to}
+use Rattle.sc_hosts.specs.PreparingRequests.{next_id, with_number_used as numbered, with_received_request as received, request_view, with_invited}
 use Rattle.sc_hosts.specs.PreparingResponses.{insert_request}
-use Rattle.sc_hosts.specs.ViewChanges.{linked}
+use Rattle.sc_hosts.specs.ViewChanges.{with_link as linked}
 use Rattle.sc_walked.specs.SessionWalks.{Each}
 use Rattle.sc_walked.proofs.WalkParts.{each-first, each-same, if-is}
 use Rattle.sc_lasting.specs.Lasting.{All}

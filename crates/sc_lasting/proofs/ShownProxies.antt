@@ -17,9 +17,9 @@ use Rattle.sc_model.specs.Transactions.{is_failure}
 use Rattle.sc_hosts.specs.DerivedSessions.{Derives, Handling, In, Takes, handled_in, handling, overtaken, without_derived}
 use Rattle.sc_hosts.specs.Legs.{change_leg}
 use Rattle.sc_hosts.specs.Looking.{session_in}
-use Rattle.sc_hosts.specs.Preparing.{has_expired, prepared_expiry, prepared_timer, terminated}
-use Rattle.sc_hosts.specs.PreparingRequests.{prepared_request, received, showing, showing_in, silent}
-use Rattle.sc_hosts.specs.PreparingResponses.{accepts_invite, branch_placed, is_first_success, noted_final, placed, prepared_own, responded, responded_again, responded_in, settled_legs, shown_again}
+use Rattle.sc_hosts.specs.Preparing.{has_expired, prepared_expiry, prepared_timer, prepared_end as terminated}
+use Rattle.sc_hosts.specs.PreparingRequests.{prepared_request, with_received_request as received, showing, showing_in, silent}
+use Rattle.sc_hosts.specs.PreparingResponses.{accepts_invite, branch_placed, is_first_success, noted_final, session_of_response as placed, prepared_own, with_handled_response as responded, responded_again, responded_in, settled_legs, shown_again}
 use Rattle.sc_lasting.proofs.LaterRequests.{later-session}
 use Rattle.sc_lasting.proofs.Parts.{received-holds}
 

@@ -15,9 +15,9 @@ use Rattle.sc_state.specs.declared.queue.Queued.TheVariants as queued
 use Rattle.sc_state.specs.declared.session.Kept.{Kept}
 use Rattle.sc_state.specs.declared.session.Session.{Session}
 use Rattle.sc_terms.specs.declared.settings.Config.{Config}
-use Rattle.sc_hosts.specs.Effects.{begun}
+use Rattle.sc_hosts.specs.Effects.{first_play}
 use Rattle.sc_hosts.specs.Histories.{History, session_after}
-use Rattle.sc_hosts.specs.Preparing.{prepared}
+use Rattle.sc_hosts.specs.Preparing.{prepared_session}
 use Rattle.sc_hosts.specs.Sessions.{Turn}
 use Rattle.sc_walked.specs.SessionWalks.{AreDone, HasGoneOn}
 use Rattle.sc_hosts.specs.Looking.{is_confirmed, is_gone_in, is_proxy, is_terminated, is_uac, partner, same_session}
@@ -95,8 +95,8 @@ IsLife Good Does config history [] = Unit {0}
 IsLife Good Does config history (turn ∷ earlier) =
     Good turn.waiting.event
     × AreDone Does
-    (begun
-    (prepared config turn.ringing (session_after config history earlier) turn.waiting
+    (first_play
+    (prepared_session config turn.ringing (session_after config history earlier) turn.waiting
     turn.now).view)
     turn.calls
     × IsLife Good Does config history earlier
@@ -108,8 +108,8 @@ IsSince Good Does config history earlier [] = Unit {0}
 IsSince Good Does config history earlier (turn ∷ later) =
     Good turn.waiting.event
     × AreDone Does
-    (begun
-    (prepared config turn.ringing (session_after config history (later ++ earlier)) turn.waiting
+    (first_play
+    (prepared_session config turn.ringing (session_after config history (later ++ earlier)) turn.waiting
     turn.now).view)
     turn.calls
     × IsSince Good Does config history earlier later

@@ -8,7 +8,7 @@ ghost use Rattle.sc_state.specs.declared.host.Live.{Live};
 ghost use Rattle.sc_state.specs.declared.session.Session.{Session};
 ghost use Rattle.sc_hosts.specs.Histories.{History, as_session, session_of, session_after};
 ghost use Rattle.sc_hosts.specs.Looking.{is_gone_in, partner};
-ghost use Rattle.sc_hosts.specs.Runs.{chained};
+ghost use Rattle.sc_hosts.specs.Runs.{net_from};
 ghost use Rattle.sc_hosts.specs.Sessions.{Turn};
 ghost use Rattle.sc_hosts.specs.Steps.{live_at};
 ghost use Rattle.sc_lasting.specs.Lasting.{All, ArePaired, AreDirect, Continues, Directly, GoOn, IsHeld, IsLife, IsOf, IsOnward, IsSince, IsSteady, LeavesApart, LeavesLinked, Numbered, Proxies};
@@ -22,7 +22,7 @@ pub fn links_are_pairs()
         → ArePaired (session_of config history).view }
     ensures live { (setup : Setup) (epoch began : ℕ) (journal : List Step) (app : AppId)
         (live : Live Session)
-        → live_at app (chained as_session setup epoch began journal) ≡ Some live
+        → live_at app (net_from as_session setup epoch began journal) ≡ Some live
         → ArePaired live.session.view }
 {}
 

@@ -5,7 +5,7 @@ use Rattle.sc_terms.specs.declared.steps.Step.{Step}
 use Rattle.sc_parts.specs.declared.setup.Setup.{Setup}
 use Rattle.sc_state.specs.declared.net.Net.{Net}
 use Rattle.sc_servlets.specs.declared.lease.Lease.{Lease}
-use Rattle.sc_hosts.specs.Runs.{chained_from, chained, start, all_sent_from, all_sent, IsLawfulFrom, IsLawful}
+use Rattle.sc_hosts.specs.Runs.{chained_from, net_from as chained, start, all_sent_from, all_sent, IsLawfulFrom, IsLawful}
 use Rattle.sc_hosts.specs.Sessions.{Form}
 use Rattle.sc_leases.proofs.Joined.{chained-joined, sent-joined, lawful-joined, lawful-parted}
 use Rattle.sc_leases.proofs.LeaseStays.{lease-stays-on}

@@ -127,7 +127,7 @@ module _ {S : Type 0} (form : Form S) (setup : Setup) where
   kept-after net (steps.Bad from bad) kept low last allowed are = kept-stay net (steps.Bad from bad) kept low last allowed (λ app. refl) are
   kept-after net (steps.Lost place) kept low last allowed are = kept-stay net (steps.Lost place) kept low last allowed (λ app. refl) are
   kept-after net (steps.Tick now) kept low last allowed are = kept-stay net (steps.Tick now) kept low last allowed (λ app. refl) are
-  kept-after net (steps.Turn app event now made end) kept low last allowed are = kept-own net (steps.Turn app event now made end) app kept low last allowed (λ other. refl) are
+  kept-after net (steps.Turn end app event now made) kept low last allowed are = kept-own net (steps.Turn end app event now made) app kept low last allowed (λ other. refl) are
   kept-after net (steps.Withdraw app) kept low last allowed are = kept-own net (steps.Withdraw app) app kept low last allowed (λ other. refl) are
 
   -- ## No step

@@ -12,7 +12,7 @@ use Rattle.sc_state.specs.declared.net.Net.{Net}
 use Rattle.sc_state.specs.declared.queue.Waiting.{Waiting}
 use Rattle.sc_servlets.specs.declared.lease.Lease.{Lease}
 use Rattle.sc_hosts.specs.Nets.{host_at}
-use Rattle.sc_hosts.specs.Runs.{shown, after_step, chained_from, IsAllowed, IsLawfulFrom}
+use Rattle.sc_hosts.specs.Runs.{prepared_turn as shown, after_step, chained_from, IsAllowed, IsLawfulFrom}
 use Rattle.sc_hosts.specs.Sessions.{Form}
 use Rattle.sc_hosts.specs.Steps.{live_at, ringing_at}
 use Rattle.sc_moments.proofs.RunMoments.{after_step-moment}
@@ -30,7 +30,7 @@ module _ {S : Type 0} (form : Form S) (setup : Setup) where
   moments-rise net (steps.Bad from bad) allowed = omega arith
   moments-rise net (steps.Lost place) allowed = omega arith
   moments-rise net (steps.Tick now) allowed = allowed.0
-  moments-rise net (steps.Turn app event now made end) allowed = omega arith
+  moments-rise net (steps.Turn end app event now made) allowed = omega arith
   moments-rise net (steps.Withdraw app) allowed = omega arith
 
   pub moment-rises : (net : Net S) (step : Step) → IsAllowed form setup net step → net.moment ≤ (after_step form setup net step).moment

@@ -14,7 +14,7 @@ use Rattle.sc_hosts.specs.Branches.{is_timed_out, is_invite, to_cancel, ended_by
 use Rattle.sc_hosts.specs.Messages.{own_response}
 use Rattle.sc_hosts.specs.Words.{request_timeout}
 use Rattle.sc_model.specs.Names.{edge_tag}
-use Rattle.sc_hosts.specs.Preparing.{timed_out, prepared_branch_timer, prepared_for, prepared}
+use Rattle.sc_hosts.specs.Preparing.{timed_out, prepared_branch_timer, prepared_for, prepared_session as prepared}
 use Rattle.sc_hosts.specs.PreparingRequests.{silent}
 use Rattle.sc_hosts.specs.PreparingResponses.{change_proxy, is_invalid}
 

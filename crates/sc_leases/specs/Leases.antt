@@ -11,7 +11,7 @@ use Rattle.sc_state.specs.declared.queue.Waiting.{Waiting}
 use Rattle.sc_state.specs.declared.working.Prepared.{Prepared}
 use Rattle.sc_servlets.specs.declared.lease.Lease.{Lease}
 use Rattle.sc_model.specs.Settings.{app_of}
-use Rattle.sc_hosts.specs.Runs.{shown}
+use Rattle.sc_hosts.specs.Runs.{prepared_turn}
 use Rattle.sc_hosts.specs.Sessions.{Form}
 use Rattle.sc_hosts.specs.Steps.{live_at}
 use Rattle.sc_hosts.specs.Transacting.{is_same_app}
@@ -27,7 +27,8 @@ pub record IsTimely {S : Type 0} (setup : Setup) (net : Net S) (lease : Lease) (
 
 -- it shows what the turn of the event begins with
 unfoldable pub IsShown : Prepared → Lease → Type 0
-IsShown shown lease = (shown.view ≡ lease.shown) × (shown.event ≡ lease.event)
+IsShown prepared_turn lease =
+    (prepared_turn.view ≡ lease.shown) × (prepared_turn.event ≡ lease.event)
 
 -- the same of the event that is first, where one waits
 unfoldable pub ShowsFirst : {S : Type 0} → Form S → Setup → Net S → Lease → Live S → Option Waiting
@@ -35,7 +36,7 @@ unfoldable pub ShowsFirst : {S : Type 0} → Form S → Setup → Net S → Leas
 ShowsFirst form setup net lease live None = ⊥
 ShowsFirst form setup net lease live (Some waiting) =
     IsTimely setup net lease live waiting
-    × IsShown (shown form setup net lease.app live waiting lease.shown.now) lease
+    × IsShown (prepared_turn form setup net lease.app live waiting lease.shown.now) lease
 
 -- the same of the session, where it lives
 unfoldable pub ShowsOf : {S : Type 0} → Form S → Setup → Net S → Lease → Option (Live S) → Type 0
@@ -51,7 +52,7 @@ IsLeaseOf form setup net lease = ShowsOf form setup net lease (live_at lease.app
 
 -- the step is a turn, or the withdrawal, of this session
 unfoldable pub is_own : AppId → Step → Bool
-is_own app (steps.Turn other event now made end) = is_same_app other app
+is_own app (steps.Turn end other event now made) = is_same_app other app
 is_own app (steps.Withdraw other) = is_same_app other app
 is_own app step = false
 
@@ -87,7 +88,7 @@ without_app app kept = filter (is_of_other app) kept
 
 -- the lease of a session ends with its turn, and with its withdrawal
 unfoldable pub kept_after : Step → List Lease → List Lease
-kept_after (steps.Turn app event now made end) kept = without_app app kept
+kept_after (steps.Turn end app event now made) kept = without_app app kept
 kept_after (steps.Withdraw app) kept = without_app app kept
 kept_after step kept = kept
 

@@ -11,8 +11,8 @@ ghost use Rattle.sc_state.specs.declared.queue.Waiting.{Waiting};
 ghost use Rattle.sc_state.specs.declared.session.Session.{Session};
 ghost use Rattle.sc_servlets.specs.declared.lease.Lease.{Lease};
 ghost use Rattle.sc_hosts.specs.Histories.{History};
-ghost use Rattle.sc_hosts.specs.Preparing.{prepared};
-ghost use Rattle.sc_hosts.specs.Runs.{IsAllowed, IsLawful, IsLawfulFrom, after_step, all_sent, all_sent_from, chained, chained_from, live_count};
+ghost use Rattle.sc_hosts.specs.Preparing.{prepared_session};
+ghost use Rattle.sc_hosts.specs.Runs.{IsAllowed, IsLawful, IsLawfulFrom, after_step, all_sent, all_sent_from, chained_from, live_count, net_from};
 ghost use Rattle.sc_hosts.specs.Sessions.{Form};
 ghost use Rattle.sc_hosts.specs.Steps.{live_at};
 ghost use Rattle.sc_runs.specs.Next.{Next};
@@ -39,12 +39,12 @@ pub fn first_events_stay()
 pub fn views_leave_out_ringing()
     ensures view { (config : Config) (a b : List ℕ) (session : Session) (waiting : Waiting)
         (now : ℕ)
-        → (prepared config a session waiting now).view
-        ≡ (prepared config b session waiting now).view }
+        → (prepared_session config a session waiting now).view
+        ≡ (prepared_session config b session waiting now).view }
     ensures event { (config : Config) (a b : List ℕ) (session : Session) (waiting : Waiting)
         (now : ℕ)
-        → (prepared config a session waiting now).event
-        ≡ (prepared config b session waiting now).event }
+        → (prepared_session config a session waiting now).event
+        ≡ (prepared_session config b session waiting now).event }
 {}
 
 /// A lease that shows what there is goes on to, over each allowed step and each lawful list of
@@ -63,14 +63,14 @@ pub fn leases_stay()
         (before later : List Step) (lease : Lease)
         → IsLawful form setup epoch began (before ++ later)
         → All (λ step. is_own lease.app step ≡ false) later
-        → IsLeaseOf form setup (chained form setup epoch began before) lease
-        → IsLeaseOf form setup (chained form setup epoch began (before ++ later)) lease }
+        → IsLeaseOf form setup (net_from form setup epoch began before) lease
+        → IsLeaseOf form setup (net_from form setup epoch began (before ++ later)) lease }
     ensures history_journal { (form : Form History) (setup : Setup) (epoch began : ℕ)
         (before later : List Step) (lease : Lease)
         → IsLawful form setup epoch began (before ++ later)
         → All (λ step. is_own lease.app step ≡ false) later
-        → IsLeaseOf form setup (chained form setup epoch began before) lease
-        → IsLeaseOf form setup (chained form setup epoch began (before ++ later)) lease }
+        → IsLeaseOf form setup (net_from form setup epoch began before) lease
+        → IsLeaseOf form setup (net_from form setup epoch began (before ++ later)) lease }
 {}
 
 /// The leases that a container keeps go on to show what there is, no two of one session and in the
@@ -142,36 +142,36 @@ pub fn leases_are_of_live_sessions()
 pub fn journals_are_joined()
     ensures session_run { (form : Form Session) (setup : Setup) (epoch began : ℕ)
         (before later : List Step)
-        → chained form setup epoch began (before ++ later)
-        ≡ chained_from form setup (chained form setup epoch began before) later }
+        → net_from form setup epoch began (before ++ later)
+        ≡ chained_from form setup (net_from form setup epoch began before) later }
     ensures history_run { (form : Form History) (setup : Setup) (epoch began : ℕ)
         (before later : List Step)
-        → chained form setup epoch began (before ++ later)
-        ≡ chained_from form setup (chained form setup epoch began before) later }
+        → net_from form setup epoch began (before ++ later)
+        ≡ chained_from form setup (net_from form setup epoch began before) later }
     ensures session_sent { (form : Form Session) (setup : Setup) (epoch began : ℕ)
         (before later : List Step)
         → all_sent form setup epoch began (before ++ later)
         ≡ all_sent form setup epoch began before
-        ++ all_sent_from form setup (chained form setup epoch began before) later }
+        ++ all_sent_from form setup (net_from form setup epoch began before) later }
     ensures history_sent { (form : Form History) (setup : Setup) (epoch began : ℕ)
         (before later : List Step)
         → all_sent form setup epoch began (before ++ later)
         ≡ all_sent form setup epoch began before
-        ++ all_sent_from form setup (chained form setup epoch began before) later }
+        ++ all_sent_from form setup (net_from form setup epoch began before) later }
     ensures session_lawful { (form : Form Session) (setup : Setup) (epoch began : ℕ)
         (before later : List Step) → IsLawful form setup epoch began before
-        → IsLawfulFrom form setup (chained form setup epoch began before) later
+        → IsLawfulFrom form setup (net_from form setup epoch began before) later
         → IsLawful form setup epoch began (before ++ later) }
     ensures history_lawful { (form : Form History) (setup : Setup) (epoch began : ℕ)
         (before later : List Step) → IsLawful form setup epoch began before
-        → IsLawfulFrom form setup (chained form setup epoch began before) later
+        → IsLawfulFrom form setup (net_from form setup epoch began before) later
         → IsLawful form setup epoch began (before ++ later) }
     ensures session_parted { (form : Form Session) (setup : Setup) (epoch began : ℕ)
         (before later : List Step) → IsLawful form setup epoch began (before ++ later)
         → IsLawful form setup epoch began before
-        × IsLawfulFrom form setup (chained form setup epoch began before) later }
+        × IsLawfulFrom form setup (net_from form setup epoch began before) later }
     ensures history_parted { (form : Form History) (setup : Setup) (epoch began : ℕ)
         (before later : List Step) → IsLawful form setup epoch began (before ++ later)
         → IsLawful form setup epoch began before
-        × IsLawfulFrom form setup (chained form setup epoch began before) later }
+        × IsLawfulFrom form setup (net_from form setup epoch began before) later }
 {}

@@ -4,7 +4,7 @@ ghost use Rattle.std.specs.Prelude.{◌≡◌, Some, IfOk, OnOk};
 ghost use Rattle.sc_value.specs.Lists.{change_first};
 ghost use Rattle.sc_value.specs.declared.message.Message.{Message};
 ghost use Rattle.sc_model.specs.Dialogs.{Passed};
-ghost use Rattle.sc_hosts.specs.Legs.{answered_leg, as_answer, change_leg, in_dialog, is_leg_of, makes_dialog_of, retargeted, with_answer, with_request};
+ghost use Rattle.sc_hosts.specs.Legs.{answered_leg, as_answer, change_leg, in_dialog, is_leg_of, makes_dialog_of, with_answer, with_request, with_target};
 
 use crate::legs::leg_place;
 use crate::tags::{from_tag, with_got};
@@ -15,25 +15,25 @@ use sc_state::{Known, Leg};
 use sc_value::{CloneIn, Discard, NoMemory, Request, Response, SessId, tag};
 use std::alloc::Global;
 
-#[tactic(auto, unfolding(sc_hosts::specs::Legs::retargeted))]
+#[tactic(auto, unfolding(sc_hosts::specs::Legs::with_target))]
 fn hear_request(alloc: Global, dialog: &mut Dialog, request: &Request) -> Result<(), NoMemory>
     ensures { OnOk result
-        (dialog.new ≡ retargeted dialog.old (Passed.By_peer (Message.Request request.now))) }
+        (dialog.new ≡ with_target dialog.old (Passed.By_peer (Message.Request request.now))) }
 {
     dialog.hear_request(alloc, request)
 }
 
-#[tactic(auto, unfolding(sc_hosts::specs::Legs::retargeted))]
+#[tactic(auto, unfolding(sc_hosts::specs::Legs::with_target))]
 fn hear_response(alloc: Global, dialog: &mut Dialog, response: &Response) -> Result<(), NoMemory>
     ensures { OnOk result
-        (dialog.new ≡ retargeted dialog.old (Passed.By_peer (Message.Response response.now))) }
+        (dialog.new ≡ with_target dialog.old (Passed.By_peer (Message.Response response.now))) }
 {
     dialog.hear_response(alloc, response)
 }
 
-#[tactic(auto, unfolding(sc_hosts::specs::Legs::retargeted))]
+#[tactic(auto, unfolding(sc_hosts::specs::Legs::with_target))]
 fn count_sent(dialog: &mut Dialog, request: &Request)
-    ensures { dialog.new ≡ retargeted dialog.old (Passed.By_self (Message.Request request.now)) }
+    ensures { dialog.new ≡ with_target dialog.old (Passed.By_self (Message.Request request.now)) }
 {
     dialog.count_sent(request.head.cseq.number);
 }

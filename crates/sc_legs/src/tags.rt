@@ -5,7 +5,7 @@ ghost use Rattle.std.specs.List.{list_any};
 ghost use Rattle.std.specs.Option.{option_copied};
 ghost use Rattle.sc_value.specs.Lists.{change_first};
 ghost use Rattle.sc_hosts.specs.Legs.{from_tag, greatest_got, is_low, same_tag, to_tag, with_got};
-ghost use Rattle.sc_legs.specs.Numbers.{is_from, raised};
+ghost use Rattle.sc_legs.specs.Numbers.{is_from, with_number_at_least};
 
 use sc_methods::is_ack;
 use sc_state::{Got, Leg};
@@ -58,16 +58,17 @@ fn has_got(got: &[Got], tag: Option<&Text>) -> bool
     got.iter().any(|got| is_from(got, tag))
 }
 
-#[tactic(auto, unfolding(crate::specs::Numbers::raised))]
+#[tactic(auto, unfolding(crate::specs::Numbers::with_number_at_least))]
 fn raise(got: &mut Got, number: u32)
-    ensures { got.new ≡ raised number got.old }
+    ensures { got.new ≡ with_number_at_least number got.old }
 {
     got.number = got.number.max(number);
 }
 
 #[tactic(auto, using(sc_value::proofs::ListFacts::change_first_position, sc_value::proofs::ListFacts::change_first_none))]
 fn raise_in(got: &mut [Got], tag: Option<&Text>, number: u32)
-    ensures { got.new ≡ change_first (is_from (option_copied tag.entry)) (raised number) got.old }
+    ensures { got.new
+        ≡ change_first (is_from (option_copied tag.entry)) (with_number_at_least number) got.old }
 {
     match got_place(got, tag) {
         Some(at) => raise(&mut got[at], number),
@@ -93,7 +94,7 @@ fn add_got(
 }
 
 /// Notes that a request with this number came from this tag.
-#[tactic(auto, unfolding(sc_hosts::specs::Legs::with_got, crate::specs::Numbers::is_from, crate::specs::Numbers::raised))]
+#[tactic(auto, unfolding(sc_hosts::specs::Legs::with_got, crate::specs::Numbers::is_from, crate::specs::Numbers::with_number_at_least))]
 pub fn with_got(
     alloc: Global,
     got: &mut List<Got>,

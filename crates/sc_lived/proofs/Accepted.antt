@@ -23,9 +23,9 @@ use Rattle.sc_state.specs.declared.working.Play.{Play}
 use Rattle.sc_state.specs.declared.working.Prepared.{Prepared}
 use Rattle.sc_model.specs.Settings.{Charters, charters_of}
 use Rattle.sc_hosts.specs.Bringing.{Allowed, Called, IsSilent, is_listened}
-use Rattle.sc_hosts.specs.Effects.{accepted, after_listed, answer_by, answer_of, begun}
+use Rattle.sc_hosts.specs.Effects.{answer_to_call as accepted, after_listed, answer_by, answer_of, first_play as begun}
 use Rattle.sc_hosts.specs.Histories.{History, after_turn, session_after, session_of}
-use Rattle.sc_hosts.specs.Preparing.{prepared}
+use Rattle.sc_hosts.specs.Preparing.{prepared_session as prepared}
 use Rattle.sc_hosts.specs.Refusals.{refusal}
 use Rattle.sc_hosts.specs.Runs.{AllowedBy}
 use Rattle.sc_hosts.specs.Scripting.{IsAnswered, IsAnsweredFrom, is_refused}

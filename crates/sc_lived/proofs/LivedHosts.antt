@@ -17,7 +17,7 @@ use Rattle.sc_state.specs.declared.queue.Waiting.{Waiting}
 use Rattle.sc_state.specs.Hosts.{Host}
 use Rattle.sc_model.specs.Timers.{DueEntry}
 use Rattle.sc_hosts.specs.Histories.{History, as_history, begun_history, turned_history}
-use Rattle.sc_hosts.specs.Inboxes.{is_live, live_in, with_event, quiet, queue}
+use Rattle.sc_hosts.specs.Inboxes.{is_live, live_in, with_event, without_answer as quiet, queue}
 use Rattle.sc_hosts.specs.Sessions.{Form, Turn}
 use Rattle.sc_hosts.specs.Taking.{begun_live}
 use Rattle.sc_hosts.specs.Ticks.{mark_fired}

@@ -17,8 +17,8 @@ use Rattle.sc_state.specs.declared.net.Net.{Net}
 use Rattle.sc_state.specs.declared.queue.Waiting.{Waiting}
 use Rattle.sc_hosts.specs.Histories.{History, as_history}
 use Rattle.sc_hosts.specs.Nets.{host_at}
-use Rattle.sc_hosts.specs.Runs.{quiet_host, start, after_step, chained_from, chained, IsAllowed, IsLawfulFrom, IsLawful, MayTurn, shown}
-use Rattle.sc_hosts.specs.Steps.{live_at, live_of, stepped, turn_of}
+use Rattle.sc_hosts.specs.Runs.{quiet_host, start, after_step, chained_from, net_from as chained, IsAllowed, IsLawfulFrom, IsLawful, MayTurn, prepared_turn as shown}
+use Rattle.sc_hosts.specs.Steps.{live_at, live_of, before_delivery as stepped, turn_of}
 use Rattle.sc_hosts.specs.Transacting.{is_same_app}
 use Rattle.sc_lives.specs.Numbers.{IsRising, IsNumbered, AreNumbered}
 use Rattle.sc_once.proofs.History.{after_step-numbered}
@@ -26,7 +26,7 @@ use Rattle.sc_once.proofs.OwnTurns.{live-known}
 use Rattle.sc_once.specs.Growing.{KnownIn}
 use Rattle.sc_once.proofs.StepParts.{same-app}
 use Rattle.sc_walks.proofs.WalkSteps.{arrived-walks, bad_by-walks, lost-walks, ticked-walks}
-use Rattle.sc_lived.specs.Lived.{Told, told_by, told}
+use Rattle.sc_lived.specs.Lived.{Told, told_by, turns_in as told}
 use Rattle.sc_lived.proofs.LivedHosts.{Keeps, Saying, fine-hosts}
 use Rattle.sc_lived.proofs.LivedNets.{FineAt, FineIn, NetKeeps, fine-nets}
 use Rattle.sc_lived.proofs.OtherTurns.{turns-keep, withdrawn-keeps}
@@ -55,20 +55,20 @@ module _ {setup : Setup} {app : AppId} {Says : List Told → History → List Wa
 
   own-turn : (given : List Told) (net : Net History) (event now : ℕ) (made : List CallRecord) (end : End) → AreNumbered net
       → MayTurn (as_history setup.config) setup net app event now made end → FineIn law given net
-      → FineIn law (given ++ record { event = event; now = now; calls = made; end = end } ∷ []) (After net (steps.Turn app event now made end))
+      → FineIn law (given ++ record { event = event; now = now; calls = made; end = end } ∷ []) (After net (steps.Turn end app event now made))
   unfolding as_history shown turn_of
   own-turn given net event now made end numbered may fine =
       turn-fine law given net may.live may.waiting event now made end numbered may.live_is may.waiting_is may.event_is may.allowed fine
 
   turn-by : (given : List Told) (net : Net History) (other : AppId) (event now : ℕ) (made : List CallRecord) (end : End) → AreNumbered net
       → MayTurn (as_history setup.config) setup net other event now made end → (b : Bool) → is_same_app app other ≡ b → FineIn law given net
-      → FineIn law (given ++ cond b (record { event = event; now = now; calls = made; end = end } ∷ []) []) (After net (steps.Turn other event now made end))
+      → FineIn law (given ++ cond b (record { event = event; now = now; calls = made; end = end } ∷ []) []) (After net (steps.Turn end other event now made))
   unfolding stepped
   turn-by given net other event now made end numbered may true is fine =
       let same : other ≡ app = same-app (as_history setup.config) setup app other is in
       rw same (own-turn given net event now made end numbered (subst (λ (a : AppId). MayTurn (as_history setup.config) setup net a event now made end) same may) fine)
   turn-by given net other event now made end numbered may false is fine =
-      passes given net (steps.Turn other event now made end)
+      passes given net (steps.Turn end other event now made)
       (turns-keep law given other (flipped app.host other.host app.serial other.serial false is) (live_at other net) now made end (record net { sent = [] })) fine
 
   withdraw-by : (given : List Told) (net : Net History) (other : AppId) → AreNumbered net → (b : Bool) → is_same_app app other ≡ b
@@ -93,7 +93,7 @@ module _ {setup : Setup} {app : AppId} {Says : List Told → History → List Wa
       passes given net (steps.Lost place) (lost-walks (Keeps law given) (NetKeeps law given) (fine-hosts law given) (fine-nets law given) setup.config place (record net { sent = [] })) fine
   step-fine given net (steps.Tick now) numbered allowed fine =
       passes given net (steps.Tick now) (ticked-walks (Keeps law given) (NetKeeps law given) (fine-hosts law given) (fine-nets law given) (as_history setup.config) setup.config now (record net { sent = [] })) fine
-  step-fine given net (steps.Turn other event now made end) numbered allowed fine =
+  step-fine given net (steps.Turn end other event now made) numbered allowed fine =
       turn-by given net other event now made end numbered allowed (is_same_app app other) refl fine
   step-fine given net (steps.Withdraw other) numbered allowed fine =
       withdraw-by given net other numbered (is_same_app app other) refl fine

@@ -19,10 +19,10 @@ use Rattle.sc_state.specs.declared.session.Session.{Session}
 use Rattle.sc_hosts.specs.Finishing.{goodbye}
 use Rattle.sc_hosts.specs.Histories.{History, as_history}
 use Rattle.sc_hosts.specs.Inboxes.{is_live, live_in}
-use Rattle.sc_hosts.specs.Nets.{host_at, change_host, obeyed}
-use Rattle.sc_hosts.specs.Runs.{delivered, after_step}
+use Rattle.sc_hosts.specs.Nets.{host_at, change_host, after_orders as obeyed}
+use Rattle.sc_hosts.specs.Runs.{after_delivery as delivered, after_step}
 use Rattle.sc_hosts.specs.Sessions.{Turn}
-use Rattle.sc_hosts.specs.Steps.{live_at, live_of, outcome_by, turn_of, turned_live, invalidated, closed_turn, turned, turns_first, turns, withdrawn, stepped}
+use Rattle.sc_hosts.specs.Steps.{live_at, live_of, outcome_by, turn_of, turned_live, without_application as invalidated, closed_turn, net_after_turn as turned, turns_first, turns, withdrawn, before_delivery as stepped}
 use Rattle.sc_lives.specs.Numbers.{AreNumbered}
 use Rattle.sc_lives.proofs.NumberedNets.{change_host-numbered, obeyed-numbered}
 use Rattle.sc_lives.proofs.Serials.{change-rising}
@@ -151,7 +151,7 @@ module _ {setup : Setup} {app : AppId} {Says : List Told → History → List Wa
   pub turn-fine : (given : List Told) (net : Net History) (live : Live History) (waiting : Waiting) (event now : ℕ) (made : List CallRecord) (end : End)
       → AreNumbered net → live_at app net ≡ Some live → slice_get live.inbox 0 ≡ Some waiting → waiting.number ≡ event
       → MayTake setup app live.session (turn_of net app waiting now made end) → FineIn law given net
-      → FineIn law (given ++ record { event = event; now = now; calls = made; end = end } ∷ []) (after_step (as_history setup.config) setup net (steps.Turn app event now made end))
+      → FineIn law (given ++ record { event = event; now = now; calls = made; end = end } ∷ []) (after_step (as_history setup.config) setup net (steps.Turn end app event now made))
   unfolding after_step stepped turns turns_first turn_of
   turn-fine given net live waiting event now made end numbered is first same may fine =
       let start : Net History = record net { sent = [] } in

@@ -9,13 +9,13 @@ use Rattle.sc_state.specs.declared.host.Live.{Live}
 use Rattle.sc_state.specs.declared.queue.Waiting.{Waiting}
 use Rattle.sc_state.specs.declared.session.Session.{Session}
 use Rattle.sc_hosts.specs.Histories.{History, as_history, as_session, begun_history, session_of, turned_history}
-use Rattle.sc_hosts.specs.Runs.{IsLawful, chained, start}
+use Rattle.sc_hosts.specs.Runs.{IsLawful, net_from as chained, start}
 use Rattle.sc_hosts.specs.Sessions.{Turn}
 use Rattle.sc_hosts.specs.Steps.{live_at}
 use Rattle.sc_forms.specs.Simulations.{map_live}
 use Rattle.sc_forms.proofs.HistoryLaws.{lawful_back-histories, live_at-histories}
 use Rattle.sc_walks.specs.Walks.{IsLate}
-use Rattle.sc_lived.specs.Lived.{AreLate, AreOfOne, AreTaken, Begins, HasLived, HasMore, IsLived, IsMoreOf, Told, told, told_of, told_turns, turned_events}
+use Rattle.sc_lived.specs.Lived.{AreLate, AreOfOne, AreTaken, Begins, HasLived, HasMore, IsLived, IsMoreOf, Told, turns_in as told, told_of, told_turns, turned_events}
 use Rattle.sc_lived.proofs.LivedHosts.{Saying}
 use Rattle.sc_lived.proofs.Lives.{said, said-since, start-numbered}
 

@@ -8,13 +8,13 @@ use Rattle.sc_state.specs.declared.host.Live.{Live}
 use Rattle.sc_state.specs.declared.queue.Waiting.{Waiting}
 use Rattle.sc_state.specs.declared.session.Session.{Session}
 use Rattle.sc_hosts.specs.Histories.{History, as_history, as_session, session_after, session_of}
-use Rattle.sc_hosts.specs.Runs.{IsLawful, chained}
+use Rattle.sc_hosts.specs.Runs.{IsLawful, net_from as chained}
 use Rattle.sc_hosts.specs.Sessions.{Turn}
 use Rattle.sc_hosts.specs.Steps.{live_at}
 use Rattle.sc_forms.proofs.HistoryLaws.{lawful_back-histories}
 use Rattle.sc_lasting.specs.Lasting.{All, IsLife, IsSince, Proxies}
 use Rattle.sc_lasting.proofs.Began.{proxies-began}
-use Rattle.sc_lived.specs.Lived.{AreAccepted, AreTaken, HasLived, IsLived, IsMoreOf, Told, told}
+use Rattle.sc_lived.specs.Lived.{AreAccepted, AreTaken, HasLived, IsLived, IsMoreOf, Told, turns_in as told}
 use Rattle.sc_lived.proofs.Accepted.{life-done, one-life, read-after, since-done}
 use Rattle.sc_lived.proofs.Sayings.{goes-on, has-lived, read-at, same-taken}
 

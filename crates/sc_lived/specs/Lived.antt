@@ -15,7 +15,7 @@ use Rattle.sc_state.specs.declared.queue.Waiting.{Waiting}
 use Rattle.sc_state.specs.declared.session.Session.{Session}
 use Rattle.sc_hosts.specs.Histories.{History, session_of}
 use Rattle.sc_model.specs.Settings.{charters_of}
-use Rattle.sc_hosts.specs.Preparing.{prepared}
+use Rattle.sc_hosts.specs.Preparing.{prepared_session}
 use Rattle.sc_hosts.specs.Runs.{AllowedBy}
 use Rattle.sc_hosts.specs.Sessions.{Turn}
 use Rattle.sc_hosts.specs.Transacting.{is_same_app}
@@ -37,15 +37,15 @@ told_of turn =
 
 -- the turn that a step tells of a session, if it is one
 unfoldable pub told_by : AppId → Step → List Told
-told_by app (steps.Turn other event now calls end) =
+told_by app (steps.Turn end other event now calls) =
     if is_same_app app other then record { event = event; now = now; calls = calls; end = end } ∷ []
     else []
 told_by app step = []
 
 -- the turns that a journal tells of a session
-unfoldable pub told : AppId → List Step → List Told
-told app [] = []
-told app (step ∷ later) = told_by app step ++ told app later
+unfoldable pub turns_in : AppId → List Step → List Told
+turns_in app [] = []
+turns_in app (step ∷ later) = told_by app step ++ turns_in app later
 
 -- those of a history, the oldest first
 unfoldable pub told_turns : List Turn → List Told
@@ -77,7 +77,8 @@ AreOfOne began (first ∷ later) = Begins began first.event × AreLate later
 abbrev pub MayTake : Setup → AppId → History → Turn → Type 0
 MayTake setup app history turn =
     ∥ AllowedBy (charters_of setup app.host)
-    (prepared setup.config turn.ringing (session_of setup.config history) turn.waiting turn.now)
+    (prepared_session setup.config turn.ringing (session_of setup.config history) turn.waiting
+    turn.now)
     turn.calls turn.end ∥₁
 
 -- it might take each of these, the newest first

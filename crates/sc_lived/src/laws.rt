@@ -7,10 +7,10 @@ ghost use Rattle.sc_state.specs.declared.host.Live.{Live};
 ghost use Rattle.sc_state.specs.declared.session.Session.{Session};
 ghost use Rattle.sc_hosts.specs.Histories.{History, as_history, as_session, session_of};
 ghost use Rattle.sc_hosts.specs.Looking.{is_gone_in, partner};
-ghost use Rattle.sc_hosts.specs.Runs.{IsLawful, chained};
+ghost use Rattle.sc_hosts.specs.Runs.{IsLawful, net_from};
 ghost use Rattle.sc_hosts.specs.Steps.{live_at};
 ghost use Rattle.sc_lasting.specs.Lasting.{All, AreDirect, Continues, Directly, GoOn, IsHeld, IsOnward, IsSteady, LeavesApart, LeavesLinked, Proxies};
-ghost use Rattle.sc_lived.specs.Lived.{AreAccepted, HasLived, HasMore, IsLived, IsMoreOf, told};
+ghost use Rattle.sc_lived.specs.Lived.{AreAccepted, HasLived, HasMore, IsLived, IsMoreOf, turns_in};
 
 /// After a lawful journal the history of each live session is a life of it: its turns are those
 /// that the journal tells of it, each with what its application might do at what the session was,
@@ -20,12 +20,12 @@ ghost use Rattle.sc_lived.specs.Lived.{AreAccepted, HasLived, HasMore, IsLived, 
 pub fn lives_are_of_journals()
     ensures history { (setup : Setup) (epoch began : ℕ) (journal : List Step) (app : AppId)
         (live : Live History) → IsLawful (as_history setup.config) setup epoch began journal
-        → live_at app (chained (as_history setup.config) setup epoch began journal) ≡ Some live
-        → IsLived setup app (told app journal) live.session live.inbox }
+        → live_at app (net_from (as_history setup.config) setup epoch began journal) ≡ Some live
+        → IsLived setup app (turns_in app journal) live.session live.inbox }
     ensures session { (setup : Setup) (epoch began : ℕ) (journal : List Step) (app : AppId)
         (live : Live Session) → IsLawful as_session setup epoch began journal
-        → live_at app (chained as_session setup epoch began journal) ≡ Some live
-        → HasLived setup app (told app journal) live.session live.inbox }
+        → live_at app (net_from as_session setup epoch began journal) ≡ Some live
+        → HasLived setup app (turns_in app journal) live.session live.inbox }
 {}
 
 /// Where a session lives after a part of a lawful journal and after the whole of it, its history
@@ -35,14 +35,14 @@ pub fn lives_go_on()
     ensures history { (setup : Setup) (epoch began : ℕ) (before later : List Step) (app : AppId)
         (first live : Live History)
         → IsLawful (as_history setup.config) setup epoch began (before ++ later)
-        → live_at app (chained (as_history setup.config) setup epoch began before) ≡ Some first
-        → live_at app (chained (as_history setup.config) setup epoch began (before ++ later))
-        ≡ Some live → IsMoreOf first.session (told app later) live.session }
+        → live_at app (net_from (as_history setup.config) setup epoch began before) ≡ Some first
+        → live_at app (net_from (as_history setup.config) setup epoch began (before ++ later))
+        ≡ Some live → IsMoreOf first.session (turns_in app later) live.session }
     ensures session { (setup : Setup) (epoch began : ℕ) (before later : List Step) (app : AppId)
         (first live : Live Session) → IsLawful as_session setup epoch began (before ++ later)
-        → live_at app (chained as_session setup epoch began before) ≡ Some first
-        → live_at app (chained as_session setup epoch began (before ++ later)) ≡ Some live
-        → HasMore setup first.session (told app later) live.session }
+        → live_at app (net_from as_session setup epoch began before) ≡ Some first
+        → live_at app (net_from as_session setup epoch began (before ++ later)) ≡ Some live
+        → HasMore setup first.session (turns_in app later) live.session }
 {}
 
 /// While an application session lives, each of its SipSessions keeps its place, its Call-ID and its
@@ -53,30 +53,30 @@ pub fn live_sessions_last()
     ensures any_history { (setup : Setup) (epoch began : ℕ) (before later : List Step) (app : AppId)
         (first live : Live History)
         → IsLawful (as_history setup.config) setup epoch began (before ++ later)
-        → live_at app (chained (as_history setup.config) setup epoch began before) ≡ Some first
-        → live_at app (chained (as_history setup.config) setup epoch began (before ++ later))
+        → live_at app (net_from (as_history setup.config) setup epoch began before) ≡ Some first
+        → live_at app (net_from (as_history setup.config) setup epoch began (before ++ later))
         ≡ Some live
         → Continues IsHeld (session_of setup.config first.session).view.sessions
         (session_of setup.config live.session).view.sessions }
     ensures any_session { (setup : Setup) (epoch began : ℕ) (before later : List Step) (app : AppId)
         (first live : Live Session) → IsLawful as_session setup epoch began (before ++ later)
-        → live_at app (chained as_session setup epoch began before) ≡ Some first
-        → live_at app (chained as_session setup epoch began (before ++ later)) ≡ Some live
+        → live_at app (net_from as_session setup epoch began before) ≡ Some first
+        → live_at app (net_from as_session setup epoch began (before ++ later)) ≡ Some live
         → Continues IsHeld first.session.view.sessions live.session.view.sessions }
     ensures direct_history { (setup : Setup) (epoch began : ℕ) (before later : List Step)
         (app : AppId) (first live : Live History)
         → IsLawful (as_history setup.config) setup epoch began (before ++ later)
-        → live_at app (chained (as_history setup.config) setup epoch began before) ≡ Some first
-        → live_at app (chained (as_history setup.config) setup epoch began (before ++ later))
-        ≡ Some live → AreAccepted Directly (told app later)
+        → live_at app (net_from (as_history setup.config) setup epoch began before) ≡ Some first
+        → live_at app (net_from (as_history setup.config) setup epoch began (before ++ later))
+        ≡ Some live → AreAccepted Directly (turns_in app later)
         → Continues IsSteady (session_of setup.config first.session).view.sessions
         (session_of setup.config live.session).view.sessions }
     ensures direct_session { (setup : Setup) (epoch began : ℕ) (before later : List Step)
         (app : AppId) (first live : Live Session)
         → IsLawful as_session setup epoch began (before ++ later)
-        → live_at app (chained as_session setup epoch began before) ≡ Some first
-        → live_at app (chained as_session setup epoch began (before ++ later)) ≡ Some live
-        → AreAccepted Directly (told app later)
+        → live_at app (net_from as_session setup epoch began before) ≡ Some first
+        → live_at app (net_from as_session setup epoch began (before ++ later)) ≡ Some live
+        → AreAccepted Directly (turns_in app later)
         → Continues IsSteady first.session.view.sessions live.session.view.sessions }
 {}
 
@@ -86,21 +86,21 @@ pub fn live_sessions_last()
 pub fn live_requests_last()
     ensures began_history { (setup : Setup) (epoch began : ℕ) (journal : List Step) (app : AppId)
         (live : Live History) → IsLawful (as_history setup.config) setup epoch began journal
-        → live_at app (chained (as_history setup.config) setup epoch began journal) ≡ Some live
+        → live_at app (net_from (as_history setup.config) setup epoch began journal) ≡ Some live
         → All (Proxies live.session.request) (session_of setup.config live.session).known.proxies }
     ensures began_session { (setup : Setup) (app : AppId) (journal : List Step)
         (live : Live Session)
-        → (lived : HasLived setup app (told app journal) live.session live.inbox)
+        → (lived : HasLived setup app (turns_in app journal) live.session live.inbox)
         → All (Proxies lived.history.request) live.session.known.proxies }
     ensures direct_history { (setup : Setup) (epoch began : ℕ) (journal : List Step) (app : AppId)
         (live : Live History) → IsLawful (as_history setup.config) setup epoch began journal
-        → live_at app (chained (as_history setup.config) setup epoch began journal) ≡ Some live
-        → AreAccepted Directly (told app journal)
+        → live_at app (net_from (as_history setup.config) setup epoch began journal) ≡ Some live
+        → AreAccepted Directly (turns_in app journal)
         → AreDirect (session_of setup.config live.session) }
     ensures direct_session { (setup : Setup) (epoch began : ℕ) (journal : List Step) (app : AppId)
         (live : Live Session) → IsLawful as_session setup epoch began journal
-        → live_at app (chained as_session setup epoch began journal) ≡ Some live
-        → AreAccepted Directly (told app journal) → AreDirect live.session }
+        → live_at app (net_from as_session setup epoch began journal) ≡ Some live
+        → AreAccepted Directly (turns_in app journal) → AreDirect live.session }
 {}
 
 /// While an application session lives, links of its SipSessions are what calls make that weren't
@@ -112,9 +112,9 @@ pub fn live_links_are_of_calls()
     ensures made_history { (setup : Setup) (epoch began : ℕ) (before later : List Step)
         (app : AppId) (a b : SessId) (first live : Live History)
         → IsLawful (as_history setup.config) setup epoch began (before ++ later)
-        → live_at app (chained (as_history setup.config) setup epoch began before) ≡ Some first
-        → live_at app (chained (as_history setup.config) setup epoch began (before ++ later))
-        ≡ Some live → AreAccepted (LeavesApart a b) (told app later)
+        → live_at app (net_from (as_history setup.config) setup epoch began before) ≡ Some first
+        → live_at app (net_from (as_history setup.config) setup epoch began (before ++ later))
+        ≡ Some live → AreAccepted (LeavesApart a b) (turns_in app later)
         → is_gone_in (session_of setup.config first.session).view a ≡ false
         → is_gone_in (session_of setup.config first.session).view b ≡ false
         → partner (session_of setup.config live.session).view a ≡ Some b
@@ -122,17 +122,17 @@ pub fn live_links_are_of_calls()
     ensures made_session { (setup : Setup) (epoch began : ℕ) (before later : List Step)
         (app : AppId) (a b : SessId) (first live : Live Session)
         → IsLawful as_session setup epoch began (before ++ later)
-        → live_at app (chained as_session setup epoch began before) ≡ Some first
-        → live_at app (chained as_session setup epoch began (before ++ later)) ≡ Some live
-        → AreAccepted (LeavesApart a b) (told app later) → is_gone_in first.session.view a ≡ false
+        → live_at app (net_from as_session setup epoch began before) ≡ Some first
+        → live_at app (net_from as_session setup epoch began (before ++ later)) ≡ Some live
+        → AreAccepted (LeavesApart a b) (turns_in app later) → is_gone_in first.session.view a ≡ false
         → is_gone_in first.session.view b ≡ false → partner live.session.view a ≡ Some b
         → partner first.session.view a ≡ Some b }
     ensures kept_history { (setup : Setup) (epoch began : ℕ) (before later : List Step)
         (app : AppId) (a b : SessId) (first live : Live History)
         → IsLawful (as_history setup.config) setup epoch began (before ++ later)
-        → live_at app (chained (as_history setup.config) setup epoch began before) ≡ Some first
-        → live_at app (chained (as_history setup.config) setup epoch began (before ++ later))
-        ≡ Some live → AreAccepted (LeavesLinked a b) (told app later)
+        → live_at app (net_from (as_history setup.config) setup epoch began before) ≡ Some first
+        → live_at app (net_from (as_history setup.config) setup epoch began (before ++ later))
+        ≡ Some live → AreAccepted (LeavesLinked a b) (turns_in app later)
         → partner (session_of setup.config first.session).view a ≡ Some b
         → is_gone_in (session_of setup.config live.session).view a ≡ false
         → is_gone_in (session_of setup.config live.session).view b ≡ false
@@ -140,9 +140,9 @@ pub fn live_links_are_of_calls()
     ensures kept_session { (setup : Setup) (epoch began : ℕ) (before later : List Step)
         (app : AppId) (a b : SessId) (first live : Live Session)
         → IsLawful as_session setup epoch began (before ++ later)
-        → live_at app (chained as_session setup epoch began before) ≡ Some first
-        → live_at app (chained as_session setup epoch began (before ++ later)) ≡ Some live
-        → AreAccepted (LeavesLinked a b) (told app later) → partner first.session.view a ≡ Some b
+        → live_at app (net_from as_session setup epoch began before) ≡ Some first
+        → live_at app (net_from as_session setup epoch began (before ++ later)) ≡ Some live
+        → AreAccepted (LeavesLinked a b) (turns_in app later) → partner first.session.view a ≡ Some b
         → is_gone_in live.session.view a ≡ false → is_gone_in live.session.view b ≡ false
         → partner live.session.view a ≡ Some b }
 {}
@@ -155,15 +155,15 @@ pub fn live_states_move_on()
     ensures history { (setup : Setup) (epoch began : ℕ) (before later : List Step) (app : AppId)
         (first live : Live History)
         → IsLawful (as_history setup.config) setup epoch began (before ++ later)
-        → live_at app (chained (as_history setup.config) setup epoch began before) ≡ Some first
-        → live_at app (chained (as_history setup.config) setup epoch began (before ++ later))
+        → live_at app (net_from (as_history setup.config) setup epoch began before) ≡ Some first
+        → live_at app (net_from (as_history setup.config) setup epoch began (before ++ later))
         ≡ Some live
         → Continues IsOnward (session_of setup.config first.session).view.sessions
         (session_of setup.config live.session).view.sessions }
     ensures session { (setup : Setup) (epoch began : ℕ) (before later : List Step) (app : AppId)
         (first live : Live Session) → IsLawful as_session setup epoch began (before ++ later)
-        → live_at app (chained as_session setup epoch began before) ≡ Some first
-        → live_at app (chained as_session setup epoch began (before ++ later)) ≡ Some live
+        → live_at app (net_from as_session setup epoch began before) ≡ Some first
+        → live_at app (net_from as_session setup epoch began (before ++ later)) ≡ Some live
         → Continues IsOnward first.session.view.sessions live.session.view.sessions }
 {}
 
@@ -175,14 +175,14 @@ pub fn live_proxies_go_on()
     ensures history { (setup : Setup) (epoch began : ℕ) (before later : List Step) (app : AppId)
         (first live : Live History)
         → IsLawful (as_history setup.config) setup epoch began (before ++ later)
-        → live_at app (chained (as_history setup.config) setup epoch began before) ≡ Some first
-        → live_at app (chained (as_history setup.config) setup epoch began (before ++ later))
+        → live_at app (net_from (as_history setup.config) setup epoch began before) ≡ Some first
+        → live_at app (net_from (as_history setup.config) setup epoch began (before ++ later))
         ≡ Some live
         → GoOn (session_of setup.config first.session).known.proxies
         (session_of setup.config live.session).known.proxies }
     ensures session { (setup : Setup) (epoch began : ℕ) (before later : List Step) (app : AppId)
         (first live : Live Session) → IsLawful as_session setup epoch began (before ++ later)
-        → live_at app (chained as_session setup epoch began before) ≡ Some first
-        → live_at app (chained as_session setup epoch began (before ++ later)) ≡ Some live
+        → live_at app (net_from as_session setup epoch began before) ≡ Some first
+        → live_at app (net_from as_session setup epoch began (before ++ later)) ≡ Some live
         → GoOn first.session.known.proxies live.session.known.proxies }
 {}

@@ -30,16 +30,16 @@ use Rattle.sc_state.specs.declared.orders.Outcome.{Outcome}
 use Rattle.sc_state.specs.declared.queue.Queued.TheVariants as queued
 use Rattle.sc_state.specs.declared.queue.Waiting.{Waiting}
 use Rattle.sc_state.specs.declared.session.Session.{Session}
-use Rattle.sc_grammar.specs.Written.{Bytes}
+use Rattle.sc_tokens.specs.Bytes.{Bytes}
 use Rattle.sc_model.specs.SessionStates.{ack}
 use Rattle.sc_model.specs.Timers.{DueEntry}
 use Rattle.sc_hosts.proofs.EachSort.{arrives-each}
-use Rattle.sc_hosts.specs.Arrivals.{host_takes, taken_at, edge_answer, begins_by, initial_arrives, response_by, arrived, bad_by}
+use Rattle.sc_hosts.specs.Arrivals.{host_takes, taken_at, edge_answer, begins_by, initial_arrives, response_by, after_arrival as arrived, bad_by}
 use Rattle.sc_hosts.specs.Routes.{unrouted_initial, popped_route}
-use Rattle.sc_hosts.specs.Runs.{start, after_step, chained_from, chained}
+use Rattle.sc_hosts.specs.Runs.{start, after_step, chained_from, net_from as chained}
 use Rattle.sc_hosts.specs.Sessions.{Form, Turn}
-use Rattle.sc_hosts.specs.Steps.{without_live, with_ready, invalidated, closed_turn, turned, turns_first, turns, withdrawn, stepped}
-use Rattle.sc_hosts.specs.Ticks.{told_at, passes, clients_to, lost, DueItem, Of_session, Of_client, Of_server, fires, due_items, ticked}
+use Rattle.sc_hosts.specs.Steps.{without_live, with_ready, without_application as invalidated, closed_turn, net_after_turn as turned, turns_first, turns, withdrawn, before_delivery as stepped}
+use Rattle.sc_hosts.specs.Ticks.{told_at, passes, clients_to, net_after_loss as lost, DueItem, Of_session, Of_client, Of_server, fires, due_items, net_after_tick as ticked}
 use Rattle.sc_hosts.specs.Transacting.{method_of}
 use Rattle.sc_hosts.specs.Words.{unavailable}
 use Rattle.sc_lives.proofs.HostCounts.{if-hosts, fold-hosts, change_host-hosts, put-hosts, placed-hosts, queue_for-hosts, obeyed-hosts, delivered-hosts}
@@ -171,7 +171,7 @@ stepped-hosts form setup (steps.In from message) net = arrived-hosts form setup 
 stepped-hosts form setup (steps.Bad from bad) net = bad_by-hosts setup.config from bad.heads net
 stepped-hosts form setup (steps.Lost place) net = lost-hosts setup.config place net
 stepped-hosts form setup (steps.Tick now) net = ticked-hosts form setup.config now net
-stepped-hosts form setup (steps.Turn app event now made end) net = turns-hosts form setup app _ now made end net
+stepped-hosts form setup (steps.Turn end app event now made) net = turns-hosts form setup app _ now made end net
 stepped-hosts form setup (steps.Withdraw app) net = withdrawn-hosts form setup app _ net
 
 -- with all that it makes hosts deliver

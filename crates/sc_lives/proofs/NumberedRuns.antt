@@ -8,7 +8,7 @@ use Rattle.sc_parts.specs.declared.setup.Setup.{Setup}
 use Rattle.sc_state.specs.Hosts.{Host}
 use Rattle.sc_state.specs.declared.net.Net.{Net}
 use Rattle.sc_hosts.specs.Nets.{host_at}
-use Rattle.sc_hosts.specs.Runs.{quiet_host, start, after_step, chained_from, chained}
+use Rattle.sc_hosts.specs.Runs.{quiet_host, start, after_step, chained_from, net_from as chained}
 use Rattle.sc_hosts.specs.Sessions.{Form}
 use Rattle.sc_hosts.specs.Steps.{live_at}
 use Rattle.sc_lives.proofs.NumberedNets.{delivered-numbered, host_at-numbered}

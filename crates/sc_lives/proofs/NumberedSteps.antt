@@ -29,16 +29,16 @@ use Rattle.sc_state.specs.declared.orders.Outcome.{Outcome}
 use Rattle.sc_state.specs.declared.queue.Queued.TheVariants as queued
 use Rattle.sc_state.specs.declared.queue.Waiting.{Waiting}
 use Rattle.sc_state.specs.declared.session.Session.{Session}
-use Rattle.sc_grammar.specs.Written.{Bytes}
+use Rattle.sc_tokens.specs.Bytes.{Bytes}
 use Rattle.sc_model.specs.SessionStates.{ack}
 use Rattle.sc_model.specs.Timers.{DueEntry}
 use Rattle.sc_hosts.proofs.EachSort.{arrives-each}
-use Rattle.sc_hosts.specs.Arrivals.{host_takes, taken_at, edge_answer, begins_by, initial_arrives, response_by, arrived, bad_by}
+use Rattle.sc_hosts.specs.Arrivals.{host_takes, taken_at, edge_answer, begins_by, initial_arrives, response_by, after_arrival as arrived, bad_by}
 use Rattle.sc_hosts.specs.Inboxes.{is_live}
 use Rattle.sc_hosts.specs.Routes.{unrouted_initial, popped_route}
 use Rattle.sc_hosts.specs.Sessions.{Form, Turn}
-use Rattle.sc_hosts.specs.Steps.{turned_live, without_live, with_ready, invalidated, closed_turn, turned, turns_first, turns, withdrawn, stepped}
-use Rattle.sc_hosts.specs.Ticks.{told_at, passes, clients_to, lost, DueItem, Of_session, Of_client, Of_server, mark_fired, fires, due_items, ticked}
+use Rattle.sc_hosts.specs.Steps.{turned_live, without_live, with_ready, without_application as invalidated, closed_turn, net_after_turn as turned, turns_first, turns, withdrawn, before_delivery as stepped}
+use Rattle.sc_hosts.specs.Ticks.{told_at, passes, clients_to, net_after_loss as lost, DueItem, Of_session, Of_client, Of_server, mark_fired, fires, due_items, net_after_tick as ticked}
 use Rattle.sc_hosts.specs.Transacting.{method_of, tidied}
 use Rattle.sc_hosts.specs.Words.{unavailable}
 use Rattle.sc_lives.proofs.NumberedHosts.{pass_server-numbered, takes-numbered}
@@ -181,5 +181,5 @@ module _ {S : Type 0} where
   stepped-numbered form setup (steps.Bad from bad) net numbered = bad_by-numbered setup.config from bad.heads net numbered
   stepped-numbered form setup (steps.Lost place) net numbered = lost-numbered setup.config place net numbered
   stepped-numbered form setup (steps.Tick now) net numbered = ticked-numbered form setup.config now net numbered
-  stepped-numbered form setup (steps.Turn app event now made end) net numbered = turns-numbered form setup app _ now made end net numbered
+  stepped-numbered form setup (steps.Turn end app event now made) net numbered = turns-numbered form setup app _ now made end net numbered
   stepped-numbered form setup (steps.Withdraw app) net numbered = withdrawn-numbered form setup app _ net numbered

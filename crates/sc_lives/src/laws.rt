@@ -6,7 +6,7 @@ ghost use Rattle.sc_state.specs.Hosts.{Host};
 ghost use Rattle.sc_state.specs.declared.session.Session.{Session};
 ghost use Rattle.sc_hosts.specs.Histories.{History};
 ghost use Rattle.sc_hosts.specs.Nets.{host_at};
-ghost use Rattle.sc_hosts.specs.Runs.{chained};
+ghost use Rattle.sc_hosts.specs.Runs.{net_from};
 ghost use Rattle.sc_hosts.specs.Sessions.{Form};
 ghost use Rattle.sc_hosts.specs.Steps.{live_at};
 
@@ -17,18 +17,18 @@ ghost use Rattle.sc_hosts.specs.Steps.{live_at};
 pub fn sessions_are_found()
     ensures session { (form : Form Session) (setup : Setup) (epoch began : ℕ) (journal : List Step)
         (number : ℕ) (host : Host Session)
-        → host_at number (chained form setup epoch began journal) ≡ Some host
+        → host_at number (net_from form setup epoch began journal) ≡ Some host
         → All
         (λ live.
         live_at (record { host = number; serial = live.serial })
-        (chained form setup epoch began journal) ≡ Some live) host.sessions }
+        (net_from form setup epoch began journal) ≡ Some live) host.sessions }
     ensures history { (form : Form History) (setup : Setup) (epoch began : ℕ) (journal : List Step)
         (number : ℕ) (host : Host History)
-        → host_at number (chained form setup epoch began journal) ≡ Some host
+        → host_at number (net_from form setup epoch began journal) ≡ Some host
         → All
         (λ live.
         live_at (record { host = number; serial = live.serial })
-        (chained form setup epoch began journal) ≡ Some live) host.sessions }
+        (net_from form setup epoch began journal) ≡ Some live) host.sessions }
 {}
 
 /// A net has one host for each application: after any journal, lawful or not, it has as many hosts
@@ -36,7 +36,7 @@ pub fn sessions_are_found()
 /// are kept, and the call does nothing.
 pub fn hosts_are_applications()
     ensures session { (form : Form Session) (setup : Setup) (epoch began : ℕ) (journal : List Step)
-        → length (chained form setup epoch began journal).hosts ≡ length setup.config.app }
+        → length (net_from form setup epoch began journal).hosts ≡ length setup.config.app }
     ensures history { (form : Form History) (setup : Setup) (epoch began : ℕ) (journal : List Step)
-        → length (chained form setup epoch began journal).hosts ≡ length setup.config.app }
+        → length (net_from form setup epoch began journal).hosts ≡ length setup.config.app }
 {}

@@ -3,7 +3,7 @@
 ghost use Rattle.std.specs.Prelude.{◌≡◌, ◌==◌, position, filter};
 ghost use Rattle.std.specs.List.{find, list_any};
 ghost use Rattle.std.specs.Option.{option_copied};
-ghost use Rattle.sc_hosts.specs.Looking.{is_request, is_session, is_timer, request_in, session_in, timer_in, same_session, is_initial_state, is_early, is_confirmed, is_terminated, is_open_state, is_proxy, is_gone, is_gone_in, session_count, partner};
+ghost use Rattle.sc_hosts.specs.Looking.{is_confirmed, is_early, is_gone, is_gone_in, is_initial_state, is_open_state, is_proxy, is_request, is_session, is_terminated, is_timer, partner, request_in, same_session, session_count, session_in, timer_in};
 ghost use Rattle.sc_hosts.specs.Refusals.{is_ended_session, is_begun};
 
 use sc_terms::{RequestView, Role, SessionView, State, TimerView, View};

@@ -1,6 +1,6 @@
 ghost use Rattle.std.specs.Prelude.{◌≡◌, ◌++◌, ◌+◌, ◌-◌, ◌*◌, ◌≤◌, IfOk, OnOk, OnErr};
 ghost use Rattle.std.specs.List.{flat_map, range_with_len};
-ghost use Rattle.sc_model.specs.Generated.{invite_of, ack_of, bye_of, tick_line, run_line, call_text, generated};
+ghost use Rattle.sc_model.specs.Generated.{ack_of, bye_of, call_text, generated_text, invite_of, run_line, tick_line};
 
 use crate::lines::{put_arrival, put_end, put_run, put_tick};
 use crate::messages::{ack_of, bye_of, invite_of};
@@ -15,7 +15,7 @@ use std::alloc::Global;
 pub fn script(alloc: Global, n: u32, out: &mut Text) -> Result<(), NoMemory>
     requires least { 1 ≤ n }
     requires most { n ≤ 1000 }
-    ensures ok { OnOk result (out.new ≡ out.old ++ generated n) }
+    ensures ok { OnOk result (out.new ≡ out.old ++ generated_text n) }
     ensures err { OnErr result (out.new ≡ out.old) }
 {
     let whole = script_of(alloc, n)?;
@@ -23,10 +23,10 @@ pub fn script(alloc: Global, n: u32, out: &mut Text) -> Result<(), NoMemory>
 }
 
 /// The script of n calls.
-#[tactic(auto, unfolding(sc_model::specs::Generated::generated))]
+#[tactic(auto, unfolding(sc_model::specs::Generated::generated_text))]
 fn script_of(alloc: Global, n: u32) -> Result<Text, NoMemory>
     requires { n ≤ 1000 }
-    ensures { IfOk result (λ t. t ≡ generated n) }
+    ensures { IfOk result (λ t. t ≡ generated_text n) }
 {
     let mut text = calls(alloc, n)?;
     put_end(&mut text)?;

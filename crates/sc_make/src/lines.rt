@@ -1,7 +1,7 @@
 //! The lines of the script.
 
 ghost use Rattle.std.specs.Prelude.{◌≡◌, ◌++◌, OnOk};
-ghost use Rattle.sc_model.specs.Generated.{run_line, end_line, tick_word, tick_line, arriving_text, arrives, in_word};
+ghost use Rattle.sc_model.specs.Generated.{arrives, arriving_text, end_line, in_word, run_line, tick_line, tick_word};
 ghost use Rattle.sc_value.specs.declared.message.Message.{Message};
 
 use sc_message_text::text_of;

@@ -5,7 +5,7 @@ ghost use Rattle.std.specs.List.{list_all};
 ghost use Rattle.sc_tokens.specs.Tokens.{is_one_line, is_token, is_token_byte};
 ghost use Rattle.sc_tokens.specs.HeaderTokens.{is_param_text};
 ghost use Rattle.sc_value.specs.ParamRules.{AreHeaderParams};
-ghost use Rattle.sc_model.specs.Generated.{caller, valued, answer_tag, branch_of, via_of, from_side, to_side, answered_side, caller_contact, route_of, head_of, later_of, invite_of, ack_of, bye_of};
+ghost use Rattle.sc_model.specs.Generated.{ack_of, answer_tag, answered_side, branch_of, bye_of, caller, caller_contact, from_side, head_of, invite_of, later_of, name_and_value, route_of, to_side, via_of};
 ghost use Rattle.sc_model.specs.SessionStates.{ack, bye, invite};
 ghost use Rattle.sc_value.specs.Params.{tag_name, branch_name};
 
@@ -17,7 +17,7 @@ use sc_value::{
 use std::alloc::Global;
 
 /// The INVITE of call i.
-#[tactic(auto, unfolding(sc_model::specs::Generated::invite_of, sc_model::specs::Generated::called, sc_model::specs::Generated::home, sc_model::specs::SessionStates::invite, sc_tokens::specs::Tokens::is_token, sc_tokens::specs::Tokens::is_token_byte, sc_tokens::specs::Bytes::is_open, sc_tokens::specs::Bytes::is_closed, sc_tokens::specs::Cuts::has, sc_tokens::specs::Hosts::is_host, sc_tokens::specs::Hosts::begins, sc_tokens::specs::Hosts::is_host_name, sc_tokens::specs::Bytes::is_host_byte))]
+#[tactic(auto, unfolding(sc_model::specs::Generated::invite_of, sc_model::specs::Generated::called_user, sc_model::specs::Generated::home, sc_model::specs::SessionStates::invite, sc_tokens::specs::Tokens::is_token, sc_tokens::specs::Tokens::is_token_byte, sc_tokens::specs::Bytes::is_open, sc_tokens::specs::Bytes::is_closed, sc_tokens::specs::Cuts::has, sc_tokens::specs::Hosts::is_host, sc_tokens::specs::Hosts::begins, sc_tokens::specs::Hosts::is_host_name, sc_tokens::specs::Bytes::is_host_byte))]
 pub fn invite_of(alloc: Global, i: u64) -> Result<Request, NoMemory>
     ensures { IfOk result (λ r. r ≡ invite_of i) }
 {
@@ -150,7 +150,8 @@ fn via_of(alloc: Global, i: u64, letter: &[u8]) -> Result<Via, NoMemory>
 #[tactic(auto, using(sc_model::proofs::TokenFacts::branch_token, sc_model::proofs::TokenFacts::branch_line), unfolding(sc_value::specs::Params::branch_name, sc_tokens::specs::Tokens::is_token, sc_tokens::specs::Tokens::is_token_byte))]
 fn branch_params(alloc: Global, i: u64, letter: &[u8]) -> Result<List<Param>, NoMemory>
     requires { list_all is_token_byte letter.now ≡ true }
-    ensures exact { IfOk result (λ l. l ≡ valued branch_name (branch_of i letter.now) ∷ []) }
+    ensures exact { IfOk result
+        (λ l. l ≡ name_and_value branch_name (branch_of i letter.now) ∷ []) }
     ensures kept { IfOk result (λ l. AreHeaderParams l) }
 {
     let branch = branch_of(alloc, i, letter)?;
@@ -162,7 +163,7 @@ fn one_param(alloc: Global, name: &[u8], value: Text) -> Result<List<Param>, NoM
     requires name { is_token name.now ≡ true }
     requires value { is_param_text value ≡ true }
     requires line { is_one_line value ≡ true }
-    ensures exact { IfOk result (λ l. l ≡ valued name.now value ∷ []) }
+    ensures exact { IfOk result (λ l. l ≡ name_and_value name.now value ∷ []) }
     ensures kept { IfOk result (λ l. AreHeaderParams l) }
 {
     let param = valued(alloc, name, value)?;
@@ -173,7 +174,7 @@ fn one_param(alloc: Global, name: &[u8], value: Text) -> Result<List<Param>, NoM
 
 #[tactic(auto, using(sc_model::proofs::ParamFacts::token_is_value, sc_model::proofs::ParamFacts::token_is_line), unfolding(sc_value::specs::Params::tag_name, sc_model::specs::Generated::caller, sc_tokens::specs::Tokens::is_token, sc_tokens::specs::Tokens::is_token_byte))]
 fn caller_params(alloc: Global) -> Result<List<Param>, NoMemory>
-    ensures exact { IfOk result (λ l. l ≡ valued tag_name caller ∷ []) }
+    ensures exact { IfOk result (λ l. l ≡ name_and_value tag_name caller ∷ []) }
     ensures kept { IfOk result (λ l. AreHeaderParams l) }
 {
     let tag = Text::from_slice(alloc, b"m")?;
@@ -182,7 +183,7 @@ fn caller_params(alloc: Global) -> Result<List<Param>, NoMemory>
 
 #[tactic(auto, using(sc_model::proofs::TokenFacts::answer_token, sc_model::proofs::TokenFacts::answer_line), unfolding(sc_value::specs::Params::tag_name, sc_tokens::specs::Tokens::is_token, sc_tokens::specs::Tokens::is_token_byte))]
 fn answer_params(alloc: Global, i: u64) -> Result<List<Param>, NoMemory>
-    ensures exact { IfOk result (λ l. l ≡ valued tag_name (answer_tag i) ∷ []) }
+    ensures exact { IfOk result (λ l. l ≡ name_and_value tag_name (answer_tag i) ∷ []) }
     ensures kept { IfOk result (λ l. AreHeaderParams l) }
 {
     let tag = answer_tag(alloc, i)?;
@@ -203,7 +204,7 @@ fn from_side(alloc: Global) -> Result<Address, NoMemory>
     })
 }
 
-#[tactic(auto, unfolding(sc_model::specs::Generated::to_side, sc_model::specs::Generated::called, sc_model::specs::Generated::home, sc_tokens::specs::Bytes::is_open, sc_tokens::specs::Bytes::is_closed, sc_tokens::specs::Cuts::has, sc_tokens::specs::Hosts::is_host, sc_tokens::specs::Hosts::begins, sc_tokens::specs::Hosts::is_host_name, sc_tokens::specs::Bytes::is_host_byte))]
+#[tactic(auto, unfolding(sc_model::specs::Generated::to_side, sc_model::specs::Generated::called_user, sc_model::specs::Generated::home, sc_tokens::specs::Bytes::is_open, sc_tokens::specs::Bytes::is_closed, sc_tokens::specs::Cuts::has, sc_tokens::specs::Hosts::is_host, sc_tokens::specs::Hosts::begins, sc_tokens::specs::Hosts::is_host_name, sc_tokens::specs::Bytes::is_host_byte))]
 fn to_side(alloc: Global) -> Result<Address, NoMemory>
     ensures { IfOk result (λ a. a ≡ to_side) }
 {
@@ -211,7 +212,7 @@ fn to_side(alloc: Global) -> Result<Address, NoMemory>
     Ok(plain_address(alloc, uri))
 }
 
-#[tactic(auto, unfolding(sc_model::specs::Generated::answered_side, sc_model::specs::Generated::called, sc_model::specs::Generated::home, sc_tokens::specs::Bytes::is_open, sc_tokens::specs::Bytes::is_closed, sc_tokens::specs::Cuts::has, sc_tokens::specs::Hosts::is_host, sc_tokens::specs::Hosts::begins, sc_tokens::specs::Hosts::is_host_name, sc_tokens::specs::Bytes::is_host_byte, sc_tokens::specs::HeaderTokens::IsDisplay))]
+#[tactic(auto, unfolding(sc_model::specs::Generated::answered_side, sc_model::specs::Generated::called_user, sc_model::specs::Generated::home, sc_tokens::specs::Bytes::is_open, sc_tokens::specs::Bytes::is_closed, sc_tokens::specs::Cuts::has, sc_tokens::specs::Hosts::is_host, sc_tokens::specs::Hosts::begins, sc_tokens::specs::Hosts::is_host_name, sc_tokens::specs::Bytes::is_host_byte, sc_tokens::specs::HeaderTokens::IsDisplay))]
 fn answered_side(alloc: Global, i: u64) -> Result<Address, NoMemory>
     ensures { IfOk result (λ a. a ≡ answered_side i) }
 {

@@ -7,7 +7,7 @@ ghost use Rattle.sc_tokens.specs.Hosts.{is_host};
 ghost use Rattle.sc_tokens.specs.Tokens.{is_value};
 ghost use Rattle.sc_value.specs.ParamRules.{AreUriParams};
 ghost use Rattle.sc_value.specs.declared.parts.Uri.{Uri};
-ghost use Rattle.sc_model.specs.Generated.{local, caller, valued, session_text, user_uri, session_param, session_uri, mark, answer_tag, cookie, branch_of, call_of};
+ghost use Rattle.sc_model.specs.Generated.{answer_tag, branch_of, call_of, caller, cookie, local, mark, name_and_value, session_param, session_text, session_uri, user_uri};
 ghost use Rattle.sc_model.specs.Names.{loose_param, tcp_param};
 
 use sc_names::{loose_param, tcp_param};
@@ -15,9 +15,9 @@ use sc_value::{HeaderValue, List, NoMemory, Param, SipUri, Text, Uri, write_u64}
 use std::alloc::Global;
 
 /// `name=value`.
-#[tactic(auto, unfolding(sc_model::specs::Generated::valued))]
+#[tactic(auto, unfolding(sc_model::specs::Generated::name_and_value))]
 pub fn valued(alloc: Global, name: &[u8], value: Text) -> Result<Param, NoMemory>
-    ensures { IfOk result (λ p. p ≡ valued name.now value) }
+    ensures { IfOk result (λ p. p ≡ name_and_value name.now value) }
 {
     let name = Text::from_slice(alloc, name)?;
     Ok(Param {

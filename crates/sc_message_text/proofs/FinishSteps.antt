@@ -8,7 +8,7 @@ use Rattle.sc_syntax.specs.declared.left.Left.{Left}
 use Rattle.sc_syntax.specs.declared.left.Lists.{Lists}
 use Rattle.sc_syntax.specs.declared.left.Start.{Start}
 use Rattle.sc_tokens.specs.Bytes.{Bytes}
-use Rattle.sc_syntax.specs.Messages.{Peers, peers_of, head_of, message_with, is_method_of, fits, finished_with, finished}
+use Rattle.sc_syntax.specs.Messages.{Peers, peers_of, head_of, message_with, is_method_of, fits, finished_with, message_from_parts as finished}
 
 by_tests : (m f : Bool) (message : Message) → ◌≡◌ {A = Option ℕ} None (cond (not m) (Some 10) (cond (not f) (Some 12) None)) → ◌≡◌ {A = Result Message ℕ} (cond (not m) (Err 10) (cond (not f) (Err 12) (Ok message))) (Ok message)
 by_tests true true message h = refl

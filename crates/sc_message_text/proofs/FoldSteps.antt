@@ -5,7 +5,7 @@ use Rattle.sc_syntax.specs.declared.ending.Ending.{Ending}
 use Rattle.sc_syntax.specs.declared.ending.Ending.TheVariants.{Any}
 use Rattle.sc_tokens.specs.Bytes.{Bytes}
 use Rattle.sc_syntax.specs.Lines.{end_of, pieces_at}
-use Rattle.sc_syntax.specs.Folds.{continued, all_continued, joined}
+use Rattle.sc_syntax.specs.Folds.{with_piece as continued, all_continued, text_without_folds as joined}
 use Rattle.sc_message_text.specs.Pieces.{pieces_behind}
 use Rattle.sc_message_text.proofs.EndSteps.{pieces_last}
 

@@ -7,9 +7,9 @@ use Rattle.sc_syntax.specs.declared.left.Left.{Left}
 use Rattle.sc_tokens.specs.Bytes.{Bytes}
 use Rattle.sc_syntax.specs.UriParts.{Fault, then_read}
 use Rattle.sc_syntax.specs.Lines.{lines_behind}
-use Rattle.sc_syntax.specs.Folds.{joined}
-use Rattle.sc_syntax.specs.Judging.{judged}
-use Rattle.sc_syntax.specs.Messages.{placed, all_judged}
+use Rattle.sc_syntax.specs.Folds.{text_without_folds as joined}
+use Rattle.sc_syntax.specs.Judging.{left_with_line as judged}
+use Rattle.sc_syntax.specs.Messages.{fault_at_place as placed, all_judged}
 use Rattle.sc_message_text.specs.declared.refused.MessageRefused.{MessageRefused}
 use Rattle.sc_message_text.specs.declared.refused.MessageRefused.TheVariants as messages
 use Rattle.sc_message_text.specs.declared.refused.LineRefused.{LineRefused}

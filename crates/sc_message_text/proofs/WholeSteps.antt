@@ -11,7 +11,7 @@ use Rattle.sc_tokens.specs.Bytes.{Bytes}
 use Rattle.sc_syntax.specs.UriParts.{Fault, then_read}
 use Rattle.sc_syntax.specs.Lines.{start_line, behind_start, header_lines}
 use Rattle.sc_syntax.specs.StartLines.{start_of}
-use Rattle.sc_syntax.specs.Messages.{placed, nothing_left, all_judged, finished, message_in, parts_in}
+use Rattle.sc_syntax.specs.Messages.{fault_at_place as placed, nothing_left, all_judged, message_from_parts as finished, message_in, parts_in}
 use Rattle.sc_syntax.proofs.HeadLaws.{with_body, message_by_parts, message_read}
 use Rattle.sc_message_text.specs.declared.refused.MessageRefused.{MessageRefused}
 use Rattle.sc_message_text.specs.declared.refused.MessageRefused.TheVariants as messages

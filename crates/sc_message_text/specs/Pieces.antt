@@ -8,7 +8,7 @@ use Rattle.sc_syntax.specs.declared.left.Start.{Start}
 use Rattle.sc_tokens.specs.Bytes.{Bytes}
 use Rattle.sc_syntax.specs.UriParts.{Fault, then_read}
 use Rattle.sc_syntax.specs.Lines.{pieces_at}
-use Rattle.sc_syntax.specs.Messages.{nothing_left, all_judged}
+use Rattle.sc_syntax.specs.Messages.{all_judged, nothing_left}
 
 -- the pieces of what stands behind an end, none where there is none
 unfoldable pub pieces_behind : Ending → Option Bytes → List Bytes

@@ -2,7 +2,7 @@
 
 ghost use Rattle.std.specs.Prelude.{◌≡◌, Some, None, Ok, IfOk, not, if◌then◌else◌};
 ghost use Rattle.std.specs.Option.{option_copied, option_map};
-ghost use Rattle.sc_syntax.specs.Messages.{finished, finished_with, fits, head_of, is_method_of, lacking, message_with, peers_of};
+ghost use Rattle.sc_syntax.specs.Messages.{finished_with, fits, head_of, is_method_of, lacking, message_from_parts, message_with, peers_of};
 
 use sc_syntax::{HeadParts, Left, Lists, Singles, Start};
 use sc_value::{
@@ -58,19 +58,19 @@ pub fn put_together(
     parts: HeadParts,
     body: Text,
 ) -> Result<Result<Message, u8>, NoMemory>
-    ensures { IfOk result (λ read. read ≡ finished parts.start parts.left body) }
+    ensures { IfOk result (λ read. read ≡ message_from_parts parts.start parts.left body) }
 {
     finish(alloc, parts.start, parts.left, body)
 }
 
-#[tactic(auto, unfolding(sc_syntax::specs::Messages::finished))]
+#[tactic(auto, unfolding(sc_syntax::specs::Messages::message_from_parts))]
 fn finish(
     alloc: Global,
     start: Start,
     left: Left,
     body: Text,
 ) -> Result<Result<Message, u8>, NoMemory>
-    ensures { IfOk result (λ read. read ≡ finished start left body) }
+    ensures { IfOk result (λ read. read ≡ message_from_parts start left body) }
 {
     if left.lists.via.is_empty() {
         drop(left);

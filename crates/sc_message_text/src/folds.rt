@@ -5,7 +5,7 @@ ghost use Rattle.std.specs.List.{fold};
 ghost use Rattle.std.specs.Option.{option_copied};
 ghost use Rattle.sc_syntax.specs.declared.ending.Ending.TheVariants.{Any};
 ghost use Rattle.sc_tokens.specs.Blanks.{trimmed_back};
-ghost use Rattle.sc_syntax.specs.Folds.{continued, joined};
+ghost use Rattle.sc_syntax.specs.Folds.{text_without_folds, with_piece};
 ghost use Rattle.sc_message_text.specs.Pieces.{pieces_behind};
 
 use crate::ends::split_piece;
@@ -18,7 +18,7 @@ use std::alloc::Global;
 /// section 7.3.1).
 #[tactic(auto, using(crate::proofs::FoldSteps::joined_is))]
 pub fn join(alloc: Global, line: &[u8]) -> Result<Vec<u8>, NoMemory>
-    ensures { IfOk result (λ text. text.items ≡ joined line.now) }
+    ensures { IfOk result (λ text. text.items ≡ text_without_folds line.now) }
 {
     let (first, rest) = split_piece(Ending::Any, line);
     let mut text = Vec::from_slice(alloc, first)?;
@@ -29,7 +29,7 @@ pub fn join(alloc: Global, line: &[u8]) -> Result<Vec<u8>, NoMemory>
 fn continue_all(text: &mut Vec<u8>, rest: Option<&[u8]>) -> Result<(), NoMemory>
     ensures { OnOk result
         (text.new.items
-        ≡ fold continued text.old.items (pieces_behind Any (option_copied rest.entry))) }
+        ≡ fold with_piece text.old.items (pieces_behind Any (option_copied rest.entry))) }
 {
     let mut rest = rest;
     loop {
@@ -43,9 +43,9 @@ fn continue_all(text: &mut Vec<u8>, rest: Option<&[u8]>) -> Result<(), NoMemory>
     }
 }
 
-#[tactic(auto, unfolding(sc_syntax::specs::Folds::continued, sc_tokens::specs::Blanks::trimmed_back))]
+#[tactic(auto, unfolding(sc_syntax::specs::Folds::with_piece, sc_tokens::specs::Blanks::trimmed_back))]
 fn continue_by(text: &mut Vec<u8>, piece: &[u8]) -> Result<(), NoMemory>
-    ensures { OnOk result (text.new.items ≡ continued text.old.items piece.now) }
+    ensures { OnOk result (text.new.items ≡ with_piece text.old.items piece.now) }
 {
     let len = front_len(text.as_slice());
     text.truncate(len);

@@ -3,9 +3,9 @@
 ghost use Rattle.std.specs.Prelude.{◌≡◌, ◌≤◌, ◌+◌, ◌^◌, length};
 ghost use Rattle.std.specs.Option.{option_copied, option_map_or};
 ghost use Rattle.sc_syntax.specs.declared.ending.Ending.TheVariants.{Unfolded};
-ghost use Rattle.sc_syntax.specs.Folds.{joined};
-ghost use Rattle.sc_syntax.specs.Judging.{judged};
-ghost use Rattle.sc_syntax.specs.Messages.{all_judged, no_lists, no_singles, nothing_left as nothing, placed};
+ghost use Rattle.sc_syntax.specs.Folds.{text_without_folds};
+ghost use Rattle.sc_syntax.specs.Judging.{left_with_line};
+ghost use Rattle.sc_syntax.specs.Messages.{all_judged, fault_at_place, no_lists, no_singles, nothing_left as nothing};
 ghost use Rattle.sc_message_text.specs.Answers.{Takes, TakesAll, placed_refusal};
 ghost use Rattle.sc_message_text.specs.Pieces.{pieces_behind};
 
@@ -72,9 +72,10 @@ pub fn take_lines(
 }
 
 // A header line, which begins at this place.
-#[tactic(auto, unfolding(sc_syntax::specs::Messages::placed), using(crate::proofs::HeadSteps::refusal_placed))]
+#[tactic(auto, unfolding(sc_syntax::specs::Messages::fault_at_place), using(crate::proofs::HeadSteps::refusal_placed))]
 fn take_placed(left: &mut Left, alloc: Global, line: &[u8], at: usize) -> Result<(), MessageRefused>
-    ensures { TakesAll result left.new (placed at (judged left.old (joined line.now))) }
+    ensures { TakesAll result left.new
+        (fault_at_place at (left_with_line left.old (text_without_folds line.now))) }
 {
     match take_folded(left, alloc, line) {
         Ok(()) => Ok(()),
@@ -85,7 +86,7 @@ fn take_placed(left: &mut Left, alloc: Global, line: &[u8], at: usize) -> Result
 // A header line, whose folds are joined first.
 #[tactic(auto, using(crate::proofs::FoldSteps::joined_plain))]
 fn take_folded(left: &mut Left, alloc: Global, line: &[u8]) -> Result<(), LineRefused>
-    ensures { Takes result left.new (judged left.old (joined line.now)) }
+    ensures { Takes result left.new (left_with_line left.old (text_without_folds line.now)) }
 {
     if end_of(Ending::Any, line).is_none() {
         return take_line(left, alloc, line);

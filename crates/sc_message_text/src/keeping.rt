@@ -2,7 +2,7 @@
 
 ghost use Rattle.std.specs.Prelude.{◌≡◌, ◌++◌, ◌∷◌, [], OnOk};
 ghost use Rattle.sc_syntax.specs.declared.left.Left.{Left};
-ghost use Rattle.sc_syntax.specs.Judging.{begins_well, counted, has_branch, with_call_id, with_contacts, with_cseq, with_field, with_from, with_hops, with_length, with_record_routes, with_routes, with_to, with_vias};
+ghost use Rattle.sc_syntax.specs.Judging.{begins_well, has_branch, with_call_id, with_contacts, with_cseq, with_field, with_from, with_hops, with_length, with_record_routes, with_routes, with_to, with_values, with_vias};
 ghost use Rattle.sc_value.specs.OtherFields.{IsOther};
 ghost use Rattle.sc_message_text.specs.Answers.{Takes};
 
@@ -14,9 +14,9 @@ use sc_value::{
 use std::alloc::Global;
 
 // So many values more, where there is room for them.
-#[tactic(auto, unfolding(sc_syntax::specs::Judging::counted))]
+#[tactic(auto, unfolding(sc_syntax::specs::Judging::with_values))]
 fn count(left: &mut Left, n: usize) -> Result<(), LineRefused>
-    ensures { Takes result left.new (counted n left.old) }
+    ensures { Takes result left.new (with_values n left.old) }
 {
     if n > left.room {
         return Err(LineRefused::Fault(11));
@@ -25,8 +25,8 @@ fn count(left: &mut Left, n: usize) -> Result<(), LineRefused>
     Ok(())
 }
 
-// All items of the second list, behind those of the first. Where there are none yet, they keep their
-// room, as most headers stand once.
+// All items of the second list, behind those of the first. Where there are none yet, they keep
+// their room, as most headers stand once.
 fn append<T: Drop>(items: &mut List<T>, more: List<T>) -> Result<(), NoMemory>
     ensures { OnOk result (items.new ≡ items.old ++ more) }
 {

@@ -1,7 +1,7 @@
 //! Whole messages (RFC 3261 section 7).
 
 ghost use Rattle.std.specs.Prelude.{◌≡◌, ◌++◌, Ok, IfOk, OnErr, OnOk};
-ghost use Rattle.sc_grammar.specs.Written.{closing_lines, dialog_lines, head_text, hops_line, request_line, routing_lines, status_line, written};
+ghost use Rattle.sc_grammar.specs.Written.{closing_lines, dialog_lines, head_text, hops_line, request_line, routing_lines, status_line, text_of_message};
 ghost use Rattle.sc_value.specs.declared.message.Message.{Message};
 ghost use Rattle.sc_syntax.specs.Messages.{message_of};
 ghost use Rattle.sc_spelling.specs.Kept.{HasBranch, HasRoom};
@@ -29,7 +29,7 @@ use std::alloc::Global;
 /// the first Via its branch, and where there are at most 128 values. The one error is want of
 /// memory.
 pub fn text_of(alloc: Global, message: &Message) -> Result<Text, NoMemory>
-    ensures written { IfOk result (λ text. text ≡ written message.now) }
+    ensures written { IfOk result (λ text. text ≡ text_of_message message.now) }
     ensures again { HasMethod message.now → HasCode message.now → HasBranch message.now
         → HasRoom message.now → IfOk result (λ text. message_of text ≡ Ok message.now) }
     ensures never_another { (other : Message)
@@ -43,7 +43,7 @@ pub fn text_of(alloc: Global, message: &Message) -> Result<Text, NoMemory>
 const ROOM: usize = 512;
 
 fn written_text(alloc: Global, message: &Message) -> Result<Text, NoMemory>
-    ensures { IfOk result (λ text. text ≡ written message.now) }
+    ensures { IfOk result (λ text. text ≡ text_of_message message.now) }
 {
     let mut out = Text::with_room(alloc, ROOM)?;
     put_message(message, &mut out)?;
@@ -53,16 +53,16 @@ fn written_text(alloc: Global, message: &Message) -> Result<Text, NoMemory>
 /// Puts the written form of a message at the end of a text (RFC 3261 section 7), as [`text_of`]
 /// gives it. The one error is want of memory, and then the text is as before.
 pub fn write(alloc: Global, message: &Message, out: &mut Text) -> Result<(), NoMemory>
-    ensures ok { OnOk result (out.new ≡ out.old ++ written message.now) }
+    ensures ok { OnOk result (out.new ≡ out.old ++ text_of_message message.now) }
     ensures err { OnErr result (out.new ≡ out.old) }
 {
     let text = text_of(alloc, message)?;
     out.append(text.as_bytes())
 }
 
-#[tactic(auto, unfolding(sc_grammar::specs::Written::written))]
+#[tactic(auto, unfolding(sc_grammar::specs::Written::text_of_message))]
 fn put_message(message: &Message, out: &mut Text) -> Result<(), NoMemory>
-    ensures { OnOk result (out.new ≡ out.old ++ written message.now) }
+    ensures { OnOk result (out.new ≡ out.old ++ text_of_message message.now) }
 {
     match message {
         Message::Request(request) => {

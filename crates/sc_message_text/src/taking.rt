@@ -2,8 +2,8 @@
 
 ghost use Rattle.std.specs.Prelude.{◌≡◌, Some, is_some, true};
 ghost use Rattle.sc_syntax.specs.Addresses.{address_of, addresses_of, contacts_of};
-ghost use Rattle.sc_syntax.specs.Judging.{header_named, in_line, judged, named, taken, taken_as, taken_once, with_call_id, with_contacts, with_cseq, with_field, with_from, with_hops, with_length, with_record_routes, with_routes, with_to, with_vias};
-ghost use Rattle.sc_tokens.specs.Blanks.{trimmed};
+ghost use Rattle.sc_syntax.specs.Judging.{header_named, in_line, left_with_line, taken_as, taken_once, with_call_id, with_contacts, with_cseq, with_field, with_from, with_header, with_hops, with_length, with_named_header, with_record_routes, with_routes, with_to, with_vias};
+ghost use Rattle.sc_tokens.specs.Blanks.{without_blanks};
 ghost use Rattle.sc_tokens.specs.HeaderNames.{long_name};
 ghost use Rattle.sc_tokens.specs.Numbers.{number_of};
 ghost use Rattle.sc_tokens.specs.Tokens.{is_token};
@@ -23,9 +23,9 @@ use sc_value::{Field, HeaderValue, Text, is_one_line, is_token, long_name, same_
 use std::alloc::Global;
 
 // Takes what the text of a header line leaves, or answers the kind of its fault.
-#[tactic(auto, unfolding(sc_syntax::specs::Judging::judged))]
+#[tactic(auto, unfolding(sc_syntax::specs::Judging::left_with_line))]
 pub fn take_line(left: &mut Left, alloc: Global, line: &[u8]) -> Result<(), LineRefused>
-    ensures { Takes result left.new (judged left.old line.now) }
+    ensures { Takes result left.new (left_with_line left.old line.now) }
 {
     let (name, value) = cut(line, b':');
     match value {
@@ -35,9 +35,9 @@ pub fn take_line(left: &mut Left, alloc: Global, line: &[u8]) -> Result<(), Line
 }
 
 // A name, which may be compact, and what stands behind its colon.
-#[tactic(auto, unfolding(sc_syntax::specs::Judging::named), using(sc_syntax::proofs::NameLaws::long_token, sc_syntax::proofs::NameLaws::long_again, sc_syntax::proofs::ValueLaws::ends_taken))]
+#[tactic(auto, unfolding(sc_syntax::specs::Judging::with_named_header), using(sc_syntax::proofs::NameLaws::long_token, sc_syntax::proofs::NameLaws::long_again, sc_syntax::proofs::ValueLaws::ends_taken))]
 fn take_named(left: &mut Left, alloc: Global, name: &[u8], value: &[u8]) -> Result<(), LineRefused>
-    ensures { Takes result left.new (named left.old name.now value.now) }
+    ensures { Takes result left.new (with_named_header left.old name.now value.now) }
 {
     if !is_token(name) {
         return Err(LineRefused::Fault(6));
@@ -77,7 +77,7 @@ fn header_named(name: &[u8]) -> Header
 }
 
 // The header of this long name with this value, which has no blank at an end.
-#[tactic(auto, unfolding(sc_syntax::specs::Judging::taken))]
+#[tactic(auto, unfolding(sc_syntax::specs::Judging::with_header))]
 fn take_value(
     left: &mut Left,
     alloc: Global,
@@ -88,8 +88,8 @@ fn take_value(
     requires token { is_token name.now ≡ true }
     requires long { long_name name.now ≡ name.now }
     requires header { header ≡ header_named name.now }
-    requires value { trimmed value.now ≡ value.now }
-    ensures { Takes result left.new (taken left.old name.now header value.now) }
+    requires value { without_blanks value.now ≡ value.now }
+    ensures { Takes result left.new (with_header left.old name.now header value.now) }
 {
     match header {
         Header::Via => take_vias(left, alloc, value),
@@ -217,7 +217,7 @@ fn take_cseq(left: &mut Left, alloc: Global, value: &[u8]) -> Result<(), LineRef
 
 #[tactic(auto, unfolding(sc_syntax::specs::Judging::taken_once, sc_syntax::specs::Judging::taken_as, sc_syntax::specs::Judging::in_line), using(sc_syntax::proofs::ValueLaws::trimmed_is_value))]
 fn take_call_id(left: &mut Left, alloc: Global, value: &[u8]) -> Result<(), LineRefused>
-    requires { trimmed value.now ≡ value.now }
+    requires { without_blanks value.now ≡ value.now }
     ensures { Takes result left.new
         (taken_once (is_some left.old.singles.call_id) (with_call_id left.old)
         (in_line Some value.now)) }
@@ -273,7 +273,7 @@ fn take_field(left: &mut Left, alloc: Global, name: &[u8], value: &[u8]) -> Resu
     requires token { is_token name.now ≡ true }
     requires long { long_name name.now ≡ name.now }
     requires other { header_named name.now ≡ headers.Other }
-    requires value { trimmed value.now ≡ value.now }
+    requires value { without_blanks value.now ≡ value.now }
     ensures { Takes result left.new
         (taken_as (with_field left.old name.now) (in_line Some value.now)) }
 {

@@ -2,7 +2,7 @@
 
 ghost use Rattle.std.specs.Prelude.{◌≤◌, ◌+◌, ◌^◌, length};
 ghost use Rattle.std.specs.Option.{option_copied, option_map_or};
-ghost use Rattle.sc_syntax.specs.Messages.{finished, message_in, message_of, parts_in, placed};
+ghost use Rattle.sc_syntax.specs.Messages.{fault_at_place, message_from_parts, message_in, message_of, parts_in};
 ghost use Rattle.sc_syntax.specs.StartLines.{start_of};
 ghost use Rattle.sc_message_text.specs.Answers.{Reads};
 ghost use Rattle.sc_message_text.specs.Pieces.{parts_behind};
@@ -74,9 +74,9 @@ pub fn read_head(alloc: Global, head: &[u8]) -> Result<HeadParts, MessageRefused
 }
 
 // The start line, which begins at 0.
-#[tactic(auto, unfolding(sc_syntax::specs::Messages::placed), using(crate::proofs::HeadSteps::refusal_placed))]
+#[tactic(auto, unfolding(sc_syntax::specs::Messages::fault_at_place), using(crate::proofs::HeadSteps::refusal_placed))]
 fn read_first(alloc: Global, line: &[u8]) -> Result<Start, MessageRefused>
-    ensures { Reads result (placed 0 (start_of line.now)) }
+    ensures { Reads result (fault_at_place 0 (start_of line.now)) }
 {
     match read_start(alloc, line) {
         Ok(start) => Ok(start),
@@ -106,14 +106,15 @@ fn read_behind(
 }
 
 // The message, or the fault that shows at the empty line, which ends a line at this place.
-#[tactic(auto, unfolding(sc_syntax::specs::Messages::placed))]
+#[tactic(auto, unfolding(sc_syntax::specs::Messages::fault_at_place))]
 fn finish_at(
     alloc: Global,
     parts: HeadParts,
     body: &[u8],
     end: usize,
 ) -> Result<Message, MessageRefused>
-    ensures { Reads result (placed end (finished parts.start parts.left body.now)) }
+    ensures { Reads result
+        (fault_at_place end (message_from_parts parts.start parts.left body.now)) }
 {
     match Text::from_slice(alloc, body) {
         Ok(body) => match put_together(alloc, parts, body) {

@@ -4,7 +4,7 @@ ghost use Rattle.std.specs.Prelude.{◌≡◌, ◌∷◌, [], option_map, unwrap
 ghost use Rattle.sc_model.specs.Dialogs.{sets_target};
 ghost use Rattle.sc_model.specs.Responses.{kept_field};
 ghost use Rattle.sc_hosts.specs.Messages.{ack_of, asked_request, begins_dialog, cancel_of, from_here, kin, leg_request, on_branch, own_address, passed_request, proxied_request};
-ghost use Rattle.sc_model.specs.Responses.{tagged, untagged};
+ghost use Rattle.sc_model.specs.Responses.{address_with_tag, address_without_tag};
 
 use crate::own::{own_address, own_via};
 use crate::parts::{
@@ -157,8 +157,8 @@ fn begun_names(
         (λ n.
         n
         ≡ record {
-          from = tagged tag.now from.now;
-          to = untagged to.now;
+          from = address_with_tag tag.now from.now;
+          to = address_without_tag to.now;
           call_id = call_id.now;
           cseq = record { number = 1; method = method.now };
         }) }
@@ -219,8 +219,8 @@ fn leg_names(
         (λ n.
         n
         ≡ record {
-          from = tagged tag.now request.now.head.from;
-          to = untagged request.now.head.to;
+          from = address_with_tag tag.now request.now.head.from;
+          to = address_without_tag request.now.head.to;
           call_id = call_id.now;
           cseq = record { number = 1; method = request.now.method };
         }) }

@@ -2,7 +2,7 @@
 
 ghost use Rattle.std.specs.Prelude.{◌≡◌, ◌++◌, ◌∷◌, [], not, filter, IfOk};
 ghost use Rattle.sc_value.specs.ParamRules.{AreHeaderParams};
-ghost use Rattle.sc_model.specs.Responses.{is_tag, tag_param, tagged, untagged, with_tag};
+ghost use Rattle.sc_model.specs.Responses.{address_with_tag, address_without_tag, is_tag, tag_param, with_tag};
 
 use sc_value::{Address, CloneIn, List, NoMemory, Param, Text, is_token, same_name, tag};
 use std::alloc::Global;
@@ -20,9 +20,9 @@ pub fn with_tag(alloc: Global, own_tag: &[u8], address: &Address) -> Result<Addr
 }
 
 /// The address with this tag in place of its own.
-#[tactic(auto, unfolding(sc_model::specs::Responses::tagged, sc_model::specs::Responses::untagged))]
+#[tactic(auto, unfolding(sc_model::specs::Responses::address_with_tag, sc_model::specs::Responses::address_without_tag))]
 pub fn tagged(alloc: Global, own_tag: &[u8], address: &Address) -> Result<Address, NoMemory>
-    ensures { IfOk result (λ a. a ≡ tagged own_tag.now address.now) }
+    ensures { IfOk result (λ a. a ≡ address_with_tag own_tag.now address.now) }
 {
     address.known();
     let params = other_params(alloc, address.params.as_slice())?;
@@ -30,9 +30,9 @@ pub fn tagged(alloc: Global, own_tag: &[u8], address: &Address) -> Result<Addres
 }
 
 /// The address without its tag.
-#[tactic(auto, unfolding(sc_model::specs::Responses::untagged))]
+#[tactic(auto, unfolding(sc_model::specs::Responses::address_without_tag))]
 pub fn untagged(alloc: Global, address: &Address) -> Result<Address, NoMemory>
-    ensures { IfOk result (λ a. a ≡ untagged address.now) }
+    ensures { IfOk result (λ a. a ≡ address_without_tag address.now) }
 {
     address.known();
     let params = other_params(alloc, address.params.as_slice())?;

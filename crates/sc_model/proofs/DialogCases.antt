@@ -18,7 +18,8 @@ use Rattle.sc_terms.specs.declared.inside.Inside.{Inside}
 use Rattle.sc_tokens.specs.HeaderNames.{via_name, route_name, record_route_name, max_forwards_name, from_name, to_name, call_id_name, cseq_name, contact_name, content_length_name, long_of, long_name}
 use Rattle.sc_tokens.specs.Names.{same_name}
 use Rattle.sc_value.specs.Params.{tag_name, param_value}
-use Rattle.sc_grammar.specs.Written.{Bytes, crlf, version, signed_text, param_text, params_text, ended_text, port_text, scheme, sip_uri_text, uri_text, address_text, contact_text, via_text, cseq_text, line, via_line, route_line, record_route_line, contact_line, field_line, hops_line, routing_lines, dialog_lines, closing_lines, head_text, request_line, written}
+use Rattle.sc_tokens.specs.Bytes.{Bytes}
+use Rattle.sc_grammar.specs.Written.{crlf, version, signed_text, param_text, params_text, ended_text, port_text, scheme, sip_uri_text, uri_text, address_text, contact_text, via_text, cseq_text, line, via_line, route_line, record_route_line, contact_line, field_line, hops_line, routing_lines, dialog_lines, closing_lines, head_text, request_line, text_of_message as written}
 use Rattle.sc_model.specs.Responses.{tag_param, kept_field}
 use Rattle.sc_model.specs.SessionStates.{ack, bye, invite}
 use Rattle.sc_model.specs.Dialogs.{Beginning.Called, Beginning.Calling, Passed, Passed.By_peer, Passed.By_self, DialogState, update, subscribe, notify, refer, sets_target, last_uri, request_target, answers_first, may_set_target, response_target, given_target, target_of, greatest, tag_params, bare, local_of, remote_of, route_set_of, dialog_of}

@@ -10,7 +10,7 @@ use Rattle.sc_value.specs.declared.message.Message.TheVariants as messages
 use Rattle.sc_terms.specs.declared.inside.Inside.{Inside}
 use Rattle.sc_model.specs.Dialogs.{Beginning, Beginning.Called, Beginning.Calling, Passed, Passed.By_peer, Passed.By_self, DialogState, dialog_of, messages_of, begun_by, target_of, given_target, request_target, response_target, greatest, Follows, bare, tag_of, local_of, remote_of, route_set_of}
 use Rattle.sc_model.specs.DialogRequests.{next_request, later_request, later_head, ack_request}
-use Rattle.sc_grammar.specs.Written.{Bytes}
+use Rattle.sc_tokens.specs.Bytes.{Bytes}
 
 first_given : (o : Option Uri) (earlier : List Uri) (uri : Uri) → unwrap_or (slice_get (cons_option o earlier) 0) uri ≡ unwrap_or o (unwrap_or (slice_get earlier 0) uri)
 first_given None earlier uri = refl

@@ -5,13 +5,12 @@ use Rattle.std.specs.Prelude.{slice_index}
 use Rattle.std.specs.List.{list_all}
 use Rattle.std.proofs.lemmas.Bool.{false≢true}
 use Rattle.std.proofs.lemmas.List.Folds.{list_all-append}
-use Rattle.sc_tokens.specs.Bytes.{is_mark, is_param_sign, is_param_byte}
+use Rattle.sc_tokens.specs.Bytes.{Bytes, is_mark, is_param_sign, is_param_byte}
 use Rattle.sc_tokens.specs.Tokens.{is_token, is_token_byte, is_value, is_one_line, is_line_break, is_blank, begins_blank, ends_blank}
 use Rattle.sc_tokens.specs.UriTokens.{is_param_name, is_param_value}
 use Rattle.sc_value.specs.declared.ids.AppId.{AppId}
 use Rattle.sc_value.specs.Params.{branch_name}
 use Rattle.sc_value.specs.ParamRules.{AreHeaderParams, AreUriParams}
-use Rattle.sc_grammar.specs.Written.{Bytes}
 use Rattle.sc_model.specs.Names.{mark_text, counted_text, tag_text, branch_cookie, branch_text, call_id_text, app_text, ap_name, ap_value, loose_param, tcp_param}
 use Rattle.sc_model.specs.Records.{ip_text}
 use Rattle.sc_model.proofs.HostFacts.{decimal_param}

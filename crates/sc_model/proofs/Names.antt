@@ -11,7 +11,7 @@ use Rattle.std.proofs.lemmas.List.{append_cancel_left, append_cancel_right}
 use Rattle.std.proofs.lemmas.Fmt.{decimal_injective, digits_decimal}
 use Rattle.std.proofs.lemmas.Str.Parse.{IsNumeralModel, numerals_by_value, tells_all_ascii_digits}
 use Rattle.sc_value.specs.declared.ids.AppId.{AppId}
-use Rattle.sc_grammar.specs.Written.{Bytes}
+use Rattle.sc_tokens.specs.Bytes.{Bytes}
 use Rattle.sc_model.specs.Names.{IsOf64, mark_text, counted_text, tag_text, branch_cookie, branch_text, call_id_text, edge_word, edge_tag, app_text, ap_value}
 
 -- the sign is none of the bytes

@@ -11,7 +11,7 @@ use Rattle.std.proofs.lemmas.List.Folds.{list_all-append}
 use Rattle.sc_tokens.specs.Tokens.{is_token, is_token_byte, is_value, is_one_line, is_line_break, is_blank, begins_blank, ends_blank}
 use Rattle.sc_tokens.specs.HeaderTokens.{is_param_text}
 use Rattle.sc_value.specs.ParamRules.{AreHeaderParams}
-use Rattle.sc_model.specs.Generated.{answer_tag, mark, branch_of, cookie, call_of, caller, valued}
+use Rattle.sc_model.specs.Generated.{answer_tag, mark, branch_of, cookie, call_of, caller, name_and_value as valued}
 use Rattle.sc_model.proofs.ParamFacts.{token_is_value, token_is_line}
 
 -- ## Classes of bytes

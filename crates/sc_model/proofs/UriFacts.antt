@@ -7,7 +7,7 @@ use Rattle.std.proofs.lemmas.Bool.Decides.{nat_tests}
 use Rattle.sc_tokens.specs.Bytes.{is_mark, is_param_sign, is_param_byte}
 use Rattle.sc_tokens.specs.UriTokens.{is_param_name, is_param_value}
 use Rattle.sc_value.specs.ParamRules.{AreUriParams}
-use Rattle.sc_model.specs.Generated.{valued, session_text, session_param}
+use Rattle.sc_model.specs.Generated.{name_and_value as valued, session_text, session_param}
 use Rattle.sc_model.specs.Names.{loose_param, tcp_param}
 
 -- ## Numbers

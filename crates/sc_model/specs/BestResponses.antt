@@ -6,7 +6,7 @@ use Rattle.std.specs.Option.{option_or, option_map_or}
 use Rattle.sc_value.specs.declared.message.Response.{Response}
 use Rattle.sc_value.specs.declared.parts.Field.{Field}
 use Rattle.sc_tokens.specs.Names.{same_name}
-use Rattle.sc_grammar.specs.Written.{Bytes}
+use Rattle.sc_tokens.specs.Bytes.{Bytes}
 
 -- ## The choice
 
@@ -56,8 +56,8 @@ chosen_asks list chosen = option_map_or asks_credentials (slice_get list chosen)
 
 -- what a chosen response that asks for credentials is given: the challenges of all the others, in
 -- order
-unfoldable pub gathered : List Response → ℕ → List Field
-gathered list chosen =
+unfoldable pub challenges_beside : List Response → ℕ → List Field
+challenges_beside list chosen =
     if chosen_asks list chosen then flat_map challenges_of (remove list chosen) else []
 
 -- ## What is forwarded
@@ -83,9 +83,10 @@ forwarded_with challenges response = record {
 }
 
 -- the chosen response as it is forwarded
-unfoldable pub forwarded : List Response → ℕ → Option Response
-forwarded list chosen = option_map (forwarded_with (gathered list chosen)) (slice_get list chosen)
+unfoldable pub response_onward : List Response → ℕ → Option Response
+response_onward list chosen =
+    option_map (forwarded_with (challenges_beside list chosen)) (slice_get list chosen)
 
 -- the best response as it is forwarded
 unfoldable pub best_response : List Response → Option Response
-best_response list = option_and_then (forwarded list) (best_of list)
+best_response list = option_and_then (response_onward list) (best_of list)

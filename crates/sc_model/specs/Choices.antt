@@ -17,7 +17,7 @@ use Rattle.sc_parts.specs.declared.choice.Choice.{Choice}
 use Rattle.sc_parts.specs.declared.choice.Choice.TheVariants.{App, Send, Onward, NotFound}
 use Rattle.sc_value.specs.declared.ids.Directive.{Directive}
 use Rattle.sc_value.specs.declared.ids.Directive.TheVariants.{New, Continue, Reverse}
-use Rattle.sc_grammar.specs.Written.{Bytes}
+use Rattle.sc_tokens.specs.Bytes.{Bytes}
 use Rattle.sc_model.specs.Names.{return_uri}
 use Rattle.sc_model.specs.OwnHosts.{is_own, is_home, listen_host}
 use Rattle.sc_model.specs.Routing.{list_of, subscriber_of}
@@ -65,31 +65,32 @@ by_route config request order tuple route =
     if is_own config route.uri then app_of request order tuple (Some route) else Send (route ∷ [])
 
 -- by the modifier and the route
-unfoldable pub routed : Config → Request → ℕ → Tuple → Modifier → Option Address → Choice
-routed config request order tuple Route (Some route) = by_route config request order tuple route
-routed config request order tuple RouteBack (Some route) =
+unfoldable pub choice_by_route : Config → Request → ℕ → Tuple → Modifier → Option Address → Choice
+choice_by_route config request order tuple Route (Some route) =
+    by_route config request order tuple route
+choice_by_route config request order tuple RouteBack (Some route) =
     Send (route ∷ way_back config (order + 1) tuple.region ∷ [])
-routed config request order tuple modifier route = app_of request order tuple None
+choice_by_route config request order tuple modifier route = app_of request order tuple None
 
 -- ## The choice
 
 -- no tuple is left: the request goes on where it has a Route or its Request-URI isn't the
 -- container's
-unfoldable pub exhausted : Config → Request → Choice
-exhausted config request =
+unfoldable pub choice_without_tuple : Config → Request → Choice
+choice_without_tuple config request =
     if length request.head.route == 0 then (if is_home config request.uri then NotFound else Onward)
     else Onward
 
 -- what the tuple at this order does, where there is one
 unfoldable pub choice_at : Config → Request → ℕ → Option Tuple → Choice
-choice_at config request order None = exhausted config request
+choice_at config request order None = choice_without_tuple config request
 choice_at config request order (Some tuple) =
-    routed config request order tuple tuple.modifier tuple.route
+    choice_by_route config request order tuple tuple.modifier tuple.route
 
 -- the choice by the tuples of the method and the order of the next one; without an order the list
 -- is exhausted
 unfoldable pub choice_in : Config → Request → List Tuple → Option ℕ → Choice
-choice_in config request tuples None = exhausted config request
+choice_in config request tuples None = choice_without_tuple config request
 choice_in config request tuples (Some order) =
     choice_at config request order (slice_get tuples order)
 

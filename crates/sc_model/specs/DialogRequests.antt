@@ -8,7 +8,7 @@ use Rattle.sc_tokens.specs.HeaderNames.{is_system_name}
 use Rattle.sc_tokens.specs.Names.{same_bytes}
 use Rattle.sc_tokens.specs.Tokens.{is_token, is_value}
 use Rattle.sc_terms.specs.declared.inside.Inside.{Inside}
-use Rattle.sc_grammar.specs.Written.{Bytes}
+use Rattle.sc_tokens.specs.Bytes.{Bytes}
 use Rattle.sc_model.specs.Dialogs.{DialogState}
 use Rattle.sc_model.specs.Responses.{kept_field}
 use Rattle.sc_model.specs.SessionStates.{ack}

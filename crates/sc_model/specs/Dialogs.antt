@@ -14,7 +14,7 @@ use Rattle.sc_value.specs.declared.message.Message.{Message}
 use Rattle.sc_value.specs.declared.message.Message.TheVariants as messages
 use Rattle.sc_tokens.specs.Names.{same_bytes}
 use Rattle.sc_value.specs.Params.{param_value, tag_name}
-use Rattle.sc_grammar.specs.Written.{Bytes}
+use Rattle.sc_tokens.specs.Bytes.{Bytes}
 use Rattle.sc_model.specs.Responses.{tag_param}
 use Rattle.sc_model.specs.SessionStates.{invite}
 

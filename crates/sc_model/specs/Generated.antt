@@ -13,7 +13,8 @@ use Rattle.sc_value.specs.declared.parts.Via.{Via}
 use Rattle.sc_value.specs.declared.message.Head.{Head}
 use Rattle.sc_value.specs.declared.message.Request.{Request}
 use Rattle.sc_value.specs.declared.message.Message.TheVariants as messages
-use Rattle.sc_grammar.specs.Written.{Bytes, written}
+use Rattle.sc_tokens.specs.Bytes.{Bytes}
+use Rattle.sc_grammar.specs.Written.{text_of_message}
 use Rattle.sc_model.specs.SessionStates.{ack, bye, invite}
 use Rattle.sc_value.specs.Params.{tag_name, branch_name}
 use Rattle.sc_model.specs.Names.{loose_param, tcp_param}
@@ -33,12 +34,12 @@ unfoldable pub caller : Bytes
 caller = codes "m"
 
 -- the called user
-unfoldable pub called : Bytes
-called = codes "u"
+unfoldable pub called_user : Bytes
+called_user = codes "u"
 
 -- `name=value`
-unfoldable pub valued : Bytes → Bytes → Param
-valued name value = record { name = name; value = Some value }
+unfoldable pub name_and_value : Bytes → Bytes → Param
+name_and_value name value = record { name = name; value = Some value }
 
 -- `h-i`, the i-th session of host h
 unfoldable pub session_text : ℕ → ℕ → Bytes
@@ -51,7 +52,7 @@ user_uri user host port =
 
 -- the parameter `ap=h-i`, which names a session in an own URI
 unfoldable pub session_param : ℕ → ℕ → Param
-session_param host i = valued (codes "ap") (session_text host i)
+session_param host i = name_and_value (codes "ap") (session_text host i)
 
 -- `sip:127.0.0.1:5060;transport=tcp;lr;ap=h-i`, the route and contact of a session
 unfoldable pub session_uri : ℕ → ℕ → Uri
@@ -92,25 +93,29 @@ via_of i letter =
       transport = codes "TCP";
       host = local;
       port = Some 5090;
-      params = valued branch_name (branch_of i letter) ∷ [];
+      params = name_and_value branch_name (branch_of i letter) ∷ [];
     }
 
 -- `<sip:m@home.test>;tag=m`
 unfoldable pub from_side : Address
 from_side =
-    record { display = None; uri = user_uri caller home None; params = valued tag_name caller ∷ [] }
+    record {
+      display = None;
+      uri = user_uri caller home None;
+      params = name_and_value tag_name caller ∷ [];
+    }
 
 -- `<sip:u@home.test>`
 unfoldable pub to_side : Address
-to_side = record { display = None; uri = user_uri called home None; params = [] }
+to_side = record { display = None; uri = user_uri called_user home None; params = [] }
 
 -- the same with the tag of the answer
 unfoldable pub answered_side : ℕ → Address
 answered_side i =
     record {
       display = None;
-      uri = user_uri called home None;
-      params = valued tag_name (answer_tag i) ∷ [];
+      uri = user_uri called_user home None;
+      params = name_and_value tag_name (answer_tag i) ∷ [];
     }
 
 -- `<sip:m@127.0.0.1:5090>`
@@ -142,7 +147,7 @@ unfoldable pub invite_of : ℕ → Request
 invite_of i =
     record {
       method = invite;
-      uri = user_uri called home None;
+      uri = user_uri called_user home None;
       hops = 70;
       head = head_of i [] invite 1 to_side [] (caller_contact ∷ []);
     }
@@ -193,7 +198,7 @@ arriving_text text = in_word ++ decimal (length text) ++ 10 ∷ [] ++ text ++ 10
 
 -- this message comes on connection 1, and turns are taken
 unfoldable pub arrives : Request → Bytes
-arrives request = arriving_text (written (messages.Request request)) ++ run_line
+arrives request = arriving_text (text_of_message (messages.Request request)) ++ run_line
 
 -- call i: it arrives, is answered when its timer is due, is acknowledged and ended, and the clock
 -- goes on
@@ -203,5 +208,5 @@ call_text i =
     ++ arrives (bye_of i) ++ tick_line (2000 * i)
 
 -- the calls 1 to n, and `end`
-unfoldable pub generated : ℕ → Bytes
-generated n = flat_map call_text (range_with_len 1 n) ++ end_line
+unfoldable pub generated_text : ℕ → Bytes
+generated_text n = flat_map call_text (range_with_len 1 n) ++ end_line

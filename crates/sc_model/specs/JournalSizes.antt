@@ -16,7 +16,8 @@ use Rattle.sc_terms.specs.declared.calls.Call.TheVariants as calls
 use Rattle.sc_terms.specs.declared.calls.CallRecord.{CallRecord}
 use Rattle.sc_terms.specs.declared.steps.Step.{Step}
 use Rattle.sc_terms.specs.declared.steps.Step.TheVariants as steps
-use Rattle.sc_grammar.specs.Written.{Bytes, written}
+use Rattle.sc_tokens.specs.Bytes.{Bytes}
+use Rattle.sc_grammar.specs.Written.{text_of_message}
 
 -- the length of a text that may be absent, and then counts nothing
 unfoldable pub option_size : Option Bytes → ℕ
@@ -93,8 +94,8 @@ record_size made = call_size made.call
 -- the bytes of a step: of a message its written text, of a turn all texts in its calls, of others
 -- none
 unfoldable pub step_size : Step → ℕ
-step_size (steps.In place message) = length (written message)
-step_size (steps.Turn app event now calls end) = sum_by record_size calls
+step_size (steps.In place message) = length (text_of_message message)
+step_size (steps.Turn end app event now calls) = sum_by record_size calls
 step_size step = 0
 
 -- the bytes of a journal: of all its steps

@@ -6,7 +6,7 @@ use Rattle.sc_value.specs.declared.ids.Region.{Region}
 use Rattle.sc_value.specs.declared.ids.Region.TheVariants.{Originating, Terminating, Neutral}
 use Rattle.sc_value.specs.declared.parts.Param.{Param}
 use Rattle.sc_value.specs.declared.parts.SipUri.{SipUri}
-use Rattle.sc_grammar.specs.Written.{Bytes}
+use Rattle.sc_tokens.specs.Bytes.{Bytes}
 
 -- the numbers that a name is made of have 64 bits at most
 abbrev pub IsOf64 : ℕ → AppId → ℕ → Type 0
@@ -55,7 +55,8 @@ app_text app = decimal app.host ++ codes "-" ++ decimal app.serial
 
 -- the value of `ap`: the session, from epoch 1 on with `.` and the epoch
 unfoldable pub ap_value : ℕ → AppId → Bytes
-ap_value epoch app = if epoch == 0 then app_text app else (app_text app ++ codes "." ++ decimal epoch)
+ap_value epoch app =
+    if epoch == 0 then app_text app else (app_text app ++ codes "." ++ decimal epoch)
 
 -- the letter of a routing region (JSR 289 section 15.8)
 abbrev pub region_letter : Region → ℕ

@@ -4,7 +4,8 @@ use Rattle.std.specs.List.{flat_map}
 use Rattle.sc_value.specs.declared.ids.Place.{Place}
 use Rattle.sc_value.specs.declared.ids.Place.TheVariants.{Back, To}
 use Rattle.sc_value.specs.declared.message.Sent.{Sent}
-use Rattle.sc_grammar.specs.Written.{Bytes, written}
+use Rattle.sc_tokens.specs.Bytes.{Bytes}
+use Rattle.sc_grammar.specs.Written.{text_of_message}
 
 -- `a.b.c.d`
 unfoldable pub ip_text : List ℕ → Bytes
@@ -28,7 +29,8 @@ record_line place size = out_word ++ place_text place ++ codes " " ++ decimal si
 -- the line, the message's bytes and a line feed
 unfoldable pub record_text : Sent → Bytes
 record_text sent =
-    record_line sent.place (length (written sent.message)) ++ written sent.message ++ 10 ∷ []
+    record_line sent.place (length (text_of_message sent.message)) ++ text_of_message sent.message
+    ++ 10 ∷ []
 
 -- what a run writes of all that it sent, in the order of sending
 unfoldable pub records : List Sent → Bytes

@@ -9,7 +9,7 @@ use Rattle.sc_value.specs.declared.message.Response.{Response}
 use Rattle.sc_tokens.specs.HeaderNames.{long_name}
 use Rattle.sc_value.specs.Params.{param_value, tag_name, is_named}
 use Rattle.sc_terms.specs.declared.calls.Answer.{Answer}
-use Rattle.sc_grammar.specs.Written.{Bytes}
+use Rattle.sc_tokens.specs.Bytes.{Bytes}
 
 -- `;tag=..`
 unfoldable pub tag_param : Bytes → Param
@@ -20,18 +20,20 @@ abbrev pub is_tag : Param → Bool
 is_tag param = is_named tag_name param
 
 -- the address without its parameters `tag`
-unfoldable pub untagged : Address → Address
-untagged address = record address { params = filter (λ param. not (is_tag param)) address.params }
+unfoldable pub address_without_tag : Address → Address
+address_without_tag address =
+    record address { params = filter (λ param. not (is_tag param)) address.params }
 
 -- with this tag in place of its own
-unfoldable pub tagged : Bytes → Address → Address
-tagged tag address = record address { params = (untagged address).params ++ tag_param tag ∷ [] }
+unfoldable pub address_with_tag : Bytes → Address → Address
+address_with_tag tag address =
+    record address { params = (address_without_tag address).params ++ tag_param tag ∷ [] }
 
 -- the address with this tag, where it has none; a parameter `tag` without a value is none (RFC 3261
 -- section 25.1)
 unfoldable pub with_tag : Bytes → Address → Address
 with_tag tag address =
-    if is_some (param_value tag_name address.params) then address else tagged tag address
+    if is_some (param_value tag_name address.params) then address else address_with_tag tag address
 
 -- a header that a servlet sets; its compact name is kept as its long one
 unfoldable pub kept_field : Field → Field

@@ -10,7 +10,8 @@ use Rattle.sc_tokens.specs.HeaderNames.{from_name, to_name, contact_name, long_n
 use Rattle.sc_tokens.specs.Names.{same_name, same_bytes}
 use Rattle.sc_terms.specs.declared.settings.Dar.{Dar}
 use Rattle.sc_terms.specs.declared.settings.MethodList.{MethodList}
-use Rattle.sc_grammar.specs.Written.{Bytes, uri_text}
+use Rattle.sc_tokens.specs.Bytes.{Bytes}
+use Rattle.sc_grammar.specs.Written.{uri_text}
 
 -- the front of a subscriber that is taken from a header of the request
 unfoldable pub dar_prefix : Bytes

@@ -8,7 +8,7 @@ use Rattle.sc_terms.specs.declared.settings.Tuple.{Tuple}
 use Rattle.sc_terms.specs.declared.charters.Charter.{Charter}
 use Rattle.sc_terms.specs.declared.charters.ListenerCharter.{ListenerCharter}
 use Rattle.sc_parts.specs.declared.setup.Setup.{Setup}
-use Rattle.sc_grammar.specs.Written.{Bytes}
+use Rattle.sc_tokens.specs.Bytes.{Bytes}
 
 -- the stated interfaces of a kind: the servlet's, and the listener's where it has one
 abbrev pub Charters : Type 0

@@ -12,7 +12,7 @@ use Rattle.sc_terms.specs.declared.steps.Step.{Step}
 use Rattle.sc_terms.specs.declared.steps.Step.TheVariants as steps
 use Rattle.sc_parts.specs.declared.setup.Setup.{Setup}
 use Rattle.sc_state.specs.declared.net.Net.{Net}
-use Rattle.sc_grammar.specs.Written.{Bytes}
+use Rattle.sc_tokens.specs.Bytes.{Bytes}
 use Rattle.sc_hosts.specs.Runs.{chained_from, start}
 use Rattle.sc_hosts.specs.Sessions.{Form}
 use Rattle.sc_hosts.specs.Steps.{live_at}
@@ -44,12 +44,12 @@ hears-none (steps.Bad from bad ∷ steps.Bad other worse ∷ later) place bytes 
 hears-none (steps.Bad from bad ∷ steps.Lost at ∷ []) place bytes rest heard = refl
 hears-none (steps.Bad from bad ∷ steps.Lost at ∷ step ∷ later) place bytes rest heard = absurd heard
 hears-none (steps.Bad from bad ∷ steps.Tick now ∷ later) place bytes rest heard = absurd heard
-hears-none (steps.Bad from bad ∷ steps.Turn app event now calls end ∷ later) place bytes rest heard = absurd heard
+hears-none (steps.Bad from bad ∷ steps.Turn end app event now calls ∷ later) place bytes rest heard = absurd heard
 hears-none (steps.Bad from bad ∷ steps.Withdraw app ∷ later) place bytes rest heard = absurd heard
 hears-none (steps.Lost at ∷ []) place bytes rest heard = refl
 hears-none (steps.Lost at ∷ step ∷ later) place bytes rest heard = absurd heard
 hears-none (steps.Tick now ∷ later) place bytes rest heard = absurd heard
-hears-none (steps.Turn app event now calls end ∷ later) place bytes rest heard = absurd heard
+hears-none (steps.Turn end app event now calls ∷ later) place bytes rest heard = absurd heard
 hears-none (steps.Withdraw app ∷ later) place bytes rest heard = absurd heard
 
 -- a beginning of that
@@ -61,7 +61,7 @@ part-none (steps.Bad from bad ∷ []) place bytes heard = refl
 part-none (steps.Bad from bad ∷ step ∷ later) place bytes heard = absurd heard
 part-none (steps.Lost at ∷ later) place bytes heard = absurd heard
 part-none (steps.Tick now ∷ later) place bytes heard = absurd heard
-part-none (steps.Turn app event now calls end ∷ later) place bytes heard = absurd heard
+part-none (steps.Turn end app event now calls ∷ later) place bytes heard = absurd heard
 part-none (steps.Withdraw app ∷ later) place bytes heard = absurd heard
 
 turn-none : (app : AppId) (now : ℕ) (event : Option ℕ) (taken : List Step) → IsTurnOf app now event taken → ticks_of taken ≡ []
@@ -72,7 +72,7 @@ turn-none app now (Some event) taken (calls, end, is) = rw is refl
 pub run-none : {S : Type 0} (taken : List Step) (form : Form S) (setup : Setup) (net : Net S) → IsPartRun form setup net taken → ticks_of taken ≡ []
 unfolding IsPartRun ticks_of tick_of
 run-none [] form setup net run = refl
-run-none (steps.Turn app event now calls end ∷ later) form setup net (next, at_last, run) = run-none later form setup _ run
+run-none (steps.Turn end app event now calls ∷ later) form setup net (next, at_last, run) = run-none later form setup _ run
 run-none (steps.In from message ∷ later) form setup net run = absurd run
 run-none (steps.Bad from bad ∷ later) form setup net run = absurd run
 run-none (steps.Lost place ∷ later) form setup net run = absurd run
@@ -96,7 +96,7 @@ still (steps.In from message ∷ later) moment none = still later moment none
 still (steps.Bad from bad ∷ later) moment none = still later moment none
 still (steps.Lost place ∷ later) moment none = still later moment none
 still (steps.Tick now ∷ later) moment none = cc
-still (steps.Turn app event now calls end ∷ later) moment none = still later moment none
+still (steps.Turn end app event now calls ∷ later) moment none = still later moment none
 still (steps.Withdraw app ∷ later) moment none = still later moment none
 
 -- ## A line

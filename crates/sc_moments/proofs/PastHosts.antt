@@ -11,7 +11,7 @@ use Rattle.sc_state.specs.Hosts.{Host}
 use Rattle.sc_state.specs.declared.host.Live.{Live}
 use Rattle.sc_state.specs.declared.host.Taken.{Taken}
 use Rattle.sc_state.specs.declared.queue.Queued.{Queued}
-use Rattle.sc_hosts.specs.Inboxes.{is_live, with_event, quiet, queue}
+use Rattle.sc_hosts.specs.Inboxes.{is_live, with_event, without_answer as quiet, queue}
 use Rattle.sc_hosts.specs.Runs.{quiet_host}
 use Rattle.sc_hosts.specs.Steps.{live_of}
 use Rattle.sc_hosts.specs.Transacting.{tidied, pass_client, pass_server}

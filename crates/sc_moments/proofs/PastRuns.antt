@@ -7,7 +7,7 @@ use Rattle.sc_terms.specs.declared.steps.Step.TheVariants as steps
 use Rattle.sc_parts.specs.declared.setup.Setup.{Setup}
 use Rattle.sc_state.specs.declared.host.Live.{Live}
 use Rattle.sc_state.specs.declared.net.Net.{Net}
-use Rattle.sc_hosts.specs.Runs.{start, after_step, chained_from, chained, IsAllowed, IsLawfulFrom, IsLawful}
+use Rattle.sc_hosts.specs.Runs.{start, after_step, chained_from, net_from as chained, IsAllowed, IsLawfulFrom, IsLawful}
 use Rattle.sc_hosts.specs.Sessions.{Form}
 use Rattle.sc_hosts.specs.Steps.{live_at}
 use Rattle.sc_moments.proofs.PastHosts.{hosts-later, quiet-past}
@@ -27,7 +27,7 @@ module _ {S : Type 0} (form : Form S) (setup : Setup) where
   moment-rises net (steps.Bad from bad) allowed = same-moment net.moment
   moment-rises net (steps.Lost place) allowed = same-moment net.moment
   moment-rises net (steps.Tick now) allowed = allowed.0
-  moment-rises net (steps.Turn app event now made end) allowed = same-moment net.moment
+  moment-rises net (steps.Turn end app event now made) allowed = same-moment net.moment
   moment-rises net (steps.Withdraw app) allowed = same-moment net.moment
 
   -- where the step begins

@@ -30,15 +30,15 @@ use Rattle.sc_state.specs.declared.orders.Outcome.{Outcome}
 use Rattle.sc_state.specs.declared.queue.Queued.TheVariants as queued
 use Rattle.sc_state.specs.declared.queue.Waiting.{Waiting}
 use Rattle.sc_state.specs.declared.session.Session.{Session}
-use Rattle.sc_grammar.specs.Written.{Bytes}
+use Rattle.sc_tokens.specs.Bytes.{Bytes}
 use Rattle.sc_model.specs.Timers.{DueEntry}
 use Rattle.sc_hosts.proofs.EachSort.{arrives-each}
-use Rattle.sc_hosts.specs.Arrivals.{host_takes, taken_at, edge_answer, begins_by, initial_arrives, response_by, arrived, bad_by}
+use Rattle.sc_hosts.specs.Arrivals.{host_takes, taken_at, edge_answer, begins_by, initial_arrives, response_by, after_arrival as arrived, bad_by}
 use Rattle.sc_hosts.specs.Inboxes.{is_live}
 use Rattle.sc_hosts.specs.Routes.{unrouted_initial, popped_route}
 use Rattle.sc_hosts.specs.Sessions.{Form, Turn}
-use Rattle.sc_hosts.specs.Steps.{turned_live, without_live, with_ready, invalidated, closed_turn, turned, turns_first, turns, withdrawn, stepped}
-use Rattle.sc_hosts.specs.Ticks.{told_at, passes, clients_to, lost, DueItem, Of_session, Of_client, Of_server, mark_fired, fires, due_items, ticked}
+use Rattle.sc_hosts.specs.Steps.{turned_live, without_live, with_ready, without_application as invalidated, closed_turn, net_after_turn as turned, turns_first, turns, withdrawn, before_delivery as stepped}
+use Rattle.sc_hosts.specs.Ticks.{told_at, passes, clients_to, net_after_loss as lost, DueItem, Of_session, Of_client, Of_server, mark_fired, fires, due_items, net_after_tick as ticked}
 use Rattle.sc_hosts.specs.Words.{unavailable}
 use Rattle.sc_moments.proofs.PastHosts.{HostPast, FoundHost, change_first-past, remove_first-past, nth-past, tidied-past, pass_client-past, pass_server-past}
 use Rattle.sc_moments.proofs.PastNets.{Early, net-if, fold-early, change_host-early, put-early, placed-early, queue_for-early, obeyed-early}
@@ -187,5 +187,5 @@ module _ {S : Type 0} (most : ℕ) where
   stepped-early form setup (steps.Bad from bad) net early = bad_by-early setup.config from bad.heads net early
   stepped-early form setup (steps.Lost place) net early = lost-early setup.config place net early
   stepped-early form setup (steps.Tick now) net early = ticked-early form setup.config now net early
-  stepped-early form setup (steps.Turn app event now made end) net early = turns-early form setup app _ now made end net early
+  stepped-early form setup (steps.Turn end app event now made) net early = turns-early form setup app _ now made end net early
   stepped-early form setup (steps.Withdraw app) net early = withdrawn-early form setup app _ net early

@@ -15,12 +15,12 @@ use Rattle.sc_state.specs.declared.host.Peer.{Peer}
 use Rattle.sc_state.specs.declared.host.Server.{Server}
 use Rattle.sc_state.specs.declared.host.Taken.{Taken}
 use Rattle.sc_state.specs.declared.net.Note.{Note}
-use Rattle.sc_grammar.specs.Written.{Bytes}
+use Rattle.sc_tokens.specs.Bytes.{Bytes}
 use Rattle.sc_hosts.proofs.EachSort.{takes-each}
-use Rattle.sc_hosts.specs.Inboxes.{quiet}
+use Rattle.sc_hosts.specs.Inboxes.{without_answer as quiet}
 use Rattle.sc_hosts.specs.Sessions.{Form}
-use Rattle.sc_hosts.specs.Taking.{cancelled, last_again, again_if, repeated, refuse, with_server, with_trying, queue_later, begun_live, begun, take_initial, takes}
-use Rattle.sc_hosts.specs.TakingResponses.{told, told_by, with_reply, response_for, response_to, take_response}
+use Rattle.sc_hosts.specs.Taking.{take_cancel as cancelled, last_again, again_if, take_repeated as repeated, refuse, with_server, with_trying, queue_later, begun_live, take_new as begun, take_initial, takes}
+use Rattle.sc_hosts.specs.TakingResponses.{take_provisional as told, told_by, with_reply, response_for, response_to, take_response}
 use Rattle.sc_moments.proofs.PastHosts.{HostPast, append-past, pass_client-past, pass_server-past, taken-if, queue-past}
 
 module _ {S : Type 0} (most : ℕ) where

@@ -10,10 +10,10 @@ use Rattle.sc_tokens.specs.Names.{same_bytes}
 use Rattle.sc_tokens.specs.Numbers.{is_digits, number_in}
 use Rattle.sc_terms.specs.declared.steps.Line.{Line}
 use Rattle.sc_terms.specs.declared.steps.Line.TheVariants as lines
-use Rattle.sc_grammar.specs.Written.{Bytes}
+use Rattle.sc_tokens.specs.Bytes.{Bytes}
 use Rattle.sc_hosts.proofs.Deliveries.{both}
 use Rattle.sc_runs.specs.Following.{MOST_MOMENT}
-use Rattle.sc_script.specs.ScriptTexts.{Fault, is_plain, decimal_upto, MOST_COUNT, one_word, tick_line, lost_line, two_words, turn_line, drop_line, three_words, incoming, alone, line_of, is_end, row_with, row_by, row_at, moment_after, with_first, followed, lines_in, script_of, place_of, size_of, is_feed, SHORT, NO_END, LONG, MOST_BYTES}
+use Rattle.sc_script.specs.ScriptTexts.{Fault, is_plain, decimal_upto, MOST_COUNT, one_word, tick_line, lost_line, two_words, turn_line, drop_line, three_words, incoming, alone, line_of, is_end, row_with, row_by, row_at, moment_after, with_first, with_later_lines as followed, lines_in, script_of, place_of, size_of, is_feed, SHORT, NO_END, LONG, MOST_BYTES}
 
 -- a tick is not below the moment before it, and not later than a moment may be
 unfoldable pub MayTick : ℕ → Line → Type 0

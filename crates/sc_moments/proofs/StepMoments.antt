@@ -29,15 +29,15 @@ use Rattle.sc_state.specs.declared.orders.Outcome.{Outcome}
 use Rattle.sc_state.specs.declared.queue.Queued.TheVariants as queued
 use Rattle.sc_state.specs.declared.queue.Waiting.{Waiting}
 use Rattle.sc_state.specs.declared.session.Session.{Session}
-use Rattle.sc_grammar.specs.Written.{Bytes}
+use Rattle.sc_tokens.specs.Bytes.{Bytes}
 use Rattle.sc_model.specs.SessionStates.{ack}
 use Rattle.sc_model.specs.Timers.{DueEntry}
 use Rattle.sc_hosts.proofs.EachSort.{arrives-each}
-use Rattle.sc_hosts.specs.Arrivals.{host_takes, taken_at, edge_answer, begins_by, initial_arrives, response_by, arrived, bad_by}
+use Rattle.sc_hosts.specs.Arrivals.{host_takes, taken_at, edge_answer, begins_by, initial_arrives, response_by, after_arrival as arrived, bad_by}
 use Rattle.sc_hosts.specs.Routes.{unrouted_initial, popped_route}
 use Rattle.sc_hosts.specs.Sessions.{Form, Turn}
-use Rattle.sc_hosts.specs.Steps.{without_live, with_ready, invalidated, closed_turn, turned, turns_first, turns, withdrawn, stepped}
-use Rattle.sc_hosts.specs.Ticks.{told_at, passes, clients_to, lost, DueItem, Of_session, Of_client, Of_server, fires, due_items, ticked}
+use Rattle.sc_hosts.specs.Steps.{without_live, with_ready, without_application as invalidated, closed_turn, net_after_turn as turned, turns_first, turns, withdrawn, before_delivery as stepped}
+use Rattle.sc_hosts.specs.Ticks.{told_at, passes, clients_to, net_after_loss as lost, DueItem, Of_session, Of_client, Of_server, fires, due_items, net_after_tick as ticked}
 use Rattle.sc_hosts.specs.Transacting.{method_of}
 use Rattle.sc_hosts.specs.Words.{unavailable}
 use Rattle.sc_moments.proofs.NetMoments.{if-moment, fold-moment, put-moment, placed-moment, queue_for-moment, obeyed-moment}
@@ -170,5 +170,5 @@ stepped-moment form setup (steps.In from message) net = arrived-moment form setu
 stepped-moment form setup (steps.Bad from bad) net = bad_by-moment setup.config from bad.heads net
 stepped-moment form setup (steps.Lost place) net = lost-moment setup.config place net
 stepped-moment form setup (steps.Tick now) net = ticked-moment form setup.config now net
-stepped-moment form setup (steps.Turn app event now made end) net = turns-moment form setup app _ now made end net
+stepped-moment form setup (steps.Turn end app event now made) net = turns-moment form setup app _ now made end net
 stepped-moment form setup (steps.Withdraw app) net = withdrawn-moment form setup app _ net

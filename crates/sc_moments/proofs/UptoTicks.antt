@@ -5,7 +5,7 @@ use Rattle.sc_terms.specs.declared.steps.Line.TheVariants as lines
 use Rattle.sc_terms.specs.declared.steps.Step.{Step}
 use Rattle.sc_parts.specs.declared.setup.Setup.{Setup}
 use Rattle.sc_state.specs.declared.net.Net.{Net}
-use Rattle.sc_grammar.specs.Written.{Bytes}
+use Rattle.sc_tokens.specs.Bytes.{Bytes}
 use Rattle.sc_hosts.specs.Runs.{chained_from, start}
 use Rattle.sc_hosts.specs.Sessions.{Form}
 use Rattle.sc_moments.proofs.FollowTicks.{none-of, part-none, run-none, both-ticks, first-ticks, line-ticks, rises-on}

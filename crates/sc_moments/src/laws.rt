@@ -7,10 +7,10 @@ ghost use Rattle.sc_parts.specs.declared.setup.Setup.{Setup};
 ghost use Rattle.sc_state.specs.declared.host.Live.{Live};
 ghost use Rattle.sc_state.specs.declared.net.Net.{Net};
 ghost use Rattle.sc_state.specs.declared.session.Session.{Session};
-ghost use Rattle.sc_grammar.specs.Written.{Bytes};
+ghost use Rattle.sc_tokens.specs.Bytes.{Bytes};
 ghost use Rattle.sc_script.specs.ScriptTexts.{script_of};
 ghost use Rattle.sc_hosts.specs.Histories.{History};
-ghost use Rattle.sc_hosts.specs.Runs.{IsLawful, chained, chained_from};
+ghost use Rattle.sc_hosts.specs.Runs.{IsLawful, chained_from, net_from};
 ghost use Rattle.sc_hosts.specs.Sessions.{Form};
 ghost use Rattle.sc_hosts.specs.Steps.{live_at};
 ghost use Rattle.sc_runs.specs.Following.{Follows, Upto};
@@ -53,10 +53,10 @@ pub fn ticks_are_taken()
 pub fn first_events_are_past()
     ensures session { (form : Form Session) (setup : Setup) (epoch began : ℕ) (journal : List Step)
         (app : AppId) (live : Live Session) → IsLawful form setup epoch began journal
-        → live_at app (chained form setup epoch began journal) ≡ Some live
-        → live.since ≤ (chained form setup epoch began journal).moment }
+        → live_at app (net_from form setup epoch began journal) ≡ Some live
+        → live.since ≤ (net_from form setup epoch began journal).moment }
     ensures history { (form : Form History) (setup : Setup) (epoch began : ℕ) (journal : List Step)
         (app : AppId) (live : Live History) → IsLawful form setup epoch began journal
-        → live_at app (chained form setup epoch began journal) ≡ Some live
-        → live.since ≤ (chained form setup epoch began journal).moment }
+        → live_at app (net_from form setup epoch began journal) ≡ Some live
+        → live.since ≤ (net_from form setup epoch began journal).moment }
 {}

@@ -2,7 +2,8 @@
 use Rattle.std.proofs.Common.{◌≡◌, ℕ, List, [], ◌∷◌, ◌++◌, Some, sym, ap, ◌∙◌, append_assoc, append-nil}
 use Rattle.std.specs.Prelude.{decimal}
 use Rattle.sc_value.specs.declared.parts.Param.{Param}
-use Rattle.sc_grammar.specs.Written.{Bytes, sip_uri_text, ended_text, port_text, params_text, param_text, signed_text, scheme}
+use Rattle.sc_tokens.specs.Bytes.{Bytes}
+use Rattle.sc_grammar.specs.Written.{sip_uri_text, ended_text, port_text, params_text, param_text, signed_text, scheme}
 use Rattle.std.proofs.lemmas.List.{append_cancel_left}
 use Rattle.sc_value.specs.declared.ids.AppId.{AppId}
 use Rattle.sc_model.specs.Names.{IsOf64, ap_name, ap_value, own_uri, session_uri, tcp_param, loose_param}

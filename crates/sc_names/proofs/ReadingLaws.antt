@@ -12,12 +12,12 @@ use Rattle.std.proofs.lemmas.List.{append_cancel_left, append_cancel_right, take
 use Rattle.std.proofs.lemmas.List.Sums.{split_at_first, passes_at_first}
 use Rattle.std.proofs.lemmas.Fmt.{parse-decimal, IsAscii-decimal}
 use Rattle.std.proofs.lemmas.Str.{IsUtf8-from_ascii}
-use Rattle.sc_grammar.specs.Written.{Bytes}
+use Rattle.sc_tokens.specs.Bytes.{Bytes}
 use Rattle.sc_value.specs.declared.ids.AppId.{AppId}
 use Rattle.sc_value.specs.declared.ids.Region.{Region}
 use Rattle.sc_model.specs.Names.{mark_text, tag_text, counted_text, app_text, ap_value, ar_value, region_letter}
 use Rattle.sc_model.proofs.Names.{parted_same, lacks_decimal, joined, counted_is, epoch_end, mark_is, ap_is}
-use Rattle.sc_names.specs.Reading.{IsRead, Is32, Is64, IsApp, IsCounted, Lacks, parted, pair_text}
+use Rattle.sc_names.specs.Reading.{IsRead, Is32, Is64, IsApp, IsCounted, Lacks, two_with_sign as parted, pair_text}
 
 one_more : (n : ℕ) → 1 + n ≡ suc n
 one_more n = omega arith

@@ -1,6 +1,7 @@
 -- The pieces of an own URI's text (RFC 3261 section 19.1.1).
 use Rattle.std.specs.Prelude.{ℕ, ◌++◌, decimal, codes}
-use Rattle.sc_grammar.specs.Written.{Bytes, scheme, param_text}
+use Rattle.sc_tokens.specs.Bytes.{Bytes}
+use Rattle.sc_grammar.specs.Written.{param_text, scheme}
 use Rattle.sc_model.specs.Names.{tcp_param, loose_param}
 
 -- `sip:host:port`

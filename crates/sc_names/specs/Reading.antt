@@ -2,7 +2,7 @@
 use Rattle.std.specs.Prelude.{◌≡◌, ℕ, ◌<◌, ◌^◌, false, ◌∷◌, ◌++◌, ◌==◌, Option, Some, IfSome, decimal}
 use Rattle.std.specs.List.{list_any}
 use Rattle.sc_value.specs.declared.ids.AppId.{AppId}
-use Rattle.sc_grammar.specs.Written.{Bytes}
+use Rattle.sc_tokens.specs.Bytes.{Bytes}
 
 -- the answer is the one value in range whose text the bytes are, and none where they are the text
 -- of none
@@ -32,8 +32,8 @@ abbrev pub Lacks : ℕ → Bytes → Type 0
 Lacks sign bytes = list_any (λ b. b == sign) bytes ≡ false
 
 -- two texts with a sign between them
-abbrev pub parted : ℕ → Bytes × Bytes → Bytes
-parted sign p = p.0 ++ sign ∷ p.1
+abbrev pub two_with_sign : ℕ → Bytes × Bytes → Bytes
+two_with_sign sign p = p.0 ++ sign ∷ p.1
 
 -- two numbers with `-` between them
 abbrev pub pair_text : ℕ × ℕ → Bytes

@@ -1,6 +1,7 @@
 ghost use Rattle.std.specs.Prelude.{◌≡◌, ◌≢◌, ℕ};
 ghost use Rattle.sc_value.specs.declared.ids.AppId.{AppId};
-ghost use Rattle.sc_grammar.specs.Written.{Bytes, sip_uri_text};
+ghost use Rattle.sc_tokens.specs.Bytes.{Bytes};
+ghost use Rattle.sc_grammar.specs.Written.{sip_uri_text};
 ghost use Rattle.sc_model.specs.Names.{IsOf64, tag_text, branch_text, call_id_text, edge_tag, ap_value, session_uri};
 
 /// Two equal names of one kind, drawn with one salt, are made of the same epoch, session and

@@ -3,7 +3,7 @@
 ghost use Rattle.std.specs.Prelude.{◌≡◌, ◌==◌, ◌++◌, ◌∷◌, [], ℕ, Some, decimal, position, ⊤};
 ghost use Rattle.std.specs.Option.{option_copied, option_map};
 ghost use Rattle.sc_model.specs.Names.{mark_text, counted_text, tag_text, branch_cookie, branch_text, app_text, ap_value, ar_value, region_letter};
-ghost use Rattle.sc_names.specs.Reading.{IsRead, Is32, Is64, IsApp, IsCounted, Lacks, parted, pair_text};
+ghost use Rattle.sc_names.specs.Reading.{Is32, Is64, IsApp, IsCounted, IsRead, Lacks, pair_text, two_with_sign};
 
 use itoa::Buffer;
 use sc_value::{AppId, Region};
@@ -180,7 +180,7 @@ fn before<'a>(bytes: &'a [u8], suffix: &[u8]) -> Option<&'a [u8]>
 
 // What stands before the first such sign and what stands after it.
 fn cut(bytes: &[u8], sign: u8) -> Option<(&[u8], &[u8])>
-    ensures { IsRead (parted sign) (λ p. Lacks sign p.0) bytes.now
+    ensures { IsRead (two_with_sign sign) (λ p. Lacks sign p.0) bytes.now
         (option_map (λ p. (p.0.now, p.1.now)) result) }
 {
     let place = place_of(bytes, sign)?;

@@ -5,7 +5,7 @@ use Rattle.sc_state.specs.declared.net.Net.{Net}
 use Rattle.sc_state.specs.declared.session.Session.{Session}
 use Rattle.sc_hosts.specs.Histories.{as_session}
 use Rattle.sc_hosts.specs.Nets.{is_busy, deliver_first, weight}
-use Rattle.sc_hosts.specs.Runs.{delivered}
+use Rattle.sc_hosts.specs.Runs.{after_delivery as delivered}
 use Rattle.sc_hosts.proofs.Deliveries.{deliveries-fall, one-delivery, none-delivered}
 use Rattle.sc_hosts.proofs.SettleLaws.{Falls}
 

@@ -6,7 +6,7 @@ ghost use Rattle.std.specs.Option.{option_copied};
 ghost use Rattle.sc_value.specs.declared.message.Message.{Message};
 ghost use Rattle.sc_value.specs.Lists.{change_nth};
 ghost use Rattle.sc_hosts.specs.Messages.{cancel_of};
-ghost use Rattle.sc_hosts.specs.Nets.{change_host, host_at, send_cancel, cancel_by, cancel_for, client_at};
+ghost use Rattle.sc_hosts.specs.Nets.{cancel_by, cancel_for, change_host, client_at, host_at, send_cancel};
 ghost use Rattle.sc_hosts.specs.TakingResponses.{cancelling};
 ghost use Rattle.sc_hosts.specs.Transacting.{is_client, pass_client};
 

@@ -2,8 +2,8 @@
 
 ghost use Rattle.std.specs.Prelude.{◌≡◌, OnOk};
 ghost use Rattle.sc_hosts.specs.Histories.{as_session};
-ghost use Rattle.sc_hosts.specs.Nets.{is_busy, deliver_at, deliver_first, host_at};
-ghost use Rattle.sc_hosts.specs.Runs.{delivered};
+ghost use Rattle.sc_hosts.specs.Nets.{deliver_at, deliver_first, host_at, is_busy};
+ghost use Rattle.sc_hosts.specs.Runs.{after_delivery};
 
 use crate::taking::net_takes;
 use sc_parts::Setup;
@@ -57,7 +57,7 @@ pub fn deliver_first(alloc: Global, setup: &Setup, net: &mut Net<Session>) -> Re
 /// All messages on their way are delivered, and those that they cause.
 #[tactic(auto, using(crate::proofs::AllDelivered::delivered_next, crate::proofs::AllDelivered::delivered_idle, crate::proofs::AllDelivered::weight_falls))]
 pub fn delivered(alloc: Global, setup: &Setup, net: &mut Net<Session>) -> Result<(), NoMemory>
-    ensures { OnOk result (net.new ≡ delivered as_session setup.now net.old) }
+    ensures { OnOk result (net.new ≡ after_delivery as_session setup.now net.old) }
 {
     while is_busy(net) {
         deliver_first(alloc, setup, net)?;

@@ -2,7 +2,7 @@
 
 ghost use Rattle.std.specs.Prelude.{◌≡◌, OnOk};
 ghost use Rattle.sc_model.specs.Choices.{choice_of};
-ghost use Rattle.sc_hosts.specs.Nets.{begin_by, obey, obeyed};
+ghost use Rattle.sc_hosts.specs.Nets.{after_orders, begin_by, obey};
 
 use crate::cancels::cancel;
 use sc_parts::Setup;
@@ -72,7 +72,7 @@ pub fn obey(
 }
 
 /// All orders of a session, in turn.
-#[tactic(auto, unfolding(sc_hosts::specs::Nets::obeyed))]
+#[tactic(auto, unfolding(sc_hosts::specs::Nets::after_orders))]
 pub fn obeyed(
     alloc: Global,
     setup: &Setup,
@@ -80,7 +80,7 @@ pub fn obeyed(
     given: &[Order],
     net: &mut Net<Session>,
 ) -> Result<(), NoMemory>
-    ensures { OnOk result (net.new ≡ obeyed setup.now app given.now net.old) }
+    ensures { OnOk result (net.new ≡ after_orders setup.now app given.now net.old) }
 {
     for order in given {
         obey(alloc, setup, app, net, order)?;

@@ -4,7 +4,7 @@ use Rattle.sc_value.specs.declared.ids.ReqId.{ReqId}
 use Rattle.sc_value.specs.declared.ids.SessId.{SessId}
 use Rattle.sc_value.specs.declared.ids.TimerId.{TimerId}
 use Rattle.sc_value.specs.declared.message.Request.{Request}
-use Rattle.sc_grammar.specs.Written.{Bytes}
+use Rattle.sc_tokens.specs.Bytes.{Bytes}
 use Rattle.sc_hosts.specs.Scripting.{Script, where_some}
 use Rattle.sc_hosts.specs.Subscriptions.{Rule, Subscription, changes, ended_sub, failed_sub, subscription_of}
 use Rattle.sc_turn.specs.Working.{Working, play_of}

@@ -11,14 +11,14 @@ use Rattle.sc_terms.specs.declared.calls.Refusal.{Refusal}
 use Rattle.sc_terms.specs.declared.views.RequestView.{RequestView}
 use Rattle.sc_terms.specs.declared.views.View.{View}
 use Rattle.sc_state.specs.declared.working.Play.{Play}
-use Rattle.sc_grammar.specs.Written.{Bytes}
+use Rattle.sc_tokens.specs.Bytes.{Bytes}
 use Rattle.sc_hosts.specs.Effects.{after_call, after_listed, played_by}
 use Rattle.sc_hosts.specs.Looking.{request_in}
 use Rattle.sc_hosts.specs.RefusalParts.{MOST_CALLS}
 use Rattle.sc_hosts.specs.Refusals.{refusal}
 use Rattle.sc_hosts.specs.Scripting.{Script, attribute, reply, then_make, where_some}
 use Rattle.sc_hosts.specs.Subscriptions.{Subscription, changes, event_of, subscription_of}
-use Rattle.sc_hosts.specs.ViewChanges.{answered, answered_in, tidy}
+use Rattle.sc_hosts.specs.ViewChanges.{view_with_answer as answered, answered_in, tidy}
 use Rattle.sc_turn.specs.Working.{Working, play_of, after_made}
 use Rattle.sc_apps.specs.Scripted.{IsMade, IsPlayed}
 use Rattle.sc_apps.proofs.Playing.{begun_view, played_done, played_then, played_on}

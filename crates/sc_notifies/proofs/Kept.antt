@@ -15,13 +15,13 @@ use Rattle.sc_terms.specs.declared.calls.Refusal.{Refusal}
 use Rattle.sc_terms.specs.declared.inside.Inside.{Inside}
 use Rattle.sc_terms.specs.declared.views.View.{View}
 use Rattle.sc_state.specs.declared.working.Play.{Play}
-use Rattle.sc_grammar.specs.Written.{Bytes}
-use Rattle.sc_hosts.specs.Effects.{accepted, after_call, after_listed, answer_of, played_by}
+use Rattle.sc_tokens.specs.Bytes.{Bytes}
+use Rattle.sc_hosts.specs.Effects.{answer_to_call as accepted, after_call, after_listed, answer_of, played_by}
 use Rattle.sc_hosts.specs.HelperParts.{accepted_then}
-use Rattle.sc_hosts.specs.Looking.{removed, unlinked, unlinked_from}
+use Rattle.sc_hosts.specs.Looking.{without_sip_session as removed, without_link as unlinked, unlinked_from}
 use Rattle.sc_hosts.specs.Refusals.{refusal}
 use Rattle.sc_hosts.specs.Scripting.{Script, Done, Make, attribute, only, with_number}
-use Rattle.sc_hosts.specs.ViewChanges.{invalidated, settled_requests, tidy}
+use Rattle.sc_hosts.specs.ViewChanges.{view_without as invalidated, settled_requests, tidy}
 use Rattle.sc_helpers.specs.Leading.{cancel_some, remove_if}
 use Rattle.sc_helpers.proofs.Plays.{answer_is}
 use Rattle.sc_promised.specs.Reliable.{play_after}

@@ -7,7 +7,7 @@ use Rattle.sc_value.specs.declared.ids.TimerId.{TimerId}
 use Rattle.sc_value.specs.declared.message.Request.{Request}
 use Rattle.sc_terms.specs.declared.views.View.{View}
 use Rattle.sc_terms.specs.declared.calls.Refusal.TheVariants.{NoMemory}
-use Rattle.sc_grammar.specs.Written.{Bytes}
+use Rattle.sc_tokens.specs.Bytes.{Bytes}
 use Rattle.sc_hosts.specs.Scripting.{Script, Done, only, where_some}
 use Rattle.sc_hosts.specs.Subscriptions.{NamedSub, Rule, Subscription, changes, ended_sub, failed_sub, subscription_of}
 use Rattle.sc_terms.specs.declared.calls.Call.TheVariants as calls

@@ -7,7 +7,7 @@ use Rattle.sc_value.specs.declared.ids.TimerId.{TimerId}
 use Rattle.sc_value.specs.declared.no_memory.NoMemory as no
 use Rattle.sc_value.specs.declared.message.Request.{Request}
 use Rattle.sc_terms.specs.declared.views.View.{View}
-use Rattle.sc_grammar.specs.Written.{Bytes}
+use Rattle.sc_tokens.specs.Bytes.{Bytes}
 use Rattle.sc_hosts.specs.HelperParts.{accepted_then}
 use Rattle.sc_hosts.specs.RefusalParts.{MOST_CALLS}
 use Rattle.sc_hosts.specs.Scripting.{Script, Done, where_some}
@@ -18,7 +18,7 @@ use Rattle.sc_apps.proofs.Playing.{begun_room, begun_view, played_done}
 use Rattle.sc_helpers.proofs.FoundLaws.{as_is}
 use Rattle.sc_helpers.proofs.Shorts.{Short, heard_played, short_cancel, short_either, short_more, short_number, short_only, short_remove, short_send, short_then, short_where, through_played}
 use Rattle.sc_notifies.specs.Notifying.{IsCarriedOut, IsEnded, IsFailed, IsRefusedAs, IsTold, IsTurned, accepted_by, asked_of, fired_of, read_by, read_of, seconds_in}
-use Rattle.sc_notifies.specs.SubScripts.{begun_noted, begun_timed, begun_told, cleared, subscribed_by, unnamed}
+use Rattle.sc_notifies.specs.SubScripts.{begun_noted, begun_timed, begun_told, without_subscription as cleared, subscribed_by, without_attributes as unnamed}
 use Rattle.sc_notifies.specs.declared.accepting.Grant.TheVariants as grants
 use Rattle.sc_notifies.specs.declared.accepting.Read.{Read}
 use Rattle.sc_notifies.specs.declared.refused.Asked.{Asked}

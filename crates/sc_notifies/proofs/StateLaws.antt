@@ -17,14 +17,14 @@ use Rattle.sc_terms.specs.declared.views.Period.TheVariants.{Once}
 use Rattle.sc_terms.specs.declared.views.RequestView.{RequestView}
 use Rattle.sc_terms.specs.declared.views.View.{View}
 use Rattle.sc_state.specs.declared.working.Play.{Play}
-use Rattle.sc_grammar.specs.Written.{Bytes}
-use Rattle.sc_hosts.specs.Effects.{accepted, after_call, after_listed, played_by}
+use Rattle.sc_tokens.specs.Bytes.{Bytes}
+use Rattle.sc_hosts.specs.Effects.{answer_to_call as accepted, after_call, after_listed, played_by}
 use Rattle.sc_hosts.specs.HelperParts.{accepted_then, answer_with, send_in, strict_number}
 use Rattle.sc_hosts.specs.Looking.{request_in}
 use Rattle.sc_hosts.specs.Refusals.{refusal}
 use Rattle.sc_hosts.specs.Scripting.{Script, Done, attribute, where_some}
 use Rattle.sc_hosts.specs.Subscriptions.{NamedSub, Rule, Subscription, asked_seconds, changes, ended_sub, ev_name, failed_sub, letter_of, letter_word, names_package, notifies, sub_name, sub_text, subscription_in, subscription_of, timeout_state}
-use Rattle.sc_hosts.specs.ViewChanges.{answered, answered_in, tidy}
+use Rattle.sc_hosts.specs.ViewChanges.{view_with_answer as answered, answered_in, tidy}
 use Rattle.sc_helpers.specs.Leading.{cancel_some}
 use Rattle.sc_promised.specs.Reliable.{play_after}
 use Rattle.sc_promised.specs.Refreshing.{IsAccepted}
@@ -32,8 +32,8 @@ use Rattle.sc_promised.proofs.Attributes.{set-attribute}
 use Rattle.sc_promised.proofs.Endings.{strict-fits}
 use Rattle.sc_promised.proofs.Texts.{decimal-lacks, word-piece, last-piece, strict-decimal}
 use Rattle.sc_notifies.specs.Notifying.{IsAtMost, accepted_by, activates, asked_of, ends, fired_of, is_active, read_by, read_of, seconds_in}
-use Rattle.sc_notifies.specs.States.{Accepts, Absent, Act, Activates, Active, Changes, Ends, Fails, Fires, Happened, IsOf, IsOnce, IsSound, IsTrace, Pending, State, activated, activates_by, last_state, next_state, over, renewed, script_of, settles, state_at, state_by, state_of, subscribed, table_state, unsubscribes, view_after}
-use Rattle.sc_notifies.specs.SubScripts.{begun_noted, begun_timed, begun_told, cleared, standing_of, subscribed_by, unnamed}
+use Rattle.sc_notifies.specs.States.{Accepts, Absent, Act, Activates, Active, Changes, Ends, Fails, Fires, Happened, IsOf, IsOnce, IsSound, IsTrace, Pending, State, state_after_activation as activated, activates_by, last_state, next_state, over, state_after_renewal as renewed, script_of, settles, state_at, state_by, state_of, state_after_subscribe as subscribed, table_state, unsubscribes, view_after}
+use Rattle.sc_notifies.specs.SubScripts.{begun_noted, begun_timed, begun_told, without_subscription as cleared, standing_of, subscribed_by, without_attributes as unnamed}
 use Rattle.sc_notifies.specs.declared.accepting.Grant.{Grant}
 use Rattle.sc_notifies.specs.declared.accepting.Read.{Read}
 use Rattle.sc_notifies.specs.declared.refused.Asked.{Asked}

@@ -5,13 +5,13 @@ use Rattle.sc_value.specs.declared.ids.SessId.{SessId}
 use Rattle.sc_terms.specs.declared.views.View.{View}
 use Rattle.sc_terms.specs.declared.calls.Call.TheVariants as calls
 use Rattle.sc_terms.specs.declared.views.Period.TheVariants.{Once}
-use Rattle.sc_grammar.specs.Written.{Bytes}
+use Rattle.sc_tokens.specs.Bytes.{Bytes}
 use Rattle.sc_hosts.specs.HelperParts.{accepted_then, cancel_then, remove_then}
 use Rattle.sc_hosts.specs.Scripting.{Script, Make, attribute, with_number}
 use Rattle.sc_hosts.specs.Subscriptions.{Rule, Subscription, ev_name, is_pending, notifies, state_word, sub_name, sub_text, subscribed_for, timeout_state, without_timer}
 use Rattle.sc_helpers.specs.Leading.{cancel_some, remove_if, timer_named}
 use Rattle.sc_notifies.specs.Notifying.{begins_active, is_active}
-use Rattle.sc_notifies.specs.SubScripts.{begun_noted, begun_timed, begun_told, cleared, standing_of, subscribed_by, timer_of_sub, unnamed}
+use Rattle.sc_notifies.specs.SubScripts.{begun_noted, begun_timed, begun_told, without_subscription as cleared, standing_of, subscribed_by, timer_of_sub, without_attributes as unnamed}
 use Rattle.sc_notifies.specs.declared.accepting.Grant.TheVariants as grants
 use Rattle.sc_helpers.proofs.FoundLaws.{cancel_is, remove_is}
 

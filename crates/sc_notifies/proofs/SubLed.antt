@@ -1,13 +1,13 @@
 -- The end of a subscription, and what follows it.
 use Rattle.std.proofs.Common.{ℕ, Bool, Result, Ok, Err}
 use Rattle.sc_value.specs.declared.ids.SessId.{SessId}
-use Rattle.sc_grammar.specs.Written.{Bytes}
+use Rattle.sc_tokens.specs.Bytes.{Bytes}
 use Rattle.sc_hosts.specs.Scripting.{Script}
 use Rattle.sc_turn.specs.Working.{Working}
 use Rattle.sc_helpers.specs.Leading.{cancel_some, remove_if}
 use Rattle.sc_helpers.specs.Stopping.{Goes, Leads}
 use Rattle.sc_helpers.specs.declared.stopping.Stopped.{Stopped}
-use Rattle.sc_notifies.specs.SubScripts.{cleared, unnamed}
+use Rattle.sc_notifies.specs.SubScripts.{without_subscription as cleared, without_attributes as unnamed}
 use Rattle.sc_notifies.specs.declared.standing.Standing.{Standing}
 use Rattle.sc_helpers.proofs.Steps.{both_led, none_led}
 

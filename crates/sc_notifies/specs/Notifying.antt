@@ -8,14 +8,14 @@ use Rattle.sc_value.specs.declared.no_memory.NoMemory as no
 use Rattle.sc_terms.specs.declared.views.View.{View}
 use Rattle.sc_terms.specs.declared.calls.Call.TheVariants as calls
 use Rattle.sc_terms.specs.declared.calls.Refusal.TheVariants.{NoMemory}
-use Rattle.sc_grammar.specs.Written.{Bytes}
+use Rattle.sc_tokens.specs.Bytes.{Bytes}
 use Rattle.sc_hosts.specs.HelperParts.{accepted_then, answer_with, cancel_then, field, remove_then}
 use Rattle.sc_hosts.specs.Scripting.{Script, only}
 use Rattle.sc_hosts.specs.Subscriptions.{NamedSub, Rule, Subscription, asked_seconds, ev_name, event_of, named_sub, names_package, notified_event, notifies, seconds_left, state_word, sub_name, sub_text, subscription_of, timeout_state}
 use Rattle.sc_hosts.specs.Words.{ok}
 use Rattle.sc_turn.specs.Working.{Working}
 use Rattle.sc_helpers.specs.Stopping.{GoesThrough, IsHeard, StopsAfter}
-use Rattle.sc_notifies.specs.SubScripts.{cleared, standing_of, subscribed_by}
+use Rattle.sc_notifies.specs.SubScripts.{standing_of, subscribed_by, without_subscription}
 use Rattle.sc_notifies.specs.declared.accepting.Grant.{Grant}
 use Rattle.sc_notifies.specs.declared.accepting.Grant.TheVariants as grants
 use Rattle.sc_notifies.specs.declared.accepting.Read.{Read}
@@ -205,11 +205,13 @@ live_activated sess body live =
 
 -- it ends, and that is told with this state
 unfoldable pub live_ended : SessId → Bytes → Live → Script
-live_ended sess state live = cleared live.standing sess (notifies sess live.event state [])
+live_ended sess state live =
+    without_subscription live.standing sess (notifies sess live.event state [])
 
 -- it ends with its SipSession
 unfoldable pub live_failed : SessId → Live → Script
-live_failed sess live = cleared live.standing sess (only (calls.InvalidateSession sess))
+live_failed sess live =
+    without_subscription live.standing sess (only (calls.InvalidateSession sess))
 
 -- a subscription whose timer fired, with what its calls need
 unfoldable pub over_by : View → NamedSub → Over

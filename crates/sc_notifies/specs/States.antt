@@ -11,8 +11,8 @@ use Rattle.sc_value.specs.declared.parts.Field.{Field}
 use Rattle.sc_tokens.specs.Names.{same_bytes}
 use Rattle.sc_terms.specs.declared.views.View.{View}
 use Rattle.sc_state.specs.declared.working.Play.{Play}
-use Rattle.sc_grammar.specs.Written.{Bytes}
-use Rattle.sc_hosts.specs.Scripting.{Script, Done, where_some}
+use Rattle.sc_tokens.specs.Bytes.{Bytes}
+use Rattle.sc_hosts.specs.Scripting.{Done, Script, where_some}
 use Rattle.sc_hosts.specs.Subscriptions.{NamedSub, Rule, Subscription, changes, ended_sub, failed_sub, sub_name, subscription_of}
 use Rattle.sc_turn.specs.Working.{Working, play_of}
 use Rattle.sc_promised.specs.Reliable.{play_after}
@@ -92,24 +92,24 @@ unfoldable pub state_at : View → SessId → State
 state_at view sess = state_of (subscription_of view sess)
 
 -- a new subscription is pending or active as it is granted; one that is there stays what it is
-unfoldable pub renewed : Grant → State → State
-renewed grant Absent = state_by (begins_active grant)
-renewed grant Pending = Pending
-renewed grant Active = Active
+unfoldable pub state_after_renewal : Grant → State → State
+state_after_renewal grant Absent = state_by (begins_active grant)
+state_after_renewal grant Pending = Pending
+state_after_renewal grant Active = Active
 
 -- a SUBSCRIBE for some seconds begins or renews one, for 0 it ends one; one that was answered 489
 -- or 423 changes nothing
-unfoldable pub subscribed : Grant → Asked → State → State
-subscribed grant asked.BadEvent state = state
-subscribed grant asked.Brief state = state
-subscribed grant (asked.For seconds) state =
-    if seconds == 0 then Absent else renewed grant state
+unfoldable pub state_after_subscribe : Grant → Asked → State → State
+state_after_subscribe grant asked.BadEvent state = state
+state_after_subscribe grant asked.Brief state = state
+state_after_subscribe grant (asked.For seconds) state =
+    if seconds == 0 then Absent else state_after_renewal grant state
 
 -- a pending subscription becomes active
-unfoldable pub activated : State → State
-activated Absent = Absent
-activated Pending = Active
-activated Active = Active
+unfoldable pub state_after_activation : State → State
+state_after_activation Absent = Absent
+state_after_activation Pending = Active
+state_after_activation Active = Active
 
 -- a subscription ends where its timer fired
 unfoldable pub over : Option NamedSub → State → State
@@ -119,9 +119,9 @@ over (Some named) state = Absent
 -- the state after an act
 unfoldable pub next_state : View → Act → State → State
 next_state view (Accepts rule req request grant) state =
-    subscribed grant (asked_of rule request) state
+    state_after_subscribe grant (asked_of rule request) state
 next_state view (Changes body) state = state
-next_state view (Activates body) state = activated state
+next_state view (Activates body) state = state_after_activation state
 next_state view (Ends reason) state = Absent
 next_state view (Fires id) state = over (fired_of view id) state
 next_state view Fails state = Absent

@@ -5,9 +5,9 @@ use Rattle.sc_value.specs.declared.ids.TimerId.{TimerId}
 use Rattle.sc_terms.specs.declared.views.View.{View}
 use Rattle.sc_terms.specs.declared.views.Period.TheVariants.{Once}
 use Rattle.sc_terms.specs.declared.calls.Call.TheVariants as calls
-use Rattle.sc_grammar.specs.Written.{Bytes}
+use Rattle.sc_tokens.specs.Bytes.{Bytes}
 use Rattle.sc_hosts.specs.HelperParts.{accepted_then}
-use Rattle.sc_hosts.specs.Scripting.{Script, Make, attribute, with_number}
+use Rattle.sc_hosts.specs.Scripting.{Make, Script, attribute, with_number}
 use Rattle.sc_hosts.specs.Subscriptions.{Subscription, ev_name, notifies, state_word, sub_name, sub_text, timeout_state}
 use Rattle.sc_helpers.specs.Leading.{cancel_some, remove_if, timer_named}
 use Rattle.sc_notifies.specs.declared.standing.Standing.{Standing}
@@ -27,14 +27,15 @@ standing_of view sess old = record {
 }
 
 -- both its attributes are taken away
-unfoldable pub unnamed : Standing → SessId → Script → Script
-unnamed standing sess =
+unfoldable pub without_attributes : Standing → SessId → Script → Script
+without_attributes standing sess =
     λ script.
     remove_if standing.told (sub_name sess) (remove_if standing.named (ev_name sess) script)
 
 -- its timer and both attributes
-unfoldable pub cleared : Standing → SessId → Script → Script
-cleared standing sess = λ script. cancel_some standing.running (unnamed standing sess script)
+unfoldable pub without_subscription : Standing → SessId → Script → Script
+without_subscription standing sess =
+    λ script. cancel_some standing.running (without_attributes standing sess script)
 
 -- ## A subscription that begins or goes on
 
@@ -59,5 +60,6 @@ begun_timed term sess event body =
 -- what follows a 200 to SUBSCRIBE, where the old subscription stands so
 unfoldable pub subscribed_by : Standing → Term → SessId → Bytes → Bytes → Script
 subscribed_by standing term sess event body =
-    if term.seconds == 0 then cleared standing sess (notifies sess event timeout_state [])
+    if term.seconds == 0
+    then without_subscription standing sess (notifies sess event timeout_state [])
     else cancel_some standing.running (begun_timed term sess event body)

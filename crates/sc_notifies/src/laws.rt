@@ -6,7 +6,7 @@ ghost use Rattle.sc_value.specs.declared.ids.ReqId.{ReqId};
 ghost use Rattle.sc_value.specs.declared.ids.SessId.{SessId};
 ghost use Rattle.sc_value.specs.declared.ids.TimerId.{TimerId};
 ghost use Rattle.sc_value.specs.declared.message.Request.{Request};
-ghost use Rattle.sc_grammar.specs.Written.{Bytes};
+ghost use Rattle.sc_tokens.specs.Bytes.{Bytes};
 ghost use Rattle.sc_hosts.specs.Scripting.{where_some};
 ghost use Rattle.sc_hosts.specs.Subscriptions.{Rule, changes, ended_sub, failed_sub, subscription_of};
 ghost use Rattle.sc_turn.specs.Working.{Working, play_of};

@@ -8,7 +8,7 @@ ghost use Rattle.sc_model.specs.Dialogs.{notify};
 ghost use Rattle.sc_helpers.specs.Leading.{remove_if};
 ghost use Rattle.sc_helpers.specs.Stopping.{Goes, Leads};
 ghost use Rattle.sc_notifies.specs.Notifying.{live_ended, live_told};
-ghost use Rattle.sc_notifies.specs.SubScripts.{begun_told, cleared, unnamed};
+ghost use Rattle.sc_notifies.specs.SubScripts.{begun_told, without_attributes, without_subscription};
 
 use crate::standing::{Live, Standing};
 use crate::sub_texts::{ev_name, state_text, sub_name};
@@ -161,11 +161,11 @@ fn remove_named(
     }
 }
 
-#[tactic(auto, unfolding(crate::specs::SubScripts::unnamed), using(sc_helpers::proofs::Steps::led_wanting))]
+#[tactic(auto, unfolding(crate::specs::SubScripts::without_attributes), using(sc_helpers::proofs::Steps::led_wanting))]
 fn remove_both(turn: &mut Turn, made: u8, sess: SessId, standing: &Standing) -> Result<u8, Stopped>
     requires few { made < 90 }
     ensures same { turn.new.shown ≡ turn.old.shown }
-    ensures led { Leads (unnamed standing.now sess) made turn.old result turn.new }
+    ensures led { Leads (without_attributes standing.now sess) made turn.old result turn.new }
     ensures count { IfOk result (λ after. after ≤ made + 2) }
 {
     match names_of(memory_of(turn), sess) {
@@ -181,7 +181,7 @@ fn remove_both(turn: &mut Turn, made: u8, sess: SessId, standing: &Standing) -> 
 pub fn clear(turn: &mut Turn, made: u8, sess: SessId, standing: &Standing) -> Result<u8, Stopped>
     requires few { made < 50 }
     ensures same { turn.new.shown ≡ turn.old.shown }
-    ensures led { Leads (cleared standing.now sess) made turn.old result turn.new }
+    ensures led { Leads (without_subscription standing.now sess) made turn.old result turn.new }
     ensures count { IfOk result (λ after. after ≤ made + 3) }
 {
     match try_cancel_some(turn, made, standing.running) {
@@ -202,7 +202,7 @@ pub fn end(
 ) -> Result<(), Stopped>
     requires few { made < 50 }
     ensures same { turn.new.shown ≡ turn.old.shown }
-    ensures goes { Goes made (cleared standing.now sess (notifies sess event.now state.now []))
+    ensures goes { Goes made (without_subscription standing.now sess (notifies sess event.now state.now []))
         turn.old result turn.new }
 {
     match clear(turn, made, sess, standing) {

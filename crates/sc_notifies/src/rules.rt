@@ -4,7 +4,7 @@
 ghost use Rattle.std.specs.Prelude.{◌≡◌, ◌≤◌, ◌&&◌, [], codes, min, nat_le, position, option_and_then, unwrap_or, IfOk};
 ghost use Rattle.std.specs.List.{find};
 ghost use Rattle.std.specs.Option.{option_copied};
-ghost use Rattle.sc_tokens.specs.Blanks.{trimmed};
+ghost use Rattle.sc_tokens.specs.Blanks.{without_blanks};
 ghost use Rattle.sc_tokens.specs.Cuts.{before};
 ghost use Rattle.sc_tokens.specs.Numbers.{number_of};
 ghost use Rattle.sc_tokens.specs.Names.{same_bytes};
@@ -226,7 +226,7 @@ pub fn event_of(request: &Request) -> &[u8]
 }
 
 fn is_package(value: &[u8], event_package: &[u8]) -> bool
-    ensures { result ≡ same_bytes (trimmed (before 59 value.now)) event_package.now }
+    ensures { result ≡ same_bytes (without_blanks (before 59 value.now)) event_package.now }
 {
     let (name, _) = cut(value, b';');
     trim(name) == event_package

@@ -6,7 +6,7 @@ use Rattle.sc_value.specs.declared.ids.ReqId.{ReqId}
 use Rattle.sc_value.specs.declared.ids.TimerId.{TimerId}
 use Rattle.sc_value.specs.declared.message.Request.{Request}
 use Rattle.sc_terms.specs.declared.views.View.{View}
-use Rattle.sc_grammar.specs.Written.{Bytes}
+use Rattle.sc_tokens.specs.Bytes.{Bytes}
 use Rattle.sc_hosts.specs.HelperParts.{lists_option}
 use Rattle.sc_hosts.specs.Offers.{late_offer, rel_option}
 use Rattle.sc_promised.specs.Reliable.{Remembered, Fresh, Pending, Acked, Failed, MOST_RSEQ, Late, Offers, Pracks, offer_by, offer_script, offers, remembered_at, script_of}

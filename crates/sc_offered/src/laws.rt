@@ -3,7 +3,7 @@ ghost use Rattle.sc_value.specs.declared.ids.ReqId.{ReqId};
 ghost use Rattle.sc_value.specs.declared.ids.TimerId.{TimerId};
 ghost use Rattle.sc_value.specs.declared.message.Request.{Request};
 ghost use Rattle.sc_terms.specs.declared.views.View.{View};
-ghost use Rattle.sc_grammar.specs.Written.{Bytes};
+ghost use Rattle.sc_tokens.specs.Bytes.{Bytes};
 ghost use Rattle.sc_hosts.specs.Offers.{late_offer};
 ghost use Rattle.sc_promised.specs.Reliable.{Late, Offers, Pracks, offers, script_of};
 ghost use Rattle.sc_offers.specs.Offering.{named_offer, offer_rseq};

@@ -5,7 +5,7 @@ use Rattle.sc_value.specs.declared.message.Request.{Request}
 use Rattle.sc_terms.specs.declared.views.View.{View}
 use Rattle.sc_terms.specs.declared.calls.Call.{Call}
 use Rattle.sc_terms.specs.declared.calls.Refusal.TheVariants.{NoMemory}
-use Rattle.sc_grammar.specs.Written.{Bytes}
+use Rattle.sc_tokens.specs.Bytes.{Bytes}
 use Rattle.sc_hosts.specs.HelperParts.{accepted_then}
 use Rattle.sc_hosts.specs.Scripting.{Script, Done, only}
 use Rattle.sc_turn.specs.Working.{Working, play_of}

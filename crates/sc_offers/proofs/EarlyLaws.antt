@@ -11,7 +11,7 @@ use Rattle.sc_terms.specs.declared.views.View.{View}
 use Rattle.sc_terms.specs.declared.views.RequestView.{RequestView}
 use Rattle.sc_terms.specs.declared.calls.Call.TheVariants as calls
 use Rattle.sc_terms.specs.declared.calls.Refusal.{Refusal}
-use Rattle.sc_grammar.specs.Written.{Bytes}
+use Rattle.sc_tokens.specs.Bytes.{Bytes}
 use Rattle.sc_hosts.specs.HelperParts.{accepted_then, answer_with, field_of}
 use Rattle.sc_hosts.specs.Looking.{is_request, request_in}
 use Rattle.sc_hosts.specs.Offers.{Offer, ended_offer_text, first_offer, is_invite_of, late_offer, names_offer, pending_offer, prack_by, rel_name, session_progress, take_prack}

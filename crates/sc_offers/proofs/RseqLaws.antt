@@ -4,7 +4,7 @@ use Rattle.std.specs.Prelude.{cond, codes, option_and_then, option_map}
 use Rattle.std.proofs.lemmas.Bool.{false≢true}
 use Rattle.sc_tokens.specs.Cuts.{pieces}
 use Rattle.sc_tokens.specs.Names.{same_bytes}
-use Rattle.sc_grammar.specs.Written.{Bytes}
+use Rattle.sc_tokens.specs.Bytes.{Bytes}
 use Rattle.sc_syntax.proofs.CutLaws.{none_some, some_same}
 use Rattle.sc_hosts.specs.HelperParts.{strict_number}
 use Rattle.sc_hosts.specs.Offers.{Offer, offer_in}

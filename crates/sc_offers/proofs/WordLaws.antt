@@ -6,7 +6,7 @@ use Rattle.std.proofs.lemmas.Bool.{false≢true}
 use Rattle.std.proofs.lemmas.Bool.Decides.{nat_tests}
 use Rattle.sc_tokens.specs.Tokens.{is_blank}
 use Rattle.sc_tokens.specs.Blanks.{trimmed_front}
-use Rattle.sc_grammar.specs.Written.{Bytes}
+use Rattle.sc_tokens.specs.Bytes.{Bytes}
 use Rattle.sc_tokens.specs.Cuts.{onto_first, pieces}
 use Rattle.sc_hosts.specs.HelperParts.{words_of}
 

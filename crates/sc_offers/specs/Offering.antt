@@ -7,16 +7,16 @@ use Rattle.sc_value.specs.declared.message.Request.{Request}
 use Rattle.sc_terms.specs.declared.views.View.{View}
 use Rattle.sc_terms.specs.declared.calls.Call.TheVariants as calls
 use Rattle.sc_terms.specs.declared.calls.Refusal.TheVariants.{NoMemory}
-use Rattle.sc_grammar.specs.Written.{Bytes}
+use Rattle.sc_tokens.specs.Bytes.{Bytes}
 use Rattle.sc_hosts.specs.HelperParts.{accepted_then, field_of, lists_option}
 use Rattle.sc_hosts.specs.Offers.{Offer, ended_offer_text, names_offer, pending_offer, rel_name, rel_option}
-use Rattle.sc_hosts.specs.Scripting.{Script, Done, only, reply}
+use Rattle.sc_hosts.specs.Scripting.{Done, Script, only, reply}
 use Rattle.sc_hosts.specs.Words.{does_not_exist, ok}
 use Rattle.sc_model.specs.BestResponses.{server_error}
 use Rattle.sc_turn.specs.Working.{Working}
 use Rattle.sc_helpers.specs.Leading.{cancel_some, timer_named}
 use Rattle.sc_helpers.specs.Stopping.{GoesThrough, IsHeard, StopsAfter}
-use Rattle.sc_promised.specs.Reliable.{MOST_RSEQ, Remembered, Fresh, Pending, Acked, Failed, offers, remembered_at}
+use Rattle.sc_promised.specs.Reliable.{Acked, Failed, Fresh, MOST_RSEQ, Pending, Remembered, offers, remembered_at}
 use Rattle.sc_offers.specs.declared.refused.OfferRefused.{OfferRefused}
 use Rattle.sc_offers.specs.declared.refused.OfferRefused.TheVariants as refused
 use Rattle.sc_offers.specs.declared.refused.Prack.{Prack}

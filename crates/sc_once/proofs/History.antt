@@ -13,9 +13,9 @@ use Rattle.sc_terms.specs.declared.steps.Step.TheVariants as steps
 use Rattle.sc_parts.specs.declared.setup.Setup.{Setup}
 use Rattle.sc_state.specs.declared.host.Live.{Live}
 use Rattle.sc_state.specs.declared.net.Net.{Net}
-use Rattle.sc_hosts.specs.EventLists.{waiting_in, queued_by, queued_from, queued, handled_by, handled, waiting, purged_by, purged_from, purged}
+use Rattle.sc_hosts.specs.EventLists.{waiting_in, queued_by, queued_from, events_of_session as queued, handled_by, turns_of as handled, waiting, purged_by, purged_from, dropped_events as purged}
 use Rattle.sc_hosts.specs.Nets.{host_at}
-use Rattle.sc_hosts.specs.Runs.{quiet_host, start, after_step, chained_from, chained, IsAllowed, IsLawfulFrom, IsLawful, MayTurn}
+use Rattle.sc_hosts.specs.Runs.{quiet_host, start, after_step, chained_from, net_from as chained, IsAllowed, IsLawfulFrom, IsLawful, MayTurn}
 use Rattle.sc_hosts.specs.Sessions.{Form}
 use Rattle.sc_hosts.specs.Steps.{live_of, live_at}
 use Rattle.sc_hosts.specs.Transacting.{is_same_app}
@@ -147,7 +147,7 @@ module _ {S : Type 0} (form : Form S) (setup : Setup) where
   none-handled app net (steps.Bad from bad) dead allowed = refl
   none-handled app net (steps.Lost place) dead allowed = refl
   none-handled app net (steps.Tick now) dead allowed = refl
-  none-handled app net (steps.Turn other event now made end) dead allowed = no-turn app other (is_same_app app other) refl net dead event now made end allowed
+  none-handled app net (steps.Turn end other event now made) dead allowed = no-turn app other (is_same_app app other) refl net dead event now made end allowed
   none-handled app net (steps.Withdraw other) dead allowed = refl
 
   -- a session that is gone handles nothing more, and nothing waits in it

@@ -18,7 +18,7 @@ use Rattle.sc_state.specs.declared.session.Session.{Session}
 use Rattle.sc_hosts.specs.Inboxes.{is_live}
 use Rattle.sc_hosts.specs.Nets.{change_host}
 use Rattle.sc_hosts.specs.Sessions.{Form, Turn}
-use Rattle.sc_hosts.specs.Steps.{turned_live, without_live, invalidated, closed_turn, turned, turns_first, turns, withdrawn}
+use Rattle.sc_hosts.specs.Steps.{turned_live, without_live, without_application as invalidated, closed_turn, net_after_turn as turned, turns_first, turns, withdrawn}
 use Rattle.sc_hosts.specs.Transacting.{is_same_app, tidied}
 use Rattle.sc_once.proofs.Finding.{find-other, find-without}
 use Rattle.sc_walks.specs.Walks.{HostLaws, NetLaws}

@@ -17,13 +17,13 @@ use Rattle.sc_state.specs.declared.orders.Order.{Order}
 use Rattle.sc_state.specs.declared.orders.Outcome.{Outcome}
 use Rattle.sc_state.specs.declared.queue.Waiting.{Waiting}
 use Rattle.sc_state.specs.declared.session.Session.{Session}
-use Rattle.sc_hosts.specs.EventLists.{waiting_in, above, opened, opened_first, opened_by, before_end, queued_by, handled_by, purged_by}
+use Rattle.sc_hosts.specs.EventLists.{waiting_in, above, after_sending as opened, opened_first, opened_by, before_end, queued_by, handled_by, purged_by}
 use Rattle.sc_hosts.specs.Finishing.{goodbye}
 use Rattle.sc_hosts.specs.Inboxes.{is_live}
-use Rattle.sc_hosts.specs.Nets.{host_at, change_host, obeyed}
-use Rattle.sc_hosts.specs.Runs.{delivered, after_step, IsAllowed, MayTurn}
+use Rattle.sc_hosts.specs.Nets.{host_at, change_host, after_orders as obeyed}
+use Rattle.sc_hosts.specs.Runs.{after_delivery as delivered, after_step, IsAllowed, MayTurn}
 use Rattle.sc_hosts.specs.Sessions.{Form, Turn}
-use Rattle.sc_hosts.specs.Steps.{live_at, inbox_of, outcome_by, turned_live, turn_of, without_live, with_ready, invalidated, closed_turn, turned, turns_first, turns, withdrawn, stepped}
+use Rattle.sc_hosts.specs.Steps.{live_at, inbox_of, outcome_by, turned_live, turn_of, without_live, with_ready, without_application as invalidated, closed_turn, net_after_turn as turned, turns_first, turns, withdrawn, before_delivery as stepped}
 use Rattle.sc_hosts.specs.Transacting.{is_same_app}
 use Rattle.sc_lives.specs.Numbers.{AreNumbered}
 use Rattle.sc_lives.proofs.NumberedNets.{change_host-numbered, obeyed-numbered}
@@ -194,7 +194,7 @@ module _ {S : Type 0} (form : Form S) (setup : Setup) (app : AppId) where
       }
 
   own : (low : ℕ) (net : Net S) (event now : ℕ) (made : List CallRecord) (end : End) → AreNumbered net → IsBetween (waiting_in app net) low net.count → MayTurn form setup net app event now made end
-      → StepParts app net (after_step form setup net (steps.Turn app event now made end)) (event ∷ []) (queued_by form setup app net (steps.Turn app event now made end)) (purged_by form setup app net (steps.Turn app event now made end))
+      → StepParts app net (after_step form setup net (steps.Turn end app event now made)) (event ∷ []) (queued_by form setup app net (steps.Turn end app event now made)) (purged_by form setup app net (steps.Turn end app event now made))
   unfolding queued_by purged_by before_end opened_by opened_first after_step stepped turns turns_first turned opened waiting_in
   own low net event now made end numbered within may =
       let turn : Turn = turn_of (record net { sent = [] }) app may.waiting now made end in
@@ -261,11 +261,11 @@ module _ {S : Type 0} (form : Form S) (setup : Setup) (app : AppId) where
 
   own-by : (other : AppId) → other ≡ app → (low : ℕ) (net : Net S) (event now : ℕ) (made : List CallRecord) (end : End) → AreNumbered net → IsBetween (waiting_in app net) low net.count
       → MayTurn form setup net other event now made end
-      → StepParts app net (after_step form setup net (steps.Turn other event now made end)) (event ∷ []) (queued_by form setup app net (steps.Turn other event now made end)) (purged_by form setup app net (steps.Turn other event now made end))
+      → StepParts app net (after_step form setup net (steps.Turn end other event now made)) (event ∷ []) (queued_by form setup app net (steps.Turn end other event now made)) (purged_by form setup app net (steps.Turn end other event now made))
   own-by other same low net event now made end numbered within may =
       rw same (own low net event now made end numbered within (subst (λ (other : AppId). MayTurn form setup net other event now made end) same may))
 
-  passed-over : (other : AppId) (event now : ℕ) (made : List CallRecord) (end : End) (net : Net S) → is_same_app app other ≡ false → before_end form setup app net (steps.Turn other event now made end) ≡ net
+  passed-over : (other : AppId) (event now : ℕ) (made : List CallRecord) (end : End) (net : Net S) → is_same_app app other ≡ false → before_end form setup app net (steps.Turn end other event now made) ≡ net
   unfolding before_end
   passed-over other event now made end net is = rw is refl
 
@@ -274,18 +274,18 @@ module _ {S : Type 0} (form : Form S) (setup : Setup) (app : AppId) where
   stepping step net grows = joined _ _ _ grows (delivers _)
 
   others-step : (other : AppId) (event now : ℕ) (made : List CallRecord) (end : End) (net : Net S) → is_same_app other app ≡ false
-      → NetGrows app (record net { sent = [] }) (after_step form setup net (steps.Turn other event now made end))
+      → NetGrows app (record net { sent = [] }) (after_step form setup net (steps.Turn end other event now made))
   unfolding stepped
   others-step other event now made end net is =
-      stepping (steps.Turn other event now made end) net (turns-grow app other is form setup (live_at other (record net { sent = [] })) now made end (record net { sent = [] }))
+      stepping (steps.Turn end other event now made) net (turns-grow app other is form setup (live_at other (record net { sent = [] })) now made end (record net { sent = [] }))
 
   turn-by : (other : AppId) (b : Bool) → is_same_app app other ≡ b → (low : ℕ) (net : Net S) (event now : ℕ) (made : List CallRecord) (end : End) → AreNumbered net → IsBetween (waiting_in app net) low net.count
       → MayTurn form setup net other event now made end
-      → StepParts app net (after_step form setup net (steps.Turn other event now made end)) (handled_in (cond b (Some event) None)) (queued_by form setup app net (steps.Turn other event now made end)) (purged_by form setup app net (steps.Turn other event now made end))
+      → StepParts app net (after_step form setup net (steps.Turn end other event now made)) (handled_in (cond b (Some event) None)) (queued_by form setup app net (steps.Turn end other event now made)) (purged_by form setup app net (steps.Turn end other event now made))
   unfolding handled_in
   turn-by other true is low net event now made end numbered within may = own-by other (same-app other is) low net event now made end numbered within may
   turn-by other false is low net event now made end numbered within may =
-      grown low net (after_step form setup net (steps.Turn other event now made end)) (steps.Turn other event now made end) refl (passed-over other event now made end net is) within
+      grown low net (after_step form setup net (steps.Turn end other event now made)) (steps.Turn end other event now made) refl (passed-over other event now made end net is) within
       (others-step other event now made end net (flipped app.host other.host app.serial other.serial false is))
 
   withdraw-by : (other : AppId) (b : Bool) → is_same_app app other ≡ b → (low : ℕ) (net : Net S) → AreNumbered net → IsBetween (waiting_in app net) low net.count → is_some (live_at other net) ≡ true
@@ -318,5 +318,5 @@ module _ {S : Type 0} (form : Form S) (setup : Setup) (app : AppId) where
   parts low net (steps.Tick now) numbered within allowed =
       grown low net _ (steps.Tick now) refl refl within
       (stepping (steps.Tick now) net (ticked-walks H (NetGrows app) (grow-hosts app.serial) (grow-nets app) form setup.config now (record net { sent = [] })))
-  parts low net (steps.Turn other event now made end) numbered within allowed = turn-by other (is_same_app app other) refl low net event now made end numbered within allowed
+  parts low net (steps.Turn end other event now made) numbered within allowed = turn-by other (is_same_app app other) refl low net event now made end numbered within allowed
   parts low net (steps.Withdraw other) numbered within allowed = withdraw-by other (is_same_app app other) refl low net numbered within allowed

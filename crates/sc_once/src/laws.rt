@@ -4,9 +4,9 @@ ghost use Rattle.sc_terms.specs.declared.steps.Step.{Step};
 ghost use Rattle.sc_parts.specs.declared.setup.Setup.{Setup};
 ghost use Rattle.sc_state.specs.declared.host.Live.{Live};
 ghost use Rattle.sc_state.specs.declared.session.Session.{Session};
-ghost use Rattle.sc_hosts.specs.EventLists.{handled, purged, queued, waiting};
+ghost use Rattle.sc_hosts.specs.EventLists.{dropped_events, events_of_session, turns_of, waiting};
 ghost use Rattle.sc_hosts.specs.Histories.{History};
-ghost use Rattle.sc_hosts.specs.Runs.{IsLawful, chained, after_step};
+ghost use Rattle.sc_hosts.specs.Runs.{IsLawful, after_step, net_from};
 ghost use Rattle.sc_hosts.specs.Sessions.{Form};
 ghost use Rattle.sc_hosts.specs.Steps.{live_at};
 ghost use Rattle.sc_once.specs.OneHistory.{IsOneHistory};
@@ -18,14 +18,14 @@ ghost use Rattle.sc_once.specs.OneHistory.{IsOneHistory};
 pub fn one_history()
     ensures session { (form : Form Session) (setup : Setup) (epoch began : ℕ) (journal : List Step)
         (app : AppId) → IsLawful form setup epoch began journal
-        → IsOneHistory (queued form setup epoch began app journal) (handled app journal)
-        (purged form setup epoch began app journal) (waiting form setup epoch began app journal)
-        (chained form setup epoch began journal).count }
+        → IsOneHistory (events_of_session form setup epoch began app journal) (turns_of app journal)
+        (dropped_events form setup epoch began app journal) (waiting form setup epoch began app journal)
+        (net_from form setup epoch began journal).count }
     ensures history { (form : Form History) (setup : Setup) (epoch began : ℕ) (journal : List Step)
         (app : AppId) → IsLawful form setup epoch began journal
-        → IsOneHistory (queued form setup epoch began app journal) (handled app journal)
-        (purged form setup epoch began app journal) (waiting form setup epoch began app journal)
-        (chained form setup epoch began journal).count }
+        → IsOneHistory (events_of_session form setup epoch began app journal) (turns_of app journal)
+        (dropped_events form setup epoch began app journal) (waiting form setup epoch began app journal)
+        (net_from form setup epoch began journal).count }
 {}
 
 /// After the step that ends an application session it takes no more turns, and nothing waits in it.
@@ -34,16 +34,16 @@ pub fn ended_sessions_are_quiet()
     ensures session { (form : Form Session) (setup : Setup) (epoch began : ℕ)
         (before later : List Step) (step : Step) (app : AppId) (live : Live Session)
         → IsLawful form setup epoch began (before ++ step ∷ later)
-        → live_at app (chained form setup epoch began before) ≡ Some live
-        → live_at app (after_step form setup (chained form setup epoch began before) step) ≡ None
-        → (handled app later ≡ [])
+        → live_at app (net_from form setup epoch began before) ≡ Some live
+        → live_at app (after_step form setup (net_from form setup epoch began before) step) ≡ None
+        → (turns_of app later ≡ [])
         × (waiting form setup epoch began app (before ++ step ∷ later) ≡ []) }
     ensures history { (form : Form History) (setup : Setup) (epoch began : ℕ)
         (before later : List Step) (step : Step) (app : AppId) (live : Live History)
         → IsLawful form setup epoch began (before ++ step ∷ later)
-        → live_at app (chained form setup epoch began before)
+        → live_at app (net_from form setup epoch began before)
         ≡ Some live
-        → live_at app (after_step form setup (chained form setup epoch began before) step) ≡ None
-        → (handled app later ≡ [])
+        → live_at app (after_step form setup (net_from form setup epoch began before) step) ≡ None
+        → (turns_of app later ≡ [])
         × (waiting form setup epoch began app (before ++ step ∷ later) ≡ []) }
 {}

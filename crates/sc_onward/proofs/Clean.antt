@@ -34,15 +34,15 @@ use Rattle.sc_state.specs.declared.queue.Queued.{Queued}
 use Rattle.sc_state.specs.declared.queue.Queued.TheVariants as queued
 use Rattle.sc_state.specs.declared.queue.Waiting.{Waiting}
 use Rattle.sc_state.specs.declared.session.Session.{Session}
-use Rattle.sc_grammar.specs.Written.{Bytes}
+use Rattle.sc_tokens.specs.Bytes.{Bytes}
 use Rattle.sc_hosts.proofs.EachSort.{takes-each}
-use Rattle.sc_hosts.specs.Inboxes.{MOST_LIVE, queue, quiet}
+use Rattle.sc_hosts.specs.Inboxes.{MOST_LIVE, queue, without_answer as quiet}
 use Rattle.sc_hosts.specs.Messages.{ack_of, cancel_of}
-use Rattle.sc_hosts.specs.Nets.{acknowledge, answered_server, begin_by, cancel_by, cancel_for, change_host, deliver_at, deliver_entry, deliver_first, host_at, leave, leave_for, obey, obeyed, placed, put, put_reply, queue_for, queued_at, respond_by, send_cancel, send_later, send_named, send_to, tell_own}
+use Rattle.sc_hosts.specs.Nets.{acknowledge, answered_server, begin_by, cancel_by, cancel_for, change_host, deliver_at, deliver_entry, deliver_first, host_at, leave, leave_for, obey, after_orders as obeyed, with_host_after as placed, with_message as put, put_reply, queue_for, queued_at, respond_by, send_cancel, send_later, send_named, send_to, tell_own}
 use Rattle.sc_hosts.specs.Sessions.{Form}
-use Rattle.sc_hosts.specs.Steps.{closed_turn, invalidated, with_ready, without_live}
-use Rattle.sc_hosts.specs.Taking.{cancelled, last_again, again_if, repeated, refuse, tried, unrouted, with_server, with_trying, queue_later, begun, take_initial, takes}
-use Rattle.sc_hosts.specs.TakingResponses.{cancelling, told, told_by, with_reply, response_for, response_to, take_response}
+use Rattle.sc_hosts.specs.Steps.{closed_turn, without_application as invalidated, with_ready, without_live}
+use Rattle.sc_hosts.specs.Taking.{take_cancel as cancelled, last_again, again_if, take_repeated as repeated, refuse, server_after_trying as tried, without_own_route as unrouted, with_server, with_trying, queue_later, take_new as begun, take_initial, takes}
+use Rattle.sc_hosts.specs.TakingResponses.{cancelling, take_provisional as told, told_by, with_reply, response_for, response_to, take_response}
 use Rattle.sc_hosts.specs.Words.{does_not_exist, unavailable}
 use Rattle.sc_hosts.specs.Transacting.{client_for, has_final, is_server, pass_client, pass_server, same_top, server_passed, tidied, with_client}
 use Rattle.sc_lasting.specs.Lasting.{All}

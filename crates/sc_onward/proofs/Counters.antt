@@ -23,10 +23,10 @@ use Rattle.sc_hosts.specs.EventLists.{waiting_in, waiting}
 use Rattle.sc_hosts.specs.Finishing.{goodbye}
 use Rattle.sc_hosts.specs.Histories.{History, after_turn, as_history, session_after, session_of, turned_history}
 use Rattle.sc_hosts.specs.Inboxes.{is_live, live_in}
-use Rattle.sc_hosts.specs.Nets.{host_at, change_host, obeyed}
-use Rattle.sc_hosts.specs.Runs.{IsLawful, IsLawfulFrom, after_step, chained, chained_from, start}
+use Rattle.sc_hosts.specs.Nets.{host_at, change_host, after_orders as obeyed}
+use Rattle.sc_hosts.specs.Runs.{IsLawful, IsLawfulFrom, after_step, net_from as chained, chained_from, start}
 use Rattle.sc_hosts.specs.Sessions.{Turn}
-use Rattle.sc_hosts.specs.Steps.{live_at, live_of, outcome_by, turn_of, turned_live, invalidated, closed_turn, turned, turns_first, turns, stepped}
+use Rattle.sc_hosts.specs.Steps.{live_at, live_of, outcome_by, turn_of, turned_live, without_application as invalidated, closed_turn, net_after_turn as turned, turns_first, turns, before_delivery as stepped}
 use Rattle.sc_lives.specs.Numbers.{AreNumbered}
 use Rattle.sc_lives.proofs.NumberedNets.{change_host-numbered, obeyed-numbered}
 use Rattle.sc_lives.proofs.Serials.{change-rising}
@@ -175,7 +175,7 @@ module _ (setup : Setup) (app : AppId) (b : ℕ) where
   -- behind the step of its turn
   own-up : (net : Net History) (live : Live History) (waiting : Waiting) (event now : ℕ) (made : List CallRecord) (end : End) → AreNumbered net → live_at app net ≡ Some live
       → slice_get live.inbox 0 ≡ Some waiting → b ≤ drawn_of setup.config (turned_history (turn_of net app waiting now made end) live.session)
-      → FineIn law [] (after_step (as_history setup.config) setup net (steps.Turn app event now made end))
+      → FineIn law [] (after_step (as_history setup.config) setup net (steps.Turn end app event now made))
   unfolding after_step stepped turns turns_first turn_of
   own-up net live waiting event now made end numbered is first up =
       let start : Net History = record net { sent = [] } in
@@ -213,7 +213,7 @@ not-empty app net last next lives waits none =
 
 module _ (setup : Setup) (epoch began : ℕ) (app : AppId) (event now : ℕ) (made : List CallRecord) (end : End) (front later : List Step) where
   abbrev own : Step
-  own = steps.Turn app event now made end
+  own = steps.Turn end app event now made
 
   abbrev Old : List Step → Net History
   Old given = chained (as_history setup.config) setup epoch began given

@@ -23,7 +23,7 @@ use Rattle.sc_state.specs.declared.queue.Queued.{Queued}
 use Rattle.sc_state.specs.declared.queue.Queued.TheVariants as queued
 use Rattle.sc_state.specs.declared.queue.Waiting.{Waiting}
 use Rattle.sc_state.specs.declared.session.Session.{Session}
-use Rattle.sc_grammar.specs.Written.{Bytes}
+use Rattle.sc_tokens.specs.Bytes.{Bytes}
 use Rattle.sc_model.specs.DialogRequests.{cancel}
 use Rattle.sc_model.specs.Dialogs.{tag_of}
 use Rattle.sc_model.specs.Names.{IsOf64}
@@ -31,10 +31,10 @@ use Rattle.sc_model.specs.SessionStates.{ack}
 use Rattle.sc_hosts.specs.Histories.{as_session}
 use Rattle.sc_hosts.specs.Inboxes.{is_full}
 use Rattle.sc_hosts.specs.Nets.{deliver_at, deliver_entry, deliver_first, host_at, is_busy}
-use Rattle.sc_hosts.specs.Runs.{delivered}
+use Rattle.sc_hosts.specs.Runs.{after_delivery as delivered}
 use Rattle.sc_hosts.specs.Sessions.{Form}
 use Rattle.sc_hosts.specs.Steps.{live_at}
-use Rattle.sc_hosts.specs.Taking.{names, own_uri, unrouted, server_for}
+use Rattle.sc_hosts.specs.Taking.{names, own_uri, without_own_route as unrouted, server_for}
 use Rattle.sc_hosts.specs.Transacting.{branch_of, is_acked_by, is_completed, is_invite_server, is_kin, is_over, is_repeated_by, method_of, port_of, same_top, same_via, state_of_server, takes_from, top_via}
 use Rattle.sc_hosts.proofs.Deliveries.{one-delivery, same_bytes-equal}
 use Rattle.sc_lasting.specs.Lasting.{All}

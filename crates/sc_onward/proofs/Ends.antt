@@ -34,21 +34,21 @@ use Rattle.sc_state.specs.declared.session.Way.TheVariants.{Received}
 use Rattle.sc_state.specs.declared.working.Draft.{Draft}
 use Rattle.sc_state.specs.declared.working.Prepared.{Prepared}
 use Rattle.sc_state.specs.declared.working.Working.{Working}
-use Rattle.sc_grammar.specs.Written.{Bytes}
+use Rattle.sc_tokens.specs.Bytes.{Bytes}
 use Rattle.sc_model.specs.BestResponses.{best_response, server_error}
 use Rattle.sc_model.specs.SessionStates.{ack}
-use Rattle.sc_hosts.specs.Acting.{acted, acts, all_act, chooses, closed_session, closes, drafts_ended, drawn, fault_at, faulted, forwarded_view, forwards, forwards_best, hops_spent, in_view, passed_later, passed_on, passed_request_of, passes, passes_later, is_request_event, proxy_now, rested, sends_cancels, sent_proxy, started, with_forwarded, with_subscribed, without_left}
+use Rattle.sc_hosts.specs.Acting.{after_proxy as acted, acts, all_act, chooses, closed_session, closes, drafts_ended, with_next_branch as drawn, fault_at, after_fault as faulted, forwarded_view, forwards, forwards_best, hops_spent, in_view, passed_later, passed_on, passed_request_of, passes, passes_later, is_request_event, proxy_now, at_rest as rested, sends_cancels, sent_proxy, after_start as started, with_forwarded, with_subscribed, without_left}
 use Rattle.sc_hosts.specs.Branches.{is_exhausted, starting}
-use Rattle.sc_hosts.specs.Effects.{begun}
-use Rattle.sc_hosts.specs.Finishing.{finished, outcome, outcome_of}
+use Rattle.sc_hosts.specs.Effects.{first_play as begun}
+use Rattle.sc_hosts.specs.Finishing.{after_all_calls as finished, outcome, outcome_of}
 use Rattle.sc_hosts.specs.Giving.{answer_order, answering, answers, giving}
 use Rattle.sc_hosts.specs.Legs.{change_leg, is_leg_of, is_low, leg_of, session_for}
-use Rattle.sc_hosts.specs.Looking.{is_proxy, is_request, removed, request_in, same_request, session_in}
+use Rattle.sc_hosts.specs.Looking.{is_proxy, is_request, without_sip_session as removed, request_in, same_request, session_in}
 use Rattle.sc_hosts.specs.Messages.{answered_here, bare_answer, given_response, on_branch, own_address, passed_request, with_routes}
-use Rattle.sc_hosts.specs.Preparing.{kept_of, own_tag_of, prepared, prepared_for, proxy_of}
-use Rattle.sc_hosts.specs.PreparingRequests.{next_id, prepared_request, request_view, showing, taken, taken_in}
+use Rattle.sc_hosts.specs.Preparing.{kept_of, own_tag_of, prepared_session as prepared, prepared_for, proxy_of}
+use Rattle.sc_hosts.specs.PreparingRequests.{next_id, prepared_request, request_view, showing, prepared_for_request as taken, taken_in}
 use Rattle.sc_hosts.specs.PreparingResponses.{is_invalid}
-use Rattle.sc_hosts.specs.ViewChanges.{answered, is_owed}
+use Rattle.sc_hosts.specs.ViewChanges.{view_with_answer as answered, is_owed}
 use Rattle.sc_hosts.specs.Words.{too_many_hops}
 use Rattle.sc_hosts.specs.Working.{next_branch, starts, worked_all}
 use Rattle.sc_model.specs.Responses.{response_to}

@@ -21,15 +21,15 @@ use Rattle.sc_state.specs.declared.orders.Order.{Order}
 use Rattle.sc_state.specs.declared.orders.Order.TheVariants as orders
 use Rattle.sc_state.specs.declared.queue.Waiting.{Waiting}
 use Rattle.sc_state.specs.declared.session.Session.{Session}
-use Rattle.sc_grammar.specs.Written.{Bytes}
+use Rattle.sc_tokens.specs.Bytes.{Bytes}
 use Rattle.sc_model.specs.Names.{IsOf64}
 use Rattle.sc_hosts.specs.Histories.{History, as_history, as_session, begun_history, session_of, turned_history}
 use Rattle.sc_hosts.specs.Messages.{kin}
 use Rattle.sc_hosts.specs.Nets.{host_at}
-use Rattle.sc_hosts.specs.Runs.{IsLawful, IsLawfulFrom, MayTurn, after_step, chained, chained_from, quiet_host, start}
+use Rattle.sc_hosts.specs.Runs.{IsLawful, IsLawfulFrom, MayTurn, after_step, net_from as chained, chained_from, quiet_host, start}
 use Rattle.sc_hosts.specs.Sessions.{Turn}
 use Rattle.sc_hosts.specs.Steps.{live_at, outcome_by, turn_of}
-use Rattle.sc_hosts.specs.Taking.{unrouted}
+use Rattle.sc_hosts.specs.Taking.{without_own_route as unrouted}
 use Rattle.sc_hosts.specs.Transacting.{same_top}
 use Rattle.sc_forms.specs.Simulations.{map_host, map_live}
 use Rattle.sc_forms.proofs.HistoryLaws.{chained-histories, lawful_back-histories, live_at-histories}
@@ -260,7 +260,7 @@ module _ (setup : Setup) (epoch began : ℕ) (small : epoch < 2 ^ 64) (journal :
       wire = tt;
     }
 
-    module _ (of : AppId) (event now : ℕ) (made : List CallRecord) (end : End) (front later : List Step) (is : front ++ steps.Turn of event now made end ∷ later ≡ before)
+    module _ (of : AppId) (event now : ℕ) (made : List CallRecord) (end : End) (front later : List Step) (is : front ++ steps.Turn end of event now made ∷ later ≡ before)
         (live : Live History) (lives : live_at of (Old front) ≡ Some live) (waiting : Waiting) (first : slice_get live.inbox 0 ≡ Some waiting) (known : Option Request) where
       abbrev turn : Turn
       turn = turn_of (Old front) of waiting now made end
@@ -274,10 +274,10 @@ module _ (setup : Setup) (epoch began : ℕ) (small : epoch < 2 ^ 64) (journal :
       abbrev drawn : ℕ
       drawn = (outcome_by (as_history setup.config) setup.config live.session turn).session.view.counter
 
-      at-step : IsReadyAt setup epoch (Now front (steps.Turn of event now made end))
+      at-step : IsReadyAt setup epoch (Now front (steps.Turn end of event now made))
       at-step =
-          ready-at front (steps.Turn of event now made end) (later ++ tail)
-          (sym (append_assoc front (steps.Turn of event now made end ∷ later) tail) ∙ ap (λ (j : List Step). j ++ tail) is ∙ whole)
+          ready-at front (steps.Turn end of event now made) (later ++ tail)
+          (sym (append_assoc front (steps.Turn end of event now made ∷ later) tail) ∙ ap (λ (j : List Step). j ++ tail) is ∙ whole)
 
       new-live : live_at of (New front) ≡ Some (map_live (session_of setup.config) live)
       new-live = live_at-histories setup epoch began of front ∙ ap (λ (found : Option (Live History)). option_map (map_live (session_of setup.config)) found) lives
@@ -326,7 +326,7 @@ module _ (setup : Setup) (epoch began : ℕ) (small : epoch < 2 ^ 64) (journal :
     step-fits : (front : List Step) (step : Step) (later : List Step) (known : Option Request) → front ++ step ∷ later ≡ before
         → StepFits (as_history setup.config) app beginning Lives Kind (other-kinds sent setup.config) setup known (record (Old front) { sent = [] }) step
     unfolding StepFits turn_of
-    step-fits front (steps.Turn of event now made end) later known is = λ live waiting lives first. turn-fits of event now made end front later is live lives waiting first known
+    step-fits front (steps.Turn end of event now made) later known is = λ live waiting lives first. turn-fits of event now made end front later is live lives waiting first known
     step-fits front (steps.In from message) later known is = tt
     step-fits front (steps.Bad from bad) later known is = tt
     step-fits front (steps.Lost place) later known is = tt
@@ -360,27 +360,27 @@ module _ (setup : Setup) (epoch began : ℕ) (small : epoch < 2 ^ 64) (journal :
   none-at : (place : ℕ) (order : Order) → slice_get [] place ≡ Some order → ⊥
   none-at place order at = cc
 
-  turn-new : (before : List Step) (app : AppId) (event now : ℕ) (made : List CallRecord) (end : End) (later : List Step) → before ++ steps.Turn app event now made end ∷ later ≡ journal
-      → (place : ℕ) (order : Order) (request : Request) → slice_get (orders_by setup (New before) (steps.Turn app event now made end)) place ≡ Some order → sent_in order ≡ Some request → HasNoServer request (New before)
+  turn-new : (before : List Step) (app : AppId) (event now : ℕ) (made : List CallRecord) (end : End) (later : List Step) → before ++ steps.Turn end app event now made ∷ later ≡ journal
+      → (place : ℕ) (order : Order) (request : Request) → slice_get (orders_by setup (New before) (steps.Turn end app event now made)) place ≡ Some order → sent_in order ≡ Some request → HasNoServer request (New before)
   unfolding turn_of
   turn-new before app event now made end later is place order request at sends =
-      let here = ready-at before (steps.Turn app event now made end) later is in
+      let here = ready-at before (steps.Turn end app event now made) later is in
       let may : MayTurn as_session setup (New before) app event now made end = allowed-turn setup (New before) app event now made end here.fine.allowed in
       let done = outcome_by as_session setup.config may.live.session (turn_of (New before) app may.waiting now made end) in
-      let same : orders_by setup (New before) (steps.Turn app event now made end) ≡ done.orders = orders-are setup (New before) app event now made end may.live may.waiting may.live_is may.waiting_is in
+      let same : orders_by setup (New before) (steps.Turn end app event now made) ≡ done.orders = orders-are setup (New before) app event now made end may.live may.waiting may.live_is may.waiting_is in
       let most : Is64 done.session.view.counter = subst Is64 (drawn-is setup epoch Is64 (New before) app event now made end may.live may.waiting may.live_is may.waiting_is) here.drawn in
       let on = turn-on setup.config epoch Is64 app (New before) may.live may.waiting now made end may.live_is here.ready.kept in
       let drawn = order-drawn setup.config epoch app request done.orders place may.live.session.view.counter done.session.view.counter order on
       (subst (λ (given : List Order). slice_get given place ≡ Some order) same at) sends in
       let name : IsOf64 epoch app 0 = found-small epoch (New before) app may.live (host_at app.host (New before)) refl may.live_is small here.fine.few_before here.fine.small_before in
       let read = read-at setup epoch began before app may.live may.live_is in
-      no-server app drawn.branch request drawn.on (with-branch epoch app drawn.branch name (below drawn.branch done.session.view.counter drawn.under most)) before (steps.Turn app event now made end ∷ later) is
+      no-server app drawn.branch request drawn.on (with-branch epoch app drawn.branch name (below drawn.branch done.session.view.counter drawn.under most)) before (steps.Turn end app event now made ∷ later) is
       read.old read.found_is may.waiting (subst (λ (inbox : List Waiting). slice_get inbox 0 ≡ Some may.waiting) read.inbox_is may.waiting_is)
       (subst (λ (s : Session). s.view.counter < drawn.branch) read.session_is drawn.above)
 
   new-at : (before : List Step) (step : Step) (later : List Step) → before ++ step ∷ later ≡ journal → HasNewBranches setup (Now before step)
   unfolding orders_by
-  new-at before (steps.Turn app event now made end) later is = λ place order request at sends. turn-new before app event now made end later is place order request at sends
+  new-at before (steps.Turn end app event now made) later is = λ place order request at sends. turn-new before app event now made end later is place order request at sends
   new-at before (steps.In from message) later is = λ place order request at sends. absurd (none-at place order at)
   new-at before (steps.Bad from bad) later is = λ place order request at sends. absurd (none-at place order at)
   new-at before (steps.Lost place) later is = λ place order request at sends. absurd (none-at place order at)

@@ -26,9 +26,9 @@ use Rattle.sc_state.specs.declared.working.Asked.TheVariants as asked
 use Rattle.sc_state.specs.declared.working.Draft.{Draft}
 use Rattle.sc_state.specs.declared.working.Working.{Working}
 use Rattle.sc_state.specs.declared.working.Written.{Written}
-use Rattle.sc_grammar.specs.Written.{Bytes}
+use Rattle.sc_tokens.specs.Bytes.{Bytes}
 use Rattle.sc_model.specs.Dialogs.{DialogState}
-use Rattle.sc_hosts.specs.Branches.{new_proxy, stopped, with_targets}
+use Rattle.sc_hosts.specs.Branches.{new_proxy, without_search as stopped, with_targets}
 use Rattle.sc_hosts.specs.Giving.{answering, directs, drafts_later, drafts_leg, drafts_own, forgets, writes}
 use Rattle.sc_hosts.specs.Legs.{change_leg}
 use Rattle.sc_hosts.specs.Looking.{is_request, request_in, same_request}
@@ -36,7 +36,7 @@ use Rattle.sc_hosts.specs.Preparing.{kept_of, proxy_of}
 use Rattle.sc_hosts.specs.PreparingResponses.{change_proxy}
 use Rattle.sc_hosts.specs.RefusalParts.{draft_in}
 use Rattle.sc_hosts.specs.Refusals.{refusal}
-use Rattle.sc_hosts.specs.Working.{ack_with, acknowledges, cancels, does, does_by, invalidates, keeps_sent, next_branch, proxies, proxies_first, sends, sends_in, sends_initial, sends_later, sends_written, worked}
+use Rattle.sc_hosts.specs.Working.{ack_with, acknowledges, cancels, effects_of_call as does, does_by, invalidates, keeps_sent, next_branch, proxies, proxies_first, sends, sends_in, sends_initial, sends_later, sends_written, after_one_call as worked}
 use Rattle.sc_lasting.specs.Lasting.{All}
 use Rattle.sc_lasting.proofs.Began.{none-proxied, proxied-first, proxied-is, same-number, test-found}
 use Rattle.sc_lasting.proofs.Parts.{all-append, all-first}

@@ -32,7 +32,7 @@ use Rattle.sc_hosts.specs.Messages.{on_branch, passed_request}
 use Rattle.sc_hosts.specs.Nets.{host_at}
 use Rattle.sc_hosts.specs.Runs.{after_step}
 use Rattle.sc_hosts.specs.Steps.{inbox_of, live_at, outcome_by, ringing_at, turn_of}
-use Rattle.sc_hosts.specs.Taking.{names, unrouted}
+use Rattle.sc_hosts.specs.Taking.{names, without_own_route as unrouted}
 use Rattle.sc_hosts.specs.Transacting.{method_of}
 use Rattle.sc_lasting.specs.Lasting.{All}
 use Rattle.sc_keyed.specs.Keyed.{IsIn as IsItem}
@@ -137,7 +137,7 @@ module _ (setup : Setup) (epoch : ℕ) (small : epoch < 2 ^ 64) (moment : Moment
   net = moment.before
 
   abbrev Turning : Step
-  Turning = steps.Turn got.app un.event un.now un.made un.end
+  Turning = steps.Turn un.end got.app un.event un.now un.made
 
   abbrev Waits : Waiting
   Waits = record { number = got.waiting.number; event = queued.Request un.request }

@@ -24,14 +24,14 @@ use Rattle.sc_hosts.specs.Destinations.{next_uri}
 use Rattle.sc_hosts.specs.Histories.{as_session}
 use Rattle.sc_hosts.specs.Inboxes.{is_full}
 use Rattle.sc_hosts.specs.Nets.{host_at}
-use Rattle.sc_hosts.specs.Runs.{IsAllowed, IsLawful, MayTurn, after_step, chained}
+use Rattle.sc_hosts.specs.Runs.{IsAllowed, IsLawful, MayTurn, after_step, net_from as chained}
 use Rattle.sc_hosts.specs.Steps.{live_at, outcome_by, turn_of}
-use Rattle.sc_hosts.specs.Taking.{names, unrouted}
+use Rattle.sc_hosts.specs.Taking.{names, without_own_route as unrouted}
 use Rattle.sc_lasting.specs.Lasting.{All}
 use Rattle.sc_lasting.proofs.Shared.{all-at, found-behind}
 use Rattle.sc_paths.specs.LaterRequests.{Occurrence, SetOut, carries, carries_by, has_vias, later_in, later_vias, leads, leads_to, set_out, set_out_by, visits, visits_from}
 use Rattle.sc_paths.specs.Moments.{Got, Moment, given_in, got_in, moments, orders_by}
-use Rattle.sc_paths.specs.Pieces.{Dialog, Direction, IsPiece, Piece, ahead, along, end_of, listed, recorders}
+use Rattle.sc_paths.specs.Pieces.{Dialog, Direction, IsPiece, Piece, ahead, along, end_of, list_of_option as listed, recorders}
 use Rattle.sc_hops.specs.Hops.{AreOtherBranches, HasNoClient, IsOtherBranch, Sends}
 use Rattle.sc_hops.proofs.OneTurn.{unrouted-vias}
 use Rattle.sc_ways.specs.Ways.{AreSmallDraws, AreSmallNames, IsApart, IsPrefix, VisitsFirst}
@@ -131,7 +131,7 @@ module _ (setup : Setup) (epoch : ℕ) (small : epoch < 2 ^ 64) (moment : Moment
   unfolding ahead HasNoServer
   sent-found none =
       let from = session-by setup moment moment.step place out by in
-      let turn : Step = steps.Turn from.app from.event from.now from.made from.end in
+      let turn : Step = steps.Turn from.end from.app from.event from.now from.made in
       let may : MayTurn as_session setup net from.app from.event from.now from.made from.end =
       allowed-turn setup net from.app from.event from.now from.made from.end (subst (λ (s : Step). IsAllowed as_session setup net s) from.step_is sound.ready.fine.allowed) in
       let request-is : out.request ≡ from.request = ap (λ (o : SetOut). o.request) from.out_is in

@@ -15,12 +15,12 @@ use Rattle.sc_terms.specs.declared.views.RequestView.{RequestView}
 use Rattle.sc_terms.specs.declared.views.View.{View}
 use Rattle.sc_state.specs.declared.working.Draft.{Draft}
 use Rattle.sc_state.specs.declared.working.Play.{Play}
-use Rattle.sc_grammar.specs.Written.{Bytes}
-use Rattle.sc_hosts.specs.Effects.{acked, after_call, after_listed, created, created_later, created_leg, discarded, flagged, played_by, proxied, proxied_request, sent, sent_view, with_draft, with_timer, without_session}
-use Rattle.sc_hosts.specs.Looking.{is_request, removed, request_in, same_session, unlinked}
-use Rattle.sc_hosts.specs.RefusalParts.{draft_in, name_refusal, named}
+use Rattle.sc_tokens.specs.Bytes.{Bytes}
+use Rattle.sc_hosts.specs.Effects.{view_with_ack as acked, after_call, after_listed, play_with_initial as created, created_later, created_leg, play_without_draft as discarded, with_invalidation_flag as flagged, played_by, view_with_targets as proxied, proxied_request, play_with_request as sent, sent_view, with_draft, with_timer, without_session}
+use Rattle.sc_hosts.specs.Looking.{is_request, without_sip_session as removed, request_in, same_session, without_link as unlinked}
+use Rattle.sc_hosts.specs.RefusalParts.{draft_in, name_refusal, sessions_in_call as named}
 use Rattle.sc_hosts.specs.Refusals.{awaits_ack, begun_by, own_refusal, refusal, respond_refusal}
-use Rattle.sc_hosts.specs.ViewChanges.{answered, answered_in, invalidated, is_owed, linked, settled_request, settled_requests, stands, tidy, with_answer, with_own_session, with_there}
+use Rattle.sc_hosts.specs.ViewChanges.{view_with_answer as answered, answered_in, view_without as invalidated, is_owed, with_link as linked, settled_request, settled_requests, stands, tidy, with_answer, with_own_session, with_there}
 use Rattle.sc_lasting.specs.Lasting.{All}
 use Rattle.sc_lasting.proofs.Began.{first-passed, or-left, or-right, same-number, test-found}
 use Rattle.sc_lasting.proofs.Pairs.{same-sess}

@@ -20,9 +20,9 @@ use Rattle.sc_hosts.specs.Inboxes.{is_full}
 use Rattle.sc_hosts.specs.Legs.{is_low, leg_of, session_for, takes_request}
 use Rattle.sc_hosts.specs.Looking.{is_proxy, is_session, session_in}
 use Rattle.sc_hosts.specs.Nets.{host_at}
-use Rattle.sc_hosts.specs.Preparing.{prepared}
+use Rattle.sc_hosts.specs.Preparing.{prepared_session as prepared}
 use Rattle.sc_hosts.specs.PreparingResponses.{is_invalid}
-use Rattle.sc_hosts.specs.Runs.{IsLawful, chained}
+use Rattle.sc_hosts.specs.Runs.{IsLawful, net_from as chained}
 use Rattle.sc_hosts.specs.Steps.{live_at, ringing_at}
 use Rattle.sc_hosts.specs.Working.{worked_all}
 use Rattle.sc_lasting.specs.Lasting.{All}

@@ -34,10 +34,10 @@ use Rattle.sc_hosts.specs.Destinations.{next_uri}
 use Rattle.sc_hosts.specs.Finishing.{goodbye}
 use Rattle.sc_hosts.specs.Histories.{as_session}
 use Rattle.sc_hosts.specs.Inboxes.{is_full, is_live, live_in}
-use Rattle.sc_hosts.specs.Nets.{acknowledge, change_host, host_at, named_host, obey, obeyed, peer_of_host, put, queue_for, send_later, send_named, send_to, with_routes}
-use Rattle.sc_hosts.specs.Runs.{after_step, delivered}
+use Rattle.sc_hosts.specs.Nets.{acknowledge, change_host, host_at, named_host, obey, after_orders as obeyed, peer_of_host, with_message as put, queue_for, send_later, send_named, send_to, with_routes}
+use Rattle.sc_hosts.specs.Runs.{after_step, after_delivery as delivered}
 use Rattle.sc_hosts.specs.Sessions.{Turn}
-use Rattle.sc_hosts.specs.Steps.{closed_turn, inbox_of, invalidated, live_at, outcome_by, stepped, turn_of, turned, turned_live, turns, turns_first, with_ready, without_live}
+use Rattle.sc_hosts.specs.Steps.{closed_turn, inbox_of, without_application as invalidated, live_at, outcome_by, before_delivery as stepped, turn_of, net_after_turn as turned, turned_live, turns, turns_first, with_ready, without_live}
 use Rattle.sc_hosts.specs.Taking.{names, named_live, own_uri}
 use Rattle.sc_hosts.specs.Transacting.{method_of, tidied}
 use Rattle.sc_lasting.specs.Lasting.{All}
@@ -289,7 +289,7 @@ module _ (setup : Setup) (net : Net Session) (app : AppId) (live : Live Session)
   Changed = change_host app.host Change Start
 
   abbrev After : Net Session
-  After = after_step as_session setup net (steps.Turn app event now made end)
+  After = after_step as_session setup net (steps.Turn end app event now made)
 
   pub after-is : live_at app net ≡ Some live → slice_get live.inbox 0 ≡ Some waiting → After ≡ delivered as_session setup (closed_turn setup app Done Done.ends (obeyed setup app Done.orders Changed))
   unfolding after_step stepped turns turns_first turned

@@ -9,7 +9,7 @@ use Rattle.sc_state.specs.declared.host.Live.{Live}
 use Rattle.sc_state.specs.declared.net.Net.{Net}
 use Rattle.sc_state.specs.declared.session.Session.{Session}
 use Rattle.sc_hosts.specs.Histories.{as_session, session_of}
-use Rattle.sc_hosts.specs.Runs.{IsLawful, after_step, chained, chained_from, start}
+use Rattle.sc_hosts.specs.Runs.{IsLawful, after_step, net_from as chained, chained_from, start}
 use Rattle.sc_hosts.specs.Steps.{live_at}
 use Rattle.sc_lasting.specs.Lasting.{All}
 use Rattle.sc_lasting.proofs.Lives.{live-is}

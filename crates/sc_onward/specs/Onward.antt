@@ -34,7 +34,7 @@ use Rattle.sc_hosts.specs.Inboxes.{is_full}
 use Rattle.sc_hosts.specs.Legs.{is_low, leg_of, session_for}
 use Rattle.sc_hosts.specs.Looking.{is_proxy, session_in}
 use Rattle.sc_hosts.specs.Messages.{on_branch, passed_request}
-use Rattle.sc_hosts.specs.Preparing.{prepared}
+use Rattle.sc_hosts.specs.Preparing.{prepared_session}
 use Rattle.sc_hosts.specs.PreparingResponses.{is_invalid}
 use Rattle.sc_hosts.specs.Nets.{host_at}
 use Rattle.sc_hosts.specs.Steps.{live_at, ringing_at}
@@ -70,7 +70,7 @@ pub record IsLeftAlone (config : Config) (ringing : List ℕ) (session : Session
   pub calls : All (λ (one : CallRecord). one.call ≡ calls.InvalidateSession sess → ⊥) made
   pub valid : is_invalid
       (worked_all config
-      (prepared config ringing session
+      (prepared_session config ringing session
       (record { number = number; event = queued.Request request }) now) made).known
       sess ≡ false
 
@@ -130,7 +130,7 @@ pub record IsUnstopped (setup : Setup) (moment : Moment) (got : Got) : Type 0 wh
   pub now : ℕ
   pub made : List CallRecord
   pub end : End
-  pub step : moment.step ≡ steps.Turn got.app event now made end
+  pub step : moment.step ≡ steps.Turn end got.app event now made
   pub request : Request
   pub is : got.waiting.event ≡ queued.Request request
   pub no_cancel : same_bytes (method_of request) cancel ≡ false
@@ -190,7 +190,7 @@ pub record TurnsTo (setup : Setup) (moment : Moment) (got : Got) (to : AppId) : 
   pub now : ℕ
   pub made : List CallRecord
   pub end : End
-  pub step : moment.step ≡ steps.Turn got.app event now made end
+  pub step : moment.step ≡ steps.Turn end got.app event now made
   pub request : Request
   pub is : got.waiting.event ≡ queued.Request request
   pub no_cancel : same_bytes (method_of request) cancel ≡ false
@@ -221,7 +221,7 @@ pub data Stops (setup : Setup) (moment : Moment) (got : Got) (to : AppId)
   Has_ended : (sess : SessId) → session_for turn.live.session turn.request ≡ Some sess
       → is_invalid
       (worked_all setup.config
-      (prepared setup.config (ringing_at got.app (host_at got.app.host moment.before))
+      (prepared_session setup.config (ringing_at got.app (host_at got.app.host moment.before))
       turn.live.session
       (record { number = got.waiting.number; event = queued.Request turn.request }) turn.now)
       turn.made).known

@@ -13,7 +13,7 @@ ghost use Rattle.sc_state.specs.declared.session.Session.{Session};
 ghost use Rattle.sc_hosts.specs.Finishing.{outcome};
 ghost use Rattle.sc_hosts.specs.Histories.{as_history, as_session};
 ghost use Rattle.sc_hosts.specs.Inboxes.{is_full};
-ghost use Rattle.sc_hosts.specs.Runs.{IsLawful, chained};
+ghost use Rattle.sc_hosts.specs.Runs.{IsLawful, net_from};
 ghost use Rattle.sc_hosts.specs.Steps.{live_at};
 ghost use Rattle.sc_lasting.specs.Lasting.{All};
 ghost use Rattle.sc_paths.specs.LaterRequests.{Occurrence, SetOut, carries, set_out, visits};
@@ -57,12 +57,12 @@ pub fn later_requests_are_passed_on()
 pub fn requests_have_new_branches()
     ensures session { (setup : Setup) (epoch began : ℕ) (journal : List Step)
         → IsLawful as_session setup epoch began journal
-        → AreSmallNumbers setup epoch (chained as_session setup epoch began journal)
+        → AreSmallNumbers setup epoch (net_from as_session setup epoch began journal)
         → AreSmallDraws setup (moments setup epoch began journal)
         → All (HasNewBranches setup) (moments setup epoch began journal) }
     ensures history { (setup : Setup) (epoch began : ℕ) (journal : List Step)
         → IsLawful (as_history setup.config) setup epoch began journal
-        → AreSmallNumbers setup epoch (chained as_session setup epoch began journal)
+        → AreSmallNumbers setup epoch (net_from as_session setup epoch began journal)
         → AreSmallDraws setup (moments setup epoch began journal)
         → All (HasNewBranches setup) (moments setup epoch began journal) }
 {}
@@ -76,7 +76,7 @@ pub fn requests_have_new_branches()
 pub fn later_requests_go_to_the_next()
     ensures session { (setup : Setup) (epoch began : ℕ) (journal : List Step)
         → IsLawful as_session setup epoch began journal
-        → AreSmallNumbers setup epoch (chained as_session setup epoch began journal)
+        → AreSmallNumbers setup epoch (net_from as_session setup epoch began journal)
         → AreSmallDraws setup (moments setup epoch began journal)
         → (place : ℕ) (moment : Moment) (got : Got)
         → slice_get (moments setup epoch began journal) place ≡ Some moment
@@ -84,7 +84,7 @@ pub fn later_requests_go_to_the_next()
         → ComesNext moment got unstopped.to }
     ensures history { (setup : Setup) (epoch began : ℕ) (journal : List Step)
         → IsLawful (as_history setup.config) setup epoch began journal
-        → AreSmallNumbers setup epoch (chained as_session setup epoch began journal)
+        → AreSmallNumbers setup epoch (net_from as_session setup epoch began journal)
         → AreSmallDraws setup (moments setup epoch began journal)
         → (place : ℕ) (moment : Moment) (got : Got)
         → slice_get (moments setup epoch began journal) place ≡ Some moment
@@ -103,7 +103,7 @@ pub fn later_requests_go_all_the_way()
         → IsLawful as_session setup epoch began journal
         → IsPiece setup epoch (moments setup epoch began journal) dialog piece
         → IsApart (moments setup epoch began journal) dialog piece
-        → AreSmallNames setup epoch (chained as_session setup epoch began journal) piece
+        → AreSmallNames setup epoch (net_from as_session setup epoch began journal) piece
         → AreSmallDraws setup (moments setup epoch began journal)
         → carries setup (moments setup epoch began journal) dialog direction piece occurrence ≡ true
         → (n : ℕ) → length (ahead (moments setup epoch began journal) direction piece) ≡ suc n
@@ -115,7 +115,7 @@ pub fn later_requests_go_all_the_way()
         → IsLawful (as_history setup.config) setup epoch began journal
         → IsPiece setup epoch (moments setup epoch began journal) dialog piece
         → IsApart (moments setup epoch began journal) dialog piece
-        → AreSmallNames setup epoch (chained as_session setup epoch began journal) piece
+        → AreSmallNames setup epoch (net_from as_session setup epoch began journal) piece
         → AreSmallDraws setup (moments setup epoch began journal)
         → carries setup (moments setup epoch began journal) dialog direction piece occurrence ≡ true
         → (n : ℕ) → length (ahead (moments setup epoch began journal) direction piece) ≡ suc n
@@ -136,7 +136,7 @@ pub fn sent_requests_come_to_the_first()
         → IsLawful as_session setup epoch began journal
         → IsPiece setup epoch (moments setup epoch began journal) dialog piece
         → IsApart (moments setup epoch began journal) dialog piece
-        → AreSmallNames setup epoch (chained as_session setup epoch began journal) piece
+        → AreSmallNames setup epoch (net_from as_session setup epoch began journal) piece
         → AreSmallDraws setup (moments setup epoch began journal)
         → carries setup (moments setup epoch began journal) dialog direction piece occurrence ≡ true
         → (out : SetOut) (host : ℕ)
@@ -151,7 +151,7 @@ pub fn sent_requests_come_to_the_first()
         → IsLawful (as_history setup.config) setup epoch began journal
         → IsPiece setup epoch (moments setup epoch began journal) dialog piece
         → IsApart (moments setup epoch began journal) dialog piece
-        → AreSmallNames setup epoch (chained as_session setup epoch began journal) piece
+        → AreSmallNames setup epoch (net_from as_session setup epoch began journal) piece
         → AreSmallDraws setup (moments setup epoch began journal)
         → carries setup (moments setup epoch began journal) dialog direction piece occurrence ≡ true
         → (out : SetOut) (host : ℕ)
@@ -172,7 +172,7 @@ pub fn sent_requests_come_to_the_first()
 pub fn later_requests_go_on_or_stop()
     ensures session { (setup : Setup) (epoch began : ℕ) (journal : List Step)
         → IsLawful as_session setup epoch began journal
-        → AreSmallNumbers setup epoch (chained as_session setup epoch began journal)
+        → AreSmallNumbers setup epoch (net_from as_session setup epoch began journal)
         → AreSmallDraws setup (moments setup epoch began journal)
         → (place : ℕ) (moment : Moment) (got : Got) (to : AppId)
         → slice_get (moments setup epoch began journal) place ≡ Some moment
@@ -180,7 +180,7 @@ pub fn later_requests_go_on_or_stop()
         → ComesNext moment got to ⊎ Stops setup moment got to turn }
     ensures history { (setup : Setup) (epoch began : ℕ) (journal : List Step)
         → IsLawful (as_history setup.config) setup epoch began journal
-        → AreSmallNumbers setup epoch (chained as_session setup epoch began journal)
+        → AreSmallNumbers setup epoch (net_from as_session setup epoch began journal)
         → AreSmallDraws setup (moments setup epoch began journal)
         → (place : ℕ) (moment : Moment) (got : Got) (to : AppId)
         → slice_get (moments setup epoch began journal) place ≡ Some moment

@@ -19,7 +19,7 @@ use Rattle.sc_edge.specs.declared.edge.Put.TheVariants as put
 use Rattle.sc_outs.specs.Deeds.{Deed, loss}
 use Rattle.sc_outs.specs.Owing.{IsKept, IsLostAt, IsOwed, Owing, PutLeaves, Tried, bytes_in, bytes_of, is_among, is_gone_at, is_gone_from, left_at, nothing, owing}
 use Rattle.sc_outs.specs.Puts.{IsCut, Puts, TookParts, TookWhole}
-use Rattle.sc_outs.specs.Stretches.{AreTaken, IsWritten, Stretching, after_deed, ended, has_some, is_gone, is_lost, longer, stretches, stretching, text_for, texts_for}
+use Rattle.sc_outs.specs.Stretches.{AreTaken, IsWritten, Stretching, after_deed, next_stretch as ended, has_some, is_gone, is_lost, longer, stretches, stretching, text_for, texts_for}
 use Rattle.sc_outs.proofs.Apart.{apart_turned}
 use Rattle.sc_outs.proofs.Stretchings.{all_taken, left_none, left_whole, written_failed, written_sent, written_wrote}
 

@@ -11,7 +11,7 @@ use Rattle.sc_value.proofs.PlaceLaws.{same_place-is}
 use Rattle.sc_value.specs.declared.no_memory.NoMemory.{NoMemory}
 use Rattle.sc_edge.specs.Edges.{EdgeState}
 use Rattle.sc_edge.specs.declared.edge.Put.{Put}
-use Rattle.sc_grammar.specs.Written.{written}
+use Rattle.sc_grammar.specs.Written.{text_of_message as written}
 use Rattle.sc_outs.specs.Owing.{IsGoneToo, IsKept, IsLostAt, IsOwed, Owed, Owing, Tried, bytes_of, is_gone_at, is_gone_from, left_at}
 use Rattle.sc_outs.specs.Stretches.{text_for}
 

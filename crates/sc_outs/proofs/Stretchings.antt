@@ -7,7 +7,7 @@ use Rattle.sc_tokens.specs.Bytes.{Bytes}
 use Rattle.sc_value.specs.declared.ids.Place.{Place}
 use Rattle.sc_edge.specs.Edges.{is_back}
 use Rattle.sc_edge.specs.Taking.{Takes, Takes_then}
-use Rattle.sc_outs.specs.Stretches.{AreTaken, IsLeft, IsWritten, Stretching, Writing, ended, has_some, is_gone, longer}
+use Rattle.sc_outs.specs.Stretches.{AreTaken, IsLeft, IsWritten, Stretching, Writing, next_stretch as ended, has_some, is_gone, longer}
 
 -- ## Parts of stretches
 

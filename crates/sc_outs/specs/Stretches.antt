@@ -8,7 +8,7 @@ use Rattle.sc_value.specs.declared.message.Sent.{Sent}
 use Rattle.sc_value.specs.Places.{same_place}
 use Rattle.sc_terms.specs.declared.steps.Step.{Step}
 use Rattle.sc_terms.specs.declared.steps.Step.TheVariants as steps
-use Rattle.sc_grammar.specs.Written.{written}
+use Rattle.sc_grammar.specs.Written.{text_of_message}
 use Rattle.sc_edge.specs.Edges.{is_back}
 use Rattle.sc_edge.specs.Taking.{Takes}
 use Rattle.sc_outs.specs.Deeds.{Deed}
@@ -24,7 +24,7 @@ pub record Stretching : Type 0 where
 
 -- the written form of a message that goes to this place; of others nothing
 unfoldable pub text_for : Place → Sent → Bytes
-text_for place sent = if same_place place sent.place then written sent.message else []
+text_for place sent = if same_place place sent.place then text_of_message sent.message else []
 
 -- the texts of those that go to the place
 unfoldable pub texts_for : Place → List Sent → Bytes
@@ -36,12 +36,12 @@ is_lost place (steps.In from message) = false
 is_lost place (steps.Bad from bad) = false
 is_lost place (steps.Lost at) = same_place place at
 is_lost place (steps.Tick now) = false
-is_lost place (steps.Turn app event now calls end) = false
+is_lost place (steps.Turn end app event now calls) = false
 is_lost place (steps.Withdraw app) = false
 
 -- the stretch has ended, and the next one begins
-abbrev pub ended : Stretching → Stretching
-ended s = record { cut = s.cut ++ s.last ∷ []; last = [] }
+abbrev pub next_stretch : Stretching → Stretching
+next_stretch s = record { cut = s.cut ++ s.last ∷ []; last = [] }
 
 -- the last stretch with more sent
 abbrev pub longer : Bytes → Stretching → Stretching
@@ -51,7 +51,7 @@ longer more s = record { cut = s.cut; last = s.last ++ more }
 unfoldable pub after_deed : Place → Stretching → Deed → Stretching
 after_deed place s deed =
     longer (texts_for place deed.sent)
-    (if deed.failed && is_lost place deed.step then ended s else s)
+    (if deed.failed && is_lost place deed.step then next_stretch s else s)
 
 -- the stretches of a place after these deeds
 unfoldable pub stretching : Place → List Deed → Stretching

@@ -11,11 +11,11 @@ use Rattle.sc_state.specs.declared.net.Net.{Net}
 use Rattle.sc_state.specs.declared.queue.Waiting.{Waiting}
 use Rattle.sc_state.specs.declared.session.Session.{Session}
 use Rattle.sc_state.specs.declared.working.Prepared.{Prepared}
-use Rattle.sc_grammar.specs.Written.{Bytes}
+use Rattle.sc_tokens.specs.Bytes.{Bytes}
 use Rattle.sc_model.specs.Settings.{charters_of}
 use Rattle.sc_hosts.specs.Histories.{as_session}
-use Rattle.sc_hosts.specs.Runs.{start, after_step, shown}
-use Rattle.sc_hosts.specs.Scripting.{played}
+use Rattle.sc_hosts.specs.Runs.{start, after_step, prepared_turn as shown}
+use Rattle.sc_hosts.specs.Scripting.{calls_of_script as played}
 use Rattle.sc_hosts.specs.Steps.{live_at}
 use Rattle.sc_worked.proofs.Playing.{Act, Take, Run, Turn_of, Drop_of, Next, script_at, nexts, lowest}
 use Rattle.sc_worked.proofs.Trying.{acts_in}
@@ -33,7 +33,7 @@ unfoldable pub turns_on : Setup → Gone → AppId → Live Session → Option W
 turns_on setup gone app live None = gone
 turns_on setup gone app live (Some waiting) =
     let seen : Prepared = shown as_session setup gone.net app live waiting gone.net.moment in
-    goes setup gone (steps.Turn app waiting.number gone.net.moment (played seen.view (script_at (charters_of setup app.host) seen.view seen.event)) ends.Fine)
+    goes setup gone (steps.Turn ends.Fine app waiting.number gone.net.moment (played seen.view (script_at (charters_of setup app.host) seen.view seen.event)))
 
 unfoldable pub turns_by : Setup → Gone → AppId → Option (Live Session) → Gone
 turns_by setup gone app None = gone

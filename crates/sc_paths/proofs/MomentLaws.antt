@@ -5,7 +5,7 @@ use Rattle.sc_parts.specs.declared.setup.Setup.{Setup}
 use Rattle.sc_state.specs.declared.net.Net.{Net}
 use Rattle.sc_state.specs.declared.session.Session.{Session}
 use Rattle.sc_hosts.specs.Histories.{as_session}
-use Rattle.sc_hosts.specs.Runs.{start, after_step, chained_from, chained}
+use Rattle.sc_hosts.specs.Runs.{start, after_step, chained_from, net_from as chained}
 use Rattle.sc_paths.specs.Moments.{moments_from, moments}
 
 moments_from-append : (begun : List Step) (setup : Setup) (net : Net Session) (later : List Step)

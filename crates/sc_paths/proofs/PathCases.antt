@@ -5,10 +5,11 @@ use Rattle.std.specs.List.{list_all}
 use Rattle.sc_value.specs.declared.ids.AppId.{AppId}
 use Rattle.sc_tokens.specs.Names.{same_bytes}
 use Rattle.sc_parts.specs.declared.setup.Setup.{Setup}
-use Rattle.sc_grammar.specs.Written.{Bytes, address_text}
+use Rattle.sc_tokens.specs.Bytes.{Bytes}
+use Rattle.sc_grammar.specs.Written.{address_text}
 use Rattle.sc_hosts.specs.Transacting.{is_same_app}
 use Rattle.sc_paths.specs.Moments.{Moment}
-use Rattle.sc_paths.specs.Pieces.{Dialog, Direction, From_caller, From_callee, Piece, begins, goes_on, is_made, stayed, ahead, record_routed, heads_at_end}
+use Rattle.sc_paths.specs.Pieces.{Dialog, Direction, From_caller, From_callee, Piece, begins, goes_on, is_made, piece_on_path as stayed, ahead, record_routed, heads_at_end}
 use Rattle.sc_paths.specs.LaterRequests.{Occurrence, carries, visits}
 use Rattle.sc_paths.proofs.Trials as Trials
 

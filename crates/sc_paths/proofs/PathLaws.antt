@@ -4,7 +4,7 @@ use Rattle.std.specs.Prelude.{Option, None, Some, reverse}
 use Rattle.std.proofs.lemmas.List.{reverse-append}
 use Rattle.sc_value.specs.declared.ids.AppId.{AppId}
 use Rattle.sc_paths.specs.Moments.{Moment}
-use Rattle.sc_paths.specs.Pieces.{From_caller, From_callee, Piece, listed, recorders, along, end_of, stayed, ahead}
+use Rattle.sc_paths.specs.Pieces.{From_caller, From_callee, Piece, list_of_option as listed, recorders, along, end_of, piece_on_path as stayed, ahead}
 
 reverse-listed : (app : Option AppId) → reverse (listed app) ≡ listed app
 reverse-listed None = refl

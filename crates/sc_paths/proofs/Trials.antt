@@ -3,7 +3,7 @@ use Rattle.std.specs.Prelude.{[], ◌∷◌, ◌++◌, None, Some, codes}
 use Rattle.sc_value.specs.declared.parts.Uri.TheVariants as uris
 use Rattle.sc_terms.specs.declared.settings.Modifier.TheVariants as modifiers
 use Rattle.sc_parts.specs.declared.setup.Setup.{Setup}
-use Rattle.sc_grammar.specs.Written.{Bytes}
+use Rattle.sc_tokens.specs.Bytes.{Bytes}
 use Rattle.sc_worked.proofs.ChainCases as ChainCases
 use Rattle.sc_worked.proofs.Trying.{app, tuple, set_up}
 

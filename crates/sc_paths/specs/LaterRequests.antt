@@ -19,14 +19,14 @@ use Rattle.sc_state.specs.declared.orders.Order.{Order}
 use Rattle.sc_state.specs.declared.orders.Order.TheVariants as orders
 use Rattle.sc_state.specs.declared.queue.Queued.{Queued}
 use Rattle.sc_state.specs.declared.queue.Queued.TheVariants as queued
-use Rattle.sc_grammar.specs.Written.{Bytes}
+use Rattle.sc_tokens.specs.Bytes.{Bytes}
 use Rattle.sc_model.specs.OwnHosts.{is_own}
 use Rattle.sc_hosts.specs.Destinations.{next_uri}
-use Rattle.sc_hosts.specs.Legs.{from_tag, to_tag, same_tag}
-use Rattle.sc_hosts.specs.Taking.{names, own_uri, unrouted, server_for}
+use Rattle.sc_hosts.specs.Legs.{from_tag, same_tag, to_tag}
+use Rattle.sc_hosts.specs.Taking.{names, own_uri, server_for, without_own_route}
 use Rattle.sc_hosts.specs.Transacting.{is_same_app, method_of}
 use Rattle.sc_paths.specs.Moments.{Moment, Got, got_in, given_in, same_vias}
-use Rattle.sc_paths.specs.Pieces.{Dialog, Direction, From_caller, From_callee, Piece, ahead, along, end_of, recorders}
+use Rattle.sc_paths.specs.Pieces.{Dialog, Direction, From_callee, From_caller, Piece, ahead, along, end_of, recorders}
 use Rattle.sc_model.specs.DialogRequests.{cancel}
 
 -- ## One occurrence of a request
@@ -53,7 +53,7 @@ pub record SetOut : Type 0 where
 unfoldable pub set_out_by : Setup → Moment → Step → Option ℕ → Option SetOut
 set_out_by setup moment (steps.In place (messages.Request request)) None =
     Some (record { moment = moment; sender = peers.Outside place; request = request })
-set_out_by setup moment (steps.Turn app event now made end) (Some order) =
+set_out_by setup moment (steps.Turn end app event now made) (Some order) =
     option_map
     (λ request. record { moment = moment; sender = peers.Inside app.host; request = request })
     (option_and_then later_in (slice_get (given_in setup moment) order))
@@ -96,7 +96,7 @@ leads config epoch [] (Some app) request =
     length request.head.route == 0 && leads_to config epoch app request.uri
 leads config epoch (app ∷ apps) end request =
     option_map_or (λ route. leads_to config epoch app route.uri) (slice_get request.head.route 0)
-    false && leads config epoch apps end (unrouted config request)
+    false && leads config epoch apps end (without_own_route config request)
 
 -- the request keeps to the way of the piece. One that is to visit nobody is not own by its
 -- Request-URI either: where a request comes, a foreign top Route is passed over
@@ -133,7 +133,7 @@ is_passed_on got next =
 
 -- the step is the turn of this event
 unfoldable pub is_turn_of : Got → Step → Bool
-is_turn_of got (steps.Turn app event now made end) =
+is_turn_of got (steps.Turn end app event now made) =
     is_same_app app got.app && event == got.waiting.number
 is_turn_of got step = false
 

@@ -23,8 +23,8 @@ use Rattle.sc_hosts.specs.EventLists.{live_from}
 use Rattle.sc_hosts.specs.Histories.{as_session}
 use Rattle.sc_hosts.specs.Legs.{to_tag}
 use Rattle.sc_hosts.specs.Nets.{host_at}
-use Rattle.sc_hosts.specs.Runs.{start, after_step}
-use Rattle.sc_hosts.specs.Steps.{live_at, inbox_of, outcome_by, turn_of}
+use Rattle.sc_hosts.specs.Runs.{after_step, start}
+use Rattle.sc_hosts.specs.Steps.{inbox_of, live_at, outcome_by, turn_of}
 use Rattle.sc_hosts.specs.Transacting.{is_same_app, same_via}
 
 -- ## Steps
@@ -68,7 +68,7 @@ got_in moment =
 
 -- what a step's turn gives to send
 unfoldable pub orders_by : Setup → Net Session → Step → List Order
-orders_by setup net (steps.Turn app event now made end) =
+orders_by setup net (steps.Turn end app event now made) =
     option_map_or
     (λ live.
     option_map_or
@@ -108,7 +108,7 @@ options_of call answer = None
 
 -- those of all such calls in a session's turn
 unfoldable pub options_in : AppId → Step → List ProxyOptions
-options_in app (steps.Turn other event now made end) =
+options_in app (steps.Turn end other event now made) =
     if is_same_app other app then filter_map (λ made. options_of made.call made.answer) made else []
 options_in app step = []
 

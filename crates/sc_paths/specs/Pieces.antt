@@ -22,13 +22,13 @@ use Rattle.sc_state.specs.declared.orders.Order.TheVariants as orders
 use Rattle.sc_state.specs.declared.queue.Queued.{Queued}
 use Rattle.sc_state.specs.declared.queue.Queued.TheVariants as queued
 use Rattle.sc_state.specs.declared.session.Session.{Session}
-use Rattle.sc_grammar.specs.Written.{Bytes}
+use Rattle.sc_tokens.specs.Bytes.{Bytes}
 use Rattle.sc_model.specs.Dialogs.{tag_of}
 use Rattle.sc_model.specs.Names.{branch_cookie, mark_text, app_text}
 use Rattle.sc_model.specs.SessionStates.{invite}
-use Rattle.sc_hosts.specs.Legs.{from_tag, to_tag, same_tag, makes_dialog_of}
+use Rattle.sc_hosts.specs.Legs.{from_tag, makes_dialog_of, same_tag, to_tag}
 use Rattle.sc_hosts.specs.Messages.{own_address}
-use Rattle.sc_hosts.specs.Nets.{host_at, client_at}
+use Rattle.sc_hosts.specs.Nets.{client_at, host_at}
 use Rattle.sc_hosts.specs.Transacting.{is_same_app, top_via, branch_of, takes_from}
 use Rattle.sc_paths.specs.Moments.{Moment, got_in, given_in, began_with, proxied_with, same_vias}
 
@@ -53,13 +53,13 @@ pub record Piece : Type 0 where
   pub callee : Option AppId
 
 -- one item or none
-abbrev pub listed : {A : Type 0} → Option A → List A
-listed None = []
-listed (Some a) = a ∷ []
+abbrev pub list_of_option : {A : Type 0} → Option A → List A
+list_of_option None = []
+list_of_option (Some a) = a ∷ []
 
 -- the sessions of a piece in the order in which the INVITE went
 unfoldable pub sessions_of : Piece → List AppId
-sessions_of piece = listed piece.caller ++ piece.proxies ++ listed piece.callee
+sessions_of piece = list_of_option piece.caller ++ piece.proxies ++ list_of_option piece.callee
 
 -- ## The response that makes the dialog
 
@@ -110,14 +110,14 @@ answers_of setup run dialog app server =
 -- ## The piece
 
 -- the transaction by which a session got the INVITE; the one that sent it first has none
-unfoldable pub received : List Moment → Piece → AppId → Option Server
-received run piece app =
+unfoldable pub server_of_piece : List Moment → Piece → AppId → Option Server
+server_of_piece run piece app =
     if option_map_or (is_same_app app) piece.caller false then None else began_with run app
 
 -- the Vias with which it got it
 unfoldable pub vias_at : List Moment → Piece → AppId → List Via
 vias_at run piece app =
-    option_map_or (λ server. server.request.head.via) (received run piece app) []
+    option_map_or (λ server. server.request.head.via) (server_of_piece run piece app) []
 
 -- the branch is one of this session's
 unfoldable pub is_branch_of : Config → ℕ → AppId → Via → Bool
@@ -139,7 +139,7 @@ unfoldable pub goes_from : Config → ℕ → List Moment → Piece → List App
 goes_from config epoch run piece [] = true
 goes_from config epoch run piece (app ∷ []) = true
 goes_from config epoch run piece (app ∷ next ∷ more) =
-    option_map_or (is_sent_by config epoch run piece app) (received run piece next) false
+    option_map_or (is_sent_by config epoch run piece app) (server_of_piece run piece next) false
     && goes_from config epoch run piece (next ∷ more)
 
 -- each session got it from the one before
@@ -148,7 +148,8 @@ goes_on config epoch run piece = goes_from config epoch run piece (sessions_of p
 
 -- how the first of them got it
 unfoldable pub first_received : List Moment → Piece → Option Server
-first_received run piece = option_and_then (received run piece) (slice_get (sessions_of piece) 0)
+first_received run piece =
+    option_and_then (server_of_piece run piece) (slice_get (sessions_of piece) 0)
 
 -- it came from outside, or a session sent it first
 unfoldable pub begins : List Moment → Piece → Bool
@@ -161,7 +162,7 @@ begins run piece =
 unfoldable pub heads_at_end : Setup → List Moment → Dialog → Piece → List Head
 heads_at_end setup run dialog piece =
     option_map_or
-    (λ app. option_map_or (answers_of setup run dialog app) (received run piece app) [])
+    (λ app. option_map_or (answers_of setup run dialog app) (server_of_piece run piece app) [])
     piece.callee
     (option_map_or
     (λ app.
@@ -200,21 +201,24 @@ end_of From_caller piece = piece.callee
 end_of From_callee piece = piece.caller
 
 -- the piece without the proxies that did not record-route, in this direction
-unfoldable pub stayed : List Moment → Direction → Piece → List AppId
-stayed run direction piece =
-    along direction (listed piece.caller ++ recorders run piece ++ listed piece.callee)
+unfoldable pub piece_on_path : List Moment → Direction → Piece → List AppId
+piece_on_path run direction piece =
+    along direction
+    (list_of_option piece.caller ++ recorders run piece ++ list_of_option piece.callee)
 
 -- the same without the session that sends in this direction: whom a later request is to visit
 unfoldable pub ahead : List Moment → Direction → Piece → List AppId
-ahead run direction piece = along direction (recorders run piece) ++ listed (end_of direction piece)
+ahead run direction piece =
+    along direction (recorders run piece) ++ list_of_option (end_of direction piece)
 
 -- the Record-Route that is to stand at its end: the own URIs of its proxies that record-routed, the
 -- last one's on top, above what the INVITE had where the piece begins
-unfoldable pub recorded : Config → ℕ → List Moment → Piece → List Address
-recorded config epoch run piece = map (own_address config epoch) (reverse (recorders run piece))
+unfoldable pub record_route_at_end : Config → ℕ → List Moment → Piece → List Address
+record_route_at_end config epoch run piece =
+    map (own_address config epoch) (reverse (recorders run piece))
 
 -- that Record-Route, with what stood below it
 unfoldable pub record_routed : Config → ℕ → List Moment → Piece → List Address
 record_routed config epoch run piece =
-    recorded config epoch run piece
+    record_route_at_end config epoch run piece
     ++ option_map_or (λ server. server.request.head.record_route) (first_received run piece) []

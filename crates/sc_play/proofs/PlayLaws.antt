@@ -8,13 +8,13 @@ use Rattle.std.proofs.lemmas.List.Sums.{sum_by_push}
 use Rattle.sc_value.specs.declared.message.Sent.{Sent}
 use Rattle.sc_terms.specs.declared.steps.Step.{Step}
 use Rattle.sc_parts.specs.declared.setup.Setup.{Setup}
-use Rattle.sc_grammar.specs.Written.{Bytes}
+use Rattle.sc_tokens.specs.Bytes.{Bytes}
 use Rattle.sc_value.specs.declared.ids.AppId.{AppId}
 use Rattle.sc_servlets.specs.declared.lease.Lease.{Lease}
 use Rattle.sc_hosts.specs.Histories.{as_session}
 use Rattle.sc_edge.specs.Taking.{Takes, Takes_none, Takes_then}
 use Rattle.sc_model.specs.Records.{end_text, records}
-use Rattle.sc_hosts.specs.Runs.{AreLawful, Epoch, IsLawful, IsLawfulAfter, after_step, all_sent, all_sent_by, all_sent_from, chained, is_idle, live_count, net_of as net_after}
+use Rattle.sc_hosts.specs.Runs.{AreLawful, Epoch, IsLawful, IsLawfulAfter, after_step, all_sent, all_sent_by, all_sent_from, net_from as chained, is_idle, live_count, net_of as net_after}
 use Rattle.sc_recording.specs.StepTexts.{epoch_text, step_text, steps_text}
 use Rattle.sc_switch.specs.declared.refused.Epoch.{Epoch as Ended}
 use Rattle.sc_switch.specs.declared.ran.Status.{Status}
@@ -29,7 +29,7 @@ use Rattle.sc_model.specs.Settings.{Charters}
 use Rattle.sc_replay.specs.Replaying.{IsUnset, TellsConfig, TellsTable, app_names}
 use Rattle.sc_replay.proofs.Writings.{records-append}
 use Rattle.sc_play.specs.declared.running.Counts.{Counts}
-use Rattle.sc_play.specs.Played.{IsEnd, IsPlayed, IsRecorded, IsRecording, IsRow, Lent, PlaysBack, Took, TookStep, counted, ended_text, run_output, running, steps_in, uncounted, whole_text}
+use Rattle.sc_play.specs.Played.{IsEnd, IsPlayed, IsRecorded, IsRecording, IsRow, Lent, PlaysBack, Took, TookStep, capped_count as counted, ended_text, run_output, running, steps_in, nothing_counted as uncounted, whole_text}
 
 -- a step was taken
 pub took_step : (old new : Known) (step : Step) → new ≡ with_step old step → Took old new

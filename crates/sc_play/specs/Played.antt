@@ -4,7 +4,7 @@ use Rattle.std.specs.Prelude.{◌≡◌, ℕ, ◌++◌, List, [], ◌∷◌, Opt
 use Rattle.std.specs.List.{flat_map, sum_by}
 use Rattle.sc_terms.specs.declared.steps.Step.{Step}
 use Rattle.sc_parts.specs.declared.setup.Setup.{Setup}
-use Rattle.sc_grammar.specs.Written.{Bytes}
+use Rattle.sc_tokens.specs.Bytes.{Bytes}
 use Rattle.sc_edge.specs.Shelving.{GivesAll}
 use Rattle.sc_edge.specs.Taking.{Takes}
 use Rattle.sc_model.specs.Records.{end_text, records}
@@ -31,8 +31,8 @@ unfoldable pub steps_in : List Epoch → ℕ
 steps_in epochs = sum_by (λ epoch. length epoch.journal) epochs
 
 -- a count of 64 bits stays at its greatest value
-abbrev pub counted : ℕ → ℕ
-counted n = min n 18446744073709551615
+abbrev pub capped_count : ℕ → ℕ
+capped_count n = min n 18446744073709551615
 
 -- what is written of a run whose last epoch goes on: a record for each message that its epochs
 -- send, in the order of sending, and the last line, which has how many steps and messages these are
@@ -41,7 +41,7 @@ unfoldable pub run_output : Setup → List Epoch → Epoch → Bytes
 run_output setup ended running =
     let sent = all_sent_by as_session setup (ended ++ running ∷ []) in
     records sent
-    ++ end_text (counted (steps_in (ended ++ running ∷ []))) (counted (length sent))
+    ++ end_text (capped_count (steps_in (ended ++ running ∷ []))) (capped_count (length sent))
     (live_count (net_after as_session setup running))
 
 -- what was lent out is another matter
@@ -80,8 +80,8 @@ unfoldable pub running : Known → Epoch
 running known = record { number = known.epoch; began = known.began; journal = whole known }
 
 -- nothing was counted yet
-abbrev pub uncounted : Counts
-uncounted = record { steps = 0; sent = 0 }
+abbrev pub nothing_counted : Counts
+nothing_counted = record { steps = 0; sent = 0 }
 
 -- the switch stands behind a recording's text: it is that of the epochs that ended and of the steps
 -- of the running one, all of which it has handed on; and with lawful epochs behind them, the run is
@@ -96,9 +96,9 @@ pub record IsPlayed (setup : Setup) (text : Bytes) (known : Known) (counts : Cou
   pub journal_is : known.journal ≡ []
   pub left_is : known.left ≡ []
   pub takes : Takes first now (records (all_sent_by as_session setup (ended ++ running known ∷ [])))
-  pub steps_is : counts.steps ≡ counted (steps_in (ended ++ running known ∷ []))
+  pub steps_is : counts.steps ≡ capped_count (steps_in (ended ++ running known ∷ []))
   pub sent_is : counts.sent
-      ≡ counted (length (all_sent_by as_session setup (ended ++ running known ∷ [])))
+      ≡ capped_count (length (all_sent_by as_session setup (ended ++ running known ∷ [])))
 
 -- the text is the recording of a lawful run: of epochs that ended, and of one that goes on; and
 -- what is written of that run was put between the two moments of a sink

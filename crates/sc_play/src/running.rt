@@ -3,14 +3,14 @@
 
 ghost use Rattle.std.specs.Prelude.{◌≡◌, ◌≤◌, ◌<◌, ◌+◌, ◌++◌, ◌∷◌, [], IfOk, OnOk, Option, drop, length, take, true};
 ghost use Rattle.sc_parts.specs.declared.setup.Setup.{Setup};
-ghost use Rattle.sc_grammar.specs.Written.{Bytes};
+ghost use Rattle.sc_tokens.specs.Bytes.{Bytes};
 ghost use Rattle.sc_edge.specs.Taking.{Takes};
 ghost use Rattle.sc_model.specs.Records.{end_text, records};
 ghost use Rattle.sc_hosts.specs.Runs.{live_count};
 ghost use Rattle.sc_recording.specs.StepTexts.{epoch_text, step_text};
 ghost use Rattle.sc_switch.specs.Answers.{handing};
 ghost use Rattle.sc_switch.specs.Standing.{net_of};
-ghost use Rattle.sc_play.specs.Played.{IsEnd, IsPlayed, IsRecording, IsRow, counted, uncounted};
+ghost use Rattle.sc_play.specs.Played.{IsEnd, IsPlayed, IsRecording, IsRow, capped_count, nothing_counted};
 
 use crate::early::{Unread, early_turns};
 use crate::rows::{APART, Entry, Row, row_at};
@@ -90,7 +90,7 @@ fn play_rows<K: Sink>(
     out: &mut K,
 ) -> Status
     ensures done { result ≡ Status.Done → (setup : Setup)
-        → IsPlayed setup [] player.old.switch uncounted (K.took out.old) (K.took out.old)
+        → IsPlayed setup [] player.old.switch nothing_counted (K.took out.old) (K.took out.old)
         → IsRecording setup text.now (K.took out.old) (K.took out.new) }
 {
     let mut counts = Counts { steps: 0, sent: 0 };
@@ -274,9 +274,9 @@ fn put_row<K: Sink>(
     ensures left { OnOk result (switch.new.left ≡ []) }
     ensures takes { OnOk result
         (Takes (K.took out.old) (K.took out.new) (records switch.old.left)) }
-    ensures steps { OnOk result (counts.new.steps ≡ counted (counts.old.steps + 1)) }
+    ensures steps { OnOk result (counts.new.steps ≡ capped_count (counts.old.steps + 1)) }
     ensures sent { OnOk result
-        (counts.new.sent ≡ counted (counts.old.sent + length switch.old.left)) }
+        (counts.new.sent ≡ capped_count (counts.old.sent + length switch.old.left)) }
 {
     let sent = switch.untaken();
     match put_sent(alloc, switch, out) {

@@ -7,7 +7,7 @@ ghost use Rattle.sc_state.specs.declared.orders.Order.{Order};
 ghost use Rattle.sc_hosts.specs.Looking.{is_gone_in, request_in};
 ghost use Rattle.sc_hosts.specs.Messages.{own_response};
 ghost use Rattle.sc_hosts.specs.Words.{request_terminated};
-ghost use Rattle.sc_hosts.specs.Preparing.{cancelled_proxy, cancelled_request, is_invited, kept_of, own_tag_of, prepared_cancel, proxy_of, terminated};
+ghost use Rattle.sc_hosts.specs.Preparing.{cancelled_proxy, cancelled_request, is_invited, kept_of, own_tag_of, prepared_cancel, prepared_end, proxy_of};
 ghost use Rattle.sc_shown.specs.Shown.{prepared_as};
 
 use sc_branches::is_supervised;
@@ -63,7 +63,7 @@ fn terminated_order(
     one_response(alloc, invited.event, response)
 }
 
-#[tactic(auto, unfolding(sc_hosts::specs::Preparing::terminated, sc_hosts::specs::PreparingRequests::showing_in))]
+#[tactic(auto, unfolding(sc_hosts::specs::Preparing::prepared_end, sc_hosts::specs::PreparingRequests::showing_in))]
 fn terminated_kept(
     alloc: Global,
     session: &mut Session,
@@ -73,7 +73,7 @@ fn terminated_kept(
 ) -> Result<Shown, NoMemory>
     ensures { IfOk result
         (λ s.
-        terminated session.old invited request.now (Some kept.now) ≡ prepared_as session.new s) }
+        prepared_end session.old invited request.now (Some kept.now) ≡ prepared_as session.new s) }
 {
     let orders = terminated_order(alloc, &session.view, invited, kept.request.get())?;
     answered(&mut session.view, request, 487);
@@ -81,7 +81,7 @@ fn terminated_kept(
 }
 
 // An INVITE without final response that isn't proxied is answered 487.
-#[tactic(auto, unfolding(sc_hosts::specs::Preparing::terminated, sc_hosts::specs::PreparingRequests::showing_in))]
+#[tactic(auto, unfolding(sc_hosts::specs::Preparing::prepared_end, sc_hosts::specs::PreparingRequests::showing_in))]
 fn terminated(
     alloc: Global,
     session: &mut Session,
@@ -90,7 +90,7 @@ fn terminated(
 ) -> Result<Shown, NoMemory>
     ensures { IfOk result
         (λ s.
-        terminated session.old invited request.now (kept_of session.old.known invited.req)
+        prepared_end session.old invited request.now (kept_of session.old.known invited.req)
         ≡ prepared_as session.new s) }
 {
     match kept_copy(alloc, &session.known, invited.req)? {

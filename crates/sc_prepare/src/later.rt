@@ -2,7 +2,7 @@
 
 ghost use Rattle.std.specs.Prelude.{◌≡◌, IfOk};
 ghost use Rattle.sc_hosts.specs.Looking.{session_in};
-ghost use Rattle.sc_hosts.specs.PreparingRequests.{prepared_request, refused, taken_in, too_low};
+ghost use Rattle.sc_hosts.specs.PreparingRequests.{prepared_request, refusal_orders, taken_in, too_low};
 ghost use Rattle.sc_shown.specs.Shown.{prepared_as, taken_by};
 
 use crate::receiving::{next_id, numbered, received};
@@ -18,7 +18,7 @@ use sc_value::{CloneIn, List, NoMemory, Request, SessId, Shared};
 use std::alloc::Global;
 
 // An answer of the container to a request that has a To tag; an ACK has none.
-#[tactic(auto, unfolding(sc_hosts::specs::PreparingRequests::refused))]
+#[tactic(auto, unfolding(sc_hosts::specs::PreparingRequests::refusal_orders))]
 fn refused(
     alloc: Global,
     number: u64,
@@ -26,7 +26,7 @@ fn refused(
     reason: &[u8],
     request: &Request,
 ) -> Result<List<Order>, NoMemory>
-    ensures { IfOk result (λ l. l ≡ refused number code reason.now request.now) }
+    ensures { IfOk result (λ l. l ≡ refusal_orders number code reason.now request.now) }
 {
     if is_ack(request.method.as_bytes()) {
         return Ok(List::new(alloc));
@@ -75,7 +75,7 @@ fn taken_by(
     Ok(showing(event, Some(req), List::new(alloc)))
 }
 
-#[tactic(auto, unfolding(sc_hosts::specs::PreparingRequests::taken_in, sc_hosts::specs::PreparingRequests::taken, sc_shown::specs::Shown::taken_by, sc_hosts::specs::PreparingRequests::silent))]
+#[tactic(auto, unfolding(sc_hosts::specs::PreparingRequests::taken_in, sc_hosts::specs::PreparingRequests::prepared_for_request, sc_shown::specs::Shown::taken_by, sc_hosts::specs::PreparingRequests::silent))]
 fn taken_in(
     alloc: Global,
     session: &mut Session,

@@ -5,7 +5,7 @@ ghost use Rattle.std.specs.List.{find};
 ghost use Rattle.sc_state.specs.declared.queue.Queued.{Queued};
 ghost use Rattle.sc_hosts.specs.Branches.{has_branch};
 ghost use Rattle.sc_hosts.specs.PreparingResponses.{is_sent_on, prepared_response};
-ghost use Rattle.sc_hosts.specs.Preparing.{prepared, prepared_for};
+ghost use Rattle.sc_hosts.specs.Preparing.{prepared_for, prepared_session};
 ghost use Rattle.sc_shown.specs.Shown.{prepared_as};
 
 use crate::cancels::prepared_cancel;
@@ -182,7 +182,7 @@ fn prepared_of(session: Session, shown: Shown) -> Prepared
 
 /// An application session as a turn at this moment shows it, with what the container answers by
 /// itself. The branches are given whose INVITE has had a provisional response.
-#[tactic(auto, unfolding(sc_hosts::specs::Preparing::prepared))]
+#[tactic(auto, unfolding(sc_hosts::specs::Preparing::prepared_session))]
 pub fn prepared(
     alloc: Global,
     config: &Config,
@@ -191,7 +191,8 @@ pub fn prepared(
     waiting: &Waiting,
     now: u64,
 ) -> Result<Prepared, NoMemory>
-    ensures { IfOk result (λ p. p ≡ prepared config.now ringing.now session waiting.now now) }
+    ensures { IfOk result
+        (λ p. p ≡ prepared_session config.now ringing.now session waiting.now now) }
 {
     let mut session = session;
     session.view.now = now;

@@ -2,7 +2,7 @@
 
 ghost use Rattle.std.specs.Prelude.{◌≡◌, ◌+◌, ◌++◌, ◌∷◌, [], IfOk, OnOk};
 ghost use Rattle.sc_state.specs.declared.session.Way.{Way};
-ghost use Rattle.sc_hosts.specs.PreparingRequests.{next_id, numbered, received, request_view, with_invited};
+ghost use Rattle.sc_hosts.specs.PreparingRequests.{next_id, request_view, with_invited, with_number_used, with_received_request};
 
 use sc_effects::ends_subscription;
 use sc_methods::is_invite;
@@ -48,7 +48,7 @@ pub fn next_id(session: &Session) -> ReqId
 
 /// The next request gets its number, and nothing else of it is noted.
 pub fn numbered(session: &mut Session) -> Result<(), NoMemory>
-    ensures { OnOk result (session.new ≡ numbered session.old) }
+    ensures { OnOk result (session.new ≡ with_number_used session.old) }
 {
     session.view.next_request = sum_u32(session.view.next_request, 1)?;
     Ok(())
@@ -155,7 +155,7 @@ fn receive_known(
 }
 
 /// A request is received in a SipSession under this event's number.
-#[tactic(auto, unfolding(sc_hosts::specs::PreparingRequests::received))]
+#[tactic(auto, unfolding(sc_hosts::specs::PreparingRequests::with_received_request))]
 pub fn received(
     alloc: Global,
     session: &mut Session,
@@ -166,7 +166,7 @@ pub fn received(
     request: &Shared<Request>,
 ) -> Result<(), NoMemory>
     ensures { OnOk result
-        (session.new ≡ received session.old number sess initial passed request.now) }
+        (session.new ≡ with_received_request session.old number sess initial passed request.now) }
 {
     let req = next_id(session);
     receive_known(alloc, &mut session.known, number, req, sess, request)?;

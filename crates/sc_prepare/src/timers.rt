@@ -9,7 +9,7 @@ ghost use Rattle.sc_hosts.specs.Looking.{is_timer, same_request, timer_in};
 ghost use Rattle.sc_hosts.specs.Messages.{own_response};
 ghost use Rattle.sc_hosts.specs.Words.{request_timeout};
 ghost use Rattle.sc_hosts.specs.PreparingResponses.{change_proxy};
-ghost use Rattle.sc_hosts.specs.Preparing.{fired, has_expired, prepared_branch_timer, prepared_expiry, prepared_timer, renewed, timed_out};
+ghost use Rattle.sc_hosts.specs.Preparing.{after_timer, has_expired, next_firing, prepared_branch_timer, prepared_expiry, prepared_timer, timed_out};
 ghost use Rattle.sc_shown.specs.Shown.{due_at, prepared_as};
 
 use sc_branches::{ended_by, is_invite, is_timed_out, to_cancel};
@@ -24,9 +24,9 @@ use sc_value::{List, NoMemory, ReqId, Request, Response, SessId, Shared, Text, T
 use std::alloc::Global;
 
 // A timer that fires once ends; another is due this long after its last moment, or after this turn.
-#[tactic(auto, unfolding(sc_hosts::specs::Preparing::renewed))]
+#[tactic(auto, unfolding(sc_hosts::specs::Preparing::next_firing))]
 fn renewed(now: u64, timer: &TimerView) -> Result<Option<u64>, NoMemory>
-    ensures { IfOk result (λ due. due ≡ renewed now timer.now) }
+    ensures { IfOk result (λ due. due ≡ next_firing now timer.now) }
 {
     match timer.period {
         Period::Once => Ok(None),
@@ -62,9 +62,9 @@ fn due_in(timers: &mut [TimerView], id: TimerId, due: u64)
     }
 }
 
-#[tactic(auto, unfolding(sc_hosts::specs::Preparing::fired, sc_shown::specs::Shown::due_at))]
+#[tactic(auto, unfolding(sc_hosts::specs::Preparing::after_timer, sc_shown::specs::Shown::due_at))]
 fn fired(view: &mut View, timer: &TimerView, due: Option<u64>)
-    ensures { view.new ≡ fired view.old timer.now due }
+    ensures { view.new ≡ after_timer view.old timer.now due }
 {
     match due {
         Some(due) => due_in(&mut view.timers.items, timer.id, due),

@@ -18,12 +18,12 @@ use Rattle.sc_value.specs.declared.ids.TimerId.{TimerId}
 use Rattle.sc_value.specs.declared.ids.SessId.{SessId}
 use Rattle.sc_state.specs.declared.working.Play.{Play}
 use Rattle.sc_state.specs.declared.working.Draft.{Draft}
-use Rattle.sc_grammar.specs.Written.{Bytes}
-use Rattle.sc_hosts.specs.Effects.{after_listed, played_by, after_call, answer_of, answer_by, with_attribute, with_timer, created_later, sent, with_draft, accepted}
+use Rattle.sc_tokens.specs.Bytes.{Bytes}
+use Rattle.sc_hosts.specs.Effects.{after_listed, played_by, after_call, answer_of, answer_by, with_attribute, with_timer, created_later, play_with_request as sent, with_draft, answer_to_call as accepted}
 use Rattle.sc_hosts.specs.Looking.{request_in}
 use Rattle.sc_hosts.specs.Refusals.{refusal, is_set}
 use Rattle.sc_hosts.specs.Scripting.{attribute, is_refused}
-use Rattle.sc_hosts.specs.ViewChanges.{answered, answered_in, tidy}
+use Rattle.sc_hosts.specs.ViewChanges.{view_with_answer as answered, answered_in, tidy}
 use Rattle.sc_hosts.specs.RefusalParts.{draft_in}
 use Rattle.sc_hosts.proofs.Deliveries.{same_bytes-equal}
 

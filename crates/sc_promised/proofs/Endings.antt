@@ -14,8 +14,8 @@ use Rattle.sc_terms.specs.declared.calls.Refusal.{Refusal}
 use Rattle.sc_terms.specs.declared.views.RequestView.{RequestView}
 use Rattle.sc_terms.specs.declared.views.View.{View}
 use Rattle.sc_state.specs.declared.working.Play.{Play}
-use Rattle.sc_grammar.specs.Written.{Bytes}
-use Rattle.sc_hosts.specs.Effects.{after_listed, played_by, answer_of, answer_by, accepted}
+use Rattle.sc_tokens.specs.Bytes.{Bytes}
+use Rattle.sc_hosts.specs.Effects.{after_listed, played_by, answer_of, answer_by, answer_to_call as accepted}
 use Rattle.sc_hosts.specs.HelperParts.{strict_number, accepted_then, cancel_then, field_of}
 use Rattle.sc_hosts.specs.Offers.{Offer, offer_in, pending_offer, prack_by, late_offer, names_offer, rel_name, ended_offer_text}
 use Rattle.sc_hosts.specs.Looking.{timer_in, request_in}

@@ -8,8 +8,8 @@ use Rattle.sc_terms.specs.declared.calls.Call.TheVariants as calls
 use Rattle.sc_terms.specs.declared.calls.CallAnswer.TheVariants as answers
 use Rattle.sc_terms.specs.declared.views.Period.TheVariants.{Once}
 use Rattle.sc_state.specs.declared.working.Play.{Play}
-use Rattle.sc_grammar.specs.Written.{Bytes}
-use Rattle.sc_hosts.specs.Effects.{after_listed, answer_of, answer_by, accepted}
+use Rattle.sc_tokens.specs.Bytes.{Bytes}
+use Rattle.sc_hosts.specs.Effects.{after_listed, answer_of, answer_by, answer_to_call as accepted}
 use Rattle.sc_hosts.specs.HelperParts.{accepted_then}
 use Rattle.sc_hosts.specs.Offers.{rel_name, offer_text}
 use Rattle.sc_hosts.specs.Scripting.{Script, Make, only, with_number, attribute, is_refused}

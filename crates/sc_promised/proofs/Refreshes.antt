@@ -15,14 +15,14 @@ use Rattle.sc_terms.specs.declared.views.Period.TheVariants.{Once}
 use Rattle.sc_terms.specs.declared.views.RequestView.{RequestView}
 use Rattle.sc_terms.specs.declared.views.View.{View}
 use Rattle.sc_state.specs.declared.working.Play.{Play}
-use Rattle.sc_grammar.specs.Written.{Bytes}
+use Rattle.sc_tokens.specs.Bytes.{Bytes}
 use Rattle.sc_hosts.specs.Effects.{after_listed, played_by, after_call, answer_of, with_timer}
 use Rattle.sc_hosts.specs.HelperParts.{accepted_then, cancel_then, remove_then}
 use Rattle.sc_hosts.specs.Looking.{request_in, timer_in}
 use Rattle.sc_hosts.specs.Refusals.{refusal}
 use Rattle.sc_hosts.specs.Scripting.{Script, Done, Make, only, with_number, attribute, is_refused}
 use Rattle.sc_hosts.specs.SessionTimers.{On, Timed, begin_timed, deadline, stop_then, timed_name, timed_of, timed_text}
-use Rattle.sc_hosts.specs.ViewChanges.{answered, answered_in, tidy}
+use Rattle.sc_hosts.specs.ViewChanges.{view_with_answer as answered, answered_in, tidy}
 use Rattle.sc_promised.specs.Reliable.{play_after}
 use Rattle.sc_promised.specs.Refreshing.{IsAccepted, IsBegun}
 use Rattle.sc_promised.proofs.Attributes.{accepted-none, set-attribute}

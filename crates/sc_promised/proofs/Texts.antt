@@ -6,7 +6,7 @@ use Rattle.std.proofs.lemmas.Bool.Decides.{nat_tests}
 use Rattle.std.proofs.lemmas.Fmt.{decimal_by_steps}
 use Rattle.std.proofs.lemmas.List.Folds.{list_any-append}
 use Rattle.sc_tokens.specs.Cuts.{pieces, onto_first, has}
-use Rattle.sc_grammar.specs.Written.{Bytes}
+use Rattle.sc_tokens.specs.Bytes.{Bytes}
 use Rattle.sc_syntax.proofs.DecimalLaws.{decimal_is_read}
 use Rattle.sc_hosts.specs.HelperParts.{strict_number}
 use Rattle.sc_hosts.specs.Offers.{offer_text, ended_offer_text}

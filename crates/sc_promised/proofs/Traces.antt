@@ -5,7 +5,7 @@ use Rattle.std.specs.List.{filter_map, cons_option}
 use Rattle.sc_value.specs.declared.ids.ReqId.{ReqId}
 use Rattle.sc_terms.specs.declared.calls.Call.TheVariants as calls
 use Rattle.sc_state.specs.declared.working.Play.{Play}
-use Rattle.sc_grammar.specs.Written.{Bytes}
+use Rattle.sc_tokens.specs.Bytes.{Bytes}
 use Rattle.sc_hosts.specs.Effects.{after_listed, answer_of}
 use Rattle.sc_hosts.specs.HelperParts.{accepted_then}
 use Rattle.sc_hosts.specs.Scripting.{Done, is_refused}
@@ -13,7 +13,7 @@ use Rattle.sc_promised.proofs.Attributes.{responded-attributes}
 use Rattle.sc_promised.proofs.OfferLaws.{offered-pending}
 use Rattle.sc_promised.proofs.Endings.{prack-last, late-last, same-rel}
 use Rattle.sc_promised.proofs.Texts.{decimal-lacks}
-use Rattle.sc_promised.specs.Reliable.{Remembered, Fresh, Pending, Acked, Failed, remembered_of, remembered_at, last_of, next_of, offer_answer, offer_call, offers, offer_by, offer_script, play_after, offered_as, CountFrom, Sound, Act, Offers, Pracks, Late, Happened, after, script_of, offered, IsOf, IsSound, IsTrace, MOST_RSEQ}
+use Rattle.sc_promised.specs.Reliable.{Remembered, Fresh, Pending, Acked, Failed, remembered_of, remembered_at, last_of, next_of, offer_answer, offer_call, offers, offer_by, offer_script, play_after, offered_as, CountFrom, Sound, Act, Offers, Pracks, Late, Happened, after, script_of, offered_number as offered, IsOf, IsSound, IsTrace, MOST_RSEQ}
 
 -- an offer whose response was refused changes nothing
 refused-same : (play : Play) (req : ReqId) (r c code : ℕ) (reason body : Bytes) (n : ℕ)

@@ -12,7 +12,7 @@ use Rattle.sc_terms.specs.declared.calls.Call.TheVariants as calls
 use Rattle.sc_terms.specs.declared.views.RequestView.{RequestView}
 use Rattle.sc_terms.specs.declared.views.View.{View}
 use Rattle.sc_state.specs.declared.working.Play.{Play}
-use Rattle.sc_grammar.specs.Written.{Bytes}
+use Rattle.sc_tokens.specs.Bytes.{Bytes}
 use Rattle.sc_model.specs.BestResponses.{server_error}
 use Rattle.sc_hosts.specs.Effects.{after_listed, answer_of}
 use Rattle.sc_hosts.specs.HelperParts.{accepted_then, cancel_then, field_of, lists_option, strict_number, answer_with}
@@ -20,7 +20,7 @@ use Rattle.sc_hosts.specs.Looking.{request_in}
 use Rattle.sc_hosts.specs.Offers.{Offer, first_offer, session_progress, offer_in, pending_offer, prack_by, late_offer, names_offer, rel_name, rel_option, ended_offer_text}
 use Rattle.sc_hosts.specs.Scripting.{Script, Done, only, reply, where_some, attribute, is_refused}
 use Rattle.sc_hosts.specs.Words.{ok, does_not_exist}
-use Rattle.sc_promised.specs.Reliable.{Remembered, Fresh, Pending, remembered_of, remembered_in, remembered_three, remembered_four, remembered_at, waiting_of, names_waiting, next_of, offers, offer_answer, offer_by, offer_script, offered, offered_as, is_late, play_after, first_code, settles, script_of, Act, Offers, Pracks, Late, Happened, IsOf, IsTrace}
+use Rattle.sc_promised.specs.Reliable.{Remembered, Fresh, Pending, remembered_of, remembered_in, remembered_three, remembered_four, remembered_at, waiting_of, names_waiting, next_of, offers, offer_answer, offer_by, offer_script, offered_number as offered, offered_as, is_late, play_after, first_code, settles, script_of, Act, Offers, Pracks, Late, Happened, IsOf, IsTrace}
 use Rattle.sc_promised.proofs.Attributes.{responded-attributes}
 use Rattle.sc_promised.proofs.Endings.{same-rel}
 

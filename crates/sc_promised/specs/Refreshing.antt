@@ -6,7 +6,7 @@ use Rattle.sc_terms.specs.declared.views.TimerView.{TimerView}
 use Rattle.sc_terms.specs.declared.views.View.{View}
 use Rattle.sc_state.specs.declared.working.Play.{Play}
 use Rattle.sc_hosts.specs.Effects.{after_listed, answer_of}
-use Rattle.sc_hosts.specs.Scripting.{Script, Done, Make, attribute, is_refused}
+use Rattle.sc_hosts.specs.Scripting.{Done, Make, Script, attribute, is_refused}
 use Rattle.sc_hosts.specs.SessionTimers.{deadline, timed_name, timed_text}
 
 -- no call of the script is refused

@@ -14,13 +14,13 @@ use Rattle.sc_terms.specs.declared.views.Period.TheVariants.{Once}
 use Rattle.sc_terms.specs.declared.views.RequestView.{RequestView}
 use Rattle.sc_terms.specs.declared.views.View.{View}
 use Rattle.sc_state.specs.declared.working.Play.{Play}
-use Rattle.sc_grammar.specs.Written.{Bytes}
+use Rattle.sc_tokens.specs.Bytes.{Bytes}
 use Rattle.sc_model.specs.BestResponses.{server_error}
 use Rattle.sc_hosts.specs.Effects.{after_listed, answer_of}
 use Rattle.sc_hosts.specs.HelperParts.{field, field_of, strict_number, require_word, lists_option, accepted_then}
 use Rattle.sc_hosts.specs.Looking.{request_in}
 use Rattle.sc_hosts.specs.Offers.{Offer, rel_name, rel_option, offer_text, prack_by, pending_offer, late_offer, names_offer}
-use Rattle.sc_hosts.specs.Scripting.{Script, Done, Make, only, reply, with_number, attribute, is_refused}
+use Rattle.sc_hosts.specs.Scripting.{Done, Make, Script, attribute, is_refused, only, reply, with_number}
 use Rattle.sc_hosts.specs.Words.{ok}
 
 -- ## What is remembered
@@ -181,8 +181,8 @@ offered_as play req code reason body (Some r) =
     if is_refused (answer_of play (offer_call req r code reason body)) then None else Some r
 
 -- the RSeq of the offer that an act made, if its response went
-unfoldable pub offered : Happened → Option ℕ
-offered happened = offered_by happened.play happened.act
+unfoldable pub offered_number : Happened → Option ℕ
+offered_number happened = offered_by happened.play happened.act
   where
     offered_by : Play → Act → Option ℕ
     offered_by play (Offers req request code reason body) =

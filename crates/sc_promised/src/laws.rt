@@ -8,14 +8,14 @@ ghost use Rattle.sc_state.specs.declared.working.Play.{Play};
 ghost use Rattle.sc_hosts.specs.Offers.{first_offer, session_progress};
 ghost use Rattle.sc_hosts.specs.SessionTimers.{On, begin_timed, deadline};
 ghost use Rattle.sc_promised.specs.Refreshing.{IsAccepted, IsBegun};
-ghost use Rattle.sc_promised.specs.Reliable.{CountFrom, Fresh, Happened, IsTrace, Pending, Pracks, first_code, names_waiting, offer_by, offered, play_after, remembered_at, script_of, settles};
+ghost use Rattle.sc_promised.specs.Reliable.{CountFrom, Fresh, Happened, IsTrace, Pending, Pracks, first_code, names_waiting, offer_by, offered_number, play_after, remembered_at, script_of, settles};
 
 /// Over every list of offers, PRACKs and timers of one INVITE, in which nothing else writes its
 /// attribute and no offer is refused behind its response, the accepted offers have the RSeq numbers
 /// 1, 2, 3 and so on. The contract is the law, and the call does nothing.
 pub fn offers_are_counted()
     ensures { (acts : List Happened) (n : ℕ) → IsTrace n Fresh acts
-        → CountFrom 0 (filter_map offered acts) }
+        → CountFrom 0 (filter_map offered_number acts) }
 {}
 
 /// The first offer of an INVITE is what the script of the charter makes. A PRACK is answered 200
@@ -30,7 +30,7 @@ pub fn offers_wait()
         → first_code (script_of view (Pracks invited req request))
         ≡ Some (if names_waiting (remembered_at view invited.0) request then 200 else 481) }
     ensures alone { (acts : List Happened) (n r c t : ℕ) → IsTrace n (Pending r c t) acts
-        → list_any settles acts ≡ false → filter_map offered acts ≡ [] }
+        → list_any settles acts ≡ false → filter_map offered_number acts ≡ [] }
 {}
 
 /// Where a session timer of so many seconds is begun and no call of it is refused, a timer that

@@ -15,9 +15,9 @@ use Rattle.sc_state.specs.declared.proxy.Branch.{Branch}
 use Rattle.sc_state.specs.declared.proxy.Proxy.{Proxy}
 use Rattle.sc_model.specs.SessionStates.{is_final}
 use Rattle.sc_model.specs.Transactions.{first_in_time, is_success}
-use Rattle.sc_hosts.specs.Acting.{rested, rested_branch, with_forwarded}
-use Rattle.sc_hosts.specs.Branches.{added_targets, after_end, cancelled_branch, ended_branch, ended_by, heard, is_branch, is_global, is_open, new_branch, new_proxy, passing_on, recurses, rung, stopped, to_cancel, with_candidate, with_end, with_targets}
-use Rattle.sc_proxied.specs.ProxyLists.{Asked, Expired, Forwarded, Heard, IsHad, IsOfList, PassedOn, ProxyEvent, Rested, Started, Stopped, TimedOut, added_by, added_since, candidate_by, candidates_of, cancelled_of, counts, ends_all, final_by, final_of, followed, forwarded_by, forwarded_of, happens, is_cancelled, is_expiry_of, is_open_at, is_open_in, is_rest, is_settled, proxy_after, started_by, started_of, stops, taken_by, taken_since, targets_of, tried_of, was_started}
+use Rattle.sc_hosts.specs.Acting.{at_rest as rested, rested_branch, with_forwarded}
+use Rattle.sc_hosts.specs.Branches.{added_targets, after_end, cancelled_branch, ended_branch, ended_by, proxy_after_response as heard, is_branch, is_global, is_open, new_branch, new_proxy, passing_on, recurses, after_ringing as rung, without_search as stopped, to_cancel, with_candidate, with_end, with_targets}
+use Rattle.sc_proxied.specs.ProxyLists.{Asked, Expired, Forwarded, Heard, IsHad, IsOfList, PassedOn, ProxyEvent, Rested, Started, Stopped, TimedOut, added_by, added_since, candidate_by, candidates_of, cancelled_of, counts, ends_all, final_by, final_of, contacts_to_follow as followed, forwarded_by, forwarded_of, happens, is_cancelled, is_expiry_of, is_open_at, is_open_in, is_rest, is_settled, proxy_after, started_by, started_of, stops, taken_by, taken_since, targets_of, tried_of, was_started}
 use Rattle.sc_proxied.proofs.Lists.{AllOf, AreApart, AreOf, IsBranchOf, NumbersApart, all-of, append-numbers, apart-of, closed-final, drop-more, drop-next, each-number, each-of, equal, final-same, first-numbers, first-of, forwarded-next, kept-numbers, longer, more-of, never-both, number-itself, number_of, numbers-more, open-final, open-is, or-none, other-way, settled-next, started-next, unstarted-cancelled, unstarted-final}
 
 -- what the proxy is as the list says, with what the list leaves room for

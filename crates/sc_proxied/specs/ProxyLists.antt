@@ -10,8 +10,8 @@ use Rattle.sc_state.specs.declared.proxy.Branch.{Branch}
 use Rattle.sc_state.specs.declared.proxy.Proxy.{Proxy}
 use Rattle.sc_model.specs.SessionStates.{is_final}
 use Rattle.sc_model.specs.Transactions.{Found, first_in_time, is_success}
-use Rattle.sc_hosts.specs.Acting.{rested, with_forwarded}
-use Rattle.sc_hosts.specs.Branches.{branch_in, contacts_of, ended_by, heard, is_global, is_open, is_redirect, new_branch, recurses, stopped, to_cancel, untried, with_targets}
+use Rattle.sc_hosts.specs.Acting.{at_rest, with_forwarded}
+use Rattle.sc_hosts.specs.Branches.{branch_in, contacts_of, ended_by, is_global, is_open, is_redirect, new_branch, new_targets, proxy_after_response, recurses, to_cancel, with_targets, without_search}
 use Rattle.sc_hosts.specs.RefusalParts.{MOST_BRANCHES}
 
 -- ## What happens to a proxied request
@@ -44,7 +44,7 @@ is_open_in number proxy = option_map_or is_open (branch_in proxy number) false
 -- what a host makes of it
 unfoldable pub happens : ProxyEvent → Proxy → Proxy
 happens (Asked uris) proxy = with_targets uris proxy
-happens Stopped proxy = stopped proxy
+happens Stopped proxy = without_search proxy
 happens (Started number now) proxy =
     record proxy {
       branches = proxy.branches ++ new_branch proxy number now ∷ [];
@@ -55,12 +55,12 @@ happens (PassedOn number) proxy =
       branches = proxy.branches
           ++ record { number = number; ended = None; cancelled = false; due = None } ∷ [];
     }
-happens (Heard number sess response now) proxy = heard number sess response now proxy
+happens (Heard number sess response now) proxy = proxy_after_response number sess response now proxy
 happens (TimedOut number sess response) proxy =
     if is_open_in number proxy then ended_by number sess response proxy else proxy
 happens (Expired number) proxy = if is_open_in number proxy then to_cancel number proxy else proxy
 happens (Forwarded code) proxy = with_forwarded code proxy
-happens Rested proxy = rested proxy
+happens Rested proxy = at_rest proxy
 
 -- the proxy after all these
 unfoldable pub proxy_after : Proxy → List ProxyEvent → Proxy
@@ -129,19 +129,19 @@ is_settled events = is_some (first_in_time stops events)
 
 -- a first final response of a branch that is a 3xx gives its Contacts that weren't tried, where the
 -- application follows them and the search goes on
-unfoldable pub followed : Proxy → List Uri → Bool → Bool → Response → List Uri
-followed first tried settled running response =
+unfoldable pub contacts_to_follow : Proxy → List Uri → Bool → Bool → Response → List Uri
+contacts_to_follow first tried settled running response =
     if running && (is_redirect response.code && recurses first && not settled)
-    then take (MOST_BRANCHES - length tried) (untried tried (contacts_of response))
+    then take (MOST_BRANCHES - length tried) (new_targets tried (contacts_of response))
     else []
 
 -- the targets that the event gives
 unfoldable pub added_by : Proxy → List Uri → List ProxyEvent → ProxyEvent → List Uri
 added_by first tried earlier (Asked uris) = uris
 added_by first tried earlier (Heard number sess response now) =
-    followed first tried (is_settled earlier) (is_open_at number earlier) response
+    contacts_to_follow first tried (is_settled earlier) (is_open_at number earlier) response
 added_by first tried earlier (TimedOut number sess response) =
-    followed first tried (is_settled earlier) (is_open_at number earlier) response
+    contacts_to_follow first tried (is_settled earlier) (is_open_at number earlier) response
 added_by first tried earlier event = []
 
 -- all targets that it has had, in order
@@ -179,7 +179,8 @@ unfoldable pub counts : Proxy → List ProxyEvent → ℕ → Response → List 
 counts first earlier number response =
     if is_open_at number earlier && not (is_success response.code)
     && length
-    (followed first (tried_of first earlier) (is_settled earlier) (is_open_at number earlier)
+    (contacts_to_follow first (tried_of first earlier) (is_settled earlier)
+    (is_open_at number earlier)
     response)
     == 0
     then response ∷ [] else []

@@ -23,14 +23,14 @@ use Rattle.sc_state.specs.declared.session.Session.{Session}
 use Rattle.sc_state.specs.declared.working.Prepared.{Prepared}
 use Rattle.sc_model.specs.Names.{edge_tag}
 use Rattle.sc_model.specs.Responses.{response_to}
-use Rattle.sc_hosts.specs.Branches.{branch_in, ended_by, has_branch, heard, is_invite, is_open, is_supervised, is_timed_out, stopped, to_cancel}
+use Rattle.sc_hosts.specs.Branches.{branch_in, ended_by, has_branch, proxy_after_response as heard, is_invite, is_open, is_supervised, is_timed_out, without_search as stopped, to_cancel}
 use Rattle.sc_hosts.specs.DerivedSessions.{Derives, Handling, In, Takes, handled_in, handling}
 use Rattle.sc_hosts.specs.Legs.{change_leg, with_answer}
 use Rattle.sc_hosts.specs.Looking.{session_in}
 use Rattle.sc_hosts.specs.Messages.{bare_answer, own_response}
-use Rattle.sc_hosts.specs.Preparing.{cancelled_proxy, cancelled_request, is_invited, kept_of, prepared_branch_timer, prepared_cancel, prepared_for, proxy_of, terminated, timed_out}
+use Rattle.sc_hosts.specs.Preparing.{cancelled_proxy, cancelled_request, is_invited, kept_of, prepared_branch_timer, prepared_cancel, prepared_for, proxy_of, prepared_end as terminated, timed_out}
 use Rattle.sc_hosts.specs.PreparingRequests.{showing, showing_in, silent}
-use Rattle.sc_hosts.specs.PreparingResponses.{branch_placed, change_proxy, heard_in, is_invalid, is_watched, prepared_branch, prepared_response, told, with_branches}
+use Rattle.sc_hosts.specs.PreparingResponses.{branch_placed, change_proxy, heard_in, is_invalid, is_watched, prepared_branch, prepared_response, event_of_response as told, with_branches}
 use Rattle.sc_hosts.specs.Words.{request_timeout}
 use Rattle.sc_proxied.specs.ProxyLists.{Expired, Heard, ProxyEvent, Stopped, TimedOut, happens, is_open_in, proxy_after}
 use Rattle.sc_proxied.proofs.Lists.{equal, number-itself}

@@ -19,7 +19,7 @@ use Rattle.sc_state.specs.declared.working.Working.{Working}
 use Rattle.sc_model.specs.BestResponses.{best_response}
 use Rattle.sc_model.specs.Dialogs.{subscribe, tag_of}
 use Rattle.sc_model.specs.Transactions.{is_success}
-use Rattle.sc_hosts.specs.Acting.{acted, acts, all_act, chooses, closed_session, closes, forwarded_view, forwards, forwards_best, in_view, passes, proxy_now, rested, sends_cancels, started, subscribed_tag, with_forwarded, with_subscribed}
+use Rattle.sc_hosts.specs.Acting.{after_proxy as acted, acts, all_act, chooses, closed_session, closes, forwarded_view, forwards, forwards_best, in_view, passes, proxy_now, at_rest as rested, sends_cancels, after_start as started, subscribed_tag, with_forwarded, with_subscribed}
 use Rattle.sc_hosts.specs.Branches.{branch_due, can_choose, can_pass, has_open, is_exhausted, is_parallel, new_branch, starting}
 use Rattle.sc_hosts.specs.Looking.{change_session}
 use Rattle.sc_hosts.specs.Preparing.{proxy_of}

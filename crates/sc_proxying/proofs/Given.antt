@@ -22,16 +22,16 @@ use Rattle.sc_state.specs.declared.working.Play.{Play}
 use Rattle.sc_state.specs.declared.working.Prepared.{Prepared}
 use Rattle.sc_state.specs.declared.working.Working.{Working}
 use Rattle.sc_state.specs.declared.working.Written.{Written}
-use Rattle.sc_grammar.specs.Written.{Bytes}
+use Rattle.sc_tokens.specs.Bytes.{Bytes}
 use Rattle.sc_model.specs.Dialogs.{DialogState}
-use Rattle.sc_hosts.specs.Branches.{new_proxy, stopped, with_targets}
-use Rattle.sc_hosts.specs.Effects.{after_listed, begun}
+use Rattle.sc_hosts.specs.Branches.{new_proxy, without_search as stopped, with_targets}
+use Rattle.sc_hosts.specs.Effects.{after_listed, first_play as begun}
 use Rattle.sc_hosts.specs.Giving.{directs, drafts_later, drafts_leg, drafts_own, forgets, writes}
 use Rattle.sc_hosts.specs.Legs.{change_leg}
 use Rattle.sc_hosts.specs.Preparing.{kept_of, proxy_of}
 use Rattle.sc_hosts.specs.PreparingResponses.{change_proxy}
 use Rattle.sc_hosts.specs.Refusals.{refusal}
-use Rattle.sc_hosts.specs.Working.{ack_with, acknowledges, cancels, does, does_by, event_of, invalidates, keeps_sent, proxies, proxies_first, sends, sends_in, sends_initial, sends_later, sends_written, starts, worked, worked_all}
+use Rattle.sc_hosts.specs.Working.{ack_with, acknowledges, cancels, effects_of_call as does, does_by, event_of, invalidates, keeps_sent, proxies, proxies_first, sends, sends_in, sends_initial, sends_later, sends_written, starts, after_one_call as worked, worked_all}
 use Rattle.sc_proxied.specs.ProxyLists.{Asked, ProxyEvent, Stopped, happens, proxy_after}
 use Rattle.sc_proxied.proofs.Lists.{NumbersApart, number-itself}
 use Rattle.sc_walked.specs.SessionWalks.{Each}

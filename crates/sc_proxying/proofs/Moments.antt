@@ -22,14 +22,14 @@ use Rattle.sc_state.specs.declared.working.Play.{Play}
 use Rattle.sc_state.specs.declared.working.Prepared.{Prepared}
 use Rattle.sc_state.specs.declared.working.Working.{Working}
 use Rattle.sc_model.specs.BestResponses.{server_error}
-use Rattle.sc_hosts.specs.Acting.{drafts_ended, fault_at, faulted, in_view, without_left}
-use Rattle.sc_hosts.specs.Effects.{acked, after_call, after_listed, begun, created, created_later, created_leg, discarded, flagged, played_by, proxied, sent, with_draft, with_timer}
+use Rattle.sc_hosts.specs.Acting.{drafts_ended, fault_at, after_fault as faulted, in_view, without_left}
+use Rattle.sc_hosts.specs.Effects.{view_with_ack as acked, after_call, after_listed, first_play as begun, play_with_initial as created, created_later, created_leg, play_without_draft as discarded, with_invalidation_flag as flagged, played_by, view_with_targets as proxied, play_with_request as sent, with_draft, with_timer}
 use Rattle.sc_hosts.specs.Giving.{answering}
-use Rattle.sc_hosts.specs.Looking.{removed, unlinked}
+use Rattle.sc_hosts.specs.Looking.{without_sip_session as removed, without_link as unlinked}
 use Rattle.sc_hosts.specs.Messages.{bare_answer}
 use Rattle.sc_hosts.specs.Refusals.{refusal}
-use Rattle.sc_hosts.specs.ViewChanges.{answered, answered_in, invalidated, is_owed, linked, settled_requests, tidy, with_own_session}
-use Rattle.sc_hosts.specs.Working.{starts, worked, worked_all}
+use Rattle.sc_hosts.specs.ViewChanges.{view_with_answer as answered, answered_in, view_without as invalidated, is_owed, with_link as linked, settled_requests, tidy, with_own_session}
+use Rattle.sc_hosts.specs.Working.{starts, after_one_call as worked, worked_all}
 use Rattle.sc_walked.proofs.WalkCalls.{answering-known}
 use Rattle.sc_lasting.proofs.Parts.{removed-only, unlinked-only}
 

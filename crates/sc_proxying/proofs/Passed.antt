@@ -13,14 +13,14 @@ use Rattle.sc_state.specs.declared.session.Known.{Known}
 use Rattle.sc_state.specs.declared.session.Session.{Session}
 use Rattle.sc_state.specs.declared.working.Working.{Working}
 use Rattle.sc_model.specs.SessionStates.{ack}
-use Rattle.sc_hosts.specs.Acting.{drawn, hops_spent, in_view, is_request_event, passed_later, passed_on, passed_request_of, passes_later, sent_proxy}
+use Rattle.sc_hosts.specs.Acting.{with_next_branch as drawn, hops_spent, in_view, is_request_event, passed_later, passed_on, passed_request_of, passes_later, sent_proxy}
 use Rattle.sc_hosts.specs.Giving.{answering, giving}
 use Rattle.sc_hosts.specs.Legs.{session_for}
 use Rattle.sc_hosts.specs.Looking.{is_request, request_in, same_request}
 use Rattle.sc_hosts.specs.Messages.{bare_answer, on_branch, passed_request}
 use Rattle.sc_hosts.specs.Preparing.{kept_of, prepared_for}
 use Rattle.sc_hosts.specs.PreparingResponses.{is_invalid}
-use Rattle.sc_hosts.specs.ViewChanges.{answered, answered_in, is_owed, tidy}
+use Rattle.sc_hosts.specs.ViewChanges.{view_with_answer as answered, answered_in, is_owed, tidy}
 use Rattle.sc_hosts.specs.Words.{too_many_hops}
 use Rattle.sc_hosts.specs.Working.{next_branch}
 use Rattle.sc_walked.proofs.WalkCalls.{answering-known}

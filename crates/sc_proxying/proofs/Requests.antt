@@ -13,12 +13,12 @@ use Rattle.sc_state.specs.declared.session.Known.{Known}
 use Rattle.sc_state.specs.declared.session.Session.{Session}
 use Rattle.sc_state.specs.declared.working.Play.{Play}
 use Rattle.sc_state.specs.declared.working.Prepared.{Prepared}
-use Rattle.sc_hosts.specs.Effects.{created_leg, proxied, with_draft}
+use Rattle.sc_hosts.specs.Effects.{created_leg, view_with_targets as proxied, with_draft}
 use Rattle.sc_hosts.specs.Legs.{new_leg, session_for}
-use Rattle.sc_hosts.specs.Looking.{removed, unlinked}
+use Rattle.sc_hosts.specs.Looking.{without_sip_session as removed, without_link as unlinked}
 use Rattle.sc_hosts.specs.Preparing.{prepared_for}
-use Rattle.sc_hosts.specs.PreparingRequests.{prepared_request, received}
-use Rattle.sc_hosts.specs.ViewChanges.{answered, answered_in, linked, new_session, tidy, with_own_session}
+use Rattle.sc_hosts.specs.PreparingRequests.{prepared_request, with_received_request as received}
+use Rattle.sc_hosts.specs.ViewChanges.{view_with_answer as answered, answered_in, with_link as linked, new_session, tidy, with_own_session}
 use Rattle.sc_hosts.specs.Working.{proxies}
 use Rattle.sc_walked.specs.SessionWalks.{SessionLaws, sent_kept, with_legs}
 use Rattle.sc_lasting.specs.Lasting.{All}

@@ -10,8 +10,8 @@ use Rattle.sc_value.specs.declared.parts.Uri.{Uri}
 use Rattle.sc_state.specs.declared.proxy.Proxy.{Proxy}
 use Rattle.sc_model.specs.SessionStates.{is_final}
 use Rattle.sc_model.specs.Transactions.{is_success}
-use Rattle.sc_hosts.specs.Acting.{rested, with_forwarded}
-use Rattle.sc_hosts.specs.Branches.{added_targets, after_end, branch_in, ended_branch, ended_by, heard, is_global, is_open, new_proxy, passing_on, rung, stopped, to_cancel, with_candidate, with_targets}
+use Rattle.sc_hosts.specs.Acting.{at_rest as rested, with_forwarded}
+use Rattle.sc_hosts.specs.Branches.{added_targets, after_end, branch_in, ended_branch, ended_by, proxy_after_response as heard, is_global, is_open, new_proxy, passing_on, after_ringing as rung, without_search as stopped, to_cancel, with_candidate, with_targets}
 use Rattle.sc_proxied.specs.ProxyLists.{Asked, Expired, Forwarded, Heard, IsHad, PassedOn, ProxyEvent, Rested, Started, Stopped, TimedOut, added_since, happens, is_open_in, proxy_after, started_by, started_of, taken_since, targets_of, was_started}
 use Rattle.sc_proxied.proofs.Happenings.{proxies-stand}
 use Rattle.sc_lasting.specs.Lasting.{All}

@@ -16,13 +16,13 @@ use Rattle.sc_state.specs.declared.session.Known.{Known}
 use Rattle.sc_state.specs.declared.session.Session.{Session}
 use Rattle.sc_state.specs.declared.working.Prepared.{Prepared}
 use Rattle.sc_state.specs.declared.working.Working.{Working}
-use Rattle.sc_hosts.specs.Acting.{all_act, drafts_ended, faulted, is_request_event, passes_later, sent_proxy}
+use Rattle.sc_hosts.specs.Acting.{all_act, drafts_ended, after_fault as faulted, is_request_event, passes_later, sent_proxy}
 use Rattle.sc_hosts.specs.Branches.{new_proxy}
-use Rattle.sc_hosts.specs.Effects.{begun}
-use Rattle.sc_hosts.specs.Finishing.{finished, is_ended, lightened, outcome, outcome_of, session_in_play, swept, swept_one, without_acks}
+use Rattle.sc_hosts.specs.Effects.{first_play as begun}
+use Rattle.sc_hosts.specs.Finishing.{after_all_calls as finished, is_ended, without_unneeded as lightened, outcome, outcome_of, session_in_play, swept, swept_one, without_acks}
 use Rattle.sc_hosts.specs.Histories.{after_turn}
-use Rattle.sc_hosts.specs.Looking.{removed}
-use Rattle.sc_hosts.specs.Preparing.{prepared, prepared_for}
+use Rattle.sc_hosts.specs.Looking.{without_sip_session as removed}
+use Rattle.sc_hosts.specs.Preparing.{prepared_session as prepared, prepared_for}
 use Rattle.sc_hosts.specs.Sessions.{Turn}
 use Rattle.sc_hosts.specs.ViewChanges.{tidy}
 use Rattle.sc_hosts.specs.Working.{worked_all}

@@ -23,10 +23,10 @@ use Rattle.sc_state.specs.declared.session.Session.{Session}
 use Rattle.sc_state.specs.declared.working.Play.{Play}
 use Rattle.sc_model.specs.BestResponses.{best_response}
 use Rattle.sc_hosts.specs.Branches.{can_choose, can_pass, has_branch, new_proxy, starting}
-use Rattle.sc_hosts.specs.Effects.{after_listed, begun}
+use Rattle.sc_hosts.specs.Effects.{after_listed, first_play}
 use Rattle.sc_hosts.specs.Histories.{History, session_after, session_of}
 use Rattle.sc_hosts.specs.Looking.{same_request}
-use Rattle.sc_hosts.specs.Preparing.{is_invited, prepared}
+use Rattle.sc_hosts.specs.Preparing.{is_invited, prepared_session}
 use Rattle.sc_hosts.specs.Refusals.{refusal}
 use Rattle.sc_hosts.specs.Sessions.{Turn}
 use Rattle.sc_lasting.specs.Lasting.{All}
@@ -102,7 +102,7 @@ BeginsIn first play (made ∷ later) given =
 -- as the calls of a turn begin
 abbrev pub shown_play : Config → Session → Turn → Play
 shown_play config session turn =
-    begun (prepared config turn.ringing session turn.waiting turn.now).view
+    first_play (prepared_session config turn.ringing session turn.waiting turn.now).view
 
 -- ## What follows as a turn ends
 

@@ -6,10 +6,10 @@ ghost use Rattle.sc_parts.specs.declared.setup.Setup.{Setup};
 ghost use Rattle.sc_state.specs.declared.host.Live.{Live};
 ghost use Rattle.sc_state.specs.declared.session.Session.{Session};
 ghost use Rattle.sc_hosts.specs.Histories.{History, as_history, as_session, session_of};
-ghost use Rattle.sc_hosts.specs.Runs.{IsLawful, chained};
+ghost use Rattle.sc_hosts.specs.Runs.{IsLawful, net_from};
 ghost use Rattle.sc_hosts.specs.Steps.{live_at};
 ghost use Rattle.sc_lasting.specs.Lasting.{All};
-ghost use Rattle.sc_lived.specs.Lived.{told};
+ghost use Rattle.sc_lived.specs.Lived.{turns_in};
 ghost use Rattle.sc_proxying.specs.Proxying.{HasItsList, HasLists, HaveLists};
 
 /// Each request that an application session proxies, and each later one that it passes on, has the
@@ -30,11 +30,11 @@ pub fn proxied_requests_have_their_lists()
         → All (HasItsList config history history.turns) (session_of config history).known.proxies }
     ensures history { (setup : Setup) (epoch began : ℕ) (journal : List Step) (app : AppId)
         (live : Live History) → IsLawful (as_history setup.config) setup epoch began journal
-        → live_at app (chained (as_history setup.config) setup epoch began journal) ≡ Some live
-        → HaveLists setup app (told app journal) live.session (session_of setup.config live.session)
+        → live_at app (net_from (as_history setup.config) setup epoch began journal) ≡ Some live
+        → HaveLists setup app (turns_in app journal) live.session (session_of setup.config live.session)
         live.inbox }
     ensures session { (setup : Setup) (epoch began : ℕ) (journal : List Step) (app : AppId)
         (live : Live Session) → IsLawful as_session setup epoch began journal
-        → live_at app (chained as_session setup epoch began journal) ≡ Some live
-        → HasLists setup app (told app journal) live.session live.inbox }
+        → live_at app (net_from as_session setup epoch began journal) ≡ Some live
+        → HasLists setup app (turns_in app journal) live.session live.inbox }
 {}

@@ -9,8 +9,8 @@ use Rattle.sc_state.specs.Hosts.{Host}
 use Rattle.sc_state.specs.declared.host.Live.{Live}
 use Rattle.sc_state.specs.declared.host.Peer.TheVariants as peers
 use Rattle.sc_state.specs.declared.net.Net.{Net}
-use Rattle.sc_hosts.specs.Arrivals.{host_takes, taken_at, arrived, sort_in, arrives_as}
-use Rattle.sc_hosts.specs.Nets.{host_at, named_host, placed}
+use Rattle.sc_hosts.specs.Arrivals.{host_takes, taken_at, after_arrival as arrived, sort_in, arrives_as}
+use Rattle.sc_hosts.specs.Nets.{host_at, named_host, with_host_after as placed}
 use Rattle.sc_hosts.specs.Sessions.{Form}
 use Rattle.sc_hosts.specs.Taking.{own_uri, named_live, queue_later, takes, server_for, sort_of, sort_at, taken_as}
 use Rattle.sc_reached.specs.Reached.{IsLater}

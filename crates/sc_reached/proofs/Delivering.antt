@@ -22,10 +22,10 @@ use Rattle.sc_state.specs.declared.queue.Queued.TheVariants as queued
 use Rattle.sc_model.specs.SessionStates.{invite}
 use Rattle.sc_hosts.specs.Inboxes.{is_full, is_live, queue, with_event}
 use Rattle.sc_hosts.specs.Messages.{trying_response}
-use Rattle.sc_hosts.specs.Nets.{placed, put, put_reply, deliver_at, deliver_entry, deliver_first}
+use Rattle.sc_hosts.specs.Nets.{with_host_after as placed, with_message as put, put_reply, deliver_at, deliver_entry, deliver_first}
 use Rattle.sc_hosts.specs.Sessions.{Form}
 use Rattle.sc_hosts.specs.Steps.{live_at, live_of}
-use Rattle.sc_hosts.specs.Taking.{named_live, own_tag, queue_later, unrouted, with_server, with_trying, takes, sort_of, sort_at, taken_as}
+use Rattle.sc_hosts.specs.Taking.{named_live, own_tag, queue_later, without_own_route as unrouted, with_server, with_trying, takes, sort_of, sort_at, taken_as}
 use Rattle.sc_hosts.specs.Transacting.{method_of}
 use Rattle.sc_hosts.specs.Words.{trying}
 use Rattle.sc_reached.specs.Reached.{IsDeliveredAlone, IsFirstFor, answered_at_once}

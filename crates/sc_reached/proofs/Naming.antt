@@ -9,7 +9,7 @@ use Rattle.sc_value.specs.declared.parts.Uri.{Uri}
 use Rattle.sc_tokens.specs.Names.{same_bytes}
 use Rattle.sc_state.specs.Hosts.{Host}
 use Rattle.sc_state.specs.declared.host.Live.{Live}
-use Rattle.sc_grammar.specs.Written.{Bytes}
+use Rattle.sc_tokens.specs.Bytes.{Bytes}
 use Rattle.sc_model.specs.Names.{IsOf64, ap_value}
 use Rattle.sc_model.proofs.Names.{ap_same}
 use Rattle.sc_hosts.specs.Inboxes.{is_live}

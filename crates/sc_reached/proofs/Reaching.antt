@@ -22,15 +22,15 @@ use Rattle.sc_state.specs.declared.host.Taken.{Taken}
 use Rattle.sc_state.specs.declared.net.Net.{Net}
 use Rattle.sc_state.specs.declared.queue.Queued.{Queued}
 use Rattle.sc_state.specs.declared.queue.Queued.TheVariants as queued
-use Rattle.sc_grammar.specs.Written.{Bytes}
+use Rattle.sc_tokens.specs.Bytes.{Bytes}
 use Rattle.sc_model.specs.SessionStates.{invite, ack}
-use Rattle.sc_hosts.specs.Inboxes.{is_live, live_in, is_full, quiet, queue, with_event, replying}
-use Rattle.sc_hosts.specs.Nets.{host_at, placed, put, put_reply}
+use Rattle.sc_hosts.specs.Inboxes.{is_live, live_in, is_full, without_answer as quiet, queue, with_event, replying}
+use Rattle.sc_hosts.specs.Nets.{host_at, with_host_after as placed, with_message as put, put_reply}
 use Rattle.sc_hosts.specs.Sessions.{Form}
-use Rattle.sc_hosts.specs.Steps.{live_at, live_of, stepped}
+use Rattle.sc_hosts.specs.Steps.{live_at, live_of, before_delivery as stepped}
 use Rattle.sc_hosts.specs.Messages.{trying_response}
 use Rattle.sc_hosts.specs.Words.{trying}
-use Rattle.sc_hosts.specs.Taking.{named_live, own_tag, queue_later, tried, unrouted, with_server, with_trying}
+use Rattle.sc_hosts.specs.Taking.{named_live, own_tag, queue_later, server_after_trying as tried, without_own_route as unrouted, with_server, with_trying}
 use Rattle.sc_hosts.specs.Transacting.{is_server, method_of}
 use Rattle.sc_once.proofs.Finding.{find-changed, find-other, slice_get-other}
 use Rattle.sc_reached.specs.Reached.{AreSmall, AllSmall, IsLaterFor, IsQueuedAlone}

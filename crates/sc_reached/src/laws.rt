@@ -12,8 +12,8 @@ ghost use Rattle.sc_state.specs.declared.session.Session.{Session};
 ghost use Rattle.sc_hosts.specs.Histories.{History};
 ghost use Rattle.sc_hosts.specs.Nets.{deliver_first};
 ghost use Rattle.sc_hosts.specs.Sessions.{Form};
-ghost use Rattle.sc_hosts.specs.Steps.{stepped};
-ghost use Rattle.sc_hosts.specs.Taking.{unrouted};
+ghost use Rattle.sc_hosts.specs.Steps.{before_delivery};
+ghost use Rattle.sc_hosts.specs.Taking.{without_own_route};
 ghost use Rattle.sc_reached.specs.Reached.{IsDeliveredAlone, IsFirstFor, IsLaterFor, IsQueuedAlone, answered_at_once};
 
 /// A request with a To tag that no transaction takes, and whose own URI, its top Route or else its
@@ -25,13 +25,13 @@ pub fn later_requests_reach_their_session()
     ensures session { (form : Form Session) (setup : Setup) (from : Place) (request : Request)
         (net : Net Session) (app : AppId) (live : Live Session)
         → IsLaterFor setup from request net app live
-        → IsQueuedAlone app live (queued.Request (unrouted setup.config request)) net
-        (stepped form setup (steps.In from (messages.Request request)) net) }
+        → IsQueuedAlone app live (queued.Request (without_own_route setup.config request)) net
+        (before_delivery form setup (steps.In from (messages.Request request)) net) }
     ensures history { (form : Form History) (setup : Setup) (from : Place) (request : Request)
         (net : Net History) (app : AppId) (live : Live History)
         → IsLaterFor setup from request net app live
-        → IsQueuedAlone app live (queued.Request (unrouted setup.config request)) net
-        (stepped form setup (steps.In from (messages.Request request)) net) }
+        → IsQueuedAlone app live (queued.Request (without_own_route setup.config request)) net
+        (before_delivery form setup (steps.In from (messages.Request request)) net) }
 {}
 
 /// Between hosts it is the same: where the first of the wire is such a request, its delivery queues
@@ -43,11 +43,11 @@ pub fn delivered_requests_reach_their_session()
     ensures session { (form : Form Session) (setup : Setup) (entry : Entry) (request : Request)
         (net : Net Session) (app : AppId) (live : Live Session)
         → IsFirstFor setup entry request net app live
-        → IsDeliveredAlone app live (queued.Request (unrouted setup.config request))
+        → IsDeliveredAlone app live (queued.Request (without_own_route setup.config request))
         (answered_at_once entry request) net (deliver_first form setup net) }
     ensures history { (form : Form History) (setup : Setup) (entry : Entry) (request : Request)
         (net : Net History) (app : AppId) (live : Live History)
         → IsFirstFor setup entry request net app live
-        → IsDeliveredAlone app live (queued.Request (unrouted setup.config request))
+        → IsDeliveredAlone app live (queued.Request (without_own_route setup.config request))
         (answered_at_once entry request) net (deliver_first form setup net) }
 {}

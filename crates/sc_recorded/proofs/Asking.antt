@@ -27,14 +27,14 @@ use Rattle.sc_state.specs.declared.working.Prepared.{Prepared}
 use Rattle.sc_state.specs.declared.working.Working.{Working}
 use Rattle.sc_state.specs.declared.working.Written.{Written}
 use Rattle.sc_model.specs.Dialogs.{DialogState}
-use Rattle.sc_hosts.specs.Branches.{stopped}
-use Rattle.sc_hosts.specs.Effects.{after_listed, begun}
+use Rattle.sc_hosts.specs.Branches.{without_search as stopped}
+use Rattle.sc_hosts.specs.Effects.{after_listed, first_play as begun}
 use Rattle.sc_hosts.specs.Giving.{directs, drafts_later, drafts_leg, drafts_own, forgets, writes}
 use Rattle.sc_hosts.specs.Legs.{change_leg}
 use Rattle.sc_hosts.specs.Looking.{request_in, same_request}
 use Rattle.sc_hosts.specs.Preparing.{kept_of}
 use Rattle.sc_hosts.specs.Refusals.{refusal}
-use Rattle.sc_hosts.specs.Working.{cancels, does, does_by, invalidates, keeps_sent, sends, sends_in, sends_initial, sends_later, sends_written, starts, worked, worked_all}
+use Rattle.sc_hosts.specs.Working.{cancels, effects_of_call as does, does_by, invalidates, keeps_sent, sends, sends_in, sends_initial, sends_later, sends_written, starts, after_one_call as worked, worked_all}
 use Rattle.sc_hosts.specs.Scripting.{is_refused}
 use Rattle.sc_walked.specs.SessionWalks.{IsKeptProxy}
 use Rattle.sc_walked.proofs.WalkCalls.{answering-known, worked_all-walks, acknowledges-known}

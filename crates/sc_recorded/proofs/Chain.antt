@@ -31,10 +31,10 @@ use Rattle.sc_lasting.proofs.Shared.{found-behind}
 use Rattle.sc_keyed.specs.Keyed.{IsOn}
 use Rattle.sc_keyed.proofs.ClientKeys.{app-is}
 use Rattle.sc_paths.specs.Moments.{Got, Moment, began_with, first_server, got_in, is_first_of, same_vias}
-use Rattle.sc_paths.specs.Pieces.{Dialog, Piece, is_branch_of, is_outside, is_sent_by, left_by, left_from, makes, received, vias_at}
+use Rattle.sc_paths.specs.Pieces.{Dialog, Piece, is_branch_of, is_outside, is_sent_by, left_by, left_from, makes, server_of_piece as received, vias_at}
 use Rattle.sc_ways.proofs.OneHop.{long-same}
 use Rattle.sc_ways.proofs.Callees.{first-by}
-use Rattle.sc_recorded.specs.Recorded.{IsInner, records, routed}
+use Rattle.sc_recorded.specs.Recorded.{IsInner, records, route_behind as routed}
 use Rattle.sc_recorded.proofs.Hosts.{IsServed}
 use Rattle.sc_recorded.proofs.SoundKinds.{IsOwn, IsSound, TakesTagged, beginning, sound-kinds}
 use Rattle.sc_recorded.proofs.Texts.{own-branch}

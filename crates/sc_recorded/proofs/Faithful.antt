@@ -16,12 +16,12 @@ use Rattle.sc_state.specs.declared.working.Play.{Play}
 use Rattle.sc_state.specs.declared.working.Prepared.{Prepared}
 use Rattle.sc_state.specs.declared.working.Working.{Working}
 use Rattle.sc_model.specs.Dialogs.{tag_of}
-use Rattle.sc_hosts.specs.Acting.{drafts_ended, faulted}
+use Rattle.sc_hosts.specs.Acting.{drafts_ended, after_fault as faulted}
 use Rattle.sc_hosts.specs.Branches.{new_proxy, records_route}
-use Rattle.sc_hosts.specs.Effects.{after_listed, begun}
+use Rattle.sc_hosts.specs.Effects.{after_listed, first_play as begun}
 use Rattle.sc_hosts.specs.Histories.{History, after_turn, session_after}
 use Rattle.sc_hosts.specs.Legs.{first_known, fresh}
-use Rattle.sc_hosts.specs.Preparing.{prepared}
+use Rattle.sc_hosts.specs.Preparing.{prepared_session as prepared}
 use Rattle.sc_hosts.specs.Sessions.{Turn}
 use Rattle.sc_hosts.specs.Working.{worked_all}
 use Rattle.sc_walked.specs.SessionWalks.{Each}

@@ -15,7 +15,7 @@ use Rattle.sc_state.specs.declared.session.Session.{Session}
 use Rattle.sc_hosts.specs.Histories.{as_session}
 use Rattle.sc_hosts.specs.Runs.{after_step}
 use Rattle.sc_hosts.specs.Transacting.{is_same_app}
-use Rattle.sc_lived.specs.Lived.{told, told_by}
+use Rattle.sc_lived.specs.Lived.{turns_in as told, told_by}
 use Rattle.sc_paths.specs.Moments.{Moment, moments_from, options_in, proxied_with}
 use Rattle.sc_ways.proofs.Directs.{flipped}
 use Rattle.sc_recorded.specs.Recorded.{records}
@@ -29,7 +29,7 @@ turn-asks false event now made end = refl
 
 step-asks : (app : AppId) (step : Step) → options_in app step ≡ asked_of (told_by app step)
 unfolding options_in told_by
-step-asks app (steps.Turn other event now made end) =
+step-asks app (steps.Turn end other event now made) =
     ap (λ (b : Bool). cond b (asked_in made) []) (flipped other app) ∙ turn-asks (is_same_app app other) event now made end
 step-asks app (steps.In from message) = refl
 step-asks app (steps.Bad from bad) = refl

@@ -15,8 +15,8 @@ use Rattle.sc_hosts.specs.Transacting.{is_same_app}
 use Rattle.sc_lasting.specs.Lasting.{All}
 use Rattle.sc_lasting.proofs.Shared.{all-front}
 use Rattle.sc_paths.specs.Moments.{Moment, same_vias}
-use Rattle.sc_paths.specs.Pieces.{Dialog, Piece, begins, first_received, goes_from, heads_at_end, is_outside, is_sent_by, left_from, received, record_routed, recorded, recorders, sessions_of, vias_at}
-use Rattle.sc_recorded.specs.Recorded.{IsRecorded, records, routed}
+use Rattle.sc_paths.specs.Pieces.{Dialog, Piece, begins, first_received, goes_from, heads_at_end, is_outside, is_sent_by, left_from, server_of_piece as received, record_routed, record_route_at_end as recorded, recorders, sessions_of, vias_at}
+use Rattle.sc_recorded.specs.Recorded.{IsRecorded, records, route_behind as routed}
 use Rattle.sc_recorded.proofs.Chain.{IsOfRun, left-routed, next-routed, sent}
 
 -- ## The list behind several sessions

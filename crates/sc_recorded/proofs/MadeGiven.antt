@@ -23,7 +23,7 @@ use Rattle.sc_state.specs.declared.working.Prepared.{Prepared}
 use Rattle.sc_state.specs.declared.working.Working.{Working}
 use Rattle.sc_model.specs.DialogRequests.{ack_request, later_head, later_request, next_request}
 use Rattle.sc_model.specs.Dialogs.{tag_of}
-use Rattle.sc_hosts.specs.Acting.{all_act, drafts_ended, faulted, is_request_event, passes_later}
+use Rattle.sc_hosts.specs.Acting.{all_act, drafts_ended, after_fault as faulted, is_request_event, passes_later}
 use Rattle.sc_hosts.specs.Branches.{records_route}
 use Rattle.sc_hosts.specs.Looking.{request_in}
 use Rattle.sc_hosts.specs.Messages.{asked_request, leg_request, on_branch, own_via, passed_request, proxied_request}
@@ -36,7 +36,7 @@ use Rattle.sc_given.proofs.GivenCalls.{worked_all-gives}
 use Rattle.sc_given.proofs.GivenEnds.{all_act-gives, before-gives}
 use Rattle.sc_given.proofs.GivenPassing.{passes_later-gives}
 use Rattle.sc_given.proofs.GivenShown.{prepared-kind}
-use Rattle.sc_recorded.specs.Recorded.{routed}
+use Rattle.sc_recorded.specs.Recorded.{route_behind as routed}
 
 -- it has neither Vias nor a Record-Route
 abbrev IsBare : Request → Type 0

@@ -18,14 +18,14 @@ use Rattle.sc_state.specs.declared.working.Play.{Play}
 use Rattle.sc_state.specs.declared.working.Prepared.{Prepared}
 use Rattle.sc_state.specs.declared.working.Working.{Working}
 use Rattle.sc_model.specs.Dialogs.{tag_of}
-use Rattle.sc_hosts.specs.Acting.{all_act, drafts_ended, faulted, is_request_event}
-use Rattle.sc_hosts.specs.Effects.{created_leg, proxied, with_draft}
-use Rattle.sc_hosts.specs.Finishing.{finished, outcome, outcome_of}
-use Rattle.sc_hosts.specs.Looking.{is_request, removed, request_in, same_request, unlinked}
-use Rattle.sc_hosts.specs.Preparing.{kept_of, prepared}
-use Rattle.sc_hosts.specs.PreparingRequests.{received}
+use Rattle.sc_hosts.specs.Acting.{all_act, drafts_ended, after_fault as faulted, is_request_event}
+use Rattle.sc_hosts.specs.Effects.{created_leg, view_with_targets as proxied, with_draft}
+use Rattle.sc_hosts.specs.Finishing.{after_all_calls as finished, outcome, outcome_of}
+use Rattle.sc_hosts.specs.Looking.{is_request, without_sip_session as removed, request_in, same_request, without_link as unlinked}
+use Rattle.sc_hosts.specs.Preparing.{kept_of, prepared_session as prepared}
+use Rattle.sc_hosts.specs.PreparingRequests.{with_received_request as received}
 use Rattle.sc_hosts.specs.Sessions.{Turn}
-use Rattle.sc_hosts.specs.ViewChanges.{linked, with_own_session}
+use Rattle.sc_hosts.specs.ViewChanges.{with_link as linked, with_own_session}
 use Rattle.sc_hosts.specs.Working.{worked_all}
 use Rattle.sc_walked.specs.SessionWalks.{SessionLaws}
 use Rattle.sc_walked.proofs.WalkCalls.{session_at}
@@ -38,7 +38,7 @@ use Rattle.sc_proxying.proofs.Rising.{IsNumbered}
 use Rattle.sc_proxying.proofs.Turns.{acting-walks, keeps-it, shown-req}
 use Rattle.sc_begun.specs.Begun.{IsFirst}
 use Rattle.sc_begun.proofs.FirstProxies.{AreProper, proper-law}
-use Rattle.sc_recorded.specs.Recorded.{IsTaggedEvent, routed}
+use Rattle.sc_recorded.specs.Recorded.{IsTaggedEvent, route_behind as routed}
 use Rattle.sc_recorded.proofs.Faithful.{AreRight, acting-right, all-faithful}
 use Rattle.sc_recorded.proofs.MadeGiven.{AreMade, all_act-made, before-made, passes_later-made, prepared-made, worked_all-made}
 use Rattle.sc_recorded.proofs.Settled.{SaysSo}

@@ -24,7 +24,7 @@ use Rattle.sc_model.specs.Names.{IsOf64}
 use Rattle.sc_hosts.specs.Histories.{History, as_history, as_session, session_of}
 use Rattle.sc_hosts.specs.Inboxes.{live_in}
 use Rattle.sc_hosts.specs.Nets.{host_at}
-use Rattle.sc_hosts.specs.Runs.{IsAllowed, IsLawful, IsLawfulFrom, MayTurn, after_step, chained, chained_from, quiet_host, shown, start}
+use Rattle.sc_hosts.specs.Runs.{IsAllowed, IsLawful, IsLawfulFrom, MayTurn, after_step, net_from as chained, chained_from, quiet_host, prepared_turn as shown, start}
 use Rattle.sc_hosts.specs.Sessions.{Form, Turn}
 use Rattle.sc_hosts.specs.Steps.{live_at, outcome_by, turn_of}
 use Rattle.sc_hosts.specs.Transacting.{is_same_app}
@@ -34,7 +34,7 @@ use Rattle.sc_forms.proofs.NetMaps.{host_at-maps}
 use Rattle.sc_lasting.specs.Lasting.{All, IsLife, IsOf}
 use Rattle.sc_lasting.proofs.Shared.{all-at}
 use Rattle.sc_ways.proofs.Directs.{told-append}
-use Rattle.sc_lived.specs.Lived.{AreOfOne, AreTaken, IsLived, MayTake, Told, told, told_by, told_of, told_turns, turned_events}
+use Rattle.sc_lived.specs.Lived.{AreOfOne, AreTaken, IsLived, MayTake, Told, turns_in as told, told_by, told_of, told_turns, turned_events}
 use Rattle.sc_lived.proofs.Accepted.{one-life}
 use Rattle.sc_lived.proofs.Sayings.{has-lived}
 use Rattle.sc_keyed.specs.Keyed.{AreOn, IsOn}
@@ -48,7 +48,7 @@ use Rattle.sc_begun.proofs.FirstTurns.{began-first}
 use Rattle.sc_vias.proofs.RunVias.{Hold, after-kept, live-named, start-kept}
 use Rattle.sc_ways.proofs.OneHop.{IsFine}
 use Rattle.sc_ways.proofs.Recorders.{found-small}
-use Rattle.sc_recorded.specs.Recorded.{IsTaggedEvent, routed}
+use Rattle.sc_recorded.specs.Recorded.{IsTaggedEvent, route_behind as routed}
 use Rattle.sc_recorded.proofs.Faithful.{lives-right}
 use Rattle.sc_recorded.proofs.Asking.{FirstSays, asked_in}
 use Rattle.sc_recorded.proofs.Hosts.{other-name, Good, IsLiveAs, IsReached, IsSent, IsServed}
@@ -152,8 +152,8 @@ module _ (setup : Setup) (epoch began : ℕ) (journal : List Step) (app : AppId)
   -- ## A turn
 
   module _ (before later : List Step) (known : Option Request) (kept : Kept known (Old before)) (lawful : IsLawful Form-of setup epoch began before) where
-    module _ (of : AppId) (event now : ℕ) (made : List CallRecord) (end : End) (is : before ++ steps.Turn of event now made end ∷ later ≡ journal)
-        (fine : IsFine setup epoch (record { before = New before; step = steps.Turn of event now made end; after = after_step as_session setup (New before) (steps.Turn of event now made end) }))
+    module _ (of : AppId) (event now : ℕ) (made : List CallRecord) (end : End) (is : before ++ steps.Turn end of event now made ∷ later ≡ journal)
+        (fine : IsFine setup epoch (record { before = New before; step = steps.Turn end of event now made; after = after_step as_session setup (New before) (steps.Turn end of event now made) }))
         (may : MayTurn Form-of setup (Old before) of event now made end)
         (live : Live History) (lives : live_at of (Old before) ≡ Some live) (waiting : Waiting) (at : slice_get live.inbox 0 ≡ Some waiting) where
       abbrev turn : Turn
@@ -237,10 +237,10 @@ module _ (setup : Setup) (epoch began : ℕ) (journal : List Step) (app : AppId)
             let mine : List ProxyOptions = asked_in made ++ [] in
             ap (λ (hs : List ProxyOptions). hs ++ asked_of (told app later)) (asked-both (told_turns live.session.turns) (told_of turn ∷ []) ∙ ap (λ (ts : List Told). asked_of ts ++ mine) lived.turns_are)
             ∙ append_assoc (asked_of (told app before)) mine (asked_of (told app later))
-            ∙ sym (ap (λ (ts : List Told). asked_of ts) (told-append before (steps.Turn of event now made end ∷ later) app)
-            ∙ asked-both (told app before) (told app (steps.Turn of event now made end ∷ later))
+            ∙ sym (ap (λ (ts : List Told). asked_of ts) (told-append before (steps.Turn end of event now made ∷ later) app)
+            ∙ asked-both (told app before) (told app (steps.Turn end of event now made ∷ later))
             ∙ ap (λ (hs : List ProxyOptions). asked_of (told app before) ++ hs)
-            (asked-both (told_by app (steps.Turn of event now made end)) (told app later) ∙ ap (λ (hs : List ProxyOptions). hs ++ asked_of (told app later)) (said (is_same_app app of) same-here)))
+            (asked-both (told_by app (steps.Turn end of event now made)) (told app later) ∙ ap (λ (hs : List ProxyOptions). hs ++ asked_of (told app later)) (said (is_same_app app of) same-here)))
             ∙ ap (λ (j : List Step). asked_of (told app j)) is
 
         -- the first call of those that proxied, up to this turn
@@ -287,7 +287,7 @@ module _ (setup : Setup) (epoch began : ℕ) (journal : List Step) (app : AppId)
         → IsFine setup epoch (record { before = New before; step = step; after = after_step as_session setup (New before) step }) → IsAllowed Form-of setup (Old before) step
         → StepFits Form-of app beginning TakesTagged Kind (sound-kinds setup.config epoch app stays) setup known (record (Old before) { sent = [] }) step
     unfolding StepFits IsAllowed turn_of
-    step-fits (steps.Turn of event now made end) is fine may = λ live waiting lives at. fits of event now made end is fine may live lives waiting at
+    step-fits (steps.Turn end of event now made) is fine may = λ live waiting lives at. fits of event now made end is fine may live lives waiting at
     step-fits (steps.In from message) is fine may = tt
     step-fits (steps.Bad from bad) is fine may = tt
     step-fits (steps.Lost place) is fine may = tt

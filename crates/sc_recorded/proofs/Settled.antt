@@ -22,14 +22,14 @@ use Rattle.sc_state.specs.declared.working.Draft.{Draft}
 use Rattle.sc_state.specs.declared.working.Play.{Play}
 use Rattle.sc_hosts.specs.Acting.{sent_proxy}
 use Rattle.sc_hosts.specs.Branches.{new_proxy, with_targets}
-use Rattle.sc_hosts.specs.Effects.{created_leg, proxied, proxied_request, sent_view, with_draft}
+use Rattle.sc_hosts.specs.Effects.{created_leg, view_with_targets as proxied, proxied_request, sent_view, with_draft}
 use Rattle.sc_hosts.specs.Legs.{new_leg}
-use Rattle.sc_hosts.specs.Looking.{is_request, removed, request_in, same_request, unlinked}
+use Rattle.sc_hosts.specs.Looking.{is_request, without_sip_session as removed, request_in, same_request, without_link as unlinked}
 use Rattle.sc_hosts.specs.Preparing.{kept_of, proxy_of}
-use Rattle.sc_hosts.specs.PreparingRequests.{next_id, received, request_view}
+use Rattle.sc_hosts.specs.PreparingRequests.{next_id, with_received_request as received, request_view}
 use Rattle.sc_hosts.specs.PreparingResponses.{change_proxy}
 use Rattle.sc_hosts.specs.Refusals.{refusal}
-use Rattle.sc_hosts.specs.ViewChanges.{linked, new_session, with_own_session}
+use Rattle.sc_hosts.specs.ViewChanges.{with_link as linked, new_session, with_own_session}
 use Rattle.sc_hosts.specs.Working.{event_of, proxies, proxies_first}
 use Rattle.sc_walked.specs.SessionWalks.{Brings, Each, IsKeptProxy, IsSameProxy, IsSameRequest, SessionLaws, sent_kept, with_legs}
 use Rattle.sc_walked.proofs.WalkParts.{each-first, same-proxy}

@@ -9,18 +9,18 @@ use Rattle.sc_value.specs.declared.parts.Via.{Via}
 use Rattle.sc_terms.specs.declared.settings.Config.{Config}
 use Rattle.sc_state.specs.declared.orders.Order.{Order}
 use Rattle.sc_state.specs.declared.orders.Order.TheVariants as orders
-use Rattle.sc_grammar.specs.Written.{Bytes}
+use Rattle.sc_tokens.specs.Bytes.{Bytes}
 use Rattle.sc_model.specs.Dialogs.{tag_of}
 use Rattle.sc_model.specs.Names.{IsOf64}
 use Rattle.sc_model.specs.OwnHosts.{is_own}
 use Rattle.sc_hosts.specs.Histories.{History, as_history, begun_history, turned_history}
 use Rattle.sc_hosts.specs.Messages.{kin}
-use Rattle.sc_hosts.specs.Taking.{unrouted}
+use Rattle.sc_hosts.specs.Taking.{without_own_route as unrouted}
 use Rattle.sc_hosts.specs.Transacting.{top_via}
 use Rattle.sc_lasting.specs.Lasting.{All}
 use Rattle.sc_keyed.specs.Keyed.{AreOn, IsOn}
 use Rattle.sc_paths.specs.Pieces.{is_branch_of}
-use Rattle.sc_recorded.specs.Recorded.{routed}
+use Rattle.sc_recorded.specs.Recorded.{route_behind as routed}
 use Rattle.sc_recorded.proofs.Faithful.{AreTagged}
 use Rattle.sc_recorded.proofs.Hosts.{AreKinds}
 use Rattle.sc_recorded.proofs.MadeGiven.{AreMade, IsMadeOf, IsMadeOrder}

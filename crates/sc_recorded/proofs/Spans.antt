@@ -23,13 +23,13 @@ use Rattle.sc_state.specs.declared.working.Play.{Play}
 use Rattle.sc_state.specs.declared.working.Prepared.{Prepared}
 use Rattle.sc_state.specs.declared.working.Working.{Working}
 use Rattle.sc_model.specs.Settings.{charters_of}
-use Rattle.sc_hosts.specs.Acting.{all_act, drafts_ended, faulted, is_request_event, passes_later}
-use Rattle.sc_hosts.specs.Effects.{after_listed, answer_by, answer_of, begun}
-use Rattle.sc_hosts.specs.Finishing.{finished, is_ended, is_session_ready, lightened, outcome, outcome_of, session_in_play, swept, swept_one, without_acks}
+use Rattle.sc_hosts.specs.Acting.{all_act, drafts_ended, after_fault as faulted, is_request_event, passes_later}
+use Rattle.sc_hosts.specs.Effects.{after_listed, answer_by, answer_of, first_play as begun}
+use Rattle.sc_hosts.specs.Finishing.{after_all_calls as finished, is_ended, is_session_ready, without_unneeded as lightened, outcome, outcome_of, session_in_play, swept, swept_one, without_acks}
 use Rattle.sc_hosts.specs.Histories.{History, after_turn, session_after, session_of}
 use Rattle.sc_hosts.specs.Legs.{FIRST_SESSION, first_known, first_view, fresh}
-use Rattle.sc_hosts.specs.Looking.{removed}
-use Rattle.sc_hosts.specs.Preparing.{prepared, prepared_for}
+use Rattle.sc_hosts.specs.Looking.{without_sip_session as removed}
+use Rattle.sc_hosts.specs.Preparing.{prepared_session as prepared, prepared_for}
 use Rattle.sc_hosts.specs.PreparingRequests.{request_view, showing}
 use Rattle.sc_hosts.specs.Refusals.{refusal}
 use Rattle.sc_hosts.specs.Scripting.{IsAnsweredFrom, is_refused}

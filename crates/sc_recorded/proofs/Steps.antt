@@ -35,17 +35,17 @@ use Rattle.sc_state.specs.declared.orders.Outcome.{Outcome}
 use Rattle.sc_state.specs.declared.queue.Queued.TheVariants as queued
 use Rattle.sc_state.specs.declared.queue.Waiting.{Waiting}
 use Rattle.sc_state.specs.declared.session.Session.{Session}
-use Rattle.sc_grammar.specs.Written.{Bytes}
+use Rattle.sc_tokens.specs.Bytes.{Bytes}
 use Rattle.sc_model.specs.Timers.{DueEntry}
 use Rattle.sc_hosts.proofs.EachSort.{arrives-each}
-use Rattle.sc_hosts.specs.Arrivals.{host_takes, taken_at, edge_answer, begins_by, initial_arrives, response_by, arrived, bad_by}
+use Rattle.sc_hosts.specs.Arrivals.{host_takes, taken_at, edge_answer, begins_by, initial_arrives, response_by, after_arrival as arrived, bad_by}
 use Rattle.sc_hosts.specs.Inboxes.{is_live, live_in}
-use Rattle.sc_hosts.specs.Nets.{change_host, host_at, put}
+use Rattle.sc_hosts.specs.Nets.{change_host, host_at, with_message as put}
 use Rattle.sc_hosts.specs.Routes.{unrouted_initial, popped_route, without_top}
 use Rattle.sc_hosts.specs.Runs.{HasVia, IsAllowed, after_step}
 use Rattle.sc_hosts.specs.Sessions.{Form, Turn}
-use Rattle.sc_hosts.specs.Steps.{closed_turn, invalidated, live_at, outcome_by, stepped, turn_of, turned, turned_live, turns, turns_first, with_ready, withdrawn, without_live}
-use Rattle.sc_hosts.specs.Ticks.{told_at, passes, clients_to, lost, Dated, DueItem, Of_session, Of_client, Of_server, mark_fired, fires, due_items, ticked}
+use Rattle.sc_hosts.specs.Steps.{closed_turn, without_application as invalidated, live_at, outcome_by, before_delivery as stepped, turn_of, net_after_turn as turned, turned_live, turns, turns_first, with_ready, withdrawn, without_live}
+use Rattle.sc_hosts.specs.Ticks.{told_at, passes, clients_to, net_after_loss as lost, Dated, DueItem, Of_session, Of_client, Of_server, mark_fired, fires, due_items, net_after_tick as ticked}
 use Rattle.sc_hosts.specs.Transacting.{tidied}
 use Rattle.sc_hosts.specs.Words.{unavailable}
 use Rattle.sc_lasting.specs.Lasting.{All}
@@ -294,7 +294,7 @@ module _ {S : Type 0} (form : Form S) (app : AppId) (request_of : S → Request)
 
   -- what the turn of a step gives to send is of the kind
   unfoldable pub StepFits : Option Request → Net S → Step → Type 0
-  StepFits known net (steps.Turn of event now made end) =
+  StepFits known net (steps.Turn end of event now made) =
       (live : Live S) (waiting : Waiting) → live_at of net ≡ Some live → slice_get live.inbox 0 ≡ Some waiting
       → All (Ordered known) (outcome_by form setup.config live.session (turn_of net of waiting now made end)).orders
   StepFits known net step = Unit {0}
@@ -338,7 +338,7 @@ module _ {S : Type 0} (form : Form S) (app : AppId) (request_of : S → Request)
   stepped-goes known (steps.Bad from bad) origin net may fits kept = stays known _ (bad_by-kept known setup.config from bad.heads net kept)
   stepped-goes known (steps.Lost place) origin net may fits kept = stays known _ (lost-kept known setup.config place net kept)
   stepped-goes known (steps.Tick now) origin net may fits kept = stays known _ (ticked-kept known setup.config now net kept)
-  stepped-goes known (steps.Turn of event now made end) origin net may fits kept = stays known _ (turns-kept known of _ now made end net refl fits kept)
+  stepped-goes known (steps.Turn end of event now made) origin net may fits kept = stays known _ (turns-kept known of _ now made end net refl fits kept)
   stepped-goes known (steps.Withdraw of) origin net may fits kept = stays known _ (withdrawn-kept known of _ net kept)
 
   pub step-goes : (known : Option Request) (step : Step) (net : Net S) → IsAllowed form setup net step → StepFits known (record net { sent = [] }) step → Kept known net

@@ -7,7 +7,7 @@ use Rattle.std.proofs.lemmas.List.{append_cancel_left}
 use Rattle.std.proofs.lemmas.Slice.Eq.{starts_is}
 use Rattle.sc_value.specs.declared.ids.AppId.{AppId}
 use Rattle.sc_terms.specs.declared.settings.Config.{Config}
-use Rattle.sc_grammar.specs.Written.{Bytes}
+use Rattle.sc_tokens.specs.Bytes.{Bytes}
 use Rattle.sc_model.specs.Names.{IsOf64, app_text, branch_cookie, branch_text, mark_text, tag_text}
 use Rattle.sc_model.proofs.Names.{counted_is, lacks_decimal, parted_same}
 use Rattle.sc_hosts.specs.Messages.{own_via}

@@ -10,7 +10,7 @@ use Rattle.sc_state.specs.declared.net.Net.{Net}
 use Rattle.sc_state.specs.declared.session.Session.{Session}
 use Rattle.sc_model.specs.Names.{IsOf64}
 use Rattle.sc_hosts.specs.Histories.{as_session}
-use Rattle.sc_hosts.specs.Runs.{IsLawful, chained, start}
+use Rattle.sc_hosts.specs.Runs.{IsLawful, net_from as chained, start}
 use Rattle.sc_forms.proofs.HistoryLaws.{lawful_back-histories}
 use Rattle.sc_lasting.specs.Lasting.{All}
 use Rattle.sc_lasting.proofs.Parts.{all-map}
@@ -18,7 +18,7 @@ use Rattle.sc_keyed.proofs.KeyedNets.{AllKeyed}
 use Rattle.sc_keyed.proofs.KeyedRuns.{session-keyed}
 use Rattle.sc_keyed.proofs.KeyedTurns.{NoTurn}
 use Rattle.sc_paths.specs.Moments.{Moment, moments}
-use Rattle.sc_paths.specs.Pieces.{Dialog, IsPiece, Piece, begins, first_received, goes_from, goes_on, is_outside, listed, received, sessions_of}
+use Rattle.sc_paths.specs.Pieces.{Dialog, IsPiece, Piece, begins, first_received, goes_from, goes_on, is_outside, list_of_option as listed, server_of_piece as received, sessions_of}
 use Rattle.sc_ways.specs.Ways.{AreSmallNames}
 use Rattle.sc_ways.proofs.Callees.{callee-small}
 use Rattle.sc_ways.proofs.OneHop.{IsFine}

@@ -17,14 +17,14 @@ use Rattle.sc_model.specs.Dialogs.{tag_of}
 use Rattle.sc_hosts.specs.Messages.{own_address}
 use Rattle.sc_lasting.specs.Lasting.{All}
 use Rattle.sc_paths.specs.Moments.{Moment, proxied_with}
-use Rattle.sc_paths.specs.Pieces.{Dialog, Piece, heads_at_end, received, record_routed}
+use Rattle.sc_paths.specs.Pieces.{Dialog, Piece, heads_at_end, record_routed, server_of_piece}
 
 -- ## On the way
 
 -- what a Record-Route list is behind a session: with its own URI in front where it stays on the
 -- path, else as it was
-unfoldable pub routed : Config → ℕ → AppId → Bool → List Address → List Address
-routed config epoch app stays routes =
+unfoldable pub route_behind : Config → ℕ → AppId → Bool → List Address → List Address
+route_behind config epoch app stays routes =
     if stays then own_address config epoch app ∷ routes else routes
 
 -- the session stays on the path of what it proxied: the first of its calls that proxied and was
@@ -55,5 +55,5 @@ pub record IsRecorded (setup : Setup) (epoch : ℕ) (run : List Moment) (dialog 
       → All (λ (head : Head). head.record_route ≡ record_routed setup.config epoch run piece)
       (heads_at_end setup run dialog piece)
   pub comes : (app : AppId) (server : Server) → piece.callee ≡ Some app
-      → received run piece app ≡ Some server
+      → server_of_piece run piece app ≡ Some server
       → server.request.head.record_route ≡ record_routed setup.config epoch run piece

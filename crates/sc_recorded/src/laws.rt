@@ -2,7 +2,7 @@ ghost use Rattle.std.specs.Prelude.{ℕ, List};
 ghost use Rattle.sc_terms.specs.declared.steps.Step.{Step};
 ghost use Rattle.sc_parts.specs.declared.setup.Setup.{Setup};
 ghost use Rattle.sc_hosts.specs.Histories.{as_history, as_session};
-ghost use Rattle.sc_hosts.specs.Runs.{IsLawful, chained};
+ghost use Rattle.sc_hosts.specs.Runs.{IsLawful, net_from};
 ghost use Rattle.sc_paths.specs.Moments.{moments};
 ghost use Rattle.sc_paths.specs.Pieces.{Dialog, IsPiece, Piece};
 ghost use Rattle.sc_ways.specs.Ways.{AreSmallNames};
@@ -21,11 +21,11 @@ pub fn invites_record_their_way()
     ensures session { (setup : Setup) (epoch began : ℕ) (journal : List Step) (dialog : Dialog)
         (piece : Piece) → IsLawful as_session setup epoch began journal
         → IsPiece setup epoch (moments setup epoch began journal) dialog piece
-        → AreSmallNames setup epoch (chained as_session setup epoch began journal) piece
+        → AreSmallNames setup epoch (net_from as_session setup epoch began journal) piece
         → IsRecorded setup epoch (moments setup epoch began journal) dialog piece }
     ensures history { (setup : Setup) (epoch began : ℕ) (journal : List Step) (dialog : Dialog)
         (piece : Piece) → IsLawful (as_history setup.config) setup epoch began journal
         → IsPiece setup epoch (moments setup epoch began journal) dialog piece
-        → AreSmallNames setup epoch (chained as_session setup epoch began journal) piece
+        → AreSmallNames setup epoch (net_from as_session setup epoch began journal) piece
         → IsRecorded setup epoch (moments setup epoch began journal) dialog piece }
 {}

@@ -9,7 +9,7 @@ use Rattle.std.proofs.lemmas.Option.{none-some}
 use Rattle.sc_edge.specs.declared.listing.Listing.{Listing}
 use Rattle.sc_edge.specs.declared.notice.Noted.{Noted}
 use Rattle.sc_edge.specs.declared.notice.Noted.TheVariants as noted
-use Rattle.sc_grammar.specs.Written.{Bytes}
+use Rattle.sc_tokens.specs.Bytes.{Bytes}
 use Rattle.sc_journal.specs.Kept.{Kept}
 use Rattle.sc_recording.specs.StepTexts.{epoch_text, steps_text}
 use Rattle.sc_terms.specs.declared.steps.Step.{Step}

@@ -1,7 +1,7 @@
 -- What a recorder's sink took. Recordings are this project's own.
 use Rattle.std.specs.Prelude.{◌≡◌, ℕ, List, [], ◌++◌, take, Option, None, Some, Result, Ok, Err, ⊤}
 use Rattle.std.specs.List.{flat_map}
-use Rattle.sc_grammar.specs.Written.{Bytes}
+use Rattle.sc_tokens.specs.Bytes.{Bytes}
 use Rattle.sc_edge.specs.Taking.{Takes, TakesPart}
 use Rattle.sc_edge.specs.Telling.{IsTold}
 use Rattle.sc_edge.specs.declared.notice.Noted.{Noted}

@@ -25,7 +25,8 @@ use Rattle.sc_terms.specs.declared.calls.Refusal.TheVariants as refusals
 use Rattle.sc_terms.specs.declared.calls.CallAnswer.{CallAnswer}
 use Rattle.sc_terms.specs.declared.calls.CallAnswer.TheVariants as answers
 use Rattle.sc_terms.specs.declared.calls.CallRecord.{CallRecord}
-use Rattle.sc_grammar.specs.Written.{Bytes, address_text, contact_text, uri_text}
+use Rattle.sc_tokens.specs.Bytes.{Bytes}
+use Rattle.sc_grammar.specs.Written.{address_text, contact_text, uri_text}
 
 -- ## Longer words
 
@@ -64,22 +65,22 @@ wrong_state_word = codes "wrong_state"
 -- ## The parts of a line, each behind a blank
 
 -- a number
-unfoldable pub numbered : ℕ → Bytes
-numbered n = 32 ∷ decimal n
+unfoldable pub decimal_text : ℕ → Bytes
+decimal_text n = 32 ∷ decimal n
 
 -- a number that may be missing
 unfoldable pub numbered_or : Option ℕ → Bytes
 numbered_or None = codes " -"
-numbered_or (Some n) = numbered n
+numbered_or (Some n) = decimal_text n
 
 -- a number of either sign
-unfoldable pub signed : ℤ → Bytes
-signed (pos n) = numbered n
-signed (negsuc n) = codes " -" ++ decimal (n + 1)
+unfoldable pub integer_text : ℤ → Bytes
+integer_text (pos n) = decimal_text n
+integer_text (negsuc n) = codes " -" ++ decimal (n + 1)
 
 -- a text of any bytes: how many they are, a colon, and the bytes
-unfoldable pub sized : Bytes → Bytes
-sized text = numbered (length text) ++ codes ":" ++ text
+unfoldable pub text_with_length : Bytes → Bytes
+text_with_length text = decimal_text (length text) ++ codes ":" ++ text
 
 -- a flag
 unfoldable pub flag_text : Bool → Bytes
@@ -89,31 +90,31 @@ flag_text false = codes " no"
 -- a URI that may be missing
 unfoldable pub uri_or : Option Uri → Bytes
 uri_or None = codes " -"
-uri_or (Some uri) = sized (uri_text uri)
+uri_or (Some uri) = text_with_length (uri_text uri)
 
 -- a URI
 unfoldable pub uri_part : Uri → Bytes
-uri_part uri = sized (uri_text uri)
+uri_part uri = text_with_length (uri_text uri)
 
 -- an item of a Contact
 unfoldable pub contact_part : Contact → Bytes
-contact_part contact = sized (contact_text contact)
+contact_part contact = text_with_length (contact_text contact)
 
 -- a header without structure
 unfoldable pub field_part : Field → Bytes
-field_part field = sized field.name ++ sized field.value
+field_part field = text_with_length field.name ++ text_with_length field.value
 
 -- how many there are, and each of them
 unfoldable pub uris_text : List Uri → Bytes
-uris_text uris = numbered (length uris) ++ flat_map uri_part uris
+uris_text uris = decimal_text (length uris) ++ flat_map uri_part uris
 
 -- how many there are, and each of them
 unfoldable pub contacts_text : List Contact → Bytes
-contacts_text contacts = numbered (length contacts) ++ flat_map contact_part contacts
+contacts_text contacts = decimal_text (length contacts) ++ flat_map contact_part contacts
 
 -- how many there are, and each of them
 unfoldable pub fields_text : List Field → Bytes
-fields_text fields = numbered (length fields) ++ flat_map field_part fields
+fields_text fields = decimal_text (length fields) ++ flat_map field_part fields
 
 -- how the router goes on
 unfoldable pub directive_text : Directive → Bytes
@@ -124,13 +125,13 @@ directive_text directives.Reverse = codes " reverse"
 -- when a timer fires again, in milliseconds
 unfoldable pub period_text : Period → Bytes
 period_text periods.Once = codes " once"
-period_text (periods.Rate ms) = codes " rate" ++ numbered ms
-period_text (periods.Delay ms) = codes " delay" ++ numbered ms
+period_text (periods.Rate ms) = codes " rate" ++ decimal_text ms
+period_text (periods.Delay ms) = codes " delay" ++ decimal_text ms
 
 -- what a flag is set of
 unfoldable pub target_text : Target → Bytes
 target_text targets.Application = codes " application"
-target_text (targets.Session sess) = codes " session" ++ numbered sess.0
+target_text (targets.Session sess) = codes " session" ++ decimal_text sess.0
 
 -- whether all are tried at once, contacts of a 3xx are tried too, the application is told of
 -- responses, and it stays on the path of later requests
@@ -141,13 +142,13 @@ flags_text options =
 
 -- how a request is proxied: four flags, and the seconds of a branch
 unfoldable pub options_text : ProxyOptions → Bytes
-options_text options = flags_text options ++ numbered options.timeout
+options_text options = flags_text options ++ decimal_text options.timeout
 
 -- a response that is given: code, reason, fields, Contacts, body
 unfoldable pub given_text : Answer → Bytes
 given_text answer =
-    numbered answer.code ++ sized answer.reason ++ fields_text answer.fields
-    ++ contacts_text answer.contact ++ sized answer.body
+    decimal_text answer.code ++ text_with_length answer.reason ++ fields_text answer.fields
+    ++ contacts_text answer.contact ++ text_with_length answer.body
 
 -- the number of a request that may be missing
 unfoldable pub number_or : Option ReqId → Option ℕ
@@ -161,24 +162,26 @@ origin_of ask = number_or ask.origin
 -- the addresses of a request that is made, and how the router goes on for it
 unfoldable pub routed_text : Ask → Bytes
 routed_text ask =
-    sized (uri_text ask.uri) ++ sized (address_text ask.from) ++ sized (address_text ask.to)
+    text_with_length (uri_text ask.uri) ++ text_with_length (address_text ask.from)
+    ++ text_with_length (address_text ask.to)
     ++ directive_text ask.directive ++ numbered_or (origin_of ask)
 
 -- a request that is made: method, addresses, fields, Contacts, body
 unfoldable pub ask_text : Ask → Bytes
 ask_text ask =
-    sized ask.method ++ routed_text ask ++ fields_text ask.fields ++ contacts_text ask.contact
-    ++ sized ask.body
+    text_with_length ask.method ++ routed_text ask ++ fields_text ask.fields
+    ++ contacts_text ask.contact
+    ++ text_with_length ask.body
 
 -- a request in a dialog: method, fields, body
 unfoldable pub inside_text : Inside → Bytes
-inside_text ask = sized ask.method ++ fields_text ask.fields ++ sized ask.body
+inside_text ask = text_with_length ask.method ++ fields_text ask.fields ++ text_with_length ask.body
 
 -- ## The calls
 
 -- the name of a call and the number of what it acts on
 unfoldable pub acting_on : Bytes → ℕ → Bytes
-acting_on name n = name ++ numbered n
+acting_on name n = name ++ decimal_text n
 
 -- a call with its arguments
 unfoldable pub call_text : Call → Bytes
@@ -192,20 +195,21 @@ call_text (calls.SetDirective draft directive origin) =
     ++ numbered_or (number_or origin)
 call_text (calls.Send draft) = acting_on (codes "send") draft
 call_text (calls.Discard draft) = acting_on (codes "discard") draft
-call_text (calls.Ack sess body) = acting_on (codes "ack") sess.0 ++ sized body
+call_text (calls.Ack sess body) = acting_on (codes "ack") sess.0 ++ text_with_length body
 call_text (calls.Cancel req) = acting_on (codes "cancel") req.0
 call_text (calls.ProxyTo req uris options) =
     acting_on (codes "proxy_to") req.0 ++ options_text options ++ uris_text uris
 call_text (calls.ProxyCancel req) = acting_on (codes "proxy_cancel") req.0
 call_text (calls.B2bRespond sess answer) = acting_on b2b_respond_word sess.0 ++ given_text answer
-call_text (calls.Link a b) = acting_on (codes "link") a.0 ++ numbered b.0
+call_text (calls.Link a b) = acting_on (codes "link") a.0 ++ decimal_text b.0
 call_text (calls.Unlink a) = acting_on (codes "unlink") a.0
 call_text (calls.StartTimer delay period info) =
-    acting_on (codes "start_timer") delay ++ period_text period ++ sized info
+    acting_on (codes "start_timer") delay ++ period_text period ++ text_with_length info
 call_text (calls.CancelTimer id) = acting_on (codes "cancel_timer") id.0
-call_text (calls.SetAttribute name value) = set_attribute_word ++ sized name ++ sized value
-call_text (calls.RemoveAttribute name) = codes "remove_attribute" ++ sized name
-call_text (calls.SetExpires minutes) = codes "set_expires" ++ signed minutes
+call_text (calls.SetAttribute name value) =
+    set_attribute_word ++ text_with_length name ++ text_with_length value
+call_text (calls.RemoveAttribute name) = codes "remove_attribute" ++ text_with_length name
+call_text (calls.SetExpires minutes) = codes "set_expires" ++ integer_text minutes
 call_text (calls.SetReadyFlag target flag) =
     set_ready_flag_word ++ target_text target ++ flag_text flag
 call_text (calls.InvalidateSession sess) = acting_on invalidate_session_word sess.0

@@ -11,13 +11,14 @@ use Rattle.sc_terms.specs.declared.calls.End.TheVariants as ends
 use Rattle.sc_terms.specs.declared.steps.Bad.{Bad}
 use Rattle.sc_terms.specs.declared.steps.Step.{Step}
 use Rattle.sc_terms.specs.declared.steps.Step.TheVariants as steps
-use Rattle.sc_grammar.specs.Written.{Bytes, address_text, cseq_text, line, via_line, written}
+use Rattle.sc_tokens.specs.Bytes.{Bytes}
+use Rattle.sc_grammar.specs.Written.{address_text, cseq_text, line, text_of_message, via_line}
 use Rattle.sc_model.specs.Records.{place_text}
-use Rattle.sc_recording.specs.CallTexts.{calls_text, numbered}
+use Rattle.sc_recording.specs.CallTexts.{calls_text, decimal_text}
 
 -- how many bytes follow, the end of the line, these bytes, and one line feed
 unfoldable pub followed_by : Bytes → Bytes
-followed_by text = numbered (length text) ++ 10 ∷ [] ++ text ++ 10 ∷ []
+followed_by text = decimal_text (length text) ++ 10 ∷ [] ++ text ++ 10 ∷ []
 
 -- From, To, Call-ID and CSeq, of which an answer is made (RFC 3261 section 8.2.6.2)
 unfoldable pub peers_text : AnswerableValue → Bytes
@@ -36,7 +37,7 @@ heads_or (Some heads) = heads_text heads
 
 -- the application's place in the configuration, and the session's number there
 unfoldable pub app_text : AppId → Bytes
-app_text app = numbered app.host ++ numbered app.serial
+app_text app = decimal_text app.host ++ decimal_text app.serial
 
 -- how a turn ended
 unfoldable pub ending_text : End → Bytes
@@ -47,20 +48,21 @@ ending_text ends.Starved = codes " starved"
 -- what of a turn stands on its line: the session, the event, the moment, the end
 unfoldable pub turn_text : AppId → ℕ → ℕ → End → Bytes
 turn_text app event now end =
-    codes "turn" ++ app_text app ++ numbered event ++ numbered now ++ ending_text end
+    codes "turn" ++ app_text app ++ decimal_text event ++ decimal_text now ++ ending_text end
 
 -- where and how a text is no message
 unfoldable pub bad_text : Place → Bad → Bytes
-bad_text place bad = codes "bad " ++ place_text place ++ numbered bad.at ++ numbered bad.kind
+bad_text place bad =
+    codes "bad " ++ place_text place ++ decimal_text bad.at ++ decimal_text bad.kind
 
 -- a step
 unfoldable pub step_text : Step → Bytes
 step_text (steps.In place message) =
-    codes "in " ++ place_text place ++ followed_by (written message)
+    codes "in " ++ place_text place ++ followed_by (text_of_message message)
 step_text (steps.Bad place bad) = bad_text place bad ++ followed_by (heads_or bad.heads)
 step_text (steps.Lost place) = codes "lost " ++ place_text place ++ 10 ∷ []
-step_text (steps.Tick now) = codes "tick" ++ numbered now ++ 10 ∷ []
-step_text (steps.Turn app event now calls end) =
+step_text (steps.Tick now) = codes "tick" ++ decimal_text now ++ 10 ∷ []
+step_text (steps.Turn end app event now calls) =
     turn_text app event now end ++ followed_by (calls_text calls)
 step_text (steps.Withdraw app) = codes "drop" ++ app_text app ++ 10 ∷ []
 
@@ -70,4 +72,4 @@ steps_text journal = flat_map step_text journal
 
 -- the epoch of this number, which began at this moment, ends here
 unfoldable pub epoch_text : ℕ → ℕ → Bytes
-epoch_text number began = codes "epoch" ++ numbered number ++ numbered began ++ 10 ∷ []
+epoch_text number began = codes "epoch" ++ decimal_text number ++ decimal_text began ++ 10 ∷ []

@@ -1,7 +1,7 @@
 //! What the calls of a turn answered.
 
 ghost use Rattle.std.specs.Prelude.{◌≡◌, ◌++◌, OnOk};
-ghost use Rattle.sc_recording.specs.CallTexts.{wrong_state_word, acting_on, answer_text, refusal_text, state_text};
+ghost use Rattle.sc_recording.specs.CallTexts.{acting_on, answer_text, refusal_text, state_text, wrong_state_word};
 
 use crate::parts::{put_acting, put_number};
 use crate::words;

@@ -1,7 +1,7 @@
 //! The calls of a turn.
 
 ghost use Rattle.std.specs.Prelude.{◌≡◌, ◌++◌, codes, IfOk, OnOk};
-ghost use Rattle.sc_recording.specs.CallTexts.{create_in_dialog_word, create_request_word, set_attribute_word, set_ready_flag_word, acting_on, ask_text, call_line, call_text, calls_text, directive_text, flag_text, flags_text, given_text, inside_text, number_or, numbered, numbered_or, options_text, origin_of, period_text, routed_text, signed, sized, target_text, uri_or, uris_text};
+ghost use Rattle.sc_recording.specs.CallTexts.{acting_on, ask_text, call_line, call_text, calls_text, create_in_dialog_word, create_request_word, decimal_text, directive_text, flag_text, flags_text, given_text, inside_text, integer_text, number_or, numbered_or, options_text, origin_of, period_text, routed_text, set_attribute_word, set_ready_flag_word, target_text, text_with_length, uri_or, uris_text};
 
 use crate::answers::put_answer;
 use crate::forms::{Form, put_items};
@@ -177,7 +177,8 @@ fn put_directive(directive: Directive, out: &mut Text) -> Result<(), NoMemory>
 }
 
 fn put_ack(sess: u32, body: &Text, out: &mut Text) -> Result<(), NoMemory>
-    ensures { OnOk result (out.new ≡ out.old ++ (acting_on (codes "ack") sess ++ sized body.now)) }
+    ensures { OnOk result
+        (out.new ≡ out.old ++ (acting_on (codes "ack") sess ++ text_with_length body.now)) }
 {
     put_acting(b"ack", sess, out)?;
     put_sized(body.as_bytes(), out)
@@ -220,7 +221,7 @@ fn put_flags(options: ProxyOptions, out: &mut Text) -> Result<(), NoMemory>
 }
 
 fn put_link(a: u32, b: u32, out: &mut Text) -> Result<(), NoMemory>
-    ensures { OnOk result (out.new ≡ out.old ++ (acting_on (codes "link") a ++ numbered b)) }
+    ensures { OnOk result (out.new ≡ out.old ++ (acting_on (codes "link") a ++ decimal_text b)) }
 {
     put_acting(b"link", a, out)?;
     put_number(u64::from(b), out)
@@ -230,7 +231,7 @@ fn put_timer(delay: u32, period: Period, info: &Text, out: &mut Text) -> Result<
     ensures { OnOk result
         (out.new
         ≡ out.old
-        ++ (acting_on (codes "start_timer") delay ++ period_text period ++ sized info.now)) }
+        ++ (acting_on (codes "start_timer") delay ++ period_text period ++ text_with_length info.now)) }
 {
     put_acting(b"start_timer", delay, out)?;
     put_period(period, out)?;
@@ -250,7 +251,7 @@ fn put_period(period: Period, out: &mut Text) -> Result<(), NoMemory>
 
 fn put_attribute(name: &Text, value: &Text, out: &mut Text) -> Result<(), NoMemory>
     ensures { OnOk result
-        (out.new ≡ out.old ++ (set_attribute_word ++ sized name.now ++ sized value.now)) }
+        (out.new ≡ out.old ++ (set_attribute_word ++ text_with_length name.now ++ text_with_length value.now)) }
 {
     out.append(words::set_attribute())?;
     put_sized(name.as_bytes(), out)?;
@@ -258,14 +259,15 @@ fn put_attribute(name: &Text, value: &Text, out: &mut Text) -> Result<(), NoMemo
 }
 
 fn put_removed(name: &Text, out: &mut Text) -> Result<(), NoMemory>
-    ensures { OnOk result (out.new ≡ out.old ++ (codes "remove_attribute" ++ sized name.now)) }
+    ensures { OnOk result
+        (out.new ≡ out.old ++ (codes "remove_attribute" ++ text_with_length name.now)) }
 {
     out.append(b"remove_attribute")?;
     put_sized(name.as_bytes(), out)
 }
 
 fn put_expires(minutes: i32, out: &mut Text) -> Result<(), NoMemory>
-    ensures { OnOk result (out.new ≡ out.old ++ (codes "set_expires" ++ signed minutes)) }
+    ensures { OnOk result (out.new ≡ out.old ++ (codes "set_expires" ++ integer_text minutes)) }
 {
     out.append(b"set_expires")?;
     put_signed_number(minutes, out)

@@ -2,7 +2,7 @@
 
 ghost use Rattle.std.specs.Prelude.{◌≡◌, ◌++◌, OnOk};
 ghost use Rattle.sc_grammar.specs.Written.{address_text, contact_text};
-ghost use Rattle.sc_recording.specs.CallTexts.{acting_on, contact_part, contacts_text, field_part, fields_text, flag_text, number_or, numbered, numbered_or, signed, sized, uri_or, uri_part, uris_text};
+ghost use Rattle.sc_recording.specs.CallTexts.{acting_on, contact_part, contacts_text, decimal_text, field_part, fields_text, flag_text, integer_text, number_or, numbered_or, text_with_length, uri_or, uri_part, uris_text};
 
 use crate::forms::{Form, put_items};
 use sc_message_text::{put_address, uri_text};
@@ -11,9 +11,9 @@ use sc_value::{Address, Contact, Field, NoMemory, ReqId, Text, Uri, write_u64};
 use std::alloc::Global;
 
 /// Appends a number.
-#[tactic(auto, unfolding(crate::specs::CallTexts::numbered))]
+#[tactic(auto, unfolding(crate::specs::CallTexts::decimal_text))]
 pub fn put_number(n: u64, out: &mut Text) -> Result<(), NoMemory>
-    ensures { OnOk result (out.new ≡ out.old ++ numbered n) }
+    ensures { OnOk result (out.new ≡ out.old ++ decimal_text n) }
 {
     put_byte(b' ', out)?;
     write_u64(n, out)
@@ -31,9 +31,9 @@ pub fn put_request_or(req: Option<ReqId>, out: &mut Text) -> Result<(), NoMemory
 }
 
 /// Appends a number of either sign.
-#[tactic(auto, unfolding(crate::specs::CallTexts::signed))]
+#[tactic(auto, unfolding(crate::specs::CallTexts::integer_text))]
 pub fn put_signed_number(n: i32, out: &mut Text) -> Result<(), NoMemory>
-    ensures { OnOk result (out.new ≡ out.old ++ signed n) }
+    ensures { OnOk result (out.new ≡ out.old ++ integer_text n) }
 {
     if n < 0 {
         out.append(b" -")?;
@@ -44,9 +44,9 @@ pub fn put_signed_number(n: i32, out: &mut Text) -> Result<(), NoMemory>
 }
 
 /// Appends a text: how many bytes it has, a colon, and the bytes.
-#[tactic(auto, unfolding(crate::specs::CallTexts::sized))]
+#[tactic(auto, unfolding(crate::specs::CallTexts::text_with_length))]
 pub fn put_sized(text: &[u8], out: &mut Text) -> Result<(), NoMemory>
-    ensures { OnOk result (out.new ≡ out.old ++ sized text.now) }
+    ensures { OnOk result (out.new ≡ out.old ++ text_with_length text.now) }
 {
     put_number(text.len() as u64, out)?;
     put_byte(b':', out)?;
@@ -96,7 +96,7 @@ pub fn put_uri_or(alloc: Global, uri: &Option<Uri>, out: &mut Text) -> Result<()
 
 /// Appends an address, with how many bytes it has.
 pub fn put_address_part(alloc: Global, address: &Address, out: &mut Text) -> Result<(), NoMemory>
-    ensures { OnOk result (out.new ≡ out.old ++ sized (address_text address.now)) }
+    ensures { OnOk result (out.new ≡ out.old ++ text_with_length (address_text address.now)) }
 {
     let mut text = Text::new(alloc);
     put_address(address, &mut text)?;

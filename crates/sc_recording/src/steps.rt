@@ -1,9 +1,9 @@
 //! The steps of a journal.
 
 ghost use Rattle.std.specs.Prelude.{◌≡◌, ◌++◌, ◌∷◌, [], codes, IfOk, OnOk};
-ghost use Rattle.sc_grammar.specs.Written.{written};
+ghost use Rattle.sc_grammar.specs.Written.{text_of_message};
 ghost use Rattle.sc_model.specs.Records.{place_text};
-ghost use Rattle.sc_recording.specs.CallTexts.{calls_text, numbered};
+ghost use Rattle.sc_recording.specs.CallTexts.{calls_text, decimal_text};
 ghost use Rattle.sc_recording.specs.StepTexts.{app_text, bad_text, ending_text, epoch_text, followed_by, heads_or, step_text, turn_text};
 
 use crate::calls::calls_text;
@@ -75,7 +75,7 @@ fn put_step(alloc: Global, step: &Step, out: &mut Text) -> Result<(), NoMemory>
 fn put_in(alloc: Global, place: Place, message: &Message, out: &mut Text) -> Result<(), NoMemory>
     ensures { OnOk result
         (out.new
-        ≡ out.old ++ (codes "in " ++ place_text place ++ followed_by (written message.now))) }
+        ≡ out.old ++ (codes "in " ++ place_text place ++ followed_by (text_of_message message.now))) }
 {
     let text = text_of(alloc, message)?;
     out.append(b"in ")?;
@@ -111,7 +111,7 @@ fn put_lost(place: Place, out: &mut Text) -> Result<(), NoMemory>
 }
 
 fn put_tick(now: u64, out: &mut Text) -> Result<(), NoMemory>
-    ensures { OnOk result (out.new ≡ out.old ++ (codes "tick" ++ numbered now ++ 10 ∷ [])) }
+    ensures { OnOk result (out.new ≡ out.old ++ (codes "tick" ++ decimal_text now ++ 10 ∷ [])) }
 {
     out.append(b"tick")?;
     put_number(now, out)?;

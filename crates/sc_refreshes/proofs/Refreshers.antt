@@ -1,7 +1,7 @@
 -- The first parameter `refresher`, from the front on.
 use Rattle.std.proofs.Common.{◌≡◌, true, false, Option, None, Some, refl}
 use Rattle.std.specs.List.{find}
-use Rattle.sc_grammar.specs.Written.{Bytes}
+use Rattle.sc_tokens.specs.Bytes.{Bytes}
 use Rattle.sc_tokens.specs.Cuts.{before, after, pieces}
 use Rattle.sc_syntax.proofs.CutLaws.{pieces_more, pieces_last}
 use Rattle.sc_hosts.specs.SessionTimers.{is_refresher}

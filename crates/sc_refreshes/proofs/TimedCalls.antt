@@ -6,7 +6,7 @@ use Rattle.sc_value.specs.declared.ids.TimerId.{TimerId}
 use Rattle.sc_terms.specs.declared.views.View.{View}
 use Rattle.sc_terms.specs.declared.calls.Refusal.TheVariants.{NoMemory}
 use Rattle.sc_hosts.specs.Scripting.{Script, Done, where_some}
-use Rattle.sc_hosts.specs.SessionTimers.{Granted, Named, On, Timed, begin_timed, refresh_by, refreshed, stop_then}
+use Rattle.sc_hosts.specs.SessionTimers.{Granted, Named, On, Timed, begin_timed, refresh_by, script_after_refresh as refreshed, stop_then}
 use Rattle.sc_state.specs.declared.working.Play.{Play}
 use Rattle.sc_turn.specs.Working.{Working, play_of}
 use Rattle.sc_helpers.specs.Stopping.{Goes, GoesThrough, IsCarried, IsDone}
@@ -16,7 +16,7 @@ use Rattle.sc_helpers.proofs.Steps as steps
 use Rattle.sc_promised.proofs.Refreshes.{begun-timed}
 use Rattle.sc_promised.specs.Refreshing.{IsBegun}
 use Rattle.sc_refreshes.specs.Refreshing.{answered_by, fired_by, fired_of, timer_at}
-use Rattle.sc_refreshes.specs.TimedScripts.{begun_by, refreshed_by, stop_of, stopped}
+use Rattle.sc_refreshes.specs.TimedScripts.{begun_by, refreshed_by, stop_of, script_with_stop as stopped}
 use Rattle.sc_refreshes.specs.declared.refreshing.Fired.{Fired}
 use Rattle.sc_refreshes.specs.declared.refreshing.Fired.TheVariants as fired
 use Rattle.sc_refreshes.specs.declared.stopping.Stop.{Stop}

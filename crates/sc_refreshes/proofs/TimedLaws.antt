@@ -4,15 +4,15 @@ use Rattle.std.specs.Prelude.{is_some, option_and_then}
 use Rattle.sc_value.specs.declared.ids.SessId.{SessId}
 use Rattle.sc_terms.specs.declared.views.View.{View}
 use Rattle.sc_terms.specs.declared.calls.Call.{Call}
-use Rattle.sc_grammar.specs.Written.{Bytes}
+use Rattle.sc_tokens.specs.Bytes.{Bytes}
 use Rattle.sc_model.specs.Transactions.{is_success}
 use Rattle.sc_hosts.specs.HelperParts.{accepted_then, remove_then}
 use Rattle.sc_hosts.specs.Scripting.{Script, Done, attribute, then_make, where_some}
-use Rattle.sc_hosts.specs.SessionTimers.{Granted, Off, Too_small, On, Timed, begin_timed, refreshed, stop_then, timed_name, timed_of}
+use Rattle.sc_hosts.specs.SessionTimers.{Granted, Off, Too_small, On, Timed, begin_timed, script_after_refresh as refreshed, stop_then, timed_name, timed_of}
 use Rattle.sc_turn.specs.Working.{Working}
 use Rattle.sc_apps.specs.Scripted.{IsPlayed}
 use Rattle.sc_helpers.specs.Leading.{cancel_some, remove_if, timer_named}
-use Rattle.sc_refreshes.specs.TimedScripts.{begun_by, refreshed_by, started, stop_of, stopped, timer_of_timed}
+use Rattle.sc_refreshes.specs.TimedScripts.{begun_by, refreshed_by, script_with_timer as started, stop_of, script_with_stop as stopped, timer_of_timed}
 use Rattle.sc_helpers.proofs.FoundLaws.{as_is, cancel_is, remove_is}
 
 stop_timed : (sess : SessId) (view : View) (script : Script) (text : Bytes) (o : Option Timed) → attribute (timed_name sess) view ≡ Some text → timed_of text ≡ o

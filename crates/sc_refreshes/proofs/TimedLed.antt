@@ -5,7 +5,7 @@ use Rattle.sc_turn.specs.Working.{Working}
 use Rattle.sc_helpers.specs.Leading.{cancel_some, remove_if}
 use Rattle.sc_helpers.specs.Stopping.{Goes, Leads}
 use Rattle.sc_helpers.specs.declared.stopping.Stopped.{Stopped}
-use Rattle.sc_refreshes.specs.TimedScripts.{stopped}
+use Rattle.sc_refreshes.specs.TimedScripts.{script_with_stop as stopped}
 use Rattle.sc_refreshes.specs.declared.stopping.Stop.{Stop}
 use Rattle.sc_helpers.proofs.Steps.{both_led, none_led}
 

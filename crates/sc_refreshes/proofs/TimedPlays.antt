@@ -8,7 +8,7 @@ use Rattle.sc_terms.specs.declared.views.View.{View}
 use Rattle.sc_model.specs.Transactions.{is_success, is_failure}
 use Rattle.sc_hosts.specs.RefusalParts.{MOST_CALLS}
 use Rattle.sc_hosts.specs.Scripting.{Script, Done, where_some}
-use Rattle.sc_hosts.specs.SessionTimers.{Granted, Off, Too_small, On, Named, Timed, refresh_by, refreshed}
+use Rattle.sc_hosts.specs.SessionTimers.{Granted, Off, Too_small, On, Named, Timed, refresh_by, script_after_refresh as refreshed}
 use Rattle.sc_turn.specs.Working.{Working, play_of}
 use Rattle.sc_apps.specs.Scripted.{IsPlayed}
 use Rattle.sc_apps.proofs.Playing.{begun_room, begun_view}
@@ -18,7 +18,7 @@ use Rattle.sc_helpers.specs.declared.stopping.Stopped.{Stopped}
 use Rattle.sc_helpers.proofs.FoundLaws.{as_is}
 use Rattle.sc_helpers.proofs.Shorts.{Short, goes_heard, goes_through, heard_played, short_cancel, short_either, short_if, short_more, short_number, short_only, short_remove, short_send, short_where, through_played}
 use Rattle.sc_refreshes.specs.Refreshing.{fired_of, timer_at}
-use Rattle.sc_refreshes.specs.TimedScripts.{begun_by, refreshed_by, started, stop_of, stopped}
+use Rattle.sc_refreshes.specs.TimedScripts.{begun_by, refreshed_by, script_with_timer as started, stop_of, script_with_stop as stopped}
 use Rattle.sc_refreshes.specs.declared.refreshing.Fired.{Fired}
 use Rattle.sc_refreshes.specs.declared.stopping.Stop.{Stop}
 use Rattle.sc_refreshes.proofs.TimedLaws.{refreshed_where}

@@ -2,7 +2,7 @@
 use Rattle.std.specs.Prelude.{◌≤◌}
 use Rattle.sc_refreshes.specs.declared.intervals.Interval.{Interval}
 use Rattle.sc_refreshes.specs.declared.intervals.Interval.TheVariants as intervals
-use Rattle.sc_hosts.specs.SessionTimers.{Granted, Off, Too_small, On}
+use Rattle.sc_hosts.specs.SessionTimers.{Granted, Off, On, Too_small}
 
 -- what is granted, as the definitions have it
 unfoldable pub granted_of : Interval → Granted

@@ -8,8 +8,8 @@ use Rattle.sc_terms.specs.declared.calls.Call.TheVariants as calls
 use Rattle.sc_model.specs.SessionStates.{bye}
 use Rattle.sc_model.specs.Transactions.{is_success, is_failure}
 use Rattle.sc_hosts.specs.HelperParts.{send_in}
-use Rattle.sc_hosts.specs.Scripting.{Script, Done, Make, attribute, only, with_number}
-use Rattle.sc_hosts.specs.SessionTimers.{Granted, Off, Too_small, On, Timed, deadline, timed_name, timed_of, timed_text}
+use Rattle.sc_hosts.specs.Scripting.{Done, Make, Script, attribute, only, with_number}
+use Rattle.sc_hosts.specs.SessionTimers.{Granted, Off, On, Timed, Too_small, deadline, timed_name, timed_of, timed_text}
 use Rattle.sc_helpers.specs.Leading.{cancel_some, remove_if, timer_named}
 use Rattle.sc_refreshes.specs.declared.stopping.Stop.{Stop}
 
@@ -27,27 +27,27 @@ stop_of view sess = record {
 }
 
 -- it is stopped, then the script goes on
-unfoldable pub stopped : Stop → Script → Script
-stopped stop = λ script. cancel_some stop.running (remove_if stop.set stop.name script)
+unfoldable pub script_with_stop : Stop → Script → Script
+script_with_stop stop = λ script. cancel_some stop.running (remove_if stop.set stop.name script)
 
 -- a timer of this interval begins
-unfoldable pub started : SessId → ℕ → Bool → Script
-started sess n me =
+unfoldable pub script_with_timer : SessId → ℕ → Bool → Script
+script_with_timer sess n me =
     Make (calls.StartTimer (deadline n me) Once (timed_name sess))
     (with_number (λ t. only (calls.SetAttribute (timed_name sess) (timed_text n me t))))
 
 -- the session timer begins anew, as granted, once the old one is stopped
 unfoldable pub begun_by : Stop → SessId → Granted → Script
-begun_by stop sess Off = stopped stop Done
-begun_by stop sess Too_small = stopped stop Done
-begun_by stop sess (On n me) = stopped stop (started sess n me)
+begun_by stop sess Off = script_with_stop stop Done
+begun_by stop sess Too_small = script_with_stop stop Done
+begun_by stop sess (On n me) = script_with_stop stop (script_with_timer sess n me)
 
 -- a refresh of the own side was answered: a success begins the timer anew, a failure ends the
 -- session by a BYE
 unfoldable pub refreshed_by : Stop → SessId → ℕ → Timed → Script
 refreshed_by stop sess code timed =
     if not (timed.me && timed.timer == 0) then Done
-    else (if is_success code then stopped stop (started sess timed.seconds true)
+    else (if is_success code then script_with_stop stop (script_with_timer sess timed.seconds true)
     else
     (if is_failure code then send_in sess bye [] [] (only (calls.RemoveAttribute (timed_name sess)))
     else Done))

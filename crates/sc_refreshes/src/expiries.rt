@@ -2,7 +2,7 @@
 
 ghost use Rattle.std.specs.Prelude.{◌≡◌, ◌≤◌, ◌++◌, ◌∷◌, [], true, false, codes, decimal, IfOk};
 ghost use Rattle.sc_hosts.specs.HelperParts.{field, require_word, supported_word};
-ghost use Rattle.sc_hosts.specs.SessionTimers.{deadline, granted_fields, session_expires, timer_option, On};
+ghost use Rattle.sc_hosts.specs.SessionTimers.{On, deadline, granted_fields, session_expires, timer_option};
 ghost use Rattle.sc_refreshes.specs.Intervals.{granted_of};
 
 use crate::intervals::Interval;

@@ -3,10 +3,10 @@
 ghost use Rattle.std.specs.Prelude.{◌≡◌, position, drop, false, codes};
 ghost use Rattle.std.specs.List.{find};
 ghost use Rattle.std.specs.Option.{option_copied, option_map_or};
-ghost use Rattle.sc_tokens.specs.Blanks.{trimmed};
+ghost use Rattle.sc_tokens.specs.Blanks.{without_blanks};
 ghost use Rattle.sc_tokens.specs.Cuts.{after, pieces};
 ghost use Rattle.sc_tokens.specs.Names.{same_name};
-ghost use Rattle.sc_hosts.specs.SessionTimers.{granted, granted_by, interval_text, is_refresher, is_session_expires, leading_number, refreshes_uas};
+ghost use Rattle.sc_hosts.specs.SessionTimers.{grant_to, granted_by, interval_text, is_refresher, is_session_expires, leading_number, refreshes_uas};
 ghost use Rattle.sc_refreshes.specs.Intervals.{granted_of, IsGrantable};
 
 use sc_ascii::same_name;
@@ -99,7 +99,7 @@ fn refresher_of(value: &[u8]) -> Option<&[u8]>
 
 fn is_uas(param: &[u8]) -> bool
     ensures { result
-        ≡ option_map_or (λ v. same_name (trimmed v) (codes "uas")) (after 61 param.now) false }
+        ≡ option_map_or (λ v. same_name (without_blanks v) (codes "uas")) (after 61 param.now) false }
 {
     let (_, value) = cut(param, b'=');
     match value {
@@ -140,9 +140,9 @@ fn granted_by(supports: bool, least: u32, value: &[u8], number: Option<u64>) -> 
 }
 
 /// The interval that a request gets, where the least one has so many seconds.
-#[tactic(auto, unfolding(sc_hosts::specs::SessionTimers::granted, sc_hosts::specs::SessionTimers::timer_option, crate::specs::Intervals::granted_of, crate::specs::Intervals::IsGrantable))]
+#[tactic(auto, unfolding(sc_hosts::specs::SessionTimers::grant_to, sc_hosts::specs::SessionTimers::timer_option, crate::specs::Intervals::granted_of, crate::specs::Intervals::IsGrantable))]
 pub fn granted(request: &Request, least: u32) -> Interval
-    ensures exact { granted_of result ≡ granted request.now least }
+    ensures exact { granted_of result ≡ grant_to request.now least }
     ensures within { IsGrantable result }
 {
     match interval_text(request) {

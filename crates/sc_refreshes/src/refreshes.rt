@@ -8,12 +8,12 @@ ghost use Rattle.sc_model.specs.SessionStates.{bye, invite};
 ghost use Rattle.sc_hosts.specs.Charters.{reply_ok};
 ghost use Rattle.sc_hosts.specs.RefusalParts.{MOST_CALLS};
 ghost use Rattle.sc_hosts.specs.Scripting.{Done, attribute, only, reply, then_make, where_some};
-ghost use Rattle.sc_hosts.specs.SessionTimers.{grant, is_granting, refresh_by, refreshed, stop_then, timed_name, timed_of, timed_script};
+ghost use Rattle.sc_hosts.specs.SessionTimers.{grant, is_granting, refresh_by, script_after_refresh, stop_then, timed_name, timed_of, timed_script};
 ghost use Rattle.sc_hosts.specs.Words.{ok};
 ghost use Rattle.sc_turn.specs.Working.{play_of};
 ghost use Rattle.sc_apps.specs.Scripted.{IsPlayed};
 ghost use Rattle.sc_refreshes.specs.Refreshing.{fired_of, timer_at};
-ghost use Rattle.sc_refreshes.specs.TimedScripts.{stopped};
+ghost use Rattle.sc_refreshes.specs.TimedScripts.{script_with_stop};
 
 use crate::granting::grant;
 use crate::refreshing::{answered, fire};
@@ -141,7 +141,7 @@ fn answer_and_stop(t: &mut Turn, req: ReqId, what: &Stop) -> Result<(), NoMemory
     requires { (play_of t.old).listed + 2 < MOST_CALLS }
     ensures same { t.new.shown ≡ t.old.shown }
     ensures played { OnOk result
-        (IsPlayed (then_make (reply req 200 ok) (stopped what.now Done)) t.old t.new) }
+        (IsPlayed (then_make (reply req 200 ok) (script_with_stop what.now Done)) t.old t.new) }
 {
     reply_first_200(t, req)?;
     play_stop(t, what)
@@ -156,7 +156,7 @@ fn take_response(t: &mut Turn, sess: SessId, response: &Response) -> Result<(), 
         (IsPlayed
         (if same_bytes response.now.head.cseq.method update
         then where_some (option_and_then timed_of (attribute (timed_name sess) t.old.shown))
-        (refreshed t.old.shown sess response.now.code)
+        (script_after_refresh t.old.shown sess response.now.code)
         else Done) t.old t.new) }
 {
     if !is_update(response.head.cseq.method.as_bytes()) {
@@ -171,7 +171,7 @@ fn take_answer(t: &mut Turn, sess: SessId, code: u16) -> Result<(), NoMemory>
     requires memory { t.old.starved ≡ false }
     ensures same { t.new.shown ≡ t.old.shown }
     ensures played { OnOk result
-        (IsPlayed (where_some (timer_at t.old.shown sess) (refreshed t.old.shown sess code)) t.old
+        (IsPlayed (where_some (timer_at t.old.shown sess) (script_after_refresh t.old.shown sess code)) t.old
         t.new) }
 {
     match answered(t, sess, code) {

@@ -4,7 +4,7 @@
 ghost use Rattle.std.specs.Prelude.{◌≡◌, ◌≤◌, ◌++◌, ◌∷◌, ◌<◌, [], true, false, codes, decimal, IfSome, IfOk};
 ghost use Rattle.sc_hosts.specs.HelperParts.{field, send_in, supported_word};
 ghost use Rattle.sc_hosts.specs.Scripting.{only, where_some};
-ghost use Rattle.sc_hosts.specs.SessionTimers.{refresh_by, refreshed, session_expires, timed_name, timed_text, timer_option};
+ghost use Rattle.sc_hosts.specs.SessionTimers.{refresh_by, script_after_refresh, session_expires, timed_name, timed_text, timer_option};
 ghost use Rattle.sc_model.specs.Dialogs.{update};
 ghost use Rattle.sc_model.specs.SessionStates.{bye};
 ghost use Rattle.sc_turn.specs.Working.{play_of};
@@ -316,7 +316,7 @@ pub fn answered(turn: &mut Turn, sess: SessId, code: u16) -> Result<Option<ReqId
     ensures carried { turn.old.starved ≡ false
         → IsCarried
         (where_some (timer_at (play_of turn.old).view sess)
-        (refreshed (play_of turn.old).view sess code))
+        (script_after_refresh (play_of turn.old).view sess code))
         (answered_by code (record { 0 = (play_of turn.old).view.next_request })
         (timer_at (play_of turn.old).view sess)) turn.old result turn.new }
 {

@@ -7,7 +7,7 @@ ghost use Rattle.sc_hosts.specs.SessionTimers.{timed_name, timed_of};
 ghost use Rattle.sc_turn.specs.Working.{play_of};
 ghost use Rattle.sc_apps.specs.Scripted.{IsPlayed};
 ghost use Rattle.sc_helpers.specs.Stopping.{Goes, Leads};
-ghost use Rattle.sc_refreshes.specs.TimedScripts.{stop_of, stopped, timer_of_timed};
+ghost use Rattle.sc_refreshes.specs.TimedScripts.{script_with_stop, stop_of, timer_of_timed};
 
 use crate::timed_texts::{Refresh, timed_name, timed_of};
 use sc_apps::attribute;
@@ -74,7 +74,7 @@ pub fn stop_of(alloc: Global, view: &View, sess: SessId) -> Result<Stop, NoMemor
 pub fn stop_timer(turn: &mut Turn, made: u8, what: &Stop) -> Result<u8, Stopped>
     requires few { made < 90 }
     ensures same { turn.new.shown ≡ turn.old.shown }
-    ensures led { Leads (stopped what.now) made turn.old result turn.new }
+    ensures led { Leads (script_with_stop what.now) made turn.old result turn.new }
     ensures count { IfOk result (λ after. after ≤ made + 2) }
 {
     match try_cancel_some(turn, made, what.running) {
@@ -87,7 +87,7 @@ pub fn stop_timer(turn: &mut Turn, made: u8, what: &Stop) -> Result<u8, Stopped>
 #[tactic(auto, using(crate::proofs::TimedLed::stopped_on, crate::proofs::TimedLed::stopped_off, sc_helpers::proofs::Steps::goes_done))]
 pub fn stop_only(turn: &mut Turn, what: &Stop) -> Result<(), Stopped>
     ensures same { turn.new.shown ≡ turn.old.shown }
-    ensures goes { Goes 0 (stopped what.now Done) turn.old result turn.new }
+    ensures goes { Goes 0 (script_with_stop what.now Done) turn.old result turn.new }
 {
     match stop_timer(turn, 0, what) {
         Ok(_) => Ok(()),
@@ -100,7 +100,7 @@ pub fn stop_only(turn: &mut Turn, what: &Stop) -> Result<(), Stopped>
 pub fn play_stop(t: &mut Turn, what: &Stop) -> Result<(), NoMemory>
     requires { (play_of t.old).listed + 1 < MOST_CALLS }
     ensures same { t.new.shown ≡ t.old.shown }
-    ensures played { OnOk result (IsPlayed (stopped what.now Done) t.old t.new) }
+    ensures played { OnOk result (IsPlayed (script_with_stop what.now Done) t.old t.new) }
 {
     match stop_only(t, what) {
         Ok(()) => Ok(()),

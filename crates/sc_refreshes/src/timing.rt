@@ -11,7 +11,7 @@ ghost use Rattle.sc_turn.specs.Working.{play_of};
 ghost use Rattle.sc_apps.specs.Scripted.{IsPlayed};
 ghost use Rattle.sc_helpers.specs.Stopping.{Gives, Goes, Leads};
 ghost use Rattle.sc_refreshes.specs.Intervals.{granted_of, IsGrantable};
-ghost use Rattle.sc_refreshes.specs.TimedScripts.{begun_by, started, stopped};
+ghost use Rattle.sc_refreshes.specs.TimedScripts.{begun_by, script_with_stop, script_with_timer};
 
 use crate::expiries::{deadline, granted_fields};
 use crate::intervals::Interval;
@@ -107,7 +107,8 @@ pub fn restart(
 ) -> Result<(), Stopped>
     requires interval { seconds ≤ 4000000 }
     ensures same { turn.new.shown ≡ turn.old.shown }
-    ensures goes { Goes 0 (stopped what.now (started sess seconds me)) turn.old result turn.new }
+    ensures goes { Goes 0 (script_with_stop what.now (script_with_timer sess seconds me)) turn.old
+        result turn.new }
 {
     match stop_timer(turn, 0, what) {
         Ok(made) => start(turn, made, sess, seconds, me),
@@ -127,12 +128,12 @@ fn start_named(turn: &mut Turn, made: u8, sess: SessId, delay_ms: u32) -> Result
     }
 }
 
-#[tactic(auto, unfolding(crate::specs::TimedScripts::started), using(sc_helpers::proofs::Steps::number_on, sc_helpers::proofs::Steps::number_off))]
+#[tactic(auto, unfolding(crate::specs::TimedScripts::script_with_timer), using(sc_helpers::proofs::Steps::number_on, sc_helpers::proofs::Steps::number_off))]
 fn start(turn: &mut Turn, made: u8, sess: SessId, seconds: u32, me: bool) -> Result<(), Stopped>
     requires few { made < 90 }
     requires interval { seconds ≤ 4000000 }
     ensures same { turn.new.shown ≡ turn.old.shown }
-    ensures goes { Goes made (started sess seconds me) turn.old result turn.new }
+    ensures goes { Goes made (script_with_timer sess seconds me) turn.old result turn.new }
 {
     match start_named(turn, made, sess, deadline(seconds, me)) {
         Ok(timer) => note(turn, made + 1, sess, seconds, me, timer),

@@ -4,7 +4,7 @@ ghost use Rattle.std.specs.Prelude.{◌≡◌, ◌∷◌, [], ◌==◌, not, nat
 ghost use Rattle.std.specs.List.{list_any};
 ghost use Rattle.std.specs.Option.{option_or};
 ghost use Rattle.sc_terms.specs.declared.calls.Refusal.TheVariants.{NotLinked, NotSent, NotYours, BadText, Limit};
-ghost use Rattle.sc_hosts.specs.Looking.{request_in, session_in, partner, timer_in};
+ghost use Rattle.sc_hosts.specs.Looking.{partner, request_in, session_in, timer_in};
 ghost use Rattle.sc_hosts.specs.RefusalParts.{first_of};
 ghost use Rattle.sc_hosts.specs.Refusals.{awaits_ack, cancel_refusal, begun_by, b2b_respond_refusal, link_refusal, linked_refusal, is_zero_period, is_set};
 

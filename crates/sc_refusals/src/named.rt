@@ -1,7 +1,7 @@
 //! What a call names: SipSessions, by themselves, by a request or by a draft.
 
 ghost use Rattle.std.specs.Prelude.{◌≡◌, ◌∷◌, [], None, Some};
-ghost use Rattle.sc_hosts.specs.RefusalParts.{draft_in, session_of_request, session_of_draft, known_session, name_refusal, of_origin, named};
+ghost use Rattle.sc_hosts.specs.RefusalParts.{draft_in, known_session, name_refusal, of_origin, session_of_draft, session_of_request, sessions_in_call};
 
 use sc_looking::{draft_in, is_gone_in, request_in, session_in};
 use sc_state::Play;
@@ -112,9 +112,9 @@ fn draft_named(play: &Play, draft: u32) -> Option<Refusal>
 }
 
 // The names of a call that makes a request, or does something with a draft or a SipSession.
-#[tactic(auto, unfolding(sc_hosts::specs::RefusalParts::named, sc_hosts::specs::RefusalParts::name_refusal))]
+#[tactic(auto, unfolding(sc_hosts::specs::RefusalParts::sessions_in_call, sc_hosts::specs::RefusalParts::name_refusal))]
 pub fn named_refusal(play: &Play, call: &Call) -> Option<Refusal>
-    ensures { result ≡ name_refusal play.now.view (named play.now call.now) }
+    ensures { result ≡ name_refusal play.now.view (sessions_in_call play.now call.now) }
 {
     match call {
         Call::Respond { req, .. }

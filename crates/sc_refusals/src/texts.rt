@@ -4,7 +4,7 @@ ghost use Rattle.std.specs.Prelude.{◌≡◌, ◌+◌, min, position, Some};
 ghost use Rattle.sc_tokens.specs.HeaderNames.{is_system_name};
 ghost use Rattle.sc_tokens.specs.Names.{same_bytes};
 ghost use Rattle.sc_hosts.specs.Words.{options, register};
-ghost use Rattle.sc_hosts.specs.RefusalParts.{bad_field, has_system_name, answer_text, is_bad_method, asked_text, may_have_contact, has_system_answer, has_system_ask};
+ghost use Rattle.sc_hosts.specs.RefusalParts.{answer_text, asked_text, bad_field, has_system_answer, has_system_ask, has_system_name, is_bad_method, may_have_contact};
 ghost use Rattle.sc_model.specs.DialogRequests.{is_bad_field};
 
 use sc_methods::{is_ack, is_cancel};

@@ -4,7 +4,7 @@ use Rattle.sc_terms.specs.declared.settings.Config.{Config}
 use Rattle.sc_terms.specs.declared.views.View.{View}
 use Rattle.sc_state.specs.declared.session.Session.{Session}
 use Rattle.sc_state.specs.declared.working.Play.{Play}
-use Rattle.sc_hosts.specs.Effects.{after_calls, begun}
+use Rattle.sc_hosts.specs.Effects.{after_calls, first_play as begun}
 use Rattle.sc_hosts.specs.Histories.{History, after_turn, session_after}
 use Rattle.sc_hosts.specs.Legs.{first_view, fresh}
 use Rattle.sc_hosts.specs.Scripting.{attribute}

@@ -7,7 +7,7 @@ use Rattle.sc_value.specs.declared.ids.ReqId.{ReqId}
 use Rattle.sc_value.specs.declared.ids.SessId.{SessId}
 use Rattle.sc_value.specs.declared.ids.TimerId.{TimerId}
 use Rattle.sc_value.specs.declared.message.Request.{Request}
-use Rattle.sc_grammar.specs.Written.{Bytes}
+use Rattle.sc_tokens.specs.Bytes.{Bytes}
 use Rattle.sc_terms.specs.declared.calls.Call.TheVariants as calls
 use Rattle.sc_terms.specs.declared.events.Event.{Event}
 use Rattle.sc_terms.specs.declared.events.Event.TheVariants as events
@@ -17,10 +17,10 @@ use Rattle.sc_terms.specs.declared.views.View.{View}
 use Rattle.sc_state.specs.declared.working.Play.{Play}
 use Rattle.sc_model.specs.SessionStates.{ack, invite}
 use Rattle.sc_hosts.specs.Charters.{reply_ok}
-use Rattle.sc_hosts.specs.Effects.{after_calls, after_listed, answer_of, begun}
+use Rattle.sc_hosts.specs.Effects.{after_calls, after_listed, answer_of, first_play as begun}
 use Rattle.sc_hosts.specs.HelperParts.{cancel_first_timer, lists_option, strict_number}
 use Rattle.sc_hosts.specs.Offers.{after_word, early_script, first_offer, is_invite_of, late_offer, rel_option, session_progress, take_prack}
-use Rattle.sc_hosts.specs.Scripting.{Done, Make, Script, only, played, played_from, reply, then_make, where_some}
+use Rattle.sc_hosts.specs.Scripting.{Done, Make, Script, only, calls_of_script as played, played_from, reply, then_make, where_some}
 use Rattle.sc_hosts.specs.Words.{does_not_exist, ok, prack, ringing}
 use Rattle.sc_promised.specs.Reliable.{Act, Fresh, Late, Offers, Pracks, offer_script, play_after, remembered_at, script_of}
 use Rattle.sc_promised.proofs.Attributes.{responded-attributes, cancelled-attributes}

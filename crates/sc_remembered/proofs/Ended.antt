@@ -28,18 +28,18 @@ use Rattle.sc_state.specs.declared.working.Working.{Working}
 use Rattle.sc_model.specs.BestResponses.{best_response, server_error}
 use Rattle.sc_model.specs.Dialogs.{subscribe, tag_of}
 use Rattle.sc_model.specs.Transactions.{is_success}
-use Rattle.sc_hosts.specs.Acting.{acted, acts, all_act, chooses, closed_session, closes, drafts_ended, fault_at, faulted, forwarded_view, forwards, forwards_best, hops_spent, in_view, is_request_event, passed_later, passed_on, passed_request_of, passes, passes_later, proxy_now, sends_cancels, started, subscribed_tag, with_subscribed, without_left}
+use Rattle.sc_hosts.specs.Acting.{after_proxy as acted, acts, all_act, chooses, closed_session, closes, drafts_ended, fault_at, after_fault as faulted, forwarded_view, forwards, forwards_best, hops_spent, in_view, is_request_event, passed_later, passed_on, passed_request_of, passes, passes_later, proxy_now, sends_cancels, after_start as started, subscribed_tag, with_subscribed, without_left}
 use Rattle.sc_hosts.specs.Branches.{can_choose, can_pass, is_exhausted, starting}
 use Rattle.sc_hosts.specs.Effects.{after_calls, after_listed}
-use Rattle.sc_hosts.specs.Finishing.{finished, is_ended, lightened, outcome, outcome_of, session_in_play, swept, swept_one, without_acks}
+use Rattle.sc_hosts.specs.Finishing.{after_all_calls as finished, is_ended, without_unneeded as lightened, outcome, outcome_of, session_in_play, swept, swept_one, without_acks}
 use Rattle.sc_hosts.specs.Giving.{answering}
-use Rattle.sc_hosts.specs.Looking.{change_session, removed, request_in}
+use Rattle.sc_hosts.specs.Looking.{change_session, without_sip_session as removed, request_in}
 use Rattle.sc_hosts.specs.Messages.{bare_answer}
-use Rattle.sc_hosts.specs.Preparing.{prepared}
+use Rattle.sc_hosts.specs.Preparing.{prepared_session as prepared}
 use Rattle.sc_hosts.specs.PreparingResponses.{is_invalid}
-use Rattle.sc_hosts.specs.ViewChanges.{answered, answered_in, is_owed, tidy}
+use Rattle.sc_hosts.specs.ViewChanges.{view_with_answer as answered, answered_in, is_owed, tidy}
 use Rattle.sc_hosts.specs.Words.{too_many_hops}
-use Rattle.sc_hosts.specs.Working.{starts, worked, worked_all}
+use Rattle.sc_hosts.specs.Working.{starts, after_one_call as worked, worked_all}
 use Rattle.sc_lasting.proofs.ShownProxies.{if-same}
 use Rattle.sc_remembered.proofs.Parts.{Rest, answered-rest, removed-rest, rest-of}
 

@@ -6,11 +6,11 @@ use Rattle.sc_terms.specs.declared.events.Event.{Event}
 use Rattle.sc_terms.specs.declared.settings.Config.{Config}
 use Rattle.sc_terms.specs.declared.views.View.{View}
 use Rattle.sc_state.specs.declared.working.Play.{Play}
-use Rattle.sc_hosts.specs.Effects.{after_calls, begun}
+use Rattle.sc_hosts.specs.Effects.{after_calls, first_play as begun}
 use Rattle.sc_hosts.specs.Histories.{History, session_after}
 use Rattle.sc_hosts.specs.Offers.{early_script}
-use Rattle.sc_hosts.specs.Preparing.{prepared}
-use Rattle.sc_hosts.specs.Scripting.{Script, played}
+use Rattle.sc_hosts.specs.Preparing.{prepared_session as prepared}
+use Rattle.sc_hosts.specs.Scripting.{Script, calls_of_script as played}
 use Rattle.sc_hosts.specs.Sessions.{Turn}
 use Rattle.sc_lasting.proofs.Began.{same-number}
 use Rattle.sc_promised.specs.Reliable.{Act, IsOf, IsSound, Late, Offers, Pracks, play_after, remembered_at, script_of}

@@ -7,7 +7,7 @@ use Rattle.sc_tokens.specs.Names.{same_bytes}
 use Rattle.sc_value.specs.declared.ids.ReqId.{ReqId}
 use Rattle.sc_value.specs.declared.ids.TimerId.{TimerId}
 use Rattle.sc_value.specs.declared.message.Request.{Request}
-use Rattle.sc_grammar.specs.Written.{Bytes}
+use Rattle.sc_tokens.specs.Bytes.{Bytes}
 use Rattle.sc_terms.specs.declared.calls.Call.{Call}
 use Rattle.sc_terms.specs.declared.calls.Call.TheVariants as calls
 use Rattle.sc_terms.specs.declared.calls.CallAnswer.{CallAnswer}
@@ -16,7 +16,7 @@ use Rattle.sc_terms.specs.declared.calls.Refusal.{Refusal}
 use Rattle.sc_terms.specs.declared.views.View.{View}
 use Rattle.sc_state.specs.declared.working.Play.{Play}
 use Rattle.sc_hosts.proofs.Deliveries.{same_bytes-equal}
-use Rattle.sc_hosts.specs.Effects.{after_call, begun, after_listed, answer_of, played_by, with_timer}
+use Rattle.sc_hosts.specs.Effects.{after_call, first_play as begun, after_listed, answer_of, played_by, with_timer}
 use Rattle.sc_hosts.specs.HelperParts.{accepted_then, cancel_then, field_of, lists_option}
 use Rattle.sc_hosts.specs.Offers.{Offer, ended_offer_text, late_offer, names_offer, pending_offer, prack_by, rel_name, rel_option}
 use Rattle.sc_hosts.specs.Looking.{request_in, timer_in}

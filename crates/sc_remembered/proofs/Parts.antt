@@ -6,8 +6,8 @@ use Rattle.sc_terms.specs.declared.views.RequestView.{RequestView}
 use Rattle.sc_value.specs.declared.parts.Field.{Field}
 use Rattle.sc_terms.specs.declared.views.TimerView.{TimerView}
 use Rattle.sc_terms.specs.declared.views.View.{View}
-use Rattle.sc_hosts.specs.Looking.{removed}
-use Rattle.sc_hosts.specs.ViewChanges.{answered, answered_in, tidy}
+use Rattle.sc_hosts.specs.Looking.{without_sip_session as removed}
+use Rattle.sc_hosts.specs.ViewChanges.{view_with_answer as answered, answered_in, tidy}
 use Rattle.sc_lasting.proofs.Parts.{removed-only}
 
 -- of the one view the other has the moment and the attributes

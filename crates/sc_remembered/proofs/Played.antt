@@ -14,9 +14,9 @@ use Rattle.sc_state.specs.declared.working.Prepared.{Prepared}
 use Rattle.sc_model.specs.Settings.{charters_of}
 use Rattle.sc_hosts.specs.Bringing.{Allowed, Called, IsSilent, Plays, is_listened, servlet_script}
 use Rattle.sc_hosts.specs.Histories.{History, session_after, session_of}
-use Rattle.sc_hosts.specs.Preparing.{prepared}
+use Rattle.sc_hosts.specs.Preparing.{prepared_session as prepared}
 use Rattle.sc_hosts.specs.Runs.{AllowedBy}
-use Rattle.sc_hosts.specs.Scripting.{Script, played}
+use Rattle.sc_hosts.specs.Scripting.{Script, calls_of_script as played}
 use Rattle.sc_hosts.specs.Sessions.{Turn}
 use Rattle.sc_lived.specs.Lived.{AreTaken, MayTake}
 use Rattle.sc_lived.proofs.Accepted.{read-after}

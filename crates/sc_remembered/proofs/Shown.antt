@@ -22,15 +22,15 @@ use Rattle.sc_state.specs.declared.session.Session.{Session}
 use Rattle.sc_state.specs.declared.working.Prepared.{Prepared}
 use Rattle.sc_model.specs.Names.{edge_tag}
 use Rattle.sc_model.specs.Transactions.{is_failure}
-use Rattle.sc_hosts.specs.Branches.{ended_by, heard, is_invite, is_supervised, is_timed_out, stopped, to_cancel}
+use Rattle.sc_hosts.specs.Branches.{ended_by, proxy_after_response as heard, is_invite, is_supervised, is_timed_out, without_search as stopped, to_cancel}
 use Rattle.sc_hosts.specs.DerivedSessions.{Derives, Handling, In, Takes, handled_in, handling, overtaken, without_derived}
 use Rattle.sc_hosts.specs.Legs.{change_leg, is_low, leg_of, with_answer}
 use Rattle.sc_hosts.specs.Looking.{is_gone_in, request_in, session_in}
 use Rattle.sc_hosts.specs.Messages.{own_response}
-use Rattle.sc_hosts.specs.Preparing.{cancelled_proxy, cancelled_request, fired, has_expired, kept_of, prepared, prepared_branch_timer, prepared_cancel, prepared_expiry, prepared_for, prepared_timer, proxy_of, renewed, terminated, timed_out}
-use Rattle.sc_hosts.specs.PreparingRequests.{next_id, prepared_request, received, showing, showing_in, silent, taken, taken_in, too_low}
-use Rattle.sc_hosts.specs.PreparingResponses.{accepts_invite, branch_placed, change_proxy, heard_in, is_first_success, is_invalid, is_watched, noted_final, placed, prepared_branch, prepared_own, prepared_response, responded, responded_again, responded_in, settled_legs, shown_again, told, with_branches, with_request_again}
-use Rattle.sc_hosts.specs.ViewChanges.{answered, answered_in, tidy}
+use Rattle.sc_hosts.specs.Preparing.{cancelled_proxy, cancelled_request, after_timer as fired, has_expired, kept_of, prepared_session as prepared, prepared_branch_timer, prepared_cancel, prepared_expiry, prepared_for, prepared_timer, proxy_of, next_firing as renewed, prepared_end as terminated, timed_out}
+use Rattle.sc_hosts.specs.PreparingRequests.{next_id, prepared_request, with_received_request as received, showing, showing_in, silent, prepared_for_request as taken, taken_in, too_low}
+use Rattle.sc_hosts.specs.PreparingResponses.{accepts_invite, branch_placed, change_proxy, heard_in, is_first_success, is_invalid, is_watched, noted_final, session_of_response as placed, prepared_branch, prepared_own, prepared_response, with_handled_response as responded, responded_again, responded_in, settled_legs, shown_again, event_of_response as told, with_branches, with_request_again}
+use Rattle.sc_hosts.specs.ViewChanges.{view_with_answer as answered, answered_in, tidy}
 use Rattle.sc_hosts.specs.Words.{request_timeout}
 use Rattle.sc_remembered.proofs.Parts.{IsAside, answered-aside, if-aside, then-aside}
 

@@ -5,15 +5,16 @@ use Rattle.sc_terms.specs.declared.calls.CallRecord.{CallRecord}
 use Rattle.sc_terms.specs.declared.settings.Config.{Config}
 use Rattle.sc_terms.specs.declared.views.View.{View}
 use Rattle.sc_state.specs.declared.session.Session.{Session}
-use Rattle.sc_hosts.specs.Effects.{after_calls, begun}
+use Rattle.sc_hosts.specs.Effects.{after_calls, first_play}
 use Rattle.sc_hosts.specs.Histories.{History, session_after}
-use Rattle.sc_hosts.specs.Preparing.{prepared}
+use Rattle.sc_hosts.specs.Preparing.{prepared_session}
 use Rattle.sc_hosts.specs.Sessions.{Turn}
 use Rattle.sc_promised.specs.Reliable.{Act, Happened, IsOf, IsSound, play_after, remembered_at, script_of}
 
 -- what a turn of a session shows as its calls begin
 abbrev pub shown_in : Config → Session → Turn → View
-shown_in config session turn = (prepared config turn.ringing session turn.waiting turn.now).view
+shown_in config session turn =
+    (prepared_session config turn.ringing session turn.waiting turn.now).view
 
 -- these calls leave what is remembered of the INVITE of this number
 unfoldable pub LeavesIt : ℕ → View → List CallRecord → Type 0
@@ -23,9 +24,9 @@ LeavesIt n view made = remembered_at (after_calls view made).view n ≡ remember
 -- response
 pub record IsActOf (n : ℕ) (view : View) (made : List CallRecord) (act : Act) : Type 0 where
   pub of : IsOf n act
-  pub sound : IsSound (begun view) act
+  pub sound : IsSound (first_play view) act
   pub comes_to : remembered_at (after_calls view made).view n
-      ≡ remembered_at (play_after (begun view) (script_of view act)).view n
+      ≡ remembered_at (play_after (first_play view) (script_of view act)).view n
 
 -- the acts of the INVITE that these turns of a history made, each turn one at most, the oldest act
 -- first
@@ -38,7 +39,7 @@ AreActs config history n (turn ∷ earlier) acts =
     × (acts
     ≡ before
     ++ record {
-      play = begun (shown_in config (session_after config history earlier) turn);
+      play = first_play (shown_in config (session_after config history earlier) turn);
       act = act;
     } ∷ [])
     × IsActOf n (shown_in config (session_after config history earlier) turn) turn.calls act

@@ -9,7 +9,7 @@ use Rattle.sc_terms.specs.declared.settings.Config.{Config}
 use Rattle.sc_terms.specs.declared.views.RequestView.{RequestView}
 use Rattle.sc_terms.specs.declared.views.View.{View}
 use Rattle.sc_model.specs.SessionStates.{invite}
-use Rattle.sc_hosts.specs.Effects.{begun}
+use Rattle.sc_hosts.specs.Effects.{first_play}
 use Rattle.sc_hosts.specs.HelperParts.{lists_option, strict_number}
 use Rattle.sc_hosts.specs.Histories.{History, session_after}
 use Rattle.sc_hosts.specs.Offers.{after_word, early_script, is_invite_of, rel_option, session_progress}
@@ -42,7 +42,7 @@ act_of view event = None
 -- view
 unfoldable pub IsOneAct : View → Event → Script → Type 0
 IsOneAct view event script =
-    ((play_after (begun view) script).view.attributes ≡ view.attributes)
+    ((play_after (first_play view) script).view.attributes ≡ view.attributes)
     ⊎ ((act : Act) × (act_of view event ≡ Some act) × (script ≡ script_of view act))
 
 -- nothing is remembered yet of a request that begins a SipSession
@@ -65,7 +65,7 @@ pub record IsEarlyTurn (view : View) (event : Option Event) (made : List CallRec
   pub plays : PlaysScript early_script view event made
   pub unknown : (told : Event) → event ≡ Some told → IsUnknown view told
   pub sound : (told : Event) (act : Act) → event ≡ Some told → act_of view told ≡ Some act
-      → (invite_of act < 2 ^ 64) × IsSound (begun view) act
+      → (invite_of act < 2 ^ 64) × IsSound (first_play view) act
 
 -- each turn of a history is so
 unfoldable pub AreEarly : Config → History → List Turn → Type 0

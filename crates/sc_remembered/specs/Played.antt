@@ -6,20 +6,22 @@ use Rattle.sc_terms.specs.declared.settings.Config.{Config}
 use Rattle.sc_terms.specs.declared.views.View.{View}
 use Rattle.sc_state.specs.declared.session.Session.{Session}
 use Rattle.sc_hosts.specs.Histories.{History, session_after}
-use Rattle.sc_hosts.specs.Preparing.{prepared}
-use Rattle.sc_hosts.specs.Scripting.{Script, played}
+use Rattle.sc_hosts.specs.Preparing.{prepared_session}
+use Rattle.sc_hosts.specs.Scripting.{Script, calls_of_script}
 use Rattle.sc_hosts.specs.Sessions.{Turn}
 use Rattle.sc_remembered.specs.Acts.{shown_in}
 
 -- the event that a turn shows, none where nobody is called
 abbrev pub event_in : Config → Session → Turn → Option Event
-event_in config session turn = (prepared config turn.ringing session turn.waiting turn.now).event
+event_in config session turn =
+    (prepared_session config turn.ringing session turn.waiting turn.now).event
 
 -- the calls are those of the script of the event that is shown, or none where nobody was called
 unfoldable pub PlaysScript : (View → Event → Script) → View → Option Event → List CallRecord
     → Type 0
 PlaysScript script view None made = made ≡ []
-PlaysScript script view (Some event) made = (made ≡ played view (script view event)) ⊎ (made ≡ [])
+PlaysScript script view (Some event) made =
+    (made ≡ calls_of_script view (script view event)) ⊎ (made ≡ [])
 
 -- it is so in each turn of a history
 unfoldable pub ArePlayed : (View → Event → Script) → Config → History → List Turn → Type 0

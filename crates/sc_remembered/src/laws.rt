@@ -6,12 +6,12 @@ ghost use Rattle.sc_terms.specs.declared.settings.Config.{Config};
 ghost use Rattle.sc_terms.specs.declared.views.View.{View};
 ghost use Rattle.sc_state.specs.declared.queue.Waiting.{Waiting};
 ghost use Rattle.sc_state.specs.declared.session.Session.{Session};
-ghost use Rattle.sc_hosts.specs.Effects.{after_calls, begun};
+ghost use Rattle.sc_hosts.specs.Effects.{after_calls, first_play};
 ghost use Rattle.sc_hosts.specs.Finishing.{outcome};
 ghost use Rattle.sc_hosts.specs.Histories.{History};
 ghost use Rattle.sc_hosts.specs.Offers.{early_script};
-ghost use Rattle.sc_hosts.specs.Preparing.{prepared};
-ghost use Rattle.sc_hosts.specs.Scripting.{Script, played};
+ghost use Rattle.sc_hosts.specs.Preparing.{prepared_session};
+ghost use Rattle.sc_hosts.specs.Scripting.{Script, calls_of_script};
 ghost use Rattle.sc_promised.specs.Reliable.{Fresh, Happened, IsTrace, play_after};
 ghost use Rattle.sc_remembered.specs.Acts.{AreActs};
 ghost use Rattle.sc_remembered.specs.Early.{AreEarly, IsOneAct, IsUnknown, MakesActs};
@@ -23,11 +23,11 @@ ghost use Rattle.sc_remembered.specs.Early.{AreEarly, IsOneAct, IsUnknown, Makes
 pub fn attributes_are_of_calls()
     ensures shown { (config : Config) (ringing : List ℕ) (session : Session) (waiting : Waiting)
         (now : ℕ)
-        → (prepared config ringing session waiting now).view.attributes ≡ session.view.attributes }
+        → (prepared_session config ringing session waiting now).view.attributes ≡ session.view.attributes }
     ensures left { (config : Config) (ringing : List ℕ) (session : Session) (waiting : Waiting)
         (now : ℕ) (made : List CallRecord) (end : End)
         → (outcome config ringing session waiting now made end).session.view.attributes
-        ≡ (after_calls (prepared config ringing session waiting now).view made).view.attributes }
+        ≡ (after_calls (prepared_session config ringing session waiting now).view made).view.attributes }
 {}
 
 /// Where each turn of a session makes one act of an INVITE at most, an offer of a reliable
@@ -49,7 +49,7 @@ pub fn acts_are_chained()
 /// nothing.
 pub fn early_turns_are_acts()
     ensures played { (view : View) (script : Script)
-        → after_calls view (played view script) ≡ play_after (begun view) script }
+        → after_calls view (calls_of_script view script) ≡ play_after (first_play view) script }
     ensures early { (view : View) (event : Event) → IsUnknown view event
         → IsOneAct view event (early_script view event) }
 {}

@@ -4,7 +4,7 @@ use Rattle.std.specs.Prelude.{length}
 use Rattle.sc_terms.specs.declared.settings.Config.{Config}
 use Rattle.sc_terms.specs.declared.settings.Dar.{Dar}
 use Rattle.sc_terms.specs.declared.steps.Step.{Step}
-use Rattle.sc_grammar.specs.Written.{Bytes}
+use Rattle.sc_tokens.specs.Bytes.{Bytes}
 use Rattle.sc_journal.specs.Kept.{Kept}
 use Rattle.sc_switch.specs.declared.ran.Ran.{Ran}
 use Rattle.sc_switch.specs.declared.ran.Status.{Status}

@@ -3,9 +3,9 @@ use Rattle.std.proofs.Common.{◌≡◌, ◌<◌, ◌≤◌, ℕ, Option, None, 
 use Rattle.std.specs.Prelude.{get_or}
 use Rattle.std.proofs.lemmas.Bool.{false≢true}
 use Rattle.sc_tokens.specs.Names.{same_bytes}
-use Rattle.sc_grammar.specs.Written.{Bytes}
+use Rattle.sc_tokens.specs.Bytes.{Bytes}
 use Rattle.sc_replay.specs.declared.commanding.Command.TheVariants.{Usage}
-use Rattle.sc_replay.specs.Commands.{command_of, count_behind, counted, counted_command, settled_command, scripted_command}
+use Rattle.sc_replay.specs.Commands.{command_of, count_behind, count_after_name as counted, counted_command, settled_command, scripted_command}
 use Rattle.sc_replay.specs.Checking.{checked_names}
 
 pub two_words : {S : Type 0} (f : S → Bytes) (words : List S) (a b : S) → 2 ≤ length words → length words < 3 → a ≡ get_or words 0 a → b ≡ get_or words 1 b

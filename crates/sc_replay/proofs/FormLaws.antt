@@ -3,7 +3,7 @@ use Rattle.std.proofs.Common.{◌≡◌, inl, inr, ℕ, Bool, true, false, Optio
 use Rattle.std.specs.Option.{is_some}
 use Rattle.std.proofs.lemmas.Bool.{false≢true}
 use Rattle.sc_tokens.specs.Names.{same_bytes}
-use Rattle.sc_grammar.specs.Written.{Bytes}
+use Rattle.sc_tokens.specs.Bytes.{Bytes}
 use Rattle.sc_syntax.proofs.ListedLaws.{same_text}
 use Rattle.sc_replay.specs.declared.commanding.Command.{Command}
 use Rattle.sc_replay.specs.declared.commanding.Command.TheVariants.{Replay, Check, Make, Trial, Serve, Usage}
@@ -11,7 +11,7 @@ use Rattle.sc_replay.specs.Checking.{checked_names}
 use Rattle.sc_replay.specs.Making.{made_count}
 use Rattle.sc_replay.specs.Replaying.{IsReplay, replay_word}
 use Rattle.sc_replay.specs.Trying.{tried_count}
-use Rattle.sc_replay.specs.Commands.{HasForm, IsCounted, IsNamed, command_of, count_in, counted, counted_command, settled_command, scripted_command}
+use Rattle.sc_replay.specs.Commands.{HasForm, IsCounted, IsNamed, command_of, count_in, count_after_name as counted, counted_command, settled_command, scripted_command}
 
 -- ## The command that is found has its form
 

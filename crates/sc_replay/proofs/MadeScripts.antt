@@ -7,8 +7,9 @@ use Rattle.std.proofs.lemmas.List.Concat.{flat_map-cons}
 use Rattle.sc_value.specs.declared.message.Request.{Request}
 use Rattle.sc_value.specs.declared.message.Message.TheVariants as messages
 use Rattle.sc_terms.specs.declared.steps.Line.{Line}
-use Rattle.sc_grammar.specs.Written.{Bytes, written}
-use Rattle.sc_model.specs.Generated.{run_line, end_line, tick_line, arriving_text, arrives, invite_of, ack_of, bye_of, call_text, generated}
+use Rattle.sc_tokens.specs.Bytes.{Bytes}
+use Rattle.sc_grammar.specs.Written.{text_of_message as written}
+use Rattle.sc_model.specs.Generated.{run_line, end_line, tick_line, arriving_text, arrives, invite_of, ack_of, bye_of, call_text, generated_text as generated}
 use Rattle.sc_script.specs.ScriptTexts.{lines_in, script_of}
 use Rattle.sc_replay.proofs.ScriptRows.{IsRead, end_read, run_read, tick_read, arriving_read}
 use Rattle.sc_replay.proofs.MadeSizes.{IsShort, invite_short, ack_short, bye_short, script_short}

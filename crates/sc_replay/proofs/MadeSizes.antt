@@ -12,10 +12,11 @@ use Rattle.sc_value.specs.declared.message.Request.{Request}
 use Rattle.sc_value.specs.declared.message.Message.TheVariants as messages
 use Rattle.sc_value.specs.Params.{tag_name, branch_name}
 use Rattle.sc_tokens.specs.HeaderNames.{via_name, route_name, max_forwards_name, from_name, to_name, call_id_name, cseq_name, contact_name, content_length_name}
-use Rattle.sc_grammar.specs.Written.{Bytes, crlf, version, signed_text, param_text, params_text, ended_text, port_text, scheme, sip_uri_text, uri_text, address_text, contact_text, via_text, cseq_text, line, via_line, route_line, contact_line, hops_line, routing_lines, dialog_lines, closing_lines, head_text, request_line, written}
+use Rattle.sc_tokens.specs.Bytes.{Bytes}
+use Rattle.sc_grammar.specs.Written.{crlf, version, signed_text, param_text, params_text, ended_text, port_text, scheme, sip_uri_text, uri_text, address_text, contact_text, via_text, cseq_text, line, via_line, route_line, contact_line, hops_line, routing_lines, dialog_lines, closing_lines, head_text, request_line, text_of_message as written}
 use Rattle.sc_model.specs.SessionStates.{ack, bye, invite}
 use Rattle.sc_model.specs.Names.{loose_param, tcp_param}
-use Rattle.sc_model.specs.Generated.{in_word, home, local, caller, called, valued, session_text, user_uri, session_param, session_uri, mark, answer_tag, cookie, branch_of, call_of, via_of, from_side, to_side, answered_side, caller_contact, route_of, head_of, invite_of, later_of, ack_of, bye_of, run_line, end_line, tick_word, tick_line, arriving_text, arrives, call_text, generated}
+use Rattle.sc_model.specs.Generated.{in_word, home, local, caller, called_user as called, name_and_value as valued, session_text, user_uri, session_param, session_uri, mark, answer_tag, cookie, branch_of, call_of, via_of, from_side, to_side, answered_side, caller_contact, route_of, head_of, invite_of, later_of, ack_of, bye_of, run_line, end_line, tick_word, tick_line, arriving_text, arrives, call_text, generated_text as generated}
 
 few_digits : (i : ℕ) → i ≤ 1000 → length (decimal i) ≤ 4
 few_digits i few = length-decimal-le 4 i (omega arith) (omega (arith, few)) (omega (arith, few))

@@ -13,7 +13,7 @@ use Rattle.sc_tokens.specs.Names.{same_bytes}
 use Rattle.sc_terms.specs.Ranges.{are_few}
 use Rattle.sc_terms.specs.declared.settings.Config.{Config}
 use Rattle.sc_terms.specs.declared.settings.AppEntry.{AppEntry}
-use Rattle.sc_grammar.specs.Written.{Bytes}
+use Rattle.sc_tokens.specs.Bytes.{Bytes}
 use Rattle.sc_config.specs.Documents.{document}
 use Rattle.sc_config.specs.KeyValues.{number_within, number_in}
 use Rattle.sc_config.specs.Faults.{Fault, RANGE, LONG, fault_if, are_some_tables, apps_in, app_text, is_kind, first_fault, top_fault, table_fault, wrong_apps, unknown_kind, first_refusal}

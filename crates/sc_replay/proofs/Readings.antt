@@ -3,7 +3,7 @@ use Rattle.std.proofs.Common.{◌≡◌, ◌<◌, ℕ, true, Option, None, Some,
 use Rattle.std.specs.Prelude.{Ok, Err, nat_lt}
 use Rattle.std.proofs.lemmas.Bool.Decides.{nat_tests}
 use Rattle.sc_terms.specs.declared.steps.Line.{Line}
-use Rattle.sc_grammar.specs.Written.{Bytes}
+use Rattle.sc_tokens.specs.Bytes.{Bytes}
 use Rattle.sc_edge.specs.Shelving.{GivesAll, IsLonger}
 use Rattle.sc_script.specs.ScriptTexts.{script_of}
 use Rattle.sc_replay.specs.Replaying.{IsScriptFault, TellsScript}

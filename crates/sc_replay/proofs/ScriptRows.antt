@@ -12,12 +12,12 @@ use Rattle.sc_terms.specs.declared.steps.Line.TheVariants as lines
 use Rattle.sc_tokens.specs.Cuts.{has, before, after, onto_first, pieces}
 use Rattle.sc_tokens.specs.Hosts.{begins}
 use Rattle.sc_tokens.specs.Numbers.{is_digits, with_digit, number_in}
-use Rattle.sc_grammar.specs.Written.{Bytes}
+use Rattle.sc_tokens.specs.Bytes.{Bytes}
 use Rattle.sc_model.specs.Generated.{in_word, run_line, end_line, tick_word, tick_line, arriving_text}
 use Rattle.sc_syntax.proofs.CutLaws.{before_here, before_on, after_here, after_on}
 use Rattle.sc_syntax.proofs.DecimalLaws.{decimal_is_read}
 use Rattle.sc_dar.proofs.WrittenTuples.{decimal_lacks}
-use Rattle.sc_script.specs.ScriptTexts.{Fault, MOST_COUNT, is_plain, decimal_upto, connection_of, place_of, one_word, two_words, is_feed, incoming, size_of, alone, line_of, is_end, row_with, row_by, row_at, moment_after, with_first, followed, lines_in}
+use Rattle.sc_script.specs.ScriptTexts.{Fault, MOST_COUNT, is_plain, decimal_upto, connection_of, place_of, one_word, two_words, is_feed, incoming, size_of, alone, line_of, is_end, row_with, row_by, row_at, moment_after, with_first, with_later_lines as followed, lines_in}
 use Rattle.sc_script.specs.ScriptTexts.{tick_line as line_of_tick}
 use Rattle.sc_script.proofs.Decimals.{upto_some}
 

@@ -2,7 +2,7 @@
 use Rattle.std.proofs.Common.{◌≡◌, ◌<◌, ℕ, true, Option, None, Some, List, [], Result, Ok, Err, length, refl, sym, subst, arith}
 use Rattle.std.specs.Prelude.{nat_lt, IfOk, IfErr}
 use Rattle.std.proofs.lemmas.Bool.Decides.{nat_tests}
-use Rattle.sc_grammar.specs.Written.{Bytes}
+use Rattle.sc_tokens.specs.Bytes.{Bytes}
 use Rattle.sc_config.specs.ReadSettings.{settings_of}
 use Rattle.sc_dar.specs.Tables.{table_of}
 use Rattle.sc_edge.specs.Shelving.{GivesAll, IsLonger}

@@ -10,8 +10,8 @@ use Rattle.sc_terms.specs.declared.settings.Dar.{Dar}
 use Rattle.sc_terms.specs.declared.settings.MethodList.{MethodList}
 use Rattle.sc_tokens.specs.Bytes.{Bytes}
 use Rattle.sc_tokens.specs.Cuts.{pieces, onto_first}
-use Rattle.sc_dar.specs.Lines.{Line, lines, joined, before_lines, onto_next, ended, rows, ends, drop_blanks}
-use Rattle.sc_dar.specs.Tables.{LONG, Fault, list_of, judged, table_with, table_of}
+use Rattle.sc_dar.specs.Lines.{Line, lines, lines_of_rows as joined, before_lines, onto_next, lines_by_lf as ended, rows, ends, drop_blanks}
+use Rattle.sc_dar.specs.Tables.{LONG, Fault, list_of, lists_with as judged, table_with, table_of}
 use Rattle.sc_dar.proofs.Kept.{err_ok, ok_same, then_line_ok}
 
 -- ## Lines

@@ -6,9 +6,9 @@ use Rattle.std.proofs.lemmas.Bool.{false≢true}
 use Rattle.sc_terms.specs.declared.steps.Line.{Line}
 use Rattle.sc_terms.specs.declared.steps.Step.{Step}
 use Rattle.sc_parts.specs.declared.setup.Setup.{Setup}
-use Rattle.sc_grammar.specs.Written.{Bytes}
+use Rattle.sc_tokens.specs.Bytes.{Bytes}
 use Rattle.sc_journal.specs.Kept.{Kept}
-use Rattle.sc_model.specs.Generated.{generated}
+use Rattle.sc_model.specs.Generated.{generated_text as generated}
 use Rattle.sc_model.specs.Settings.{Charters}
 use Rattle.sc_edge.specs.Taking.{TakesPart_none}
 use Rattle.sc_hosts.specs.Histories.{as_session}

@@ -1,7 +1,7 @@
 -- The words of a command line.
 use Rattle.std.proofs.Common.{◌≡◌, ◌<◌, ◌≤◌, ℕ, zero, suc, List, [], ◌∷◌, map, length, sym, ap, ◌∙◌, arith}
 use Rattle.std.specs.Prelude.{get_or}
-use Rattle.sc_grammar.specs.Written.{Bytes}
+use Rattle.sc_tokens.specs.Bytes.{Bytes}
 use Rattle.sc_replay.specs.Replaying.{IsReplay, replay_word}
 
 -- four words of which the first is `replay`

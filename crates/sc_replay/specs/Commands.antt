@@ -2,7 +2,7 @@
 use Rattle.std.specs.Prelude.{◌≡◌, ◌⊎◌, ℕ, nat_le, Option, Some, None, List, [], ◌∷◌, codes, if◌then◌else◌, is_some}
 use Rattle.std.specs.Option.{option_and_then}
 use Rattle.sc_tokens.specs.Names.{same_bytes}
-use Rattle.sc_grammar.specs.Written.{Bytes}
+use Rattle.sc_tokens.specs.Bytes.{Bytes}
 use Rattle.sc_script.specs.ScriptTexts.{decimal_upto}
 use Rattle.sc_replay.specs.declared.commanding.Command.{Command}
 use Rattle.sc_replay.specs.declared.commanding.Command.TheVariants.{Replay, Check, Make, Trial, Serve, Usage}
@@ -20,9 +20,9 @@ abbrev pub count_behind : Bytes → Bytes → Bytes → Option ℕ
 count_behind name word count = if same_bytes word name then count_in count else None
 
 -- the N of `NAME N`, none of other words
-unfoldable pub counted : Bytes → List Bytes → Option ℕ
-counted name (word ∷ count ∷ []) = count_behind name word count
-counted name words = None
+unfoldable pub count_after_name : Bytes → List Bytes → Option ℕ
+count_after_name name (word ∷ count ∷ []) = count_behind name word count
+count_after_name name words = None
 
 -- the word, and the number of a command
 abbrev pub IsCounted : Bytes → List Bytes → Type 0

@@ -1,6 +1,6 @@
 -- How a text was put.
 use Rattle.std.specs.Prelude.{Option}
-use Rattle.sc_grammar.specs.Written.{Bytes}
+use Rattle.sc_tokens.specs.Bytes.{Bytes}
 use Rattle.sc_edge.specs.Taking.{Takes, TakesPart}
 use Rattle.sc_switch.specs.declared.ran.Status.{Status}
 use Rattle.sc_switch.specs.declared.ran.Status.TheVariants as statuses

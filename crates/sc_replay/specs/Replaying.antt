@@ -5,7 +5,7 @@ use Rattle.sc_terms.specs.declared.settings.Dar.{Dar}
 use Rattle.sc_terms.specs.declared.steps.Line.{Line}
 use Rattle.sc_terms.specs.declared.steps.Step.{Step}
 use Rattle.sc_parts.specs.declared.setup.Setup.{Setup}
-use Rattle.sc_grammar.specs.Written.{Bytes}
+use Rattle.sc_tokens.specs.Bytes.{Bytes}
 use Rattle.sc_config.specs.ReadSettings.{settings_of}
 use Rattle.sc_dar.specs.Tables.{table_of}
 use Rattle.sc_journal.specs.Kept.{Kept}

@@ -2,22 +2,22 @@
 use Rattle.std.specs.Prelude.{◌≡◌, ℕ, Option, Some, None, List, [], ◌∷◌, ◌++◌, codes, decimal, length}
 use Rattle.sc_terms.specs.declared.steps.Step.{Step}
 use Rattle.sc_parts.specs.declared.setup.Setup.{Setup}
-use Rattle.sc_grammar.specs.Written.{Bytes}
-use Rattle.sc_model.specs.Generated.{generated}
+use Rattle.sc_tokens.specs.Bytes.{Bytes}
+use Rattle.sc_model.specs.Generated.{generated_text}
 use Rattle.sc_model.specs.Settings.{Charters}
 use Rattle.sc_journal.specs.Kept.{Kept}
 use Rattle.sc_edge.specs.Taking.{Takes, TakesPart}
 use Rattle.sc_hosts.specs.Histories.{as_session}
-use Rattle.sc_hosts.specs.Runs.{IsLawful, all_sent, chained, live_count}
+use Rattle.sc_hosts.specs.Runs.{IsLawful, all_sent, live_count, net_from}
 use Rattle.sc_switch.specs.declared.ran.Ran.{Ran}
 use Rattle.sc_switch.specs.declared.ran.Status.{Status}
 use Rattle.sc_switch.specs.declared.ran.Status.TheVariants as statuses
-use Rattle.sc_replay.specs.Commands.{counted}
+use Rattle.sc_replay.specs.Commands.{count_after_name}
 use Rattle.sc_replay.specs.Replaying.{Told, TellsSetup, IsUnset, Replays, ReplaysPart, ReplaysFull}
 
 -- the N of `trial N`, none of other words
 abbrev pub tried_count : List Bytes → Option ℕ
-tried_count words = counted (codes "trial") words
+tried_count words = count_after_name (codes "trial") words
 
 -- ## Its settings
 
@@ -32,8 +32,8 @@ trial_table =
     codes "INVITE: (\"recorder\", \"DAR:From\", \"NEUTRAL\", \"\", \"NO_ROUTE\", \"0\"), (\"b2b\", \"DAR:From\", \"NEUTRAL\", \"\", \"NO_ROUTE\", \"1\"), (\"ringer\", \"DAR:From\", \"NEUTRAL\", \"\", \"NO_ROUTE\", \"2\")\n"
 
 -- these, and the script of n calls
-abbrev pub tried : ℕ → Told
-tried n = record { config = Some trial_config; dar = Some trial_table; script = Some (generated n) }
+abbrev pub told_of_trial : ℕ → Told
+told_of_trial n = record { config = Some trial_config; dar = Some trial_table; script = Some (generated_text n) }
 
 -- ## Its line
 
@@ -67,7 +67,7 @@ trial_text n steps sent live =
 unfoldable pub trial_line : Setup → ℕ → List Step → Bytes
 trial_line setup n journal =
     trial_text n (length journal) (length (all_sent as_session setup 0 0 journal))
-    (live_count (chained as_session setup 0 0 journal))
+    (live_count (net_from as_session setup 0 0 journal))
 
 -- ## How it ends
 
@@ -76,19 +76,19 @@ trial_line setup n journal =
 unfoldable pub TrialLeaves : Setup → ℕ → Type 0 → Option Bytes → Option Bytes → Status → List Step
     → Type 0
 TrialLeaves setup n write old new statuses.Done journal =
-    Replays setup (Some (generated n)) journal × Takes old new (trial_line setup n journal)
+    Replays setup (Some (generated_text n)) journal × Takes old new (trial_line setup n journal)
 TrialLeaves setup n write old new statuses.Usage journal = ⊥
 TrialLeaves setup n write old new (statuses.Config kind key) journal = ⊥
 TrialLeaves setup n write old new (statuses.Dar line kind) journal = ⊥
 TrialLeaves setup n write old new statuses.JournalFull journal =
-    ReplaysFull setup (Some (generated n)) journal × (new ≡ old)
+    ReplaysFull setup (Some (generated_text n)) journal × (new ≡ old)
 TrialLeaves setup n write old new statuses.Edge journal = ⊥
 TrialLeaves setup n write old new statuses.NoMemory journal =
-    ReplaysPart setup (Some (generated n)) journal × TakesPart old new (trial_line setup n journal)
+    ReplaysPart setup (Some (generated_text n)) journal × TakesPart old new (trial_line setup n journal)
 TrialLeaves setup n write old new (statuses.Script at kind) journal = ⊥
 TrialLeaves setup n write old new statuses.Read journal = ⊥
 TrialLeaves setup n write old new statuses.Write journal =
-    write × Replays setup (Some (generated n)) journal
+    write × Replays setup (Some (generated_text n)) journal
     × TakesPart old new (trial_line setup n journal)
 
 -- of n calls: the journal is there exactly where the settings were accepted, and it is that of a
@@ -99,7 +99,7 @@ Trials names kinds n write old new status None =
     IsUnset names (Some trial_config) (Some trial_table) ⊥ status × (new ≡ old)
 Trials names kinds n write old new status (Some journal) =
     (setup : Setup)
-    × TellsSetup names kinds (tried n) setup
+    × TellsSetup names kinds (told_of_trial n) setup
     × IsLawful as_session setup 0 0 journal.items
     × TrialLeaves setup n write old new status journal.items
 

@@ -1,13 +1,13 @@
 //! The command that the words of a command line are.
 
 ghost use Rattle.std.specs.Prelude.{◌≡◌, ◌≤◌, IfSome, List, map, string_bytes, is_some, true};
-ghost use Rattle.sc_grammar.specs.Written.{Bytes};
+ghost use Rattle.sc_tokens.specs.Bytes.{Bytes};
 ghost use Rattle.sc_replay.specs.Checking.{checked_names};
 ghost use Rattle.sc_replay.specs.Making.{made_count};
 ghost use Rattle.sc_replay.specs.Replaying.{IsReplay};
 ghost use Rattle.sc_replay.specs.Trying.{tried_count};
 ghost use Rattle.sc_tokens.specs.Names.{same_bytes};
-ghost use Rattle.sc_replay.specs.Commands.{HasForm, IsNamed, command_of, count_behind, count_in, counted, counted_command, settled_command, scripted_command};
+ghost use Rattle.sc_replay.specs.Commands.{HasForm, IsNamed, command_of, count_after_name, count_behind, count_in, counted_command, scripted_command, settled_command};
 ghost use Rattle.sc_replay.specs.declared.commanding.Command.{Command};
 
 use sc_script::decimal_upto;
@@ -129,7 +129,7 @@ pub fn count_in(word: &[u8]) -> Option<u32>
 
 /// The N of the words `NAME N`, None exactly where the words aren't these.
 pub fn counted(name: &[u8], words: &[String]) -> Option<u32>
-    ensures exact { result ≡ counted name.now (map string_bytes words.now) }
+    ensures exact { result ≡ count_after_name name.now (map string_bytes words.now) }
     ensures least { IfSome result (λ n. 1 ≤ n) }
     ensures most { IfSome result (λ n. n ≤ 1000) }
 {

@@ -2,7 +2,7 @@
 
 ghost use Rattle.std.specs.Prelude.{◌≡◌, ◌≤◌, None, map, string_bytes};
 ghost use Rattle.sc_edge.specs.Faults.{Rose};
-ghost use Rattle.sc_model.specs.Generated.{generated};
+ghost use Rattle.sc_model.specs.Generated.{generated_text};
 ghost use Rattle.sc_replay.specs.Making.{Makes, made_count};
 ghost use Rattle.sc_replay.specs.Putting.{IsPut};
 
@@ -47,7 +47,7 @@ fn put_script<K: Sink>(alloc: Global, n: u32, out: &mut K) -> Status
     requires least { 1 ≤ n }
     requires most { n ≤ 1000 }
     ensures { IsPut (Rose (K.faults out.old) (K.faults out.new)) (K.took out.old) (K.took out.new)
-        (generated n) result }
+        (generated_text n) result }
 {
     let mut text = Text::new(alloc);
     match script(alloc, n, &mut text) {

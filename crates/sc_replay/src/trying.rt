@@ -4,7 +4,7 @@ ghost use Rattle.std.specs.Prelude.{◌≡◌, ◌≤◌, ◌++◌, [], Some, Ok
 ghost use Rattle.sc_edge.specs.Faults.{Rose};
 ghost use Rattle.sc_follow.specs.Leading.{IsNew};
 ghost use Rattle.sc_follow.specs.Moving.{IsUntaken};
-ghost use Rattle.sc_model.specs.Generated.{generated};
+ghost use Rattle.sc_model.specs.Generated.{generated_text};
 ghost use Rattle.sc_model.specs.Settings.{IsSetup};
 ghost use Rattle.sc_replay.specs.Putting.{IsPut};
 ghost use Rattle.sc_replay.specs.Replaying.{TellsConfig, TellsTable, IsUnset, app_names};
@@ -211,7 +211,7 @@ fn run_calls<K: Sink>(
 fn made_lines(alloc: Global, n: u32) -> Result<List<Line>, NoMemory>
     requires least { 1 ≤ n }
     requires most { n ≤ 1000 }
-    ensures { IfOk result (λ lines. script_of (generated n) ≡ Ok lines) }
+    ensures { IfOk result (λ lines. script_of (generated_text n) ≡ Ok lines) }
 {
     let mut text = Text::new(alloc);
     script(alloc, n, &mut text)?;
@@ -222,8 +222,8 @@ fn made_lines(alloc: Global, n: u32) -> Result<List<Line>, NoMemory>
 #[tactic(auto, unfolding(sc_script::specs::Reading::Gives), using(crate::proofs::Tryings::never_refused))]
 fn lines_of_calls(alloc: Global, n: u32, text: &[u8]) -> Result<List<Line>, NoMemory>
     requires most { n ≤ 1000 }
-    requires text { text.now ≡ generated n }
-    ensures { IfOk result (λ lines. script_of (generated n) ≡ Ok lines) }
+    requires text { text.now ≡ generated_text n }
+    ensures { IfOk result (λ lines. script_of (generated_text n) ≡ Ok lines) }
 {
     match read_lines(alloc, text) {
         Ok(lines) => Ok(lines),
@@ -242,7 +242,7 @@ fn try_lines<K: Sink>(
     apps: &Catalogue,
     out: &mut K,
 ) -> Status
-    requires lines { script_of (generated count) ≡ Ok lines.now }
+    requires lines { script_of (generated_text count) ≡ Ok lines.now }
     requires new { IsNew switch.old }
     requires right { IsSetup switch.old.setup }
     requires kinds { switch.old.setup.kinds

@@ -20,12 +20,12 @@ use Rattle.sc_state.specs.declared.session.Way.TheVariants.{Received}
 use Rattle.sc_state.specs.declared.working.Draft.{Draft}
 use Rattle.sc_state.specs.declared.working.Play.{Play}
 use Rattle.sc_model.specs.SessionStates.{invite}
-use Rattle.sc_hosts.specs.Effects.{created_leg, proxied, proxied_request, sent_view, with_draft}
-use Rattle.sc_hosts.specs.Looking.{is_request, removed, unlinked}
+use Rattle.sc_hosts.specs.Effects.{created_leg, view_with_targets as proxied, proxied_request, sent_view, with_draft}
+use Rattle.sc_hosts.specs.Looking.{is_request, without_sip_session as removed, without_link as unlinked}
 use Rattle.sc_hosts.specs.Preparing.{kept_of}
-use Rattle.sc_hosts.specs.PreparingRequests.{next_id, received, request_view, with_invited}
+use Rattle.sc_hosts.specs.PreparingRequests.{next_id, with_received_request as received, request_view, with_invited}
 use Rattle.sc_hosts.specs.PreparingResponses.{change_proxy}
-use Rattle.sc_hosts.specs.ViewChanges.{linked, with_own_session}
+use Rattle.sc_hosts.specs.ViewChanges.{with_link as linked, with_own_session}
 use Rattle.sc_hosts.specs.Working.{proxies, proxies_first}
 use Rattle.sc_hosts.specs.Branches.{with_targets}
 use Rattle.sc_walked.specs.SessionWalks.{Brings, Each, IsSameRequest, SessionLaws, after_sent, sent_kept, with_legs}

@@ -7,7 +7,7 @@ use Rattle.sc_value.specs.declared.parts.Address.{Address}
 use Rattle.sc_terms.specs.declared.calls.Answer.{Answer}
 use Rattle.sc_terms.specs.declared.settings.Config.{Config}
 use Rattle.sc_terms.specs.declared.views.View.{View}
-use Rattle.sc_grammar.specs.Written.{Bytes}
+use Rattle.sc_tokens.specs.Bytes.{Bytes}
 use Rattle.sc_model.specs.Responses.{response_head, response_to}
 use Rattle.sc_hosts.specs.Messages.{answered_here, bare_answer, begins_dialog, given_response, makes_dialog, own_response, with_routes}
 use Rattle.sc_replies.specs.Fields.{HasFieldsOf, IsAnswerTo, answer_routes}

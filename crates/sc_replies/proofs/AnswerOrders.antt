@@ -35,13 +35,13 @@ use Rattle.sc_state.specs.declared.working.Asked.TheVariants as asked
 use Rattle.sc_state.specs.declared.working.Draft.{Draft}
 use Rattle.sc_state.specs.declared.working.Working.{Working}
 use Rattle.sc_state.specs.declared.working.Written.{Written}
-use Rattle.sc_grammar.specs.Written.{Bytes}
+use Rattle.sc_tokens.specs.Bytes.{Bytes}
 use Rattle.sc_model.specs.BestResponses.{best_response, server_error}
 use Rattle.sc_model.specs.Dialogs.{DialogState}
 use Rattle.sc_model.specs.SessionStates.{ack, is_final}
-use Rattle.sc_hosts.specs.Acting.{acted, acts, all_act, chooses, closes, drafts_ended, fault_at, faulted, forwards, forwards_best, hops_spent, in_view, is_request_event, passed_later, passed_on, passed_request_of, passes, passes_later, proxy_now, rested, sends_cancels, started, with_forwarded}
+use Rattle.sc_hosts.specs.Acting.{after_proxy as acted, acts, all_act, chooses, closes, drafts_ended, fault_at, after_fault as faulted, forwards, forwards_best, hops_spent, in_view, is_request_event, passed_later, passed_on, passed_request_of, passes, passes_later, proxy_now, at_rest as rested, sends_cancels, after_start as started, with_forwarded}
 use Rattle.sc_hosts.specs.Branches.{can_choose, can_pass, cancelled_now, is_exhausted, starting}
-use Rattle.sc_hosts.specs.Finishing.{finished}
+use Rattle.sc_hosts.specs.Finishing.{after_all_calls as finished}
 use Rattle.sc_hosts.specs.Giving.{answer_order, answering, answers, directs, drafts_later, drafts_leg, drafts_own, forgets, is_written, writes}
 use Rattle.sc_hosts.specs.Looking.{is_request, request_in, same_request}
 use Rattle.sc_hosts.specs.Messages.{bare_answer}
@@ -49,9 +49,9 @@ use Rattle.sc_hosts.specs.Preparing.{kept_of, own_tag_of, proxy_of}
 use Rattle.sc_hosts.specs.PreparingResponses.{change_proxy, is_invalid}
 use Rattle.sc_hosts.specs.RefusalParts.{draft_in}
 use Rattle.sc_hosts.specs.Refusals.{awaits_ack, begun_by, refusal, respond_refusal}
-use Rattle.sc_hosts.specs.ViewChanges.{answered, is_owed}
+use Rattle.sc_hosts.specs.ViewChanges.{view_with_answer as answered, is_owed}
 use Rattle.sc_hosts.specs.Words.{too_many_hops}
-use Rattle.sc_hosts.specs.Working.{ack_with, acknowledges, cancels, dialog_in, does, does_by, goodbyes, in_order, invalidates, invite_branches, keeps_sent, owed_answer, sends, sends_in, sends_initial, sends_later, sends_written, sent_branch, worked}
+use Rattle.sc_hosts.specs.Working.{ack_with, acknowledges, cancels, dialog_in, effects_of_call as does, does_by, goodbyes, in_order, invalidates, invite_branches, keeps_sent, owed_answer, sends, sends_in, sends_initial, sends_later, sends_written, sent_branch, after_one_call as worked}
 use Rattle.sc_lasting.specs.Lasting.{All}
 use Rattle.sc_lasting.proofs.Began.{same-number, test-found}
 use Rattle.sc_lasting.proofs.Parts.{all-both, all-first, all-found}

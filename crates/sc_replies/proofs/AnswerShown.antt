@@ -20,16 +20,16 @@ use Rattle.sc_state.specs.declared.session.Invited.{Invited}
 use Rattle.sc_state.specs.declared.session.Kept.{Kept}
 use Rattle.sc_state.specs.declared.session.Session.{Session}
 use Rattle.sc_state.specs.declared.working.Prepared.{Prepared}
-use Rattle.sc_grammar.specs.Written.{Bytes}
+use Rattle.sc_tokens.specs.Bytes.{Bytes}
 use Rattle.sc_model.specs.BestResponses.{server_error}
 use Rattle.sc_model.specs.SessionStates.{ack}
-use Rattle.sc_hosts.specs.Branches.{has_branch, heard, is_supervised, is_timed_out}
+use Rattle.sc_hosts.specs.Branches.{has_branch, proxy_after_response as heard, is_supervised, is_timed_out}
 use Rattle.sc_hosts.specs.Legs.{FIRST_SESSION, change_leg, session_for, with_answer}
 use Rattle.sc_hosts.specs.Looking.{is_gone_in, request_in, same_request, session_in, timer_in}
 use Rattle.sc_hosts.specs.Messages.{makes_dialog}
-use Rattle.sc_hosts.specs.Preparing.{cancelled_proxy, cancelled_request, has_expired, is_invited, kept_of, own_tag_of, prepared, prepared_branch_timer, prepared_cancel, prepared_expiry, prepared_for, prepared_timer, proxy_of, terminated, timed_out}
-use Rattle.sc_hosts.specs.PreparingRequests.{prepared_request, refused, showing, showing_in, silent, taken, too_low}
-use Rattle.sc_hosts.specs.PreparingResponses.{accepts_invite, branch_placed, change_proxy, heard_in, is_invalid, is_sent_on, is_watched, noted_final, placed, prepared_branch, prepared_own, prepared_response, responded, responded_again, responded_in, shown_again, told, with_branches, with_request_again}
+use Rattle.sc_hosts.specs.Preparing.{cancelled_proxy, cancelled_request, has_expired, is_invited, kept_of, own_tag_of, prepared_session as prepared, prepared_branch_timer, prepared_cancel, prepared_expiry, prepared_for, prepared_timer, proxy_of, prepared_end as terminated, timed_out}
+use Rattle.sc_hosts.specs.PreparingRequests.{prepared_request, refusal_orders as refused, showing, showing_in, silent, prepared_for_request as taken, too_low}
+use Rattle.sc_hosts.specs.PreparingResponses.{accepts_invite, branch_placed, change_proxy, heard_in, is_invalid, is_sent_on, is_watched, noted_final, session_of_response as placed, prepared_branch, prepared_own, prepared_response, with_handled_response as responded, responded_again, responded_in, shown_again, event_of_response as told, with_branches, with_request_again}
 use Rattle.sc_hosts.specs.Words.{does_not_exist, request_terminated}
 use Rattle.sc_walked.specs.SessionWalks.{Brings, SessionLaws}
 use Rattle.sc_walked.proofs.WalkParts.{answered-walks}

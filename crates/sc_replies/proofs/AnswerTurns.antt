@@ -30,17 +30,17 @@ use Rattle.sc_state.specs.declared.session.Session.{Session}
 use Rattle.sc_state.specs.declared.working.Prepared.{Prepared}
 use Rattle.sc_state.specs.declared.working.Working.{Working}
 use Rattle.sc_model.specs.SessionStates.{ack}
-use Rattle.sc_hosts.specs.Acting.{all_act, drafts_ended, faulted, hops_spent, is_request_event, passed_later, passed_on, passed_request_of, passes_later, sent_proxy}
+use Rattle.sc_hosts.specs.Acting.{all_act, drafts_ended, after_fault as faulted, hops_spent, is_request_event, passed_later, passed_on, passed_request_of, passes_later, sent_proxy}
 use Rattle.sc_hosts.specs.Branches.{new_proxy, with_targets}
-use Rattle.sc_hosts.specs.Effects.{begun}
-use Rattle.sc_hosts.specs.Finishing.{finished, is_ended, is_session_ready, lightened, outcome, outcome_of, session_in_play, swept, swept_one, without_acks}
+use Rattle.sc_hosts.specs.Effects.{first_play as begun}
+use Rattle.sc_hosts.specs.Finishing.{after_all_calls as finished, is_ended, is_session_ready, without_unneeded as lightened, outcome, outcome_of, session_in_play, swept, swept_one, without_acks}
 use Rattle.sc_hosts.specs.Giving.{answering}
 use Rattle.sc_hosts.specs.Histories.{History, after_turn, as_session, session_after}
 use Rattle.sc_hosts.specs.Legs.{first_known, first_view, fresh}
-use Rattle.sc_hosts.specs.Looking.{removed, request_in, same_request}
-use Rattle.sc_hosts.specs.Preparing.{kept_of, prepared, proxy_of}
+use Rattle.sc_hosts.specs.Looking.{without_sip_session as removed, request_in, same_request}
+use Rattle.sc_hosts.specs.Preparing.{kept_of, prepared_session as prepared, proxy_of}
 use Rattle.sc_hosts.specs.PreparingResponses.{change_proxy, is_invalid}
-use Rattle.sc_hosts.specs.Runs.{IsLawful, chained}
+use Rattle.sc_hosts.specs.Runs.{IsLawful, net_from as chained}
 use Rattle.sc_hosts.specs.Sessions.{Turn}
 use Rattle.sc_hosts.specs.Steps.{live_at}
 use Rattle.sc_hosts.specs.ViewChanges.{is_owed}
@@ -52,10 +52,10 @@ use Rattle.sc_walked.proofs.WalkParts.{answered-walks, each-first, tidy-walks}
 use Rattle.sc_lasting.specs.Lasting.{All}
 use Rattle.sc_lasting.proofs.Began.{same-number, test-found}
 use Rattle.sc_lasting.proofs.Parts.{all-both, all-found, all-map, each-weaker, removed-only}
-use Rattle.sc_lived.specs.Lived.{told, turned_events}
+use Rattle.sc_lived.specs.Lived.{turns_in as told, turned_events}
 use Rattle.sc_lived.proofs.Sayings.{session-lived}
 use Rattle.sc_replies.specs.Fields.{Answers, AnswersAll, HasAnsweredAll, Incoming, IsProxied, WasBrought, incoming}
-use Rattle.sc_replies.specs.Came.{Came, brought, came_of}
+use Rattle.sc_replies.specs.Came.{Came, came_by_event as brought, came_of}
 use Rattle.sc_replies.specs.Replies.{orders_of}
 use Rattle.sc_replies.proofs.AnswerEvents.{AreOf, GoesOn, dropped, events-law, forgotten, more-of, shown-on}
 use Rattle.sc_replies.proofs.AnswerOrders.{AllGive, Gives, IsPassed, calls-give, finished-gives}

@@ -29,19 +29,19 @@ use Rattle.sc_state.specs.declared.working.Play.{Play}
 use Rattle.sc_state.specs.declared.working.Prepared.{Prepared}
 use Rattle.sc_state.specs.declared.working.Working.{Working}
 use Rattle.sc_model.specs.SessionStates.{ack, invite}
-use Rattle.sc_hosts.specs.Acting.{all_act, drafts_ended, faulted, hops_spent, is_request_event, passed_later, passed_on, passed_request_of, passes_later, sent_proxy}
+use Rattle.sc_hosts.specs.Acting.{all_act, drafts_ended, after_fault as faulted, hops_spent, is_request_event, passed_later, passed_on, passed_request_of, passes_later, sent_proxy}
 use Rattle.sc_hosts.specs.Branches.{new_proxy, with_targets}
-use Rattle.sc_hosts.specs.Effects.{begun, created_leg, proxied, with_draft}
-use Rattle.sc_hosts.specs.Finishing.{finished, is_ended, is_session_ready, lightened, outcome, outcome_of, session_in_play, swept, swept_one, without_acks}
+use Rattle.sc_hosts.specs.Effects.{first_play as begun, created_leg, view_with_targets as proxied, with_draft}
+use Rattle.sc_hosts.specs.Finishing.{after_all_calls as finished, is_ended, is_session_ready, without_unneeded as lightened, outcome, outcome_of, session_in_play, swept, swept_one, without_acks}
 use Rattle.sc_hosts.specs.Giving.{answering}
 use Rattle.sc_hosts.specs.Histories.{History, after_turn, session_after}
 use Rattle.sc_hosts.specs.Legs.{FIRST_SESSION, first_known, fresh, new_leg, session_for}
-use Rattle.sc_hosts.specs.Looking.{removed, same_request, unlinked}
-use Rattle.sc_hosts.specs.Preparing.{kept_of, prepared, prepared_for, proxy_of}
-use Rattle.sc_hosts.specs.PreparingRequests.{next_id, prepared_request, received, showing, with_invited}
+use Rattle.sc_hosts.specs.Looking.{without_sip_session as removed, same_request, without_link as unlinked}
+use Rattle.sc_hosts.specs.Preparing.{kept_of, prepared_session as prepared, prepared_for, proxy_of}
+use Rattle.sc_hosts.specs.PreparingRequests.{next_id, prepared_request, with_received_request as received, showing, with_invited}
 use Rattle.sc_hosts.specs.PreparingResponses.{change_proxy}
 use Rattle.sc_hosts.specs.Sessions.{Turn}
-use Rattle.sc_hosts.specs.ViewChanges.{answered, answered_in, is_owed, linked, new_session, tidy, with_own_session}
+use Rattle.sc_hosts.specs.ViewChanges.{view_with_answer as answered, answered_in, is_owed, with_link as linked, new_session, tidy, with_own_session}
 use Rattle.sc_hosts.specs.Working.{event_of, proxies, proxies_first, worked_all}
 use Rattle.sc_walked.specs.SessionWalks.{Brings, IsKeptProxy, SessionLaws, sent_kept, with_legs}
 use Rattle.sc_walked.proofs.WalkCalls.{worked_all-walks}
@@ -51,7 +51,7 @@ use Rattle.sc_lasting.specs.Lasting.{All}
 use Rattle.sc_lasting.proofs.Began.{same-number, test-found}
 use Rattle.sc_lasting.proofs.LaterRequests.{later-session}
 use Rattle.sc_lasting.proofs.Parts.{all-append, all-each, all-filter, all-first, all-found, all-map, removed-only, unlinked-only}
-use Rattle.sc_replies.specs.Came.{AreSingle, Came, brought, came_of}
+use Rattle.sc_replies.specs.Came.{AreSingle, Came, came_by_event as brought, came_of}
 
 -- ## Numbers and events
 

@@ -12,7 +12,7 @@ use Rattle.sc_state.specs.declared.session.Known.{Known}
 use Rattle.sc_state.specs.declared.working.Working.{Working}
 use Rattle.sc_model.specs.BestResponses.{best_response}
 use Rattle.sc_model.specs.SessionStates.{is_final}
-use Rattle.sc_hosts.specs.Acting.{acted, acts, all_act, chooses, closes, forwards, forwards_best, passes, proxy_now, rested, sends_cancels, started, with_forwarded}
+use Rattle.sc_hosts.specs.Acting.{after_proxy as acted, acts, all_act, chooses, closes, forwards, forwards_best, passes, proxy_now, at_rest as rested, sends_cancels, after_start as started, with_forwarded}
 use Rattle.sc_hosts.specs.Branches.{can_choose, can_pass, is_exhausted, starting}
 use Rattle.sc_hosts.specs.Looking.{same_request}
 use Rattle.sc_hosts.specs.Preparing.{proxy_of}

@@ -34,23 +34,23 @@ use Rattle.sc_state.specs.declared.working.Play.{Play}
 use Rattle.sc_state.specs.declared.working.Prepared.{Prepared}
 use Rattle.sc_state.specs.declared.working.Working.{Working}
 use Rattle.sc_state.specs.declared.working.Written.{Written}
-use Rattle.sc_grammar.specs.Written.{Bytes}
+use Rattle.sc_tokens.specs.Bytes.{Bytes}
 use Rattle.sc_model.specs.Dialogs.{DialogState}
 use Rattle.sc_model.specs.SessionStates.{ack, is_final}
 use Rattle.sc_model.specs.Transactions.{is_success}
-use Rattle.sc_hosts.specs.Acting.{faulted, fault_at, hops_spent, is_request_event, passed_later, passed_on, passed_request_of, passes_later, sent_proxy}
-use Rattle.sc_hosts.specs.Branches.{added_targets, after_end, ended_branch, ended_by, heard, is_invite, is_supervised, new_proxy, passing_on, rung, stopped, to_cancel, with_candidate, with_targets}
-use Rattle.sc_hosts.specs.Finishing.{is_ended, lightened, outcome_of, session_in_play, swept}
+use Rattle.sc_hosts.specs.Acting.{after_fault as faulted, fault_at, hops_spent, is_request_event, passed_later, passed_on, passed_request_of, passes_later, sent_proxy}
+use Rattle.sc_hosts.specs.Branches.{added_targets, after_end, ended_branch, ended_by, proxy_after_response as heard, is_invite, is_supervised, new_proxy, passing_on, after_ringing as rung, without_search as stopped, to_cancel, with_candidate, with_targets}
+use Rattle.sc_hosts.specs.Finishing.{is_ended, without_unneeded as lightened, outcome_of, session_in_play, swept}
 use Rattle.sc_hosts.specs.Giving.{answering, directs, drafts_later, drafts_leg, drafts_own, forgets, is_written, writes}
 use Rattle.sc_hosts.specs.Legs.{FIRST_SESSION, change_leg, session_for}
 use Rattle.sc_hosts.specs.Looking.{is_request, request_in, same_request, session_in, timer_in}
-use Rattle.sc_hosts.specs.Preparing.{cancelled_proxy, cancelled_request, is_invited, kept_of, prepared, prepared_branch_timer, prepared_cancel, prepared_for, proxy_of, terminated, timed_out}
+use Rattle.sc_hosts.specs.Preparing.{cancelled_proxy, cancelled_request, is_invited, kept_of, prepared_session as prepared, prepared_branch_timer, prepared_cancel, prepared_for, proxy_of, prepared_end as terminated, timed_out}
 use Rattle.sc_hosts.specs.PreparingRequests.{showing, showing_in, silent}
 use Rattle.sc_hosts.specs.PreparingResponses.{branch_placed, change_proxy, heard_in, prepared_branch, prepared_response}
 use Rattle.sc_hosts.specs.RefusalParts.{draft_in}
 use Rattle.sc_hosts.specs.Refusals.{awaits_ack, begun_by, refusal}
 use Rattle.sc_hosts.specs.ViewChanges.{is_owed}
-use Rattle.sc_hosts.specs.Working.{ack_with, acknowledges, cancels, dialog_in, does, does_by, event_of, invalidates, keeps_sent, proxies, proxies_first, sends, sends_in, sends_initial, sends_later, sends_written, worked}
+use Rattle.sc_hosts.specs.Working.{ack_with, acknowledges, cancels, dialog_in, effects_of_call as does, does_by, event_of, invalidates, keeps_sent, proxies, proxies_first, sends, sends_in, sends_initial, sends_later, sends_written, after_one_call as worked}
 use Rattle.sc_walked.proofs.WalkCalls.{answering-known}
 use Rattle.sc_lasting.specs.Lasting.{All}
 use Rattle.sc_lasting.proofs.ShownProxies.{branch-same, expiry-same, own-same, received-same, request-same, terminated-same, timer-same}

@@ -12,11 +12,11 @@ use Rattle.sc_state.specs.declared.session.Known.{Known}
 use Rattle.sc_state.specs.declared.session.Session.{Session}
 use Rattle.sc_state.specs.declared.working.Prepared.{Prepared}
 use Rattle.sc_state.specs.declared.working.Working.{Working}
-use Rattle.sc_hosts.specs.Acting.{all_act, drafts_ended, faulted, is_request_event}
-use Rattle.sc_hosts.specs.Finishing.{finished, outcome}
+use Rattle.sc_hosts.specs.Acting.{all_act, drafts_ended, after_fault as faulted, is_request_event}
+use Rattle.sc_hosts.specs.Finishing.{after_all_calls as finished, outcome}
 use Rattle.sc_hosts.specs.Histories.{History, after_turn, session_after}
 use Rattle.sc_hosts.specs.Legs.{first_known, first_view, fresh, session_for}
-use Rattle.sc_hosts.specs.Preparing.{prepared, prepared_for}
+use Rattle.sc_hosts.specs.Preparing.{prepared_session as prepared, prepared_for}
 use Rattle.sc_hosts.specs.PreparingRequests.{next_id}
 use Rattle.sc_hosts.specs.Sessions.{Turn}
 use Rattle.sc_hosts.specs.Working.{starts, worked_all}
@@ -24,7 +24,7 @@ use Rattle.sc_lasting.specs.Lasting.{All}
 use Rattle.sc_lasting.proofs.Began.{same-number, test-found}
 use Rattle.sc_lasting.proofs.LaterRequests.{request-next}
 use Rattle.sc_lasting.proofs.Parts.{all-found, all-map}
-use Rattle.sc_replies.specs.Came.{Came, IsAmong, brought, brought_by, came_of}
+use Rattle.sc_replies.specs.Came.{Came, IsAmong, came_by_event as brought, brought_by, came_of}
 use Rattle.sc_replies.proofs.Brought.{FitsAt, FitsIn, FitsShown, GoesBy, acted-fit, calls-fit, drafts-fit, faulted-fit, lives-fit, shown-fits}
 use Rattle.sc_replies.proofs.BroughtProxies.{acted-came}
 use Rattle.sc_replies.proofs.CameProxies.{ProxiesCame, ProxyCame, calls-came, faulted-came, left-came, passes-came, prepared-came}

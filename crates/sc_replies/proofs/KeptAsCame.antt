@@ -22,14 +22,14 @@ use Rattle.sc_state.specs.declared.session.Way.TheVariants.{Received, Sent}
 use Rattle.sc_state.specs.declared.working.Prepared.{Prepared}
 use Rattle.sc_state.specs.declared.working.Working.{Working}
 use Rattle.sc_model.specs.SessionStates.{ack, invite}
-use Rattle.sc_hosts.specs.Acting.{all_act, drafts_ended, faulted, hops_spent, is_request_event, passed_later, passed_on, passed_request_of, passes_later}
-use Rattle.sc_hosts.specs.Effects.{begun}
-use Rattle.sc_hosts.specs.Finishing.{finished, is_ended, lightened, outcome, outcome_of, session_in_play, swept}
+use Rattle.sc_hosts.specs.Acting.{all_act, drafts_ended, after_fault as faulted, hops_spent, is_request_event, passed_later, passed_on, passed_request_of, passes_later}
+use Rattle.sc_hosts.specs.Effects.{first_play as begun}
+use Rattle.sc_hosts.specs.Finishing.{after_all_calls as finished, is_ended, without_unneeded as lightened, outcome, outcome_of, session_in_play, swept}
 use Rattle.sc_hosts.specs.Giving.{answering}
 use Rattle.sc_hosts.specs.Histories.{History, after_turn, session_after, session_of}
 use Rattle.sc_hosts.specs.Legs.{first_known, fresh, session_for}
-use Rattle.sc_hosts.specs.Preparing.{kept_of, prepared, prepared_for}
-use Rattle.sc_hosts.specs.PreparingRequests.{next_id, prepared_request, received, showing, with_invited}
+use Rattle.sc_hosts.specs.Preparing.{kept_of, prepared_session as prepared, prepared_for}
+use Rattle.sc_hosts.specs.PreparingRequests.{next_id, prepared_request, with_received_request as received, showing, with_invited}
 use Rattle.sc_hosts.specs.Sessions.{Turn}
 use Rattle.sc_hosts.specs.ViewChanges.{is_owed}
 use Rattle.sc_hosts.specs.Working.{proxies, proxies_first, worked_all}
@@ -40,7 +40,7 @@ use Rattle.sc_walked.proofs.WalkShown.{prepared-walks}
 use Rattle.sc_lasting.specs.Lasting.{All}
 use Rattle.sc_lasting.proofs.LaterRequests.{later-session}
 use Rattle.sc_lasting.proofs.Parts.{all-append, all-filter, all-map}
-use Rattle.sc_replies.specs.Came.{AreAsTheyCame, Came, IsAmong, IsInvitedAsCame, IsKeptAsCame, brought, came_of}
+use Rattle.sc_replies.specs.Came.{AreAsTheyCame, Came, IsAmong, IsInvitedAsCame, IsKeptAsCame, came_by_event as brought, came_of}
 
 -- ## One of a list
 

@@ -15,9 +15,9 @@ use Rattle.sc_state.specs.declared.session.Session.{Session}
 use Rattle.sc_state.specs.declared.session.Way.TheVariants.{Received}
 use Rattle.sc_hosts.specs.Finishing.{lacks_final}
 use Rattle.sc_hosts.specs.Looking.{is_request, same_request}
-use Rattle.sc_hosts.specs.PreparingRequests.{next_id, received, request_view}
+use Rattle.sc_hosts.specs.PreparingRequests.{next_id, with_received_request as received, request_view}
 use Rattle.sc_hosts.specs.PreparingResponses.{insert_request}
-use Rattle.sc_hosts.specs.ViewChanges.{answered, answered_in, stands, tidy, with_answer, with_there}
+use Rattle.sc_hosts.specs.ViewChanges.{view_with_answer as answered, answered_in, stands, tidy, with_answer, with_there}
 use Rattle.sc_walked.specs.SessionWalks.{Each}
 use Rattle.sc_walked.proofs.WalkParts.{each-first, each-map, if-is}
 use Rattle.sc_lasting.specs.Lasting.{All}

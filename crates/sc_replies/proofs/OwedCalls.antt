@@ -24,17 +24,17 @@ use Rattle.sc_state.specs.declared.working.Draft.{Draft}
 use Rattle.sc_state.specs.declared.working.Play.{Play}
 use Rattle.sc_state.specs.declared.working.Working.{Working}
 use Rattle.sc_state.specs.declared.working.Written.{Written}
-use Rattle.sc_grammar.specs.Written.{Bytes}
+use Rattle.sc_tokens.specs.Bytes.{Bytes}
 use Rattle.sc_model.specs.Dialogs.{DialogState}
-use Rattle.sc_hosts.specs.Effects.{acked, after_call, after_listed, created, created_later, created_leg, discarded, flagged, played_by, proxied, proxied_request, sent, sent_view, with_draft, with_timer, without_session}
+use Rattle.sc_hosts.specs.Effects.{view_with_ack as acked, after_call, after_listed, play_with_initial as created, created_later, created_leg, play_without_draft as discarded, with_invalidation_flag as flagged, played_by, view_with_targets as proxied, proxied_request, play_with_request as sent, sent_view, with_draft, with_timer, without_session}
 use Rattle.sc_hosts.specs.Giving.{answering, directs, drafts_later, drafts_leg, drafts_own, forgets, writes}
 use Rattle.sc_hosts.specs.Legs.{change_leg}
-use Rattle.sc_hosts.specs.Looking.{removed, request_in, unlinked}
+use Rattle.sc_hosts.specs.Looking.{without_sip_session as removed, request_in, without_link as unlinked}
 use Rattle.sc_hosts.specs.Preparing.{kept_of}
 use Rattle.sc_hosts.specs.RefusalParts.{draft_in}
 use Rattle.sc_hosts.specs.Refusals.{awaits_ack, begun_by, refusal}
-use Rattle.sc_hosts.specs.ViewChanges.{answered, invalidated, linked, settled_request, settled_requests, tidy, with_own_session}
-use Rattle.sc_hosts.specs.Working.{acknowledges, cancels, dialog_in, does, does_by, invalidates, keeps_sent, proxies, sends, sends_in, sends_initial, sends_later, sends_written, worked}
+use Rattle.sc_hosts.specs.ViewChanges.{view_with_answer as answered, view_without as invalidated, with_link as linked, settled_request, settled_requests, tidy, with_own_session}
+use Rattle.sc_hosts.specs.Working.{acknowledges, cancels, dialog_in, effects_of_call as does, does_by, invalidates, keeps_sent, proxies, sends, sends_in, sends_initial, sends_later, sends_written, after_one_call as worked}
 use Rattle.sc_hosts.specs.Finishing.{lacks_final}
 use Rattle.sc_walked.specs.SessionWalks.{sent_kept}
 use Rattle.sc_walked.proofs.WalkCalls.{answering-known, acknowledges-known}

@@ -30,19 +30,19 @@ use Rattle.sc_model.specs.BestResponses.{best_response}
 use Rattle.sc_model.specs.Dialogs.{subscribe, tag_of}
 use Rattle.sc_model.specs.SessionStates.{ack}
 use Rattle.sc_model.specs.Transactions.{is_success}
-use Rattle.sc_hosts.specs.Acting.{acted, acts, all_act, chooses, closes, drafts_ended, drawn, fault_at, faulted, forwarded_view, forwards, forwards_best, hops_spent, in_view, is_request_event, passed_later, passed_on, passed_request_of, passes, passes_later, proxy_now, sends_cancels, started, subscribed_tag, with_subscribed, without_left}
+use Rattle.sc_hosts.specs.Acting.{after_proxy as acted, acts, all_act, chooses, closes, drafts_ended, with_next_branch as drawn, fault_at, after_fault as faulted, forwarded_view, forwards, forwards_best, hops_spent, in_view, is_request_event, passed_later, passed_on, passed_request_of, passes, passes_later, proxy_now, sends_cancels, after_start as started, subscribed_tag, with_subscribed, without_left}
 use Rattle.sc_hosts.specs.Branches.{can_choose, can_pass, is_exhausted, starting}
-use Rattle.sc_hosts.specs.Effects.{begun}
-use Rattle.sc_hosts.specs.Finishing.{finished, is_ended, is_needed, is_session_ready, lacks_final, lightened, outcome, outcome_of, session_in_play, swept, swept_one, without_acks}
+use Rattle.sc_hosts.specs.Effects.{first_play as begun}
+use Rattle.sc_hosts.specs.Finishing.{after_all_calls as finished, is_ended, is_needed, is_session_ready, lacks_final, without_unneeded as lightened, outcome, outcome_of, session_in_play, swept, swept_one, without_acks}
 use Rattle.sc_hosts.specs.Giving.{answering}
 use Rattle.sc_hosts.specs.Histories.{History, after_turn, session_after}
 use Rattle.sc_hosts.specs.Legs.{first_known, first_view, fresh, leg_of}
-use Rattle.sc_hosts.specs.Looking.{change_session, is_request, removed, request_in, same_request}
+use Rattle.sc_hosts.specs.Looking.{change_session, is_request, without_sip_session as removed, request_in, same_request}
 use Rattle.sc_hosts.specs.Messages.{bare_answer}
-use Rattle.sc_hosts.specs.Preparing.{kept_of, prepared}
+use Rattle.sc_hosts.specs.Preparing.{kept_of, prepared_session as prepared}
 use Rattle.sc_hosts.specs.PreparingResponses.{is_invalid}
 use Rattle.sc_hosts.specs.Sessions.{Turn}
-use Rattle.sc_hosts.specs.ViewChanges.{answered, answered_in, is_owed}
+use Rattle.sc_hosts.specs.ViewChanges.{view_with_answer as answered, answered_in, is_owed}
 use Rattle.sc_hosts.specs.Words.{too_many_hops}
 use Rattle.sc_model.specs.BestResponses.{server_error}
 use Rattle.sc_hosts.specs.Working.{starts, worked_all}

@@ -25,9 +25,9 @@ use Rattle.sc_hosts.specs.DerivedSessions.{Derives, Handling, In, Takes, handled
 use Rattle.sc_hosts.specs.Finishing.{lacks_final}
 use Rattle.sc_hosts.specs.Legs.{FIRST_SESSION, change_leg, session_for}
 use Rattle.sc_hosts.specs.Looking.{is_gone_in, is_request, request_in, session_in, timer_in}
-use Rattle.sc_hosts.specs.Preparing.{cancelled_proxy, cancelled_request, fired, has_expired, is_invited, kept_of, prepared, prepared_branch_timer, prepared_cancel, prepared_expiry, prepared_for, prepared_timer, proxy_of, terminated, timed_out}
-use Rattle.sc_hosts.specs.PreparingRequests.{prepared_request, received, showing, showing_in, silent}
-use Rattle.sc_hosts.specs.PreparingResponses.{accepts_invite, branch_placed, heard_in, is_first_success, is_sent_on, is_watched, noted_final, placed, prepared_branch, prepared_own, prepared_response, responded, responded_again, responded_in, settled_legs, shown_again, insert_session, with_branches, with_request_again, with_success}
+use Rattle.sc_hosts.specs.Preparing.{cancelled_proxy, cancelled_request, after_timer as fired, has_expired, is_invited, kept_of, prepared_session as prepared, prepared_branch_timer, prepared_cancel, prepared_expiry, prepared_for, prepared_timer, proxy_of, prepared_end as terminated, timed_out}
+use Rattle.sc_hosts.specs.PreparingRequests.{prepared_request, with_received_request as received, showing, showing_in, silent}
+use Rattle.sc_hosts.specs.PreparingResponses.{accepts_invite, branch_placed, heard_in, is_first_success, is_sent_on, is_watched, noted_final, session_of_response as placed, prepared_branch, prepared_own, prepared_response, with_handled_response as responded, responded_again, responded_in, settled_legs, shown_again, insert_session, with_branches, with_request_again, with_success}
 use Rattle.sc_hosts.specs.ViewChanges.{answered_in, with_answer as with_final}
 use Rattle.sc_walked.proofs.WalkParts.{if-is}
 use Rattle.sc_lasting.proofs.LaterRequests.{later-session}

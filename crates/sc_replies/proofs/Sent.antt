@@ -19,9 +19,9 @@ use Rattle.sc_state.specs.declared.orders.Order.TheVariants as orders
 use Rattle.sc_state.specs.declared.session.Kept.{Kept}
 use Rattle.sc_state.specs.declared.session.Way.TheVariants.{Received}
 use Rattle.sc_state.specs.declared.working.Working.{Working}
-use Rattle.sc_grammar.specs.Written.{Bytes}
+use Rattle.sc_tokens.specs.Bytes.{Bytes}
 use Rattle.sc_model.specs.Dialogs.{tag_of}
-use Rattle.sc_model.specs.Responses.{response_head, response_to, tag_param, tagged, untagged, with_tag}
+use Rattle.sc_model.specs.Responses.{response_head, response_to, tag_param, address_with_tag as tagged, address_without_tag as untagged, with_tag}
 use Rattle.sc_hosts.specs.Giving.{answer_order, answering, answers}
 use Rattle.sc_hosts.specs.Looking.{session_in}
 use Rattle.sc_hosts.specs.Messages.{answered_here, bare_answer, given_response, own_response}

@@ -24,7 +24,7 @@ use Rattle.sc_state.specs.declared.working.Draft.{Draft}
 use Rattle.sc_state.specs.declared.working.Play.{Play}
 use Rattle.sc_state.specs.declared.working.Working.{Working}
 use Rattle.sc_state.specs.declared.working.Written.{Written}
-use Rattle.sc_grammar.specs.Written.{Bytes}
+use Rattle.sc_tokens.specs.Bytes.{Bytes}
 use Rattle.sc_model.specs.Dialogs.{DialogState}
 use Rattle.sc_model.specs.SessionStates.{ack}
 use Rattle.sc_hosts.specs.Effects.{after_listed}
@@ -34,10 +34,10 @@ use Rattle.sc_hosts.specs.Looking.{is_request, request_in}
 use Rattle.sc_hosts.specs.Preparing.{kept_of}
 use Rattle.sc_hosts.specs.RefusalParts.{draft_in}
 use Rattle.sc_hosts.specs.Refusals.{awaits_ack, b2b_respond_refusal, begun_by, own_refusal, refusal, respond_refusal}
-use Rattle.sc_hosts.specs.Working.{ack_with, acknowledges, cancels, dialog_in, does, does_by, invalidates, keeps_sent, sends, sends_in, sends_initial, sends_later, sends_written, sent_branch, worked}
+use Rattle.sc_hosts.specs.Working.{ack_with, acknowledges, cancels, dialog_in, effects_of_call as does, does_by, invalidates, keeps_sent, sends, sends_in, sends_initial, sends_later, sends_written, sent_branch, after_one_call as worked}
 use Rattle.sc_lasting.proofs.Began.{first-passed, or-left, or-right, not-false}
 use Rattle.sc_lasting.proofs.Parts.{all-found}
-use Rattle.sc_answered.specs.Happened.{answer_to, given, given_by, given_if}
+use Rattle.sc_answered.specs.Happened.{answer_to, by_calls as given, given_by, given_if}
 use Rattle.sc_replies.specs.Came.{Came}
 use Rattle.sc_replies.proofs.Fine.{FineIn}
 use Rattle.sc_replies.proofs.Owed.{IsFine, IsHeld, IsKept}

@@ -26,7 +26,7 @@ use Rattle.sc_state.specs.declared.working.Working.{Working}
 use Rattle.sc_model.specs.BestResponses.{best_response, server_error}
 use Rattle.sc_model.specs.Dialogs.{tag_of}
 use Rattle.sc_model.specs.SessionStates.{ack}
-use Rattle.sc_hosts.specs.Acting.{acted as proxy_acted, acts, all_act, chooses, closes, drafts_ended, fault_at, faulted, forwards, forwards_best, hops_spent, in_proxy, in_view, is_request_event, passed_later, passed_on, passed_request_of, passes, passes_later, proxy_now, rested, sends_cancels, started}
+use Rattle.sc_hosts.specs.Acting.{after_proxy as proxy_acted, acts, all_act, chooses, closes, drafts_ended, fault_at, after_fault as faulted, forwards, forwards_best, hops_spent, in_proxy, in_view, is_request_event, passed_later, passed_on, passed_request_of, passes, passes_later, proxy_now, at_rest as rested, sends_cancels, after_start as started}
 use Rattle.sc_hosts.specs.Branches.{can_choose, can_pass, is_exhausted, starting}
 use Rattle.sc_hosts.specs.DerivedSessions.{is_of}
 use Rattle.sc_hosts.specs.Finishing.{lacks_final}
@@ -35,10 +35,10 @@ use Rattle.sc_hosts.specs.Looking.{is_request, request_in, same_session, session
 use Rattle.sc_hosts.specs.Messages.{bare_answer}
 use Rattle.sc_hosts.specs.Preparing.{kept_of}
 use Rattle.sc_hosts.specs.PreparingResponses.{is_invalid}
-use Rattle.sc_hosts.specs.ViewChanges.{answered, is_owed}
+use Rattle.sc_hosts.specs.ViewChanges.{view_with_answer as answered, is_owed}
 use Rattle.sc_hosts.specs.Words.{too_many_hops}
 use Rattle.sc_answered.specs.StateOf.{Exhausted}
-use Rattle.sc_answered.specs.Happened.{Happened, acted, acted_by, acted_from, acted_last, acted_next, all_acted, answer_to, asked_of, best_passed, called_by, chosen, ended_by, exhausted, exhausted_by, failed, failed_at, forwarded, forwarded_to, in_each, initial_of, passed, stopped, stopped_at, stopped_of}
+use Rattle.sc_answered.specs.Happened.{Happened, by_proxy as acted, acted_by, acted_from, acted_last, acted_next, all_acted, answer_to, asked_of, best_passed, called_by, by_choice as chosen, ended_by, by_exhaustion as exhausted, exhausted_by, by_turn_end as failed, failed_at, by_forwarding as forwarded, forwarded_to, in_each, initial_of, by_passing as passed, by_stop as stopped, stopped_at, stopped_of}
 use Rattle.sc_lasting.specs.Lasting.{All}
 use Rattle.sc_lasting.proofs.Began.{same-number, test-found}
 use Rattle.sc_replies.specs.Came.{Came, brought_by}

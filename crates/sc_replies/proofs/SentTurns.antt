@@ -25,24 +25,24 @@ use Rattle.sc_state.specs.declared.working.Prepared.{Prepared}
 use Rattle.sc_model.specs.BestResponses.{server_error}
 use Rattle.sc_model.specs.SessionStates.{ack}
 use Rattle.sc_hosts.specs.Acting.{drafts_ended}
-use Rattle.sc_hosts.specs.Effects.{begun}
-use Rattle.sc_hosts.specs.Finishing.{finished, outcome, outcome_of}
+use Rattle.sc_hosts.specs.Effects.{first_play as begun}
+use Rattle.sc_hosts.specs.Finishing.{after_all_calls as finished, outcome, outcome_of}
 use Rattle.sc_hosts.specs.Histories.{History, as_history, as_session, session_after}
 use Rattle.sc_hosts.specs.Legs.{is_low, leg_of, session_for}
 use Rattle.sc_hosts.specs.Looking.{is_request, request_in, session_in}
-use Rattle.sc_hosts.specs.Preparing.{cancelled_proxy, cancelled_request, is_invited, kept_of, own_tag_of, prepared, prepared_cancel, prepared_for, proxy_of, terminated}
-use Rattle.sc_hosts.specs.PreparingRequests.{next_id, prepared_request, received, refused, showing_in, silent, taken, taken_in, too_low}
-use Rattle.sc_hosts.specs.Runs.{IsLawful, chained}
+use Rattle.sc_hosts.specs.Preparing.{cancelled_proxy, cancelled_request, is_invited, kept_of, own_tag_of, prepared_session as prepared, prepared_cancel, prepared_for, proxy_of, prepared_end as terminated}
+use Rattle.sc_hosts.specs.PreparingRequests.{next_id, prepared_request, with_received_request as received, refusal_orders as refused, showing_in, silent, prepared_for_request as taken, taken_in, too_low}
+use Rattle.sc_hosts.specs.Runs.{IsLawful, net_from as chained}
 use Rattle.sc_hosts.specs.Sessions.{Turn}
 use Rattle.sc_hosts.specs.Steps.{live_at}
 use Rattle.sc_hosts.specs.Words.{request_terminated}
 use Rattle.sc_hosts.specs.Working.{starts, worked_all}
-use Rattle.sc_lived.specs.Lived.{told}
+use Rattle.sc_lived.specs.Lived.{turns_in as told}
 use Rattle.sc_lived.proofs.Sayings.{session-lived}
-use Rattle.sc_answered.specs.Happened.{Happened, answer_to, asked_of, at_moment, called_by, cancelled, cancelled_in, given, happened_by, heard, shown_by, too_low as told_low, too_low_in}
+use Rattle.sc_answered.specs.Happened.{Happened, answer_to, asked_of, at_moment, called_by, by_cancel as cancelled, cancelled_in, by_calls as given, happened_by, by_event as heard, shown_by, too_low as told_low, too_low_in}
 use Rattle.sc_lasting.proofs.Began.{same-number, test-found}
 use Rattle.sc_lasting.proofs.Parts.{all-found}
-use Rattle.sc_replies.specs.Came.{AreAsTheyCame, Came, IsInvitedAsCame, brought, brought_by, came_of}
+use Rattle.sc_replies.specs.Came.{AreAsTheyCame, Came, IsInvitedAsCame, came_by_event as brought, brought_by, came_of}
 use Rattle.sc_replies.specs.Replies.{AreGiven, GaveAll, HasGivenAll, answered_first, came, gave, orders_of, replies}
 use Rattle.sc_replies.proofs.Brought.{InvitedFits, by-turn}
 use Rattle.sc_replies.proofs.Fine.{FineAt, FineShown, among-has, brought-is, calls-fine, lives-fine, shown-fine}

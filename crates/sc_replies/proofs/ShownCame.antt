@@ -20,14 +20,14 @@ use Rattle.sc_state.specs.declared.working.Draft.{Draft}
 use Rattle.sc_state.specs.declared.working.Play.{Play}
 use Rattle.sc_state.specs.declared.working.Prepared.{Prepared}
 use Rattle.sc_state.specs.declared.working.Working.{Working}
-use Rattle.sc_hosts.specs.Acting.{all_act, drafts_ended, faulted, hops_spent, is_request_event, passed_later, passed_on, passed_request_of, passes_later}
-use Rattle.sc_hosts.specs.Effects.{begun, created_leg, proxied, proxied_request, sent_view, with_draft}
-use Rattle.sc_hosts.specs.Finishing.{is_ended, is_session_ready, lightened, outcome_of, session_in_play, swept, swept_one, without_acks}
+use Rattle.sc_hosts.specs.Acting.{all_act, drafts_ended, after_fault as faulted, hops_spent, is_request_event, passed_later, passed_on, passed_request_of, passes_later}
+use Rattle.sc_hosts.specs.Effects.{first_play as begun, created_leg, view_with_targets as proxied, proxied_request, sent_view, with_draft}
+use Rattle.sc_hosts.specs.Finishing.{is_ended, is_session_ready, without_unneeded as lightened, outcome_of, session_in_play, swept, swept_one, without_acks}
 use Rattle.sc_hosts.specs.Legs.{FIRST_SESSION, session_for}
-use Rattle.sc_hosts.specs.Looking.{is_request, removed, unlinked}
-use Rattle.sc_hosts.specs.Preparing.{kept_of, prepared, prepared_for}
-use Rattle.sc_hosts.specs.PreparingRequests.{next_id, prepared_request, received, request_view, showing}
-use Rattle.sc_hosts.specs.ViewChanges.{answered, answered_in, is_owed, linked, stands, tidy, with_answer, with_own_session, with_there}
+use Rattle.sc_hosts.specs.Looking.{is_request, without_sip_session as removed, without_link as unlinked}
+use Rattle.sc_hosts.specs.Preparing.{kept_of, prepared_session as prepared, prepared_for}
+use Rattle.sc_hosts.specs.PreparingRequests.{next_id, prepared_request, with_received_request as received, request_view, showing}
+use Rattle.sc_hosts.specs.ViewChanges.{view_with_answer as answered, answered_in, is_owed, with_link as linked, stands, tidy, with_answer, with_own_session, with_there}
 use Rattle.sc_hosts.specs.Working.{worked_all}
 use Rattle.sc_walked.specs.SessionWalks.{Brings, Each, IsSameRequest, SessionLaws}
 use Rattle.sc_walked.proofs.WalkCalls.{worked_all-walks}
@@ -38,7 +38,7 @@ use Rattle.sc_lasting.specs.Lasting.{All}
 use Rattle.sc_lasting.proofs.LaterRequests.{later-session}
 use Rattle.sc_lasting.proofs.Parts.{all-append, all-each, all-filter, all-first, all-insert, all-map, removed-only, unlinked-only}
 use Rattle.sc_lasting.proofs.Began.{sent-own}
-use Rattle.sc_replies.specs.Came.{Came, brought}
+use Rattle.sc_replies.specs.Came.{Came, came_by_event as brought}
 use Rattle.sc_replies.proofs.Owed.{IsAfter, after-same, final-after, found-more, own-number, there-after}
 
 -- ## A request came under this number

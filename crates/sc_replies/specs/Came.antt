@@ -32,19 +32,19 @@ pub record Came : Type 0 where
   pub request : Request
 
 -- what an event of this number brings
-unfoldable pub brought : Session → ℕ → Queued → List Came
-brought session number (queued.Initial region subscriber popped request) =
+unfoldable pub came_by_event : Session → ℕ → Queued → List Came
+came_by_event session number (queued.Initial region subscriber popped request) =
     record { id = next_id session; event = number; request = request } ∷ []
-brought session number (queued.Request request) =
+came_by_event session number (queued.Request request) =
     record { id = next_id session; event = number; request = request } ∷ []
-brought session number event = []
+came_by_event session number event = []
 
 -- what the events of these turns of a history brought, the oldest first
 unfoldable pub came_of : Config → History → List Turn → List Came
 came_of config history [] = []
 came_of config history (turn ∷ earlier) =
     came_of config history earlier
-    ++ brought (session_after config history earlier) turn.waiting.number turn.waiting.event
+    ++ came_by_event (session_after config history earlier) turn.waiting.number turn.waiting.event
 
 -- it is one of these
 unfoldable pub IsAmong : Came → List Came → Type 0

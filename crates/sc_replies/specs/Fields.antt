@@ -15,7 +15,7 @@ use Rattle.sc_state.specs.declared.queue.Queued.{Queued}
 use Rattle.sc_state.specs.declared.queue.Queued.TheVariants as queued
 use Rattle.sc_state.specs.declared.queue.Waiting.{Waiting}
 use Rattle.sc_state.specs.declared.session.Session.{Session}
-use Rattle.sc_grammar.specs.Written.{Bytes}
+use Rattle.sc_tokens.specs.Bytes.{Bytes}
 use Rattle.sc_model.specs.Responses.{with_tag}
 use Rattle.sc_hosts.specs.Histories.{History, session_after}
 use Rattle.sc_hosts.specs.Messages.{begins_dialog, makes_dialog}

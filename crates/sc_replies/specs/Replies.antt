@@ -17,12 +17,12 @@ use Rattle.sc_model.specs.Dialogs.{tag_of}
 use Rattle.sc_hosts.specs.Finishing.{outcome}
 use Rattle.sc_hosts.specs.Histories.{History, session_after}
 use Rattle.sc_hosts.specs.Legs.{session_for}
-use Rattle.sc_hosts.specs.Preparing.{is_invited, prepared}
+use Rattle.sc_hosts.specs.Preparing.{is_invited, prepared_session}
 use Rattle.sc_hosts.specs.PreparingResponses.{is_sent_on}
 use Rattle.sc_hosts.specs.Sessions.{Turn}
 use Rattle.sc_lived.specs.Lived.{HasLived, Told}
 use Rattle.sc_answered.specs.StateOf.{Exhausted, Happening, Overtaken, Response as Responded, Undone}
-use Rattle.sc_answered.specs.Happened.{Happened, at_moment, cancelled, got, shown_by, too_low}
+use Rattle.sc_answered.specs.Happened.{Happened, at_moment, by_cancel, by_response, shown_by, too_low}
 use Rattle.sc_replies.specs.Came.{Came, brought_by, came_of}
 
 -- ## What a turn tells, by where it comes from
@@ -31,7 +31,7 @@ use Rattle.sc_replies.specs.Came.{Came, brought_by, came_of}
 -- what comes of that in other SipSessions
 unfoldable pub came : Session → Queued → List Happened
 came session (queued.Response branch response) =
-    got session response (find (is_sent_on branch) session.known.kept)
+    by_response session response (find (is_sent_on branch) session.known.kept)
 came session event = []
 
 -- what the container answers before anyone is called: 500 to a request whose number is too low, 487
@@ -40,14 +40,14 @@ unfoldable pub answered_first : Session → ℕ → Queued → List Happened
 answered_first session number (queued.Request request) =
     too_low session number request (session_for session request)
 answered_first session number (queued.Cancelled event) =
-    cancelled session (find (is_invited event) session.known.invited)
+    by_cancel session (find (is_invited event) session.known.invited)
 answered_first session number event = []
 
 -- what a turn gave: what the container answered first, what its calls answered, and what followed
 -- them
 unfoldable pub gave : Config → Session → Turn → List Happened
 gave config session turn =
-    shown_by config turn (prepared config turn.ringing session turn.waiting turn.now)
+    shown_by config turn (prepared_session config turn.ringing session turn.waiting turn.now)
     ++ answered_first (at_moment turn.now session) turn.waiting.number turn.waiting.event
 
 -- ## Answers and orders

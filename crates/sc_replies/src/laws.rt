@@ -8,11 +8,11 @@ ghost use Rattle.sc_state.specs.declared.queue.Waiting.{Waiting};
 ghost use Rattle.sc_state.specs.declared.session.Session.{Session};
 ghost use Rattle.sc_hosts.specs.Finishing.{goodbye};
 ghost use Rattle.sc_hosts.specs.Histories.{History, as_history, as_session, session_of};
-ghost use Rattle.sc_hosts.specs.Runs.{IsLawful, chained};
+ghost use Rattle.sc_hosts.specs.Runs.{IsLawful, net_from};
 ghost use Rattle.sc_hosts.specs.Sessions.{Turn};
 ghost use Rattle.sc_hosts.specs.Steps.{live_at};
 ghost use Rattle.sc_lasting.specs.Lasting.{All};
-ghost use Rattle.sc_lived.specs.Lived.{told, turned_events};
+ghost use Rattle.sc_lived.specs.Lived.{turned_events, turns_in};
 ghost use Rattle.sc_answered.specs.Happened.{at_moment, happened_by};
 ghost use Rattle.sc_replies.specs.Came.{AreAsTheyCame, AreSingle, HasKept, HaveKept, came_of};
 ghost use Rattle.sc_replies.specs.Fields.{AnswersAll, AnswersAlone, HasAnsweredAll};
@@ -39,12 +39,12 @@ pub fn answers_are_given()
 pub fn live_answers_are_given()
     ensures history { (setup : Setup) (epoch began : ℕ) (journal : List Step) (app : AppId)
         (live : Live History) → IsLawful (as_history setup.config) setup epoch began journal
-        → live_at app (chained (as_history setup.config) setup epoch began journal) ≡ Some live
+        → live_at app (net_from (as_history setup.config) setup epoch began journal) ≡ Some live
         → GaveAll setup.config live.session live.session.turns }
     ensures session { (setup : Setup) (epoch began : ℕ) (journal : List Step) (app : AppId)
         (live : Live Session) → IsLawful as_session setup epoch began journal
-        → live_at app (chained as_session setup epoch began journal) ≡ Some live
-        → HasGivenAll setup app (told app journal) live.session live.inbox }
+        → live_at app (net_from as_session setup epoch began journal) ≡ Some live
+        → HasGivenAll setup app (turns_in app journal) live.session live.inbox }
 {}
 
 /// A request that an application session keeps as one that came under the number of an event, by
@@ -60,13 +60,13 @@ pub fn requests_are_kept_as_they_came()
         → AreSingle (came_of config history history.turns) }
     ensures history { (setup : Setup) (epoch began : ℕ) (journal : List Step) (app : AppId)
         (live : Live History) → IsLawful (as_history setup.config) setup epoch began journal
-        → live_at app (chained (as_history setup.config) setup epoch began journal) ≡ Some live
-        → HaveKept setup app (told app journal) live.session (session_of setup.config live.session)
+        → live_at app (net_from (as_history setup.config) setup epoch began journal) ≡ Some live
+        → HaveKept setup app (turns_in app journal) live.session (session_of setup.config live.session)
         live.inbox }
     ensures session { (setup : Setup) (epoch began : ℕ) (journal : List Step) (app : AppId)
         (live : Live Session) → IsLawful as_session setup epoch began journal
-        → live_at app (chained as_session setup epoch began journal) ≡ Some live
-        → HasKept setup app (told app journal) live.session live.inbox }
+        → live_at app (net_from as_session setup epoch began journal) ≡ Some live
+        → HasKept setup app (turns_in app journal) live.session live.inbox }
 {}
 
 /// Each response that a turn of an application session gives to send answers the request that the
@@ -89,10 +89,10 @@ pub fn answers_have_the_fields_of_their_requests()
         (goodbye config (session_of config history) inbox) }
     ensures history { (setup : Setup) (epoch began : ℕ) (journal : List Step) (app : AppId)
         (live : Live History) → IsLawful (as_history setup.config) setup epoch began journal
-        → live_at app (chained (as_history setup.config) setup epoch began journal) ≡ Some live
+        → live_at app (net_from (as_history setup.config) setup epoch began journal) ≡ Some live
         → AnswersAll setup.config live.session live.session.turns }
     ensures session { (setup : Setup) (epoch began : ℕ) (journal : List Step) (app : AppId)
         (live : Live Session) → IsLawful as_session setup epoch began journal
-        → live_at app (chained as_session setup epoch began journal) ≡ Some live
-        → HasAnsweredAll setup app (told app journal) live.session live.inbox }
+        → live_at app (net_from as_session setup epoch began journal) ≡ Some live
+        → HasAnsweredAll setup app (turns_in app journal) live.session live.inbox }
 {}

@@ -18,7 +18,7 @@ use Rattle.sc_state.specs.declared.host.Server.{Server}
 use Rattle.sc_state.specs.declared.orders.Order.{Order}
 use Rattle.sc_state.specs.declared.orders.Order.TheVariants as orders
 use Rattle.sc_state.specs.declared.session.Session.{Session}
-use Rattle.sc_grammar.specs.Written.{Bytes}
+use Rattle.sc_tokens.specs.Bytes.{Bytes}
 use Rattle.sc_model.specs.Dialogs.{tag_of}
 use Rattle.sc_model.specs.SessionStates.{invite}
 use Rattle.sc_model.specs.Transactions.{is_success}
@@ -26,7 +26,7 @@ use Rattle.sc_hosts.specs.Histories.{as_session}
 use Rattle.sc_hosts.specs.Legs.{makes_dialog_of}
 use Rattle.sc_hosts.specs.Messages.{begins_dialog, makes_dialog}
 use Rattle.sc_hosts.specs.Nets.{host_at}
-use Rattle.sc_hosts.specs.Runs.{IsLawful, chained, start}
+use Rattle.sc_hosts.specs.Runs.{IsLawful, net_from as chained, start}
 use Rattle.sc_hosts.specs.Transacting.{is_same_app}
 use Rattle.sc_lasting.specs.Lasting.{All}
 use Rattle.sc_recorded.proofs.Chain.{first-in}
@@ -36,7 +36,7 @@ use Rattle.sc_lasting.proofs.Shared.{found-behind}
 use Rattle.sc_keyed.specs.Keyed.{IsIn}
 use Rattle.sc_keyed.proofs.ClientKeys.{app-is}
 use Rattle.sc_paths.specs.Moments.{Moment, began_with, first_server, given_in, is_first_of, moments, moments_from, proxied_with}
-use Rattle.sc_paths.specs.Pieces.{Dialog, IsPiece, Piece, answer_by, answers_of, heads_at_end, makes, received, record_routed}
+use Rattle.sc_paths.specs.Pieces.{Dialog, IsPiece, Piece, answer_by, answers_of, heads_at_end, makes, server_of_piece as received, record_routed}
 use Rattle.sc_ways.specs.Ways.{AreSmallNames}
 use Rattle.sc_recorded.specs.Recorded.{IsRecorded}
 use Rattle.sc_recorded.proofs.Whole.{recorded-run}

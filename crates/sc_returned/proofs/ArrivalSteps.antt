@@ -34,17 +34,17 @@ use Rattle.sc_state.specs.declared.queue.Queued.{Queued}
 use Rattle.sc_state.specs.declared.queue.Queued.TheVariants as queued
 use Rattle.sc_state.specs.declared.queue.Waiting.{Waiting}
 use Rattle.sc_state.specs.declared.session.Session.{Session}
-use Rattle.sc_grammar.specs.Written.{Bytes}
+use Rattle.sc_tokens.specs.Bytes.{Bytes}
 use Rattle.sc_model.specs.Timers.{DueEntry}
 use Rattle.sc_hosts.proofs.EachSort.{arrives-each}
-use Rattle.sc_hosts.specs.Arrivals.{host_takes, taken_at, edge_answer, begins_by, initial_arrives, response_by, arrived, bad_by}
+use Rattle.sc_hosts.specs.Arrivals.{host_takes, taken_at, edge_answer, begins_by, initial_arrives, response_by, after_arrival as arrived, bad_by}
 use Rattle.sc_hosts.specs.Inboxes.{is_live, live_in}
-use Rattle.sc_hosts.specs.Nets.{change_host, host_at, put}
+use Rattle.sc_hosts.specs.Nets.{change_host, host_at, with_message as put}
 use Rattle.sc_hosts.specs.Routes.{unrouted_initial, popped_route}
 use Rattle.sc_hosts.specs.Runs.{after_step}
 use Rattle.sc_hosts.specs.Sessions.{Form, Turn}
-use Rattle.sc_hosts.specs.Steps.{closed_turn, invalidated, live_at, stepped, turn_of, turned, turned_live, turns, turns_first, with_ready, withdrawn, without_live}
-use Rattle.sc_hosts.specs.Ticks.{told_at, passes, clients_to, lost, Dated, DueItem, Of_session, Of_client, Of_server, mark_fired, fires, due_items, ticked}
+use Rattle.sc_hosts.specs.Steps.{closed_turn, without_application as invalidated, live_at, before_delivery as stepped, turn_of, net_after_turn as turned, turned_live, turns, turns_first, with_ready, withdrawn, without_live}
+use Rattle.sc_hosts.specs.Ticks.{told_at, passes, clients_to, net_after_loss as lost, Dated, DueItem, Of_session, Of_client, Of_server, mark_fired, fires, due_items, net_after_tick as ticked}
 use Rattle.sc_hosts.specs.Transacting.{tidied}
 use Rattle.sc_hosts.specs.Words.{unavailable}
 use Rattle.sc_lasting.specs.Lasting.{All}
@@ -270,7 +270,7 @@ module _ {S : Type 0} (form : Form S) (Lives : List Arrival → AppId → S → 
   stepped-goes arrivals (steps.Bad from bad) net holds = stays arrivals _ (bad_by-kept arrivals setup.config from bad.heads net holds)
   stepped-goes arrivals (steps.Lost place) net holds = stays arrivals _ (lost-kept arrivals setup.config place net holds)
   stepped-goes arrivals (steps.Tick now) net holds = stays arrivals _ (ticked-kept arrivals setup.config now net holds)
-  stepped-goes arrivals (steps.Turn of event now made end) net holds = stays arrivals _ (turns-kept arrivals of _ now made end net refl holds)
+  stepped-goes arrivals (steps.Turn end of event now made) net holds = stays arrivals _ (turns-kept arrivals of _ now made end net refl holds)
   stepped-goes arrivals (steps.Withdraw of) net holds = stays arrivals _ (withdrawn-kept arrivals of _ net holds)
 
   pub step-goes : (arrivals : List Arrival) (step : Step) (net : Net S) → Keeps arrivals net → Goes-on arrivals (after_step form setup net step)

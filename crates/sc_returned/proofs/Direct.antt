@@ -22,7 +22,7 @@ use Rattle.sc_state.specs.declared.queue.Queued.{Queued}
 use Rattle.sc_state.specs.declared.queue.Queued.TheVariants as queued
 use Rattle.sc_state.specs.declared.session.Session.{Session}
 use Rattle.sc_state.specs.declared.working.Play.{Play}
-use Rattle.sc_grammar.specs.Written.{Bytes}
+use Rattle.sc_tokens.specs.Bytes.{Bytes}
 use Rattle.sc_model.specs.Dialogs.{tag_of}
 use Rattle.sc_hosts.specs.Effects.{after_listed}
 use Rattle.sc_hosts.specs.Histories.{History, as_session}
@@ -33,7 +33,7 @@ use Rattle.sc_hosts.specs.Scripting.{is_refused}
 use Rattle.sc_walked.specs.SessionWalks.{AreDone}
 use Rattle.sc_lasting.specs.Lasting.{All, Directly, IsLife}
 use Rattle.sc_lasting.proofs.Shared.{all-last}
-use Rattle.sc_lived.specs.Lived.{AreAccepted, Told, told, told_by, turned_events}
+use Rattle.sc_lived.specs.Lived.{AreAccepted, Told, turns_in as told, told_by, turned_events}
 use Rattle.sc_paths.specs.Moments.{Moment, moments_from, options_in, options_of, proxied_with}
 use Rattle.sc_proxied.specs.ProxyLists.{ProxyEvent}
 use Rattle.sc_proxying.specs.Proxying.{AreOfTurns, BeginsBy, BeginsIn, IsPassed}
@@ -94,7 +94,7 @@ chosen true xs right is = is
 chosen false xs right is = cc
 
 -- the calls of a turn of the session
-pub turn-direct : (app : AppId) (event now : ℕ) (made : List CallRecord) (end : End) → TellsNone app (steps.Turn app event now made end) → All IsDirectly made
+pub turn-direct : (app : AppId) (event now : ℕ) (made : List CallRecord) (end : End) → TellsNone app (steps.Turn end app event now made) → All IsDirectly made
 unfolding options_in
 turn-direct app event now made end none = made-direct made (chosen (is_same_app app app) _ (itself app.host app.serial) none)
   where
@@ -114,7 +114,7 @@ told-if false one is rest all = all
 
 step-direct : (app : AppId) (step : Step) (rest : List Told) → TellsNone app step → AreAccepted Directly rest → AreAccepted Directly (told_by app step ++ rest)
 unfolding told_by options_in
-step-direct app (steps.Turn other event now made end) rest none all =
+step-direct app (steps.Turn end other event now made) rest none all =
     told-if (is_same_app app other) (record { event = event; now = now; calls = made; end = end })
     (λ is. made-direct made (chosen (is_same_app other app) (filter_map (λ (one : CallRecord). options_of one.call one.answer) made) (same-app other app is) none)) rest all
 step-direct app (steps.In from message) rest none all = all

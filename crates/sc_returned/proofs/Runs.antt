@@ -25,8 +25,8 @@ use Rattle.sc_model.specs.Settings.{charters_of}
 use Rattle.sc_hosts.specs.Branches.{new_proxy}
 use Rattle.sc_hosts.specs.Histories.{History, as_history, as_session, begun_history, session_after, session_of, turned_history}
 use Rattle.sc_hosts.specs.Nets.{host_at}
-use Rattle.sc_hosts.specs.Preparing.{prepared}
-use Rattle.sc_hosts.specs.Runs.{AllowedBy, IsAllowed, IsLawful, IsLawfulFrom, MayTurn, after_step, chained, chained_from, quiet_host, shown, start}
+use Rattle.sc_hosts.specs.Preparing.{prepared_session as prepared}
+use Rattle.sc_hosts.specs.Runs.{AllowedBy, IsAllowed, IsLawful, IsLawfulFrom, MayTurn, after_step, net_from as chained, chained_from, quiet_host, prepared_turn as shown, start}
 use Rattle.sc_hosts.specs.Sessions.{Form, Turn}
 use Rattle.sc_hosts.specs.Steps.{live_at, outcome_by, ringing_at, turn_of}
 use Rattle.sc_forms.specs.Simulations.{map_host}
@@ -36,7 +36,7 @@ use Rattle.sc_lasting.specs.Lasting.{All, Directly}
 use Rattle.sc_recorded.proofs.Runs.{chained-next, lawful-front, quiet-is}
 use Rattle.sc_lasting.proofs.Parts.{all-append, all-found, all-map}
 use Rattle.sc_lasting.proofs.Shared.{all-at}
-use Rattle.sc_lived.specs.Lived.{AreAccepted, AreTaken, IsLived, MayTake, Told, told, told_of, told_turns, turned_events}
+use Rattle.sc_lived.specs.Lived.{AreAccepted, AreTaken, IsLived, MayTake, Told, turns_in as told, told_of, told_turns, turned_events}
 use Rattle.sc_lived.proofs.Accepted.{life-done, read-after}
 use Rattle.sc_lived.proofs.Sayings.{Read, has-lived, read-at, same-taken}
 use Rattle.sc_paths.specs.Moments.{Moment, given_in, moments_from, orders_by}
@@ -150,7 +150,7 @@ module _ (setup : Setup) (epoch began : ℕ) (journal : List Step) (app : AppId)
   -- ## A turn
 
   module _ (before later : List Step) (arrivals : List Arrival) (kept : Keeps arrivals (Old before)) (lawful : IsLawful as_session setup epoch began before) where
-    module _ (of : AppId) (event now : ℕ) (made : List CallRecord) (end : End) (is : before ++ steps.Turn of event now made end ∷ later ≡ journal)
+    module _ (of : AppId) (event now : ℕ) (made : List CallRecord) (end : End) (is : before ++ steps.Turn end of event now made ∷ later ≡ journal)
         (may : MayTurn as_session setup (New before) of event now made end)
         (live : Live Session) (lives : live_at of (New before) ≡ Some live) (waiting : Waiting) (at : slice_get live.inbox 0 ≡ Some waiting) where
       abbrev turn : Turn
@@ -215,11 +215,11 @@ module _ (setup : Setup) (epoch began : ℕ) (journal : List Step) (app : AppId)
       accepted : of ≡ app → AreAccepted Directly (told_turns (turn ∷ history.turns))
       unfolding told_turns turn_of All
       accepted here =
-          let split = parts-of (TellsNone app) before (steps.Turn of event now made end ∷ later) (subst (λ (j : List Step). All (TellsNone app) j) (sym is) none) in
+          let split = parts-of (TellsNone app) before (steps.Turn end of event now made ∷ later) (subst (λ (j : List Step). All (TellsNone app) j) (sym is) none) in
           let earlier : AreAccepted Directly (told of before) = told-direct of before (subst (λ (a : AppId). All (TellsNone a) before) (sym here) split.0) in
           all-append (λ (one : Told). All IsDirectly one.calls) (told_turns history.turns) (told_of turn)
           (subst (λ (all : List Told). AreAccepted Directly all) (sym lived.turns_are) earlier)
-          (turn-direct of event now made end (subst (λ (a : AppId). TellsNone a (steps.Turn of event now made end)) (sym here) split.1.0))
+          (turn-direct of event now made end (subst (λ (a : AppId). TellsNone a (steps.Turn end of event now made)) (sym here) split.1.0))
 
       proxied-later : (number : ℕ) (proxy : Proxy) → find (λ (p : Proxy). p.event == number) (session_after setup.config now_history (turn ∷ history.turns)).known.proxies ≡ Some proxy → of ≡ app
           → is_some (tag_of proxy.request.head.to) ≡ true
@@ -242,14 +242,14 @@ module _ (setup : Setup) (epoch began : ℕ) (journal : List Step) (app : AppId)
 
     -- what a step's turn gives to send
 
-    first-responds : (of : AppId) (event now : ℕ) (made : List CallRecord) (end : End) → before ++ steps.Turn of event now made end ∷ later ≡ journal → MayTurn as_session setup (New before) of event now made end
+    first-responds : (of : AppId) (event now : ℕ) (made : List CallRecord) (end : End) → before ++ steps.Turn end of event now made ∷ later ≡ journal → MayTurn as_session setup (New before) of event now made end
         → (live : Live Session) → live_at of (New before) ≡ Some live → (found : Option Waiting) → slice_get live.inbox 0 ≡ found
         → All (Responds app arrivals) (option_map_or (λ (waiting : Waiting). (outcome_by as_session setup.config live.session (turn_of (New before) of waiting now made end)).orders) found [])
     unfolding All
     first-responds of event now made end is may live lives None at = tt
     first-responds of event now made end is may live lives (Some waiting) at = responds of event now made end is may live lives waiting at
 
-    turn-responds : (of : AppId) (event now : ℕ) (made : List CallRecord) (end : End) → before ++ steps.Turn of event now made end ∷ later ≡ journal → MayTurn as_session setup (New before) of event now made end
+    turn-responds : (of : AppId) (event now : ℕ) (made : List CallRecord) (end : End) → before ++ steps.Turn end of event now made ∷ later ≡ journal → MayTurn as_session setup (New before) of event now made end
         → (found : Option (Live Session)) → live_at of (New before) ≡ found
         → All (Responds app arrivals)
         (option_map_or (λ (live : Live Session). option_map_or (λ (waiting : Waiting). (outcome_by as_session setup.config live.session (turn_of (New before) of waiting now made end)).orders) (slice_get live.inbox 0) []) found [])
@@ -259,7 +259,7 @@ module _ (setup : Setup) (epoch began : ℕ) (journal : List Step) (app : AppId)
 
     step-responds : (step : Step) → before ++ step ∷ later ≡ journal → IsAllowed as_session setup (New before) step → All (Responds app arrivals) (orders_by setup (New before) step)
     unfolding orders_by IsAllowed All
-    step-responds (steps.Turn of event now made end) is may = turn-responds of event now made end is may (live_at of (New before)) refl
+    step-responds (steps.Turn end of event now made) is may = turn-responds of event now made end is may (live_at of (New before)) refl
     step-responds (steps.In from message) is may = tt
     step-responds (steps.Bad from bad) is may = tt
     step-responds (steps.Lost place) is may = tt

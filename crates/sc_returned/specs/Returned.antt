@@ -7,7 +7,7 @@ use Rattle.sc_parts.specs.declared.setup.Setup.{Setup}
 use Rattle.sc_state.specs.declared.host.Server.{Server}
 use Rattle.sc_lasting.specs.Lasting.{All}
 use Rattle.sc_paths.specs.Moments.{Moment}
-use Rattle.sc_paths.specs.Pieces.{Dialog, Piece, answers_of, heads_at_end, received, record_routed}
+use Rattle.sc_paths.specs.Pieces.{Dialog, Piece, answers_of, heads_at_end, record_routed, server_of_piece}
 
 -- each answer of the session at its end that makes the dialog returns the Record-Route of the
 -- INVITE as it came there, which is that of the proxies of the way that record-routed, above the
@@ -15,7 +15,7 @@ use Rattle.sc_paths.specs.Pieces.{Dialog, Piece, answers_of, heads_at_end, recei
 pub record ReturnsRecordRoute (setup : Setup) (epoch : ℕ) (run : List Moment) (dialog : Dialog)
     (piece : Piece) : Type 0 where
   pub answered : (app : AppId) (server : Server) → piece.callee ≡ Some app
-      → received run piece app ≡ Some server
+      → server_of_piece run piece app ≡ Some server
       → All (λ (head : Head). head.record_route ≡ server.request.head.record_route)
       (answers_of setup run dialog app server)
   pub returned : (app : AppId) → piece.callee ≡ Some app

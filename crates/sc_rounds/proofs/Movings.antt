@@ -17,13 +17,13 @@ use Rattle.sc_outs.specs.Deeds.{Deed}
 use Rattle.sc_outs.proofs.Laws.{cut_of}
 use Rattle.sc_courses.specs.Asking.{Answered, Given, Source, Sources, given_then, none_given}
 use Rattle.sc_courses.proofs.AskingLaws.{answered_none, answers_none, answers_then, asked_none, asked_then, ticked_part}
-use Rattle.sc_courses.specs.Courses.{Beginning, Told, after, ordered}
+use Rattle.sc_courses.specs.Courses.{Beginning, Told, after, with_orders as ordered}
 use Rattle.sc_courses.specs.Marks.{Hearing, is_heard}
 use Rattle.sc_courses.proofs.HeardLaws.{hearing_part, hearing_same, part_same}
 use Rattle.sc_rounds.specs.declared.stepping.Core.{Core}
 use Rattle.sc_streams.specs.declared.streams.Pending.{Pending}
 use Rattle.sc_rounds.specs.Moving.{AreAlmost, Breaks, BreaksBoth, BreaksOn, BreaksOrdered, EndedAfter, EndedOrdered, Moves, MovesBoth, MovesOn, MovesOrdered}
-use Rattle.sc_rounds.specs.Serving.{Ended, Ends, Same, SameAt, Serves, Stopped, Took, deed, moments_after, since, timed}
+use Rattle.sc_rounds.specs.Serving.{Ended, Ends, Same, SameAt, Serves, Stopped, Took, deed, moments_after, since, with_moment_of as timed}
 use Rattle.sc_rounds.specs.Stepping.{Commits, Ordered, StoppedAt, Ticks, Unordered, Withdraws, order_at}
 use Rattle.sc_streams.specs.Streaming.{bytes_of}
 use Rattle.sc_rounds.proofs.Seconds.{seconds_end}

@@ -2,7 +2,7 @@
 use Rattle.std.proofs.Common.{◌≡◌, ◌≤◌, ◌<◌, ℕ, ◌+◌, true, List, [], sym, ap, subst, length, length-append, arith}
 use Rattle.std.specs.Prelude.{min}
 use Rattle.sc_hosts.specs.Histories.{as_session}
-use Rattle.sc_hosts.specs.Runs.{Epoch, chained, is_idle, live_count}
+use Rattle.sc_hosts.specs.Runs.{Epoch, net_from as chained, is_idle, live_count}
 use Rattle.sc_hosts.specs.Runs.{net_of as net_after}
 use Rattle.sc_edge.specs.Edges.{EdgeState}
 use Rattle.sc_switch.specs.Answers.{IsTurned, RefusesEpoch}

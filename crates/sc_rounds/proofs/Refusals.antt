@@ -8,7 +8,7 @@ use Rattle.sc_terms.specs.declared.calls.End.TheVariants as ends
 use Rattle.sc_terms.specs.declared.steps.Bad.{Bad}
 use Rattle.sc_terms.specs.declared.steps.Step.{Step}
 use Rattle.sc_terms.specs.declared.steps.Step.TheVariants as steps
-use Rattle.sc_grammar.specs.Written.{written}
+use Rattle.sc_grammar.specs.Written.{text_of_message as written}
 use Rattle.sc_model.specs.JournalSizes.{HasNoRoom, step_size}
 use Rattle.sc_model.specs.Settings.{IsSetup}
 use Rattle.sc_hosts.specs.Histories.{as_session}

@@ -19,7 +19,7 @@ use Rattle.sc_hosts.specs.EventLists.{listing_of}
 use Rattle.sc_hosts.specs.Histories.{as_session}
 use Rattle.sc_edge.specs.declared.orders.Order.{Order}
 use Rattle.sc_hosts.specs.Steps.{live_at}
-use Rattle.sc_hosts.specs.Runs.{Epoch, IsLawful, after_step, chained, chained_from, start}
+use Rattle.sc_hosts.specs.Runs.{Epoch, IsLawful, after_step, net_from as chained, chained_from, start}
 use Rattle.sc_hosts.specs.Runs.{net_of as net_after}
 use Rattle.sc_switch.specs.declared.refused.Epoch.{Epoch as Ended}
 use Rattle.sc_switch.specs.Standing.{Known, net_of, step_of, whole}
@@ -34,7 +34,7 @@ use Rattle.sc_outs.specs.Deeds.{Deed}
 use Rattle.sc_outs.specs.Owing.{IsLostAt, IsOwed, Owing}
 use Rattle.sc_outs.specs.Puts.{Puts}
 use Rattle.sc_outs.proofs.Laws.{cut_more, cut_of, puts_failed, puts_owed, puts_step}
-use Rattle.sc_courses.specs.Courses.{Beginning, Course, Told, ordered}
+use Rattle.sc_courses.specs.Courses.{Beginning, Course, Told, with_orders as ordered}
 use Rattle.sc_courses.specs.Listings.{IsListingAt}
 use Rattle.sc_courses.specs.Ordering.{Point, is_for, withdrawn_by}
 use Rattle.sc_courses.specs.Endings.{HasToEnd, waits_for_end}
@@ -47,7 +47,7 @@ use Rattle.sc_courses.proofs.AskingLaws.{ticked_early, ticked_part}
 use Rattle.sc_courses.specs.Reports.{Reports}
 use Rattle.sc_courses.proofs.ReportLaws.{counts_step, reports_listed, reports_part, reports_step, reports_turned, untold}
 use Rattle.sc_courses.specs.Seconds.{part_in}
-use Rattle.sc_rounds.specs.Serving.{Counted, Ends, EndsAsSet, EndsInSeconds, HasNoEnd, IsInSecondsNext, Reported, Runs, RunsOn, Same, SameAt, Settles, Stands, Stopped, Took, Unreported, deed, moments_after, running, timed}
+use Rattle.sc_rounds.specs.Serving.{Counted, Ends, EndsAsSet, EndsInSeconds, HasNoEnd, IsInSecondsNext, Reported, Runs, RunsOn, Same, SameAt, Settles, Stands, Stopped, Took, Unreported, deed, moments_after, running, with_moment_of as timed}
 use Rattle.sc_rounds.proofs.Overs.{long_ends, net-at}
 use Rattle.sc_rounds.proofs.Seconds.{IsInTimeAt, ends_at, next_end, seconds_at, seconds_end, seconds_handed, seconds_settled, seconds_step, seconds_told}
 use Rattle.sc_rounds.proofs.Timings.{IsLater, left_moment, lease_moment, none_withdrawn, runs_timed, taken_ticked, ticked_at, untaken_part, withdrawn_ticked}

@@ -24,7 +24,7 @@ IsLater now (steps.In place message) = Unit {0}
 IsLater now (steps.Bad place bad) = Unit {0}
 IsLater now (steps.Lost place) = Unit {0}
 IsLater now (steps.Tick moment) = now < moment
-IsLater now (steps.Turn app event moment calls end) = Unit {0}
+IsLater now (steps.Turn end app event moment calls) = Unit {0}
 IsLater now (steps.Withdraw app) = ⊥
 
 pub turn_later : (now : ℕ) (done : Done) → IsLater now (step_of done)
@@ -36,7 +36,7 @@ none_withdrawn now (steps.In place message) later = refl
 none_withdrawn now (steps.Bad place bad) later = refl
 none_withdrawn now (steps.Lost place) later = refl
 none_withdrawn now (steps.Tick moment) later = refl
-none_withdrawn now (steps.Turn app event moment calls end) later = refl
+none_withdrawn now (steps.Turn end app event moment calls) later = refl
 none_withdrawn now (steps.Withdraw app) later = absurd later
 
 ticked-step : (step : Step) (sent : List Sent) (failed : Bool) (moments : List ℕ) (deeds : List Deed) (now : ℕ) → IsLater now step → Ticked moments deeds now
@@ -46,7 +46,7 @@ ticked-step (steps.In place message) sent failed moments deeds now later ticked 
 ticked-step (steps.Bad place bad) sent failed moments deeds now later ticked = ticked_same moments deeds (deed (steps.Bad place bad) sent failed) now now refl refl ticked
 ticked-step (steps.Lost place) sent failed moments deeds now later ticked = ticked_same moments deeds (deed (steps.Lost place) sent failed) now now refl refl ticked
 ticked-step (steps.Tick moment) sent failed moments deeds now later ticked = ticked_later moments deeds (deed (steps.Tick moment) sent failed) now moment refl later ticked
-ticked-step (steps.Turn app event moment calls end) sent failed moments deeds now later ticked = ticked_same moments deeds (deed (steps.Turn app event moment calls end) sent failed) now now refl refl ticked
+ticked-step (steps.Turn end app event moment calls) sent failed moments deeds now later ticked = ticked_same moments deeds (deed (steps.Turn end app event moment calls) sent failed) now now refl refl ticked
 ticked-step (steps.Withdraw app) sent failed moments deeds now later ticked = absurd later
 
 -- the step wasn't taken
@@ -55,7 +55,7 @@ untaken_part (steps.In place message) moments deeds now ticked = ticked_part mom
 untaken_part (steps.Bad place bad) moments deeds now ticked = ticked_part moments deeds now ticked
 untaken_part (steps.Lost place) moments deeds now ticked = ticked_part moments deeds now ticked
 untaken_part (steps.Tick moment) moments deeds now ticked = ticked_cut moments deeds now moment ticked
-untaken_part (steps.Turn app event moment calls end) moments deeds now ticked = ticked_part moments deeds now ticked
+untaken_part (steps.Turn end app event moment calls) moments deeds now ticked = ticked_part moments deeds now ticked
 untaken_part (steps.Withdraw app) moments deeds now ticked = ticked_part moments deeds now ticked
 
 pub ticked_at : (moments : List ℕ) (deeds : List Deed) (now now2 : ℕ) → now2 ≡ now → Ticked moments deeds now → Ticked moments deeds now2

@@ -3,7 +3,7 @@ use Rattle.sc_edge.specs.Edges.{EdgeState}
 use Rattle.std.specs.Prelude.{◌≡◌, ◌⊎◌, ◌++◌, ℕ, List, [], ◌∷◌, Option}
 use Rattle.sc_courses.specs.Asking.{Answered, AreAnswers, Asked, Given, Source, Sources}
 use Rattle.sc_edge.specs.declared.orders.Order.{Order}
-use Rattle.sc_courses.specs.Courses.{Beginning, Told, after, ordered}
+use Rattle.sc_courses.specs.Courses.{Beginning, Told, after, with_orders}
 use Rattle.sc_switch.specs.Standing.{Known}
 use Rattle.sc_rounds.specs.declared.stepping.Core.{Core}
 use Rattle.sc_streams.specs.declared.streams.Pending.{Pending}
@@ -44,7 +44,7 @@ MovesOrdered old new told told2 orders orders2 =
     (answer : Option Order) × Answered orders orders2 (answer ∷ [])
     × ((from : Beginning) (edge : EdgeState) (streams : List Pending)
     → Serves from edge told old streams
-    → Serves (ordered from (answer ∷ [])) edge told2 new streams)
+    → Serves (with_orders from (answer ∷ [])) edge told2 new streams)
 
 -- these are all answers, or all but the last
 abbrev pub AreAlmost : List (Option Order) → List (Option Order) → Type 0
@@ -54,7 +54,7 @@ AreAlmost obeyed given = (obeyed ≡ given) ⊎ ((last : Option Order) × (given
 abbrev pub EndedOrdered : Beginning → List (Option Order) → EdgeState → Told → Known → Type 0
 EndedOrdered from given edge told known =
     (obeyed : List (Option Order)) × AreAlmost obeyed given
-    × Ended (ordered from obeyed) edge told known
+    × Ended (with_orders from obeyed) edge told known
 
 -- the run ended, and what it withdrew was ordered
 unfoldable pub BreaksOrdered : Core → Core → Told → Told → Source (Option Order)

@@ -35,12 +35,12 @@ moments_after (steps.In place message) moments = moments
 moments_after (steps.Bad place bad) moments = moments
 moments_after (steps.Lost place) moments = moments
 moments_after (steps.Tick now) moments = moments ++ now ∷ []
-moments_after (steps.Turn app event now calls end) moments = moments
+moments_after (steps.Turn end app event now calls) moments = moments
 moments_after (steps.Withdraw app) moments = moments
 
 -- what a run is held against, once a step was due
-abbrev pub timed : Step → Beginning → Beginning
-timed step from = record from { moments = moments_after step from.moments }
+abbrev pub with_moment_of : Step → Beginning → Beginning
+with_moment_of step from = record from { moments = moments_after step from.moments }
 
 -- what the notice was told of the run's steps and of what lives
 abbrev pub Reported : Beginning → Told → ℕ → ℕ → Known → Type 0
@@ -64,8 +64,8 @@ pub record Runs (from : Beginning) (told : Told) (known : Known) (deeds : List D
 abbrev pub EndsAsSet : Beginning → Core → Type 0
 EndsAsSet from core = core.turning.epoch_steps ≡ from.setup.config.epoch_steps
 
--- where steps are recorded, those that are kept are of a second, and so was each part that was handed
--- on
+-- where steps are recorded, those that are kept are of a second, and so was each part that was
+-- handed on
 abbrev pub IsInSeconds : Beginning → Told → Core → Type 0
 IsInSeconds from told core =
     is_some from.setup.config.recording ≡ true
@@ -136,15 +136,15 @@ unfoldable pub Took : Step → Bool → Core → Core → Told → Told → Type
 Took step failed old new told told2 =
     (from : Beginning) (edge : EdgeState) (deeds : List Deed) → Stands from edge told old deeds
     → (sent : List Sent)
-    × Stands (timed step from) edge told2 new (deeds ++ deed step sent failed ∷ [])
+    × Stands (with_moment_of step from) edge told2 new (deeds ++ deed step sent failed ∷ [])
 
 -- the run ended before this step, or behind it
 unfoldable pub Stopped : Step → Bool → Core → Core → Told → Told → Type 0
 Stopped step failed old new told told2 =
     (from : Beginning) (edge : EdgeState) (deeds : List Deed) → Stands from edge told old deeds
-    → Ends (timed step from) edge told2 new.switch deeds
+    → Ends (with_moment_of step from) edge told2 new.switch deeds
     ⊎ ((sent : List Sent)
-    × Ends (timed step from) edge told2 new.switch (deeds ++ deed step sent failed ∷ []))
+    × Ends (with_moment_of step from) edge told2 new.switch (deeds ++ deed step sent failed ∷ []))
 
 -- what the last step sent was taken from the switch
 unfoldable pub Settles : Core → Core → Told → Told → Type 0

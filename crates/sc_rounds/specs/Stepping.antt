@@ -10,7 +10,7 @@ use Rattle.sc_switch.specs.Standing.{step_of}
 use Rattle.sc_edge.specs.Edges.{EdgeState}
 use Rattle.sc_edge.specs.declared.orders.Order.{Order}
 use Rattle.sc_outs.specs.Deeds.{Deed}
-use Rattle.sc_courses.specs.Courses.{Beginning, Told, ordered}
+use Rattle.sc_courses.specs.Courses.{Beginning, Told, with_orders}
 use Rattle.sc_rounds.specs.declared.stepping.Core.{Core}
 use Rattle.sc_rounds.specs.Serving.{Ends, Same, SameAt, Stands, Took, deed}
 
@@ -34,14 +34,14 @@ unfoldable pub Ordered : AppId → Core → Core → Told → Told → Type 0
 Ordered app old new told told2 =
     (from : Beginning) (edge : EdgeState) (deeds : List Deed) → Stands from edge told old deeds
     → (sent : List Sent)
-    × Stands (ordered from (Some (order_at old app) ∷ [])) edge told2 new
+    × Stands (with_orders from (Some (order_at old app) ∷ [])) edge told2 new
     (deeds ++ deed (steps.Withdraw app) sent false ∷ [])
 
 -- nothing was withdrawn at this answer
 unfoldable pub Unordered : Option Order → Core → Core → Told → Told → Type 0
 Unordered answer old new told told2 =
     (from : Beginning) (edge : EdgeState) (deeds : List Deed) → Stands from edge told old deeds
-    → Stands (ordered from (answer ∷ [])) edge told2 new deeds
+    → Stands (with_orders from (answer ∷ [])) edge told2 new deeds
 
 -- the run ended before this withdrawal, or behind it
 unfoldable pub StoppedAt : AppId → Core → Core → Told → Told → Type 0
@@ -49,7 +49,7 @@ StoppedAt app old new told told2 =
     (from : Beginning) (edge : EdgeState) (deeds : List Deed) → Stands from edge told old deeds
     → Ends from edge told2 new.switch deeds
     ⊎ ((sent : List Sent)
-    × Ends (ordered from (Some (order_at old app) ∷ [])) edge told2 new.switch
+    × Ends (with_orders from (Some (order_at old app) ∷ [])) edge told2 new.switch
     (deeds ++ deed (steps.Withdraw app) sent false ∷ []))
 
 -- the session was withdrawn, or it didn't live

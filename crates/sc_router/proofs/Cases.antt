@@ -18,12 +18,13 @@ use Rattle.sc_terms.specs.declared.settings.Tuple.{Tuple}
 use Rattle.sc_parts.specs.declared.choice.Choice.{Choice}
 use Rattle.sc_parts.specs.declared.choice.Choice.TheVariants.{App, Send, Onward, NotFound}
 use Rattle.sc_value.specs.declared.ids.Directive.TheVariants.{New, Continue, Reverse}
-use Rattle.sc_grammar.specs.Written.{Bytes, scheme, ended_text, port_text, params_text, signed_text, sip_uri_text, uri_text}
+use Rattle.sc_tokens.specs.Bytes.{Bytes}
+use Rattle.sc_grammar.specs.Written.{scheme, ended_text, port_text, params_text, signed_text, sip_uri_text, uri_text}
 use Rattle.sc_model.specs.Records.{ip_text}
 use Rattle.sc_model.specs.Names.{ar_value, tcp_param, loose_param, own_uri, ar_name, return_uri}
 use Rattle.sc_model.specs.OwnHosts.{is_at, is_of, is_own, is_home}
 use Rattle.sc_model.specs.Routing.{dar_prefix, header_text, subscriber_of, list_of}
-use Rattle.sc_model.specs.Choices.{tuples_of, is_opposite, next_order, app_of, way_back, by_route, routed, exhausted, choice_at, choice_in, choice_of}
+use Rattle.sc_model.specs.Choices.{tuples_of, is_opposite, next_order, app_of, way_back, by_route, choice_by_route as routed, choice_without_tuple as exhausted, choice_at, choice_in, choice_of}
 
 -- the container listens at 127.0.0.1:5060 and is responsible for home.test
 abbrev config : Config

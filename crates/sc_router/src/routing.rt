@@ -3,7 +3,7 @@
 ghost use Rattle.std.specs.Prelude.{◌≡◌, ◌≤◌, ◌<◌, take, ◌+◌, ◌++◌, ◌∷◌, [], length, position, IfOk, OnOk};
 ghost use Rattle.std.specs.Option.{option_copied};
 ghost use Rattle.sc_parts.specs.declared.choice.Choice.TheVariants.{Send};
-ghost use Rattle.sc_model.specs.Choices.{tuples_of, is_opposite, next_order, app_of, by_route, routed, exhausted, choice_at, choice_in, choice_of};
+ghost use Rattle.sc_model.specs.Choices.{app_of, by_route, choice_at, choice_by_route, choice_in, choice_of, choice_without_tuple, is_opposite, next_order, tuples_of};
 
 use crate::lists::list_of;
 use crate::own::{is_home, is_own};
@@ -135,7 +135,7 @@ fn choice_in(
 }
 
 // What a tuple does, by its modifier and its route.
-#[tactic(auto, unfolding(sc_model::specs::Choices::routed))]
+#[tactic(auto, unfolding(sc_model::specs::Choices::choice_by_route))]
 fn routed(
     alloc: Global,
     config: &Config,
@@ -146,7 +146,7 @@ fn routed(
     requires { order < 64 }
     ensures { IfOk result
         (λ c.
-        c ≡ routed config.now request.now order tuple.now tuple.now.modifier tuple.now.route) }
+        c ≡ choice_by_route config.now request.now order tuple.now tuple.now.modifier tuple.now.route) }
 {
     match (tuple.modifier, &tuple.route) {
         (Modifier::Route, Some(route)) => by_route(alloc, config, request, order, tuple, route),
@@ -238,9 +238,9 @@ fn app_of(
 }
 
 // No tuple is left: on by the request's Route or Request-URI, or nowhere.
-#[tactic(auto, unfolding(sc_model::specs::Choices::exhausted))]
+#[tactic(auto, unfolding(sc_model::specs::Choices::choice_without_tuple))]
 fn exhausted(alloc: Global, config: &Config, request: &Request) -> Result<Choice, NoMemory>
-    ensures { IfOk result (λ c. c ≡ exhausted config.now request.now) }
+    ensures { IfOk result (λ c. c ≡ choice_without_tuple config.now request.now) }
 {
     if !request.head.route.is_empty() {
         return Ok(Choice::Onward);

@@ -39,8 +39,8 @@ module _ {S T : Type 0} (change : S → T) (setup : Setup) (form : Form S) (othe
   part-run : (taken : List Step) (net : Net S) → IsPartRun form setup net taken → IsPartRun other setup (map_net change net) taken
   unfolding IsPartRun
   part-run [] net run = run
-  part-run (steps.Turn app event now calls end ∷ later) net run =
-      (next_event-maps change net ∙ run.0, run.1 ∙ sym (moment-maps change net), rw (after_step-maps change setup form other like net (steps.Turn app event now calls end)) (part-run later _ run.2))
+  part-run (steps.Turn end app event now calls ∷ later) net run =
+      (next_event-maps change net ∙ run.0, run.1 ∙ sym (moment-maps change net), rw (after_step-maps change setup form other like net (steps.Turn end app event now calls)) (part-run later _ run.2))
   part-run (steps.In from message ∷ later) net run = run
   part-run (steps.Bad from bad ∷ later) net run = run
   part-run (steps.Lost place ∷ later) net run = run
@@ -50,10 +50,10 @@ module _ {S T : Type 0} (change : S → T) (setup : Setup) (form : Form S) (othe
   part-run-back : (taken : List Step) (net : Net S) → IsPartRun other setup (map_net change net) taken → IsPartRun form setup net taken
   unfolding IsPartRun
   part-run-back [] net run = run
-  part-run-back (steps.Turn app event now calls end ∷ later) net run = (
+  part-run-back (steps.Turn end app event now calls ∷ later) net run = (
     sym (next_event-maps change net) ∙ run.0,
     run.1 ∙ moment-maps change net,
-    part-run-back later (after_step form setup net (steps.Turn app event now calls end)) (rw (after_step-maps change setup form other like net (steps.Turn app event now calls end)) at run.2),
+    part-run-back later (after_step form setup net (steps.Turn end app event now calls)) (rw (after_step-maps change setup form other like net (steps.Turn end app event now calls)) at run.2),
   )
   part-run-back (steps.In from message ∷ later) net run = run
   part-run-back (steps.Bad from bad ∷ later) net run = run

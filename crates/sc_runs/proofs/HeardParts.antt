@@ -50,19 +50,19 @@ hears-part place bytes (steps.Bad from bad ∷ []) more (steps.In a b) rest hear
 hears-part place bytes (steps.Bad from bad ∷ []) more (steps.Bad a b) rest hears = absurd hears
 hears-part place bytes (steps.Bad from bad ∷ []) more (steps.Tick a) rest hears = absurd hears
 hears-part place bytes (steps.Bad from bad ∷ []) more (steps.Withdraw a) rest hears = absurd hears
-hears-part place bytes (steps.Bad from bad ∷ []) more (steps.Turn a b c d e) rest hears = absurd hears
+hears-part place bytes (steps.Bad from bad ∷ []) more (steps.Turn e a b c d) rest hears = absurd hears
 hears-part place bytes (steps.Bad from bad ∷ steps.Lost at ∷ []) more step rest hears = absurd hears
 hears-part place bytes (steps.Bad from bad ∷ steps.Lost at ∷ s ∷ part) more step rest hears = absurd hears
 hears-part place bytes (steps.Bad from bad ∷ steps.In a b ∷ part) more step rest hears = absurd hears
 hears-part place bytes (steps.Bad from bad ∷ steps.Bad a b ∷ part) more step rest hears = absurd hears
 hears-part place bytes (steps.Bad from bad ∷ steps.Tick a ∷ part) more step rest hears = absurd hears
 hears-part place bytes (steps.Bad from bad ∷ steps.Withdraw a ∷ part) more step rest hears = absurd hears
-hears-part place bytes (steps.Bad from bad ∷ steps.Turn a b c d e ∷ part) more step rest hears = absurd hears
+hears-part place bytes (steps.Bad from bad ∷ steps.Turn e a b c d ∷ part) more step rest hears = absurd hears
 hears-part place bytes (steps.Lost at ∷ []) more step rest hears = absurd hears
 hears-part place bytes (steps.Lost at ∷ s ∷ part) more step rest hears = absurd hears
 hears-part place bytes (steps.Tick now ∷ part) more step rest hears = absurd hears
 hears-part place bytes (steps.Withdraw app ∷ part) more step rest hears = absurd hears
-hears-part place bytes (steps.Turn a b c d e ∷ part) more step rest hears = absurd hears
+hears-part place bytes (steps.Turn e a b c d ∷ part) more step rest hears = absurd hears
 
 one-lost : (first step lost : Step) (part more : List Step) → first ∷ (part ++ step ∷ more) ≡ lost ∷ [] → part ++ step ∷ more ≡ []
 one-lost first step lost part more e = cc

@@ -13,8 +13,8 @@ use Rattle.sc_tokens.specs.Bytes.{Bytes}
 use Rattle.sc_syntax.specs.UriParts.{Fault, then_read}
 use Rattle.sc_syntax.specs.Lines.{end_of, start_line, header_lines}
 use Rattle.sc_syntax.specs.StartLines.{start_of}
-use Rattle.sc_syntax.specs.Fronts.{bad, front_of, headed, sized, whole}
-use Rattle.sc_syntax.specs.Messages.{Peers, all_judged, finished, finished_with, fits, head_of, is_method_of, message_in, message_with, nothing_left, peers_of, placed}
+use Rattle.sc_syntax.specs.Fronts.{bad_front as bad, front_of, front_after_head as headed, front_of_length as sized, whole}
+use Rattle.sc_syntax.specs.Messages.{Peers, all_judged, message_from_parts as finished, finished_with, fits, head_of, is_method_of, message_in, message_with, nothing_left, peers_of, fault_at_place as placed}
 use Rattle.std.proofs.lemmas.Bool.Decides.{nat_tests}
 use Rattle.sc_stream.specs.Frames.{front_behind}
 use Rattle.sc_hosts.specs.Runs.{HasVia}

@@ -31,14 +31,14 @@ first_number live =
 unfoldable pub IsTurnOf : AppId → ℕ → Option ℕ → List Step → Type 0
 IsTurnOf app now None taken = taken ≡ []
 IsTurnOf app now (Some event) taken =
-    (calls : List CallRecord) × (end : End) × (taken ≡ steps.Turn app event now calls end ∷ [])
+    (calls : List CallRecord) × (end : End) × (taken ≡ steps.Turn end app event now calls ∷ [])
 
 -- the steps are turns, each of the lowest event that waits, at the last moment
 unfoldable pub IsPartRun : {S : Type 0} → Form S → Setup → Net S → List Step → Type 0
 IsPartRun form setup net [] = Unit {0}
-IsPartRun form setup net (steps.Turn app event now calls end ∷ later) =
+IsPartRun form setup net (steps.Turn end app event now calls ∷ later) =
     (next_event net ≡ Some (record { app = app; number = event })) × (now ≡ net.moment)
-    × IsPartRun form setup (after_step form setup net (steps.Turn app event now calls end)) later
+    × IsPartRun form setup (after_step form setup net (steps.Turn end app event now calls)) later
 IsPartRun form setup net (step ∷ later) = ⊥
 
 -- and none waits after the last

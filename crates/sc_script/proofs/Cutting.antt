@@ -2,7 +2,7 @@
 use Rattle.std.proofs.Common.{◌≡◌, ℕ, Option, None, Some, List, ◌∷◌, Err, refl, ap}
 use Rattle.sc_tokens.specs.Cuts.{before, after, pieces}
 use Rattle.sc_syntax.proofs.CutLaws.{pieces_more, pieces_last}
-use Rattle.sc_grammar.specs.Written.{Bytes}
+use Rattle.sc_tokens.specs.Bytes.{Bytes}
 use Rattle.sc_script.specs.ScriptTexts.{ip_of, address_in, line_of, WORD}
 use Rattle.sc_script.specs.Reading.{more_pieces}
 

@@ -2,8 +2,8 @@
 use Rattle.std.proofs.Common.{◌≡◌, ℕ, zero, suc, ◌+◌, ◌-◌, ◌<◌, ◌≤◌, Bool, true, false, cond, List, [], ◌∷◌, ◌++◌, Result, Ok, Err, length, drop, refl, sym, ap, ◌∙◌, arith, append_assoc}
 use Rattle.std.proofs.lemmas.List.{length-drop}
 use Rattle.sc_terms.specs.declared.steps.Line.{Line}
-use Rattle.sc_grammar.specs.Written.{Bytes}
-use Rattle.sc_script.specs.ScriptTexts.{Fault, NO_END, is_end, row_at, moment_after, with_first, followed, lines_in}
+use Rattle.sc_tokens.specs.Bytes.{Bytes}
+use Rattle.sc_script.specs.ScriptTexts.{Fault, NO_END, is_end, row_at, moment_after, with_first, with_later_lines as followed, lines_in}
 use Rattle.sc_script.specs.declared.refused.ScriptRefused.{ScriptRefused}
 use Rattle.sc_script.specs.declared.refused.ScriptRefused.TheVariants as refused
 use Rattle.sc_script.specs.Reading.{Gives, Adds, onto}

@@ -6,7 +6,7 @@ use Rattle.sc_terms.specs.declared.steps.Line.TheVariants as lines
 use Rattle.sc_tokens.specs.Cuts.{before, after, onto_first, pieces}
 use Rattle.sc_tokens.specs.Hosts.{begins}
 use Rattle.sc_tokens.specs.Numbers.{is_digits, with_digit, number_in}
-use Rattle.sc_script.specs.ScriptTexts.{is_plain, decimal_upto, connection_of, all_four, ip_of, address_of, address_in, place_of, one_word, tick_line, lost_line, two_words, app_of, turn_line, drop_line, three_words, is_feed, incoming, size_of, alone, line_of, is_end, row_with, row_by, row_at, moment_after, with_first, followed, lines_in, script_of}
+use Rattle.sc_script.specs.ScriptTexts.{is_plain, decimal_upto, connection_of, all_four, ip_of, address_of, address_in, place_of, one_word, tick_line, lost_line, two_words, app_of, turn_line, drop_line, three_words, is_feed, incoming, size_of, alone, line_of, is_end, row_with, row_by, row_at, moment_after, with_first, with_later_lines as followed, lines_in, script_of}
 
 -- bytes with a line feed among them, and every row
 every_row : script_of (codes "in c1 3\na\nb\ntick 5\nturn 0 1\nlost 127.0.0.1:5060\ndrop 0 1\nrun\nend\n")

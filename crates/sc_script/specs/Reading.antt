@@ -2,7 +2,7 @@
 use Rattle.std.specs.Prelude.{◌≡◌, ◌++◌, ℕ, List, [], Option, None, Some, Result, Ok, Err}
 use Rattle.sc_terms.specs.declared.steps.Line.{Line}
 use Rattle.sc_tokens.specs.Cuts.{pieces}
-use Rattle.sc_grammar.specs.Written.{Bytes}
+use Rattle.sc_tokens.specs.Bytes.{Bytes}
 use Rattle.sc_script.specs.ScriptTexts.{Fault}
 use Rattle.sc_script.specs.declared.refused.ScriptRefused.{ScriptRefused}
 use Rattle.sc_script.specs.declared.refused.ScriptRefused.TheVariants as refused

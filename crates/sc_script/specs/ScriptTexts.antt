@@ -10,7 +10,7 @@ use Rattle.sc_terms.specs.declared.steps.Line.TheVariants as lines
 use Rattle.sc_tokens.specs.Cuts.{before, after, pieces}
 use Rattle.sc_tokens.specs.Hosts.{begins}
 use Rattle.sc_tokens.specs.Numbers.{is_digits, number_in}
-use Rattle.sc_grammar.specs.Written.{Bytes}
+use Rattle.sc_tokens.specs.Bytes.{Bytes}
 
 -- where a text goes wrong, in bytes from its front, and how
 pub record Fault : Type 0 where
@@ -212,10 +212,10 @@ with_first line (Ok later) = Ok (line ∷ later)
 with_first line (Err fault) = Err fault
 
 -- a line, and the lines after it
-unfoldable pub followed : Result (Line × ℕ) Fault → (Line → ℕ → Result (List Line) Fault)
+unfoldable pub with_later_lines : Result (Line × ℕ) Fault → (Line → ℕ → Result (List Line) Fault)
     → Result (List Line) Fault
-followed (Err fault) later = Err fault
-followed (Ok (line, size)) later =
+with_later_lines (Err fault) later = Err fault
+with_later_lines (Ok (line, size)) later =
     if is_end line then Ok (line ∷ []) else with_first line (later line size)
 
 -- the lines of a text that begins at this place; its first bytes, so many, belong to the line
@@ -224,7 +224,7 @@ unfoldable pub lines_in : ℕ → ℕ → ℕ → Bytes → Result (List Line) F
 lines_in passed at since [] = Err (record { at = at; kind = NO_END })
 lines_in (suc passed) at since (b ∷ bs) = lines_in passed (at + 1) since bs
 lines_in zero at since (b ∷ bs) =
-    followed (row_at at since (b ∷ bs))
+    with_later_lines (row_at at since (b ∷ bs))
     (λ line size. lines_in (size - 1) (at + 1) (moment_after since line) bs)
 
 -- so many bytes has a script at most

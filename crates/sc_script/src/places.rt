@@ -2,7 +2,7 @@
 
 ghost use Rattle.std.specs.Prelude.{◌≡◌, ◌≤◌, IfSome};
 ghost use Rattle.sc_tokens.specs.Cuts.{pieces};
-ghost use Rattle.sc_script.specs.ScriptTexts.{decimal_upto, connection_of, all_four, ip_of, address_of, address_in, place_of};
+ghost use Rattle.sc_script.specs.ScriptTexts.{address_in, address_of, all_four, connection_of, decimal_upto, ip_of, place_of};
 ghost use Rattle.sc_script.specs.Reading.{more_pieces};
 
 use crate::cuts::cut;

@@ -3,7 +3,7 @@
 ghost use Rattle.std.specs.Prelude.{◌≡◌, ◌≤◌, ◌<◌, ◌+◌, ◌^◌, ℕ, [], ◌∷◌, length, IfOk, IfSome, IsTrue};
 ghost use Rattle.std.specs.List.{slice_get};
 ghost use Rattle.sc_tokens.specs.Cuts.{pieces};
-ghost use Rattle.sc_script.specs.ScriptTexts.{decimal_upto, place_of, one_word, tick_line, lost_line, two_words, app_of, turn_line, drop_line, three_words, is_feed, incoming, size_of, alone, line_of};
+ghost use Rattle.sc_script.specs.ScriptTexts.{alone, app_of, decimal_upto, drop_line, incoming, is_feed, line_of, lost_line, one_word, place_of, size_of, three_words, tick_line, turn_line, two_words};
 ghost use Rattle.sc_script.specs.Reading.{Says, more_pieces};
 
 use crate::cuts::cut;

@@ -2,7 +2,7 @@
 
 ghost use Rattle.std.specs.Prelude.{◌≡◌, ◌≤◌, ◌<◌, ◌+◌, ℕ, [], ◌∷◌, ◌++◌, Result, drop, length, IfOk, OnOk};
 ghost use Rattle.sc_terms.specs.declared.steps.Line.{Line};
-ghost use Rattle.sc_script.specs.ScriptTexts.{is_end, row_with, row_by, row_at, moment_after, lines_in, script_of};
+ghost use Rattle.sc_script.specs.ScriptTexts.{is_end, lines_in, moment_after, row_at, row_by, row_with, script_of};
 ghost use Rattle.sc_script.specs.Reading.{Says, Gives, Adds};
 
 use crate::cuts::cut;

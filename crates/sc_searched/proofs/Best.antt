@@ -8,7 +8,7 @@ use Rattle.std.proofs.lemmas.List.Quantifiers.{position-Some}
 use Rattle.std.proofs.lemmas.Option.{slice_get-get_or}
 use Rattle.sc_value.specs.declared.message.Response.{Response}
 use Rattle.sc_value.specs.declared.parts.Field.{Field}
-use Rattle.sc_model.specs.BestResponses.{best_of, best_response, class_of, forwarded, forwarded_code, forwarded_with, gathered, is_global, is_lowest}
+use Rattle.sc_model.specs.BestResponses.{best_of, best_response, class_of, response_onward as forwarded, forwarded_code, forwarded_with, challenges_beside as gathered, is_global, is_lowest}
 use Rattle.sc_model.specs.SessionStates.{is_final}
 use Rattle.sc_lasting.specs.Lasting.{All}
 

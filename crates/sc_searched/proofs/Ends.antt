@@ -10,7 +10,7 @@ use Rattle.sc_state.specs.declared.proxy.Branch.{Branch}
 use Rattle.sc_state.specs.declared.proxy.Proxy.{Proxy}
 use Rattle.sc_model.specs.SessionStates.{is_final}
 use Rattle.sc_model.specs.Transactions.{is_success}
-use Rattle.sc_hosts.specs.Branches.{added_targets, after_end, cancelled_branch, ended_branch, ended_by, ends_last, has_open, heard, is_exhausted, is_global, is_open, leaves_target, passing_on, recurses, rung, stopped, with_candidate, with_targets}
+use Rattle.sc_hosts.specs.Branches.{added_targets, after_end, cancelled_branch, ended_branch, ended_by, ends_last, has_open, proxy_after_response as heard, is_exhausted, is_global, is_open, leaves_target, passing_on, recurses, after_ringing as rung, without_search as stopped, with_candidate, with_targets}
 use Rattle.sc_searched.specs.Searches.{has_answer, is_open_in}
 
 -- ## Booleans and lengths

@@ -13,8 +13,8 @@ use Rattle.sc_state.specs.declared.proxy.Branch.{Branch}
 use Rattle.sc_state.specs.declared.proxy.Proxy.{Proxy}
 use Rattle.sc_model.specs.SessionStates.{is_final}
 use Rattle.sc_model.specs.Transactions.{is_success}
-use Rattle.sc_hosts.specs.Acting.{rested, with_forwarded}
-use Rattle.sc_hosts.specs.Branches.{after_end, has_open, heard, is_branch, is_exhausted, is_open, new_proxy, passing_on, stopped, with_targets}
+use Rattle.sc_hosts.specs.Acting.{at_rest as rested, with_forwarded}
+use Rattle.sc_hosts.specs.Branches.{after_end, has_open, proxy_after_response as heard, is_branch, is_exhausted, is_open, new_proxy, passing_on, without_search as stopped, with_targets}
 use Rattle.sc_proxied.specs.ProxyLists.{Asked, Expired, Forwarded, Heard, IsHad, IsOfList, PassedOn, ProxyEvent, Rested, Started, Stopped, TimedOut, happens, is_open_in, proxy_after, started_by, started_of}
 use Rattle.sc_proxied.proofs.Happenings.{proxies-stand}
 use Rattle.sc_searched.specs.Endings.{is_over}

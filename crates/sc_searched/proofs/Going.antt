@@ -13,7 +13,7 @@ use Rattle.sc_state.specs.declared.proxy.Proxy.{Proxy}
 use Rattle.sc_model.specs.SessionStates.{is_final}
 use Rattle.sc_model.specs.Transactions.{is_success}
 use Rattle.sc_hosts.specs.Acting.{with_forwarded}
-use Rattle.sc_hosts.specs.Branches.{added_targets, after_end, cancelled_branch, ended_branch, ended_by, has_open, heard, is_branch, is_global, is_open, new_branch, new_proxy, passing_on, rung, stopped, to_cancel, with_candidate, with_targets}
+use Rattle.sc_hosts.specs.Branches.{added_targets, after_end, cancelled_branch, ended_branch, ended_by, has_open, proxy_after_response as heard, is_branch, is_global, is_open, new_branch, new_proxy, passing_on, after_ringing as rung, without_search as stopped, to_cancel, with_candidate, with_targets}
 use Rattle.sc_lasting.specs.Lasting.{All}
 use Rattle.sc_lasting.proofs.Parts.{all-append}
 use Rattle.sc_proxied.specs.ProxyLists.{Asked, Expired, Forwarded, Heard, IsHad, PassedOn, ProxyEvent, Rested, Started, Stopped, TimedOut, added_by, happens, is_open_in, is_rest, proxy_after, started_by, tried_of}

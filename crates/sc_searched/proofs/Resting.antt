@@ -12,7 +12,7 @@ use Rattle.sc_state.specs.declared.proxy.Proxy.{Proxy}
 use Rattle.sc_model.specs.BestResponses.{best_response}
 use Rattle.sc_model.specs.SessionStates.{is_final}
 use Rattle.sc_model.specs.Transactions.{is_success}
-use Rattle.sc_hosts.specs.Acting.{rested, rested_branch, with_forwarded}
+use Rattle.sc_hosts.specs.Acting.{at_rest as rested, rested_branch, with_forwarded}
 use Rattle.sc_hosts.specs.Branches.{can_choose, can_pass, has_open, is_open, is_parallel, new_branch, starting}
 use Rattle.sc_lasting.specs.Lasting.{All}
 use Rattle.sc_proxied.specs.ProxyLists.{Forwarded, IsHad, ProxyEvent, Rested, forwarded_of, happens, is_rest, proxy_after, started_by, started_of, targets_of}

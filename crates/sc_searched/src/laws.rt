@@ -12,12 +12,12 @@ ghost use Rattle.sc_state.specs.declared.host.Live.{Live};
 ghost use Rattle.sc_state.specs.declared.proxy.Proxy.{Proxy};
 ghost use Rattle.sc_state.specs.declared.session.Session.{Session};
 ghost use Rattle.sc_model.specs.SessionStates.{is_final};
-ghost use Rattle.sc_hosts.specs.Branches.{ended_by, ends_last, has_open, heard, is_exhausted, new_proxy, stopped};
+ghost use Rattle.sc_hosts.specs.Branches.{ended_by, ends_last, has_open, is_exhausted, new_proxy, proxy_after_response, without_search};
 ghost use Rattle.sc_hosts.specs.Histories.{History, as_history, as_session, session_of};
-ghost use Rattle.sc_hosts.specs.Runs.{IsLawful, chained};
+ghost use Rattle.sc_hosts.specs.Runs.{IsLawful, net_from};
 ghost use Rattle.sc_hosts.specs.Steps.{live_at};
 ghost use Rattle.sc_lasting.specs.Lasting.{All};
-ghost use Rattle.sc_lived.specs.Lived.{told};
+ghost use Rattle.sc_lived.specs.Lived.{turns_in};
 ghost use Rattle.sc_proxied.specs.ProxyLists.{IsHad, ProxyEvent, proxy_after};
 ghost use Rattle.sc_searched.specs.Endings.{HasAnswers, HasItsAnswer, HaveAnswers, is_over};
 ghost use Rattle.sc_searched.specs.Searches.{has_answer, is_open_in};
@@ -32,11 +32,11 @@ ghost use Rattle.sc_searched.specs.Searches.{has_answer, is_open_in};
 pub fn searches_end_with_a_response()
     ensures heard { (number : ℕ) (sess : SessId) (response : Response) (now : ℕ) (proxy : Proxy)
         → is_open_in number proxy ≡ true → is_final response.code ≡ true
-        → is_exhausted (heard number sess response now proxy) ≡ ends_last number response proxy }
+        → is_exhausted (proxy_after_response number sess response now proxy) ≡ ends_last number response proxy }
     ensures answered { (number : ℕ) (sess : SessId) (response : Response) (now : ℕ) (proxy : Proxy)
         → is_open_in number proxy ≡ true → is_final response.code ≡ true
         → ends_last number response proxy ≡ true
-        → has_answer (heard number sess response now proxy) ≡ true }
+        → has_answer (proxy_after_response number sess response now proxy) ≡ true }
     ensures timed_out { (number : ℕ) (sess : SessId) (response : Response) (proxy : Proxy)
         → is_exhausted (ended_by number sess response proxy) ≡ ends_last number response proxy }
     ensures timed_out_answered { (number : ℕ) (sess : SessId) (response : Response) (proxy : Proxy)
@@ -44,13 +44,14 @@ pub fn searches_end_with_a_response()
         → has_answer (ended_by number sess response proxy) ≡ true }
     ensures ended { (number : ℕ) (sess : SessId) (response : Response) (now : ℕ) (proxy : Proxy)
         → is_open_in number proxy ≡ false → proxy.heard_final ≡ false
-        → is_exhausted (heard number sess response now proxy) ≡ false }
+        → is_exhausted (proxy_after_response number sess response now proxy) ≡ false }
     ensures provisional { (number : ℕ) (sess : SessId) (response : Response) (now : ℕ)
         (proxy : Proxy) → is_open_in number proxy ≡ true → is_final response.code ≡ false
-        → proxy.heard_final ≡ false → is_exhausted (heard number sess response now proxy) ≡ false }
+        → proxy.heard_final ≡ false → is_exhausted (proxy_after_response number sess response now proxy) ≡ false }
     ensures stopped { (proxy : Proxy)
-        → is_exhausted (stopped proxy) ≡ (proxy.heard_final && not (has_open proxy)) }
-    ensures stopped_answered { (proxy : Proxy) → has_answer (stopped proxy) ≡ has_answer proxy }
+        → is_exhausted (without_search proxy) ≡ (proxy.heard_final && not (has_open proxy)) }
+    ensures stopped_answered { (proxy : Proxy)
+        → has_answer (without_search proxy) ≡ has_answer proxy }
 {}
 
 /// Wherever a turn leaves a proxied request at rest with its search over, so that branches were
@@ -69,13 +70,13 @@ pub fn ended_searches_are_answered()
         (session_of config history).known.proxies }
     ensures history { (setup : Setup) (epoch began : ℕ) (journal : List Step) (app : AppId)
         (live : Live History) → IsLawful (as_history setup.config) setup epoch began journal
-        → live_at app (chained (as_history setup.config) setup epoch began journal) ≡ Some live
-        → HaveAnswers setup app (told app journal) live.session
+        → live_at app (net_from (as_history setup.config) setup epoch began journal) ≡ Some live
+        → HaveAnswers setup app (turns_in app journal) live.session
         (session_of setup.config live.session) live.inbox }
     ensures session { (setup : Setup) (epoch began : ℕ) (journal : List Step) (app : AppId)
         (live : Live Session) → IsLawful as_session setup epoch began journal
-        → live_at app (chained as_session setup epoch began journal) ≡ Some live
-        → HasAnswers setup app (told app journal) live.session live.inbox }
+        → live_at app (net_from as_session setup epoch began journal) ≡ Some live
+        → HasAnswers setup app (turns_in app journal) live.session live.inbox }
     ensures exhausted { (req : ReqId) (sess : SessId) (event : ℕ) (request : Request)
         (how : Option ProxyOptions) (events : List ProxyEvent)
         → IsHad (new_proxy req sess event request how) events

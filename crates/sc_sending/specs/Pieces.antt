@@ -14,11 +14,11 @@ use Rattle.sc_state.specs.declared.working.Written.{Written}
 use Rattle.sc_hosts.specs.Legs.{change_leg}
 use Rattle.sc_hosts.specs.Messages.{on_branch}
 use Rattle.sc_hosts.specs.Giving.{giving}
-use Rattle.sc_hosts.specs.Working.{keeps_sent, next_branch, router_state, worked}
+use Rattle.sc_hosts.specs.Working.{after_one_call, keeps_sent, next_branch, router_state}
 
 -- the draft with another directive and origin
-unfoldable pub directed : Directive → Option ReqId → Written → Written
-directed directive origin draft = record draft { directive = directive; origin = origin }
+unfoldable pub with_directive : Directive → Option ReqId → Written → Written
+with_directive directive origin draft = record draft { directive = directive; origin = origin }
 
 -- the leg, begun by this request
 unfoldable pub with_first : ReqId → Leg → Leg
@@ -43,4 +43,5 @@ begins config directive sess request working =
 
 -- the calls from where they begin
 unfoldable pub worked_on : Config → Working → List CallRecord → Working
-worked_on config working made = fold (λ working made. worked config working made.call) working made
+worked_on config working made =
+    fold (λ working made. after_one_call config working made.call) working made

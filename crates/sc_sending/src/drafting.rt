@@ -8,7 +8,7 @@ ghost use Rattle.sc_hosts.specs.ViewChanges.{new_call_id, new_tag};
 ghost use Rattle.sc_hosts.specs.Messages.{asked_request, leg_request};
 ghost use Rattle.sc_hosts.specs.Preparing.{kept_of};
 ghost use Rattle.sc_hosts.specs.Giving.{writes, with_leg, drafts_own, drafts_later, drafts_leg, is_written, directs, forgets};
-ghost use Rattle.sc_sending.specs.Pieces.{directed};
+ghost use Rattle.sc_sending.specs.Pieces.{with_directive};
 
 use sc_effects::{kept_of, new_call_id, new_session, new_tag};
 use sc_legs::new_leg;
@@ -158,9 +158,9 @@ pub fn written_at(working: &Working, number: u32) -> Option<usize>
     written_place(working.written.as_slice(), number)
 }
 
-#[tactic(auto, unfolding(crate::specs::Pieces::directed))]
+#[tactic(auto, unfolding(crate::specs::Pieces::with_directive))]
 fn directed(draft: &mut Written, directive: Directive, origin: Option<ReqId>)
-    ensures { draft.new ≡ directed directive origin draft.old }
+    ensures { draft.new ≡ with_directive directive origin draft.old }
 {
     draft.directive = directive;
     draft.origin = origin;
@@ -169,7 +169,7 @@ fn directed(draft: &mut Written, directive: Directive, origin: Option<ReqId>)
 #[tactic(auto, using(sc_value::proofs::ListFacts::change_first_position, sc_value::proofs::ListFacts::change_first_none))]
 fn direct_in(written: &mut [Written], number: u32, directive: Directive, origin: Option<ReqId>)
     ensures { written.new
-        ≡ change_first (is_written number) (directed directive origin) written.old }
+        ≡ change_first (is_written number) (with_directive directive origin) written.old }
 {
     match written_place(written, number) {
         Some(at) => directed(&mut written[at], directive, origin),
@@ -178,7 +178,7 @@ fn direct_in(written: &mut [Written], number: u32, directive: Directive, origin:
 }
 
 /// Says how the router goes on for a draft.
-#[tactic(auto, unfolding(sc_hosts::specs::Giving::directs, crate::specs::Pieces::directed))]
+#[tactic(auto, unfolding(sc_hosts::specs::Giving::directs, crate::specs::Pieces::with_directive))]
 pub fn directs(number: u32, directive: Directive, origin: Option<ReqId>, working: &mut Working)
     ensures { working.new ≡ directs number directive origin working.old }
 {

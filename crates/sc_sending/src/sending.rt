@@ -13,7 +13,7 @@ ghost use Rattle.sc_hosts.specs.Preparing.{kept_of};
 ghost use Rattle.sc_hosts.specs.Refusals.{awaits_ack};
 ghost use Rattle.sc_hosts.specs.RefusalParts.{draft_in};
 ghost use Rattle.sc_hosts.specs.Giving.{is_written, forgets};
-ghost use Rattle.sc_hosts.specs.Working.{router_state, next_branch, keeps_sent, sends_later, dialog_in, sends_in, sends_written, sends_initial, sends, ack_with, acknowledges};
+ghost use Rattle.sc_hosts.specs.Working.{ack_with, acknowledges, dialog_in, keeps_sent, next_branch, router_state, sends, sends_in, sends_initial, sends_later, sends_written};
 ghost use Rattle.sc_sending.specs.Pieces.{begins, with_first};
 
 use crate::drafting::written_at;

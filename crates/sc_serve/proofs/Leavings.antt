@@ -9,7 +9,7 @@ use Rattle.sc_model.specs.Settings.{IsSetup}
 use Rattle.sc_journal.specs.Kept.{Kept}
 use Rattle.sc_edge.specs.Edges.{EdgeState}
 use Rattle.sc_hosts.specs.Histories.{as_session}
-use Rattle.sc_hosts.specs.Runs.{AreLawful, Epoch, IsLawful, IsLawfulFrom, chained, chained_from, start}
+use Rattle.sc_hosts.specs.Runs.{AreLawful, Epoch, IsLawful, IsLawfulFrom, net_from as chained, chained_from, start}
 use Rattle.sc_switch.specs.Standing.{Known, net_of, whole}
 use Rattle.sc_switch.specs.declared.ran.Ran.{Ran}
 use Rattle.sc_switch.specs.declared.ran.Status.{Status}
@@ -19,7 +19,7 @@ use Rattle.sc_outs.specs.Deeds.{Deed}
 use Rattle.sc_outs.specs.Owing.{Owing, left_at, nothing}
 use Rattle.sc_outs.specs.Puts.{Puts}
 use Rattle.sc_outs.proofs.Laws.{cut_of, puts_begin, took_parts, took_whole}
-use Rattle.sc_courses.specs.Asking.{AreAlmostEven, AreEven, Asked, Given, Sources, Ticked, raised, ticks_taken}
+use Rattle.sc_courses.specs.Asking.{AreAlmostEven, AreEven, Asked, Given, Sources, Ticked, later_moments as raised, ticks_taken}
 use Rattle.sc_courses.specs.Ordering.{Obeys, ObeysPart, Point, beginning_point}
 use Rattle.sc_courses.proofs.AskingLaws.{even_almost, ticked_begin, ticked_part}
 use Rattle.sc_edge.specs.declared.orders.Order.{Order}
@@ -42,7 +42,7 @@ use Rattle.sc_streams.specs.Streaming.{bytes_in, bytes_of}
 use Rattle.sc_serve.specs.declared.server.Server.{Server}
 use Rattle.sc_serve.specs.declared.stop.Stop.{Stop}
 use Rattle.sc_serve.specs.declared.stop.Stop.TheVariants as stops
-use Rattle.sc_serve.specs.Running.{Blames, FinishesOn, GoesOn, HaltedAfter, HaltsOn, HasItems, Holds, IsDueAt, IsNew, IsServed, fresh, stopped}
+use Rattle.sc_serve.specs.Running.{Blames, FinishesOn, GoesOn, HaltedAfter, HaltsOn, HasItems, Holds, IsDueAt, IsNew, IsServed, fresh, status_of_stop as stopped}
 use Rattle.sc_serve.specs.Closing.{Closes, ClosesAll}
 use Rattle.sc_serve.specs.Polls.{PollsOften}
 use Rattle.sc_serve.specs.Served.{ComesAt, Leaves, last_epoch}

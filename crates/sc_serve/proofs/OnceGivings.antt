@@ -63,14 +63,14 @@ says-of place bytes (steps.Bad from bad ∷ steps.Lost at ∷ []) rest (from_is,
     (bad-lost place from at bad at_is, none)
 says-of place bytes (steps.Bad from bad ∷ steps.Lost at ∷ step ∷ later) rest none = absurd none
 says-of place bytes (steps.Bad from bad ∷ steps.Tick now ∷ later) rest none = absurd none
-says-of place bytes (steps.Bad from bad ∷ steps.Turn app event now calls end ∷ later) rest none =
+says-of place bytes (steps.Bad from bad ∷ steps.Turn end app event now calls ∷ later) rest none =
     absurd none
 says-of place bytes (steps.Bad from bad ∷ steps.Withdraw app ∷ later) rest none = absurd none
 says-of place bytes (steps.Lost at ∷ []) rest (at_is, front, none) =
     subst (Says place bytes (steps.Lost at ∷ []) rest) (sym front) (one-lost place at at_is, none)
 says-of place bytes (steps.Lost at ∷ step ∷ later) rest none = absurd none
 says-of place bytes (steps.Tick now ∷ later) rest none = absurd none
-says-of place bytes (steps.Turn app event now calls end ∷ later) rest none = absurd none
+says-of place bytes (steps.Turn end app event now calls ∷ later) rest none = absurd none
 says-of place bytes (steps.Withdraw app ∷ later) rest none = absurd none
 
 -- as much is kept, and the place is lost as often

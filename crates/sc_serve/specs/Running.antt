@@ -174,10 +174,10 @@ pub record IsNew (server : Server) : Type 0 where
   pub unpolled : server.unpolled ≡ 0
 
 -- the status of a run that couldn't go on
-abbrev pub stopped : Stop → Status
-stopped stops.JournalFull = statuses.JournalFull
-stopped stops.Edge = statuses.Edge
-stopped stops.NoMemory = statuses.NoMemory
+abbrev pub status_of_stop : Stop → Status
+status_of_stop stops.JournalFull = statuses.JournalFull
+status_of_stop stops.Edge = statuses.Edge
+status_of_stop stops.NoMemory = statuses.NoMemory
 
 -- the journal is there, with these items
 unfoldable pub HasItems : Option (Kept Step) → List Step → Type 0

@@ -5,7 +5,7 @@ use Rattle.std.specs.Option.{is_some}
 use Rattle.sc_tokens.specs.Names.{same_bytes}
 use Rattle.sc_terms.specs.declared.steps.Step.{Step}
 use Rattle.sc_parts.specs.declared.setup.Setup.{Setup}
-use Rattle.sc_grammar.specs.Written.{Bytes}
+use Rattle.sc_tokens.specs.Bytes.{Bytes}
 use Rattle.sc_journal.specs.Kept.{Kept}
 use Rattle.sc_model.specs.Settings.{Charters}
 use Rattle.sc_edge.specs.Edges.{EdgeState}
@@ -19,7 +19,7 @@ use Rattle.sc_replay.specs.Replaying.{IsUnset, TellsConfig, TellsTable, app_name
 use Rattle.sc_runs.specs.Following.{Streams}
 use Rattle.sc_outs.specs.Deeds.{Deed}
 use Rattle.sc_outs.specs.Puts.{TookParts, TookWhole}
-use Rattle.sc_courses.specs.Asking.{AreAlmostEven, AreEven, Asked, Given, Sources, TickedPart, none_given, raised, ticks_taken}
+use Rattle.sc_courses.specs.Asking.{AreAlmostEven, AreEven, Asked, Given, Sources, TickedPart, later_moments, none_given, ticks_taken}
 use Rattle.sc_courses.specs.Courses.{AreDeeds, Beginning, TellsEpochs, TellsListings, Told}
 use Rattle.sc_courses.specs.Ordering.{Obeys, ObeysPart, beginning_point}
 use Rattle.sc_courses.specs.Due.{IsDue}
@@ -80,13 +80,13 @@ last_epoch ran handed journal =
 -- at `Done` the last ones too, and no other is; at `Done` the last listing that was told is of the
 -- last step; each length of each epoch's journal was told once, in order; where steps are recorded,
 -- each part that was handed on was taken within a second, and so was what is left (`seconds`); at
--- `JournalFull` a step is due that the journal has no room for; and each epoch ended where it had to and no later, at
--- `Done` the last one hasn't to; the clock and the orders were asked equally often, but in the last
--- round maybe the orders alone, at `Done` not so; and the edge was polled at most once more than
--- orders were asked for, and they at most 16 times for each poll and 15 times besides; and, where
--- the edge tells its answers and its closes, only places were closed that gave a text which is no
--- message or is too long, and at `Done` each of these was closed (`closes_each`), as often as it
--- gave one (`closes_all`)
+-- `JournalFull` a step is due that the journal has no room for; and each epoch ended where it had
+-- to and no later, at `Done` the last one hasn't to; the clock and the orders were asked equally
+-- often, but in the last round maybe the orders alone, at `Done` not so; and the edge was polled at
+-- most once more than orders were asked for, and they at most 16 times for each poll and 15 times
+-- besides; and, where the edge tells its answers and its closes, only places were closed that gave
+-- a text which is no message or is too long, and at `Done` each of these was closed
+-- (`closes_each`), as often as it gave one (`closes_all`)
 pub record Leaves (from : Beginning) (now : EdgeState) (told : Told) (ran : Ran)
     (journal : Kept Step) : Type 0 where
   pub ended : List Epoch
@@ -99,7 +99,7 @@ pub record Leaves (from : Beginning) (now : EdgeState) (told : Told) (ran : Ran)
   pub took : TookParts from.edge now deeds
   pub comes : ComesAt from.edge now deeds ran.status
   pub ticks : TickedPart from.moments deeds
-  pub ticked : ran.status ≡ statuses.Done → ticks_taken deeds ≡ raised 0 from.moments
+  pub ticked : ran.status ≡ statuses.Done → ticks_taken deeds ≡ later_moments 0 from.moments
   pub orders : ObeysPart from.setup beginning_point from.orders
       (record { ended = ended; running = last_epoch ran handed journal })
   pub ordered : ran.status ≡ statuses.Done

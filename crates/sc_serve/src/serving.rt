@@ -7,7 +7,7 @@ ghost use Rattle.sc_edge.specs.Faults.{Rose};
 ghost use Rattle.sc_hosts.specs.Histories.{as_session};
 ghost use Rattle.sc_hosts.specs.Runs.{IsLawful};
 ghost use Rattle.sc_switch.specs.Standing.{whole};
-ghost use Rattle.sc_serve.specs.Running.{HasItems, stopped};
+ghost use Rattle.sc_serve.specs.Running.{HasItems, status_of_stop};
 ghost use Rattle.sc_serve.specs.Served.{ServesWords, served_names};
 
 use crate::beginning::{Begun, begin};
@@ -188,7 +188,7 @@ fn finish(server: Server, status: Status) -> Ran
 /// The status of a run that ended so.
 fn status_after(ended: Result<(), Stop>) -> Status
     ensures done { OnOk ended (result ≡ Status.Done) }
-    ensures stopped { IfErr ended (λ cause. result ≡ stopped cause) }
+    ensures stopped { IfErr ended (λ cause. result ≡ status_of_stop cause) }
 {
     match ended {
         Ok(()) => Status::Done,

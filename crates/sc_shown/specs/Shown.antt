@@ -10,7 +10,7 @@ use Rattle.sc_state.specs.declared.session.Session.{Session}
 use Rattle.sc_state.specs.declared.working.Prepared.{Prepared}
 use Rattle.sc_hosts.specs.Legs.{change_leg, with_request}
 use Rattle.sc_hosts.specs.Looking.{is_proxy}
-use Rattle.sc_hosts.specs.PreparingRequests.{next_id, received, showing}
+use Rattle.sc_hosts.specs.PreparingRequests.{next_id, showing, with_received_request}
 use Rattle.sc_shown.specs.declared.shown.Shown.{Shown}
 
 -- the session with what is shown of it
@@ -27,7 +27,7 @@ prepared_as session shown =
 -- a later request taken in a SipSession of this role
 unfoldable pub taken_by : Session → ℕ → SessId → Role → Request → Prepared
 taken_by session number sess role request =
-    let after : Session = received session number sess false (is_proxy role) request in
+    let after : Session = with_received_request session number sess false (is_proxy role) request in
     showing (record after { known = change_leg sess (with_request request) after.known })
     (events.Request (next_id session) sess request) (Some (next_id session)) []
 

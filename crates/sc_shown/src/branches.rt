@@ -4,9 +4,9 @@ ghost use Rattle.std.specs.Prelude.{◌≡◌, option_and_then, IfOk, OnOk};
 ghost use Rattle.std.specs.List.{find};
 ghost use Rattle.sc_value.specs.Lists.{change_first};
 ghost use Rattle.sc_terms.specs.declared.events.Event.{Event};
-ghost use Rattle.sc_hosts.specs.Branches.{heard};
+ghost use Rattle.sc_hosts.specs.Branches.{proxy_after_response};
 ghost use Rattle.sc_hosts.specs.Looking.{is_request, same_request, session_in};
-ghost use Rattle.sc_hosts.specs.PreparingResponses.{branch_placed, change_proxy, dialog_options, heard_in, is_watched, prepared_branch, told, with_branches};
+ghost use Rattle.sc_hosts.specs.PreparingResponses.{branch_placed, change_proxy, dialog_options, event_of_response, heard_in, is_watched, prepared_branch, with_branches};
 ghost use Rattle.sc_shown.specs.Shown.{more_branches, prepared_as};
 
 use crate::copies::session_copy;
@@ -39,7 +39,7 @@ fn branch_event(
 }
 
 // What a supervising application is told.
-#[tactic(auto, unfolding(sc_hosts::specs::PreparingResponses::told))]
+#[tactic(auto, unfolding(sc_hosts::specs::PreparingResponses::event_of_response))]
 fn told(
     alloc: Global,
     proxy: &Proxy,
@@ -47,7 +47,7 @@ fn told(
     response: &Shared<Response>,
     sess: SessId,
 ) -> Result<Event, NoMemory>
-    ensures { IfOk result (λ e. e ≡ told proxy.now branch response.now sess) }
+    ensures { IfOk result (λ e. e ≡ event_of_response proxy.now branch response.now sess) }
 {
     if is_told_whole(alloc, branch, response.get(), proxy)? {
         return response_event(alloc, proxy.req, sess, response);
@@ -100,7 +100,7 @@ fn hear_in(
 ) -> Result<(), NoMemory>
     ensures { OnOk result
         (proxies.new
-        ≡ change_first (λ proxy. same_request proxy.req req) (heard branch sess response.now now)
+        ≡ change_first (λ proxy. same_request proxy.req req) (proxy_after_response branch sess response.now now)
         proxies.old) }
 {
     match proxy_place(proxies, req) {
@@ -119,7 +119,7 @@ fn hear(
     now: u64,
 ) -> Result<(), NoMemory>
     ensures { OnOk result
-        (known.new ≡ change_proxy req (heard branch sess response.now now) known.old) }
+        (known.new ≡ change_proxy req (proxy_after_response branch sess response.now now) known.old) }
 {
     hear_in(
         alloc,

@@ -8,7 +8,7 @@ ghost use Rattle.sc_model.specs.Transactions.{is_success};
 ghost use Rattle.sc_hosts.specs.PreparingRequests.{showing};
 ghost use Rattle.sc_hosts.specs.ViewChanges.{answered_in, tidy};
 ghost use Rattle.sc_hosts.specs.Looking.{change_request, request_in, session_in};
-ghost use Rattle.sc_hosts.specs.PreparingResponses.{accepts_invite, is_first_success, noted_final, placed, prepared_own, responded, responded_again, responded_in, settled_legs, shown_again, with_success};
+ghost use Rattle.sc_hosts.specs.PreparingResponses.{accepts_invite, is_first_success, noted_final, prepared_own, responded_again, responded_in, session_of_response, settled_legs, shown_again, with_handled_response, with_success};
 ghost use Rattle.sc_shown.specs.Shown.{prepared_as};
 
 use crate::again::{shown_again, with_request_again};
@@ -102,7 +102,7 @@ fn responded_view(
 }
 
 // A response handled in this SipSession.
-#[tactic(auto, unfolding(sc_hosts::specs::PreparingResponses::responded))]
+#[tactic(auto, unfolding(sc_hosts::specs::PreparingResponses::with_handled_response))]
 fn responded(
     alloc: Global,
     session: &mut Session,
@@ -112,7 +112,7 @@ fn responded(
     sess: SessId,
 ) -> Result<(), NoMemory>
     ensures { OnOk result
-        (session.new ≡ responded kept.now request.now response.now sess session.old) }
+        (session.new ≡ with_handled_response kept.now request.now response.now sess session.old) }
 {
     settled_legs(alloc, session, request, sess, response)?;
     responded_view(&mut session.view, request, response, sess)?;
@@ -145,7 +145,7 @@ fn responded_shown(
 ) -> Result<Shown, NoMemory>
     ensures { IfOk result
         (λ s.
-        showing (responded kept.now request.now response.now sess session.old)
+        showing (with_handled_response kept.now request.now response.now sess session.old)
         (Event.Response kept.now.id sess response.now) None [] ≡ prepared_as session.new s) }
 {
     responded(alloc, session, kept, request, response.get(), sess)?;
@@ -175,7 +175,7 @@ fn responded_in(
     responded_shown(alloc, session, kept, request, response, sess)
 }
 
-#[tactic(auto, unfolding(sc_hosts::specs::PreparingResponses::placed))]
+#[tactic(auto, unfolding(sc_hosts::specs::PreparingResponses::session_of_response))]
 fn placed_by(
     alloc: Global,
     session: &mut Session,
@@ -186,7 +186,7 @@ fn placed_by(
 ) -> Result<SessId, NoMemory>
     ensures { IfOk result
         (λ sess.
-        placed session.old kept.now request.now response.now original.now ≡ (sess, session.new)) }
+        session_of_response session.old kept.now request.now response.now original.now ≡ (sess, session.new)) }
 {
     match original {
         Some(original) => {
@@ -210,7 +210,7 @@ fn placed(
 ) -> Result<SessId, NoMemory>
     ensures { IfOk result
         (λ sess.
-        placed session.old kept.now request.now response.now
+        session_of_response session.old kept.now request.now response.now
         (session_in session.old.view request.now.sess) ≡ (sess, session.new)) }
 {
     let original = session_copy(alloc, &session.view, request.sess)?;
@@ -256,7 +256,7 @@ fn again_in(
     ensures { IfOk result
         (λ s.
         responded_again kept.now request.now response.now
-        (placed session.old kept.now request.now response.now
+        (session_of_response session.old kept.now request.now response.now
         (session_in session.old.view request.now.sess)) ≡ prepared_as session.new s) }
 {
     let sess = placed(alloc, session, kept, request, response.get())?;
@@ -275,7 +275,7 @@ fn again_shown(
         (λ s.
         responded_again kept.now (shown_again session.old.known kept.now response.now.code)
         response.now
-        (placed session.old kept.now
+        (session_of_response session.old kept.now
         (shown_again session.old.known kept.now response.now.code) response.now
         (session_in session.old.view kept.now.sess)) ≡ prepared_as session.new s) }
 {
@@ -293,7 +293,7 @@ fn own_shown(
     ensures { IfOk result
         (λ s.
         responded_in kept.now request.now response.now
-        (placed session.old kept.now request.now response.now
+        (session_of_response session.old kept.now request.now response.now
         (session_in session.old.view request.now.sess)) ≡ prepared_as session.new s) }
 {
     let sess = placed(alloc, session, kept, request, response.get())?;

@@ -10,7 +10,7 @@ use Rattle.sc_value.proofs.PlaceLaws.{same_place-is}
 use Rattle.sc_edge.specs.Edges.{Stands, Stays, is_back}
 use Rattle.sc_edge.specs.EdgeCalls.{Shuts}
 use Rattle.sc_sockets.specs.Calls.{Grows}
-use Rattle.sc_sockets.specs.Lines.{Known, accepted, edge_state, ended, failed, fresh, is_barred_at, is_cut_at, is_given, is_kept_ended, is_kept_failed, is_kept_shut, is_of, is_silent_at, last_after, line_at, opened, opened_lines, served, settled, shut}
+use Rattle.sc_sockets.specs.Lines.{Known, after_accept as accepted, edge_state, place_after_end as ended, place_after_failure as failed, fresh, is_barred_at, is_cut_at, is_given, is_kept_ended, is_kept_failed, is_kept_shut, is_of, is_silent_at, last_after, line_at, after_opening as opened, opened_lines, after_service as served, lines_with as settled, place_after_close as shut}
 use Rattle.sc_sockets.specs.declared.line.Change.TheVariants.{Halted, Part, Pardoned, Reopened}
 use Rattle.sc_sockets.specs.declared.line.Line.{Line}
 use Rattle.sc_sockets.proofs.LineLaws.{added_other, line_after, settled_other, settled_self}

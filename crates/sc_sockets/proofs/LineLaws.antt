@@ -8,7 +8,7 @@ use Rattle.sc_value.specs.declared.ids.Place.{Place}
 use Rattle.sc_value.specs.Lists.{change_first}
 use Rattle.sc_value.specs.Places.{same_place}
 use Rattle.sc_value.proofs.PlaceLaws.{same_place-is, same_place-self}
-use Rattle.sc_sockets.specs.Lines.{after, is_of, is_other, settled}
+use Rattle.sc_sockets.specs.Lines.{after, is_of, is_other, lines_with as settled}
 use Rattle.sc_sockets.specs.declared.line.Change.{Change}
 use Rattle.sc_sockets.specs.declared.line.Change.TheVariants.{Halted, Part, Pardoned, Reopened}
 use Rattle.sc_sockets.specs.declared.line.Line.{Line}

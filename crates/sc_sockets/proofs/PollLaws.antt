@@ -10,8 +10,8 @@ use Rattle.sc_edge.specs.EdgeCalls.{Ends, Halts, Names, PollBlames}
 use Rattle.sc_edge.specs.Faults.{Rose, one_more}
 use Rattle.sc_edge.specs.declared.edge.Got.{Got}
 use Rattle.sc_edge.specs.declared.edge.Got.TheVariants as got
-use Rattle.sc_sockets.specs.Calls.{Gives, Grows, Polls, polled}
-use Rattle.sc_sockets.specs.Lines.{Known, edge_state, ended, failed, is_barred_at, is_cut_at, is_given, is_heard, is_kept_ended, is_read_at, is_silent_at, line_at}
+use Rattle.sc_sockets.specs.Calls.{Gives, Grows, Polls, with_poll_counted as polled}
+use Rattle.sc_sockets.specs.Lines.{Known, edge_state, place_after_end as ended, place_after_failure as failed, is_barred_at, is_cut_at, is_given, is_heard, is_kept_ended, is_read_at, is_silent_at, line_at}
 use Rattle.sc_sockets.specs.declared.line.Change.TheVariants.{Halted}
 use Rattle.sc_sockets.specs.declared.line.Line.{Line}
 use Rattle.sc_sockets.proofs.LineLaws.{line_after, settled_self}

@@ -11,7 +11,7 @@ use Rattle.sc_edge.specs.Faults.{Rose}
 use Rattle.sc_edge.specs.declared.edge.Put.{Put}
 use Rattle.sc_edge.specs.declared.edge.Put.TheVariants as put
 use Rattle.sc_sockets.specs.Calls.{PutBy, after_put}
-use Rattle.sc_sockets.specs.Lines.{Known, after, edge_state, failed, fresh, is_barred_at, is_cut_at, is_given, is_kept_failed, is_of, is_silent_at, line_at, opened, opened_lines, served, settled, standing, standing_in, standing_of}
+use Rattle.sc_sockets.specs.Lines.{Known, after, edge_state, place_after_failure as failed, fresh, is_barred_at, is_cut_at, is_given, is_kept_failed, is_of, is_silent_at, line_at, after_opening as opened, opened_lines, after_service as served, lines_with as settled, standing, standing_in, standing_of}
 use Rattle.sc_sockets.specs.declared.line.Change.TheVariants.{Part, Pardoned, Reopened}
 use Rattle.sc_sockets.specs.declared.line.Line.{Line}
 use Rattle.sc_sockets.specs.declared.line.Standing.{Standing}

@@ -76,9 +76,9 @@ unfoldable pub is_other : Place → Line → Bool
 is_other place line = not (same_place line.place place)
 
 -- the connection of a place changed, or forgotten where nothing of it is to be known
-unfoldable pub settled : Bool → Change → Place → List Line → List Line
-settled true change place lines = change_first (is_of place) (after change) lines
-settled false change place lines = filter (is_other place) lines
+unfoldable pub lines_with : Bool → Change → Place → List Line → List Line
+lines_with true change place lines = change_first (is_of place) (after change) lines
+lines_with false change place lines = filter (is_other place) lines
 
 -- what an edge over sockets knows: its connections by place, and its counts
 pub record Known : Type 0 where
@@ -91,8 +91,8 @@ pub record Known : Type 0 where
   pub failures : ℕ
 
 -- before anything happened
-abbrev pub made : Known
-made = record { lines = []; last = 0; polls = 0; faults = 0; failures = 0 }
+abbrev pub known_at_first : Known
+known_at_first = record { lines = []; last = 0; polls = 0; faults = 0; failures = 0 }
 
 -- what is known of a place, if anything is
 abbrev pub line_at : Known → Place → Option Line
@@ -130,8 +130,8 @@ last_after last (Back number) = max last number
 last_after last (To ip port) = last
 
 -- a peer opened one more connection
-abbrev pub accepted : Known → Known
-accepted known =
+abbrev pub after_accept : Known → Known
+after_accept known =
     record known {
       lines = known.lines ++ fresh (Back (known.last + 1)) ∷ [];
       last = known.last + 1;
@@ -150,39 +150,40 @@ abbrev pub is_kept_shut : Place → Option Line → Bool
 is_kept_shut place line = not (is_back place) && (is_cut_at line || is_barred_at place line)
 
 -- the place ended
-unfoldable pub ended : Place → Known → Known
-ended place known =
+unfoldable pub place_after_end : Place → Known → Known
+place_after_end place known =
     record known {
-      lines = settled (is_kept_ended place (line_at known place)) Halted place known.lines;
+      lines = lines_with (is_kept_ended place (line_at known place)) Halted place known.lines;
     }
 
 -- the place failed, and that was counted
-unfoldable pub failed : Place → Known → Known
-failed place known =
+unfoldable pub place_after_failure : Place → Known → Known
+place_after_failure place known =
     record known {
-      lines = settled (is_kept_failed place (line_at known place)) Pardoned place known.lines;
+      lines = lines_with (is_kept_failed place (line_at known place)) Pardoned place known.lines;
       failures = one_more known.failures;
     }
 
 -- the place was closed
-unfoldable pub shut : Place → Known → Known
-shut place known =
+unfoldable pub place_after_close : Place → Known → Known
+place_after_close place known =
     record known {
-      lines = settled (is_kept_shut place (line_at known place)) Halted place known.lines;
+      lines = lines_with (is_kept_shut place (line_at known place)) Halted place known.lines;
       last = last_after known.last place;
     }
 
 -- the lines after an address was connected
 abbrev pub opened_lines : Place → Option Line → List Line → List Line
 opened_lines place None lines = lines ++ fresh place ∷ []
-opened_lines place (Some line) lines = settled true Reopened place lines
+opened_lines place (Some line) lines = lines_with true Reopened place lines
 
 -- the place is connected, or connected anew
-unfoldable pub opened : Place → Known → Known
-opened place known = record known { lines = opened_lines place (line_at known place) known.lines }
+unfoldable pub after_opening : Place → Known → Known
+after_opening place known =
+    record known { lines = opened_lines place (line_at known place) known.lines }
 
 -- a place took so many bytes of a piece of this length
-unfoldable pub served : Place → ℕ → ℕ → Known → Known
-served place count len known =
+unfoldable pub after_service : Place → ℕ → ℕ → Known → Known
+after_service place count len known =
     if is_back place then known
-    else (record known { lines = settled true (Part count len) place known.lines })
+    else (record known { lines = lines_with true (Part count len) place known.lines })

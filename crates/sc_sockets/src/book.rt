@@ -4,7 +4,7 @@ ghost use Rattle.std.specs.Prelude.{◌≡◌, ◌≤◌, ◌⊎◌, true, false
 ghost use Rattle.std.specs.List.{find, position};
 ghost use Rattle.sc_value.specs.Lists.{change_first};
 ghost use Rattle.sc_edge.specs.Faults.{Rose, one_more};
-ghost use Rattle.sc_sockets.specs.Lines.{accepted, after, ended, failed, is_barred_at, is_cut_at, is_heard, is_of, is_other, last_after, line_at, made, opened, served, settled, shut, standing};
+ghost use Rattle.sc_sockets.specs.Lines.{after, after_accept, after_opening, after_service, is_barred_at, is_cut_at, is_heard, is_of, is_other, known_at_first, last_after, line_at, lines_with, place_after_close, place_after_end, place_after_failure, standing};
 
 use crate::counts::counted;
 use crate::line::{self, Change, Line, Standing, fresh, is_back};
@@ -72,9 +72,9 @@ fn forget(lines: &mut Vec<Line>, place: Place)
 }
 
 // Changes the line of a place, or forgets it.
-#[tactic(auto, unfolding(crate::specs::Lines::settled))]
+#[tactic(auto, unfolding(crate::specs::Lines::lines_with))]
 fn settle(lines: &mut Vec<Line>, is_kept: bool, how: Change, place: Place)
-    ensures { lines.new.items ≡ settled is_kept how place lines.old.items }
+    ensures { lines.new.items ≡ lines_with is_kept how place lines.old.items }
 {
     if is_kept {
         change(lines, place, how);
@@ -92,7 +92,7 @@ fn find(lines: &[Line], place: Place) -> Option<&Line>
 impl Book {
     // An empty book.
     pub(crate) fn new(alloc: Global) -> Book
-        ensures { result ≡ made }
+        ensures { result ≡ known_at_first }
     {
         Book {
             lines: Vec::new(alloc),
@@ -171,7 +171,7 @@ impl Book {
 
     // Gives the next number to a peer's connection; `None` where there is no memory for it.
     pub(crate) fn accept(&mut self) -> Option<u64>
-        ensures { (self.new ≡ self.old) ⊎ (self.new ≡ accepted self.old) }
+        ensures { (self.new ≡ self.old) ⊎ (self.new ≡ after_accept self.old) }
     {
         let number = self.last.checked_add(1)?;
         self.lines.push(fresh(Place::Back(number))).ok()?;
@@ -180,9 +180,9 @@ impl Book {
     }
 
     // A place gives nothing more. An address is connected no more.
-    #[tactic(auto, unfolding(crate::specs::Lines::ended))]
+    #[tactic(auto, unfolding(crate::specs::Lines::place_after_end))]
     pub(crate) fn end(&mut self, place: Place)
-        ensures after { self.new ≡ ended place self.old }
+        ensures after { self.new ≡ place_after_end place self.old }
         ensures counts { self.new.failures ≡ self.old.failures }
     {
         let is_kept = is_back(place) || self.is_cut(place);
@@ -190,9 +190,9 @@ impl Book {
     }
 
     // The connection with a place failed.
-    #[tactic(auto, unfolding(crate::specs::Lines::failed))]
+    #[tactic(auto, unfolding(crate::specs::Lines::place_after_failure))]
     pub(crate) fn fail(&mut self, place: Place)
-        ensures after { self.new ≡ failed place self.old }
+        ensures after { self.new ≡ place_after_failure place self.old }
         ensures later { self.old.failures ≤ self.new.failures }
         ensures rose { Rose self.old.failures self.new.failures }
     {
@@ -202,9 +202,9 @@ impl Book {
     }
 
     // The connection with a place was closed.
-    #[tactic(auto, unfolding(crate::specs::Lines::shut))]
+    #[tactic(auto, unfolding(crate::specs::Lines::place_after_close))]
     pub(crate) fn shut(&mut self, place: Place)
-        ensures { self.new ≡ shut place self.old }
+        ensures { self.new ≡ place_after_close place self.old }
     {
         let is_kept = !is_back(place) && (self.is_cut(place) || self.is_barred(place));
         settle(&mut self.lines, is_kept, Change::Halted, place);
@@ -212,9 +212,9 @@ impl Book {
     }
 
     // An address was connected; `false` where there is no memory for it, or too much is kept.
-    #[tactic(auto, unfolding(crate::specs::Lines::opened))]
+    #[tactic(auto, unfolding(crate::specs::Lines::after_opening))]
     pub(crate) fn open(&mut self, place: Place) -> bool
-        ensures open { result ≡ true → self.new ≡ opened place self.old }
+        ensures open { result ≡ true → self.new ≡ after_opening place self.old }
         ensures shut { result ≡ false → self.new ≡ self.old }
         ensures counts { self.new.failures ≡ self.old.failures }
     {
@@ -228,9 +228,9 @@ impl Book {
     }
 
     // A place took so many bytes of a piece of this length.
-    #[tactic(auto, unfolding(crate::specs::Lines::served))]
+    #[tactic(auto, unfolding(crate::specs::Lines::after_service))]
     pub(crate) fn serve(&mut self, place: Place, count: usize, len: usize)
-        ensures after { self.new ≡ served place count len self.old }
+        ensures after { self.new ≡ after_service place count len self.old }
         ensures counts { self.new.failures ≡ self.old.failures }
     {
         if !is_back(place) {

@@ -6,7 +6,7 @@ ghost use Rattle.sc_edge.specs.EdgeCalls.{IsPart};
 ghost use Rattle.sc_edge.specs.Faults.{Rose};
 ghost use Rattle.sc_edge.specs.declared.edge.Put.{Put};
 ghost use Rattle.sc_sockets.specs.Calls.{Polls, PutBy};
-ghost use Rattle.sc_sockets.specs.Lines.{edge_state, made, shut, standing};
+ghost use Rattle.sc_sockets.specs.Lines.{edge_state, known_at_first, place_after_close, standing};
 
 use crate::book::Book;
 use crate::polling::{leave, poll, poll_nowhere};
@@ -72,7 +72,7 @@ impl<'a, R: Net + Clock> MioEdge<'a, R> {
     /// where the port is reserved, `OutOfMemory` where the memory is short; with other kinds where
     /// the system has no room for one more descriptor, or its clock can't be read.
     pub fn new(rt: &'a R, alloc: Global, ip: [u8; 4], port: u16) -> io::Result<MioEdge<'a, R>>
-        ensures { IfOk result (λ s. s ≡ made) }
+        ensures { IfOk result (λ s. s ≡ known_at_first) }
     {
         let sockets = Sockets::new(rt, alloc, ip, port)?;
         Ok(MioEdge {
@@ -85,7 +85,7 @@ impl<'a, R: Net + Clock> MioEdge<'a, R> {
     /// An edge that can't listen: each poll answers `Fault`, which is counted, each put to an
     /// address fails, and `rest` returns at once.
     pub fn deaf(rt: &'a R, alloc: Global) -> MioEdge<'a, R>
-        ensures { result ≡ made }
+        ensures { result ≡ known_at_first }
     {
         MioEdge {
             rt,
@@ -96,7 +96,7 @@ impl<'a, R: Net + Clock> MioEdge<'a, R> {
 
     /// As `new`; where that fails, an edge that can't listen, as `deaf`.
     pub fn new_or_deaf(rt: &'a R, alloc: Global, ip: [u8; 4], port: u16) -> MioEdge<'a, R>
-        ensures { result ≡ made }
+        ensures { result ≡ known_at_first }
     {
         MioEdge {
             rt,
@@ -152,7 +152,7 @@ impl<'a, R: Net + Clock> MioEdge<'a, R> {
 
     // A close.
     fn close_once(&mut self, at: Place)
-        ensures { self.new ≡ shut at self.old }
+        ensures { self.new ≡ place_after_close at self.old }
     {
         match &mut self.sockets {
             Some(sockets) => leave(&mut self.book, sockets, at),

@@ -6,7 +6,7 @@ ghost use Rattle.sc_edge.specs.Edges.{IsWithin};
 ghost use Rattle.sc_edge.specs.Faults.{Rose};
 ghost use Rattle.sc_edge.specs.declared.edge.Got.{Got};
 ghost use Rattle.sc_sockets.specs.Calls.{Gives, Grows, Polls};
-ghost use Rattle.sc_sockets.specs.Lines.{edge_state, is_heard, shut};
+ghost use Rattle.sc_sockets.specs.Lines.{edge_state, is_heard, place_after_close};
 
 use crate::book::Book;
 use crate::reading::Heard;
@@ -17,7 +17,7 @@ use std::time::Clock;
 
 // Drops a connection for good.
 pub(crate) fn leave(book: &mut Book, sockets: &mut Sockets, place: Place)
-    ensures { book.new ≡ shut place book.old }
+    ensures { book.new ≡ place_after_close place book.old }
 {
     sockets.close(place);
     book.shut(place);

@@ -11,7 +11,7 @@ use Rattle.sc_value.specs.declared.parts.Contact.TheVariants.{Star, At}
 use Rattle.sc_value.specs.declared.parts.CSeq.{CSeq}
 use Rattle.sc_grammar.specs.Written.{params_text, ended_text, uri_text, address_text, contact_text, cseq_text}
 use Rattle.sc_tokens.specs.Bytes.{Bytes}
-use Rattle.sc_tokens.specs.Blanks.{trimmed_front, trimmed_back, trimmed}
+use Rattle.sc_tokens.specs.Blanks.{trimmed_front, trimmed_back, without_blanks as trimmed}
 use Rattle.sc_tokens.specs.HeaderTokens.{is_string, IsWords, IsDisplay}
 use Rattle.sc_syntax.specs.SpelledParts.{IsBlanks}
 use Rattle.sc_syntax.specs.SpelledAddresses.{IsAddressIn, IsContactSpelled}

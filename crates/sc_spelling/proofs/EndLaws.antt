@@ -12,7 +12,7 @@ use Rattle.sc_tokens.specs.Hosts.{begins}
 use Rattle.sc_syntax.specs.Lines.{begins_break, is_end, end_of, pieces_at}
 use Rattle.sc_syntax.proofs.BlankLaws.{both, and_true}
 use Rattle.sc_syntax.proofs.ClassLaws.{neither, not_true}
-use Rattle.sc_spelling.specs.SpelledLines.{ended}
+use Rattle.sc_spelling.specs.SpelledLines.{line_end_before as ended}
 
 -- ## The first end
 

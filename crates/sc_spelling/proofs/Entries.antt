@@ -11,7 +11,7 @@ use Rattle.sc_syntax.specs.declared.left.Header.{Header}
 use Rattle.sc_syntax.specs.declared.left.Header.TheVariants as headers
 use Rattle.sc_tokens.specs.Bytes.{Bytes}
 use Rattle.sc_syntax.specs.Fronts.{values_of}
-use Rattle.sc_syntax.specs.Judging.{header_named, taken}
+use Rattle.sc_syntax.specs.Judging.{header_named, with_header as taken}
 use Rattle.sc_syntax.proofs.ListedLaws.{same_text}
 use Rattle.sc_syntax.proofs.ClassLaws.{same_number, itself}
 use Rattle.sc_spelling.specs.SpelledHeads.{is_other}

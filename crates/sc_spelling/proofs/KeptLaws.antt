@@ -9,7 +9,7 @@ use Rattle.sc_value.specs.declared.parts.Field.{Field}
 use Rattle.sc_value.specs.declared.message.Head.{Head}
 use Rattle.sc_value.specs.declared.message.Message.{Message}
 use Rattle.sc_value.specs.declared.message.Message.TheVariants.{Request, Response}
-use Rattle.sc_grammar.specs.Written.{written}
+use Rattle.sc_grammar.specs.Written.{text_of_message as written}
 use Rattle.sc_tokens.specs.Bytes.{Bytes}
 use Rattle.sc_tokens.specs.Numbers.{number_of}
 use Rattle.sc_syntax.specs.Sequences.{hops_of}

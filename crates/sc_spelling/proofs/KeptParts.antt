@@ -16,7 +16,7 @@ use Rattle.sc_value.specs.declared.parts.CSeq.{CSeq}
 use Rattle.sc_tokens.specs.Bytes.{Bytes}
 use Rattle.sc_tokens.specs.Numbers.{is_digits, number_in, number_below}
 use Rattle.sc_tokens.specs.UriTokens.{IsOtherSpelled}
-use Rattle.sc_syntax.specs.SpelledUris.{led, IsPortSpelled, IsUriSpelled}
+use Rattle.sc_syntax.specs.SpelledUris.{behind_sign as led, IsPortSpelled, IsUriSpelled}
 use Rattle.sc_syntax.specs.SpelledParts.{Padded, AreLed, AreListed, header_param, AreParamsSpelled}
 use Rattle.sc_syntax.specs.SpelledVias.{IsViaSpelled, AreViasSpelled}
 use Rattle.sc_tokens.specs.HeaderTokens.{IsDisplay}

@@ -16,7 +16,7 @@ use Rattle.sc_syntax.specs.declared.left.Header.TheVariants as headers
 use Rattle.sc_tokens.specs.Bytes.{Bytes}
 use Rattle.sc_syntax.specs.Vias.{vias_of}
 use Rattle.sc_syntax.specs.Addresses.{addresses_of, contacts_of}
-use Rattle.sc_syntax.specs.Judging.{counted, taken_as, has_branch, begins_well, with_vias, with_routes, with_record_routes, with_contacts, with_field, in_line, taken}
+use Rattle.sc_syntax.specs.Judging.{with_values as counted, taken_as, has_branch, begins_well, with_vias, with_routes, with_record_routes, with_contacts, with_field, in_line, with_header as taken}
 use Rattle.std.specs.Prelude.{unwrap_or}
 use Rattle.sc_spelling.proofs.Entries.{Entry, Of, is_kind, number_at, values_at, fields_at, all_taken}
 use Rattle.sc_spelling.proofs.Readings.{ReadsAll, Reads, count, joined, merged, begins_so, Fits}

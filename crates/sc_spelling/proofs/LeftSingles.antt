@@ -11,7 +11,7 @@ use Rattle.sc_tokens.specs.Bytes.{Bytes}
 use Rattle.sc_tokens.specs.Numbers.{number_of}
 use Rattle.sc_syntax.specs.Addresses.{address_of}
 use Rattle.sc_syntax.specs.Sequences.{cseq_of, hops_of}
-use Rattle.sc_syntax.specs.Judging.{counted, taken_once, with_from, with_to, with_call_id, with_cseq, with_hops, with_length, in_line, taken}
+use Rattle.sc_syntax.specs.Judging.{with_values as counted, taken_once, with_from, with_to, with_call_id, with_cseq, with_hops, with_length, in_line, with_header as taken}
 use Rattle.sc_spelling.proofs.Entries.{Entry, Of, is_kind, number_at, values_at, fields_at, all_taken}
 use Rattle.sc_spelling.proofs.Readings.{ReadsAll, ReadsOnce, Reads, held, either_of, are_apart, count, joined, merged, begins_so, Fits}
 use Rattle.sc_spelling.proofs.LineLaws.{taken_then}

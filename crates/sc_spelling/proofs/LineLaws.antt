@@ -12,17 +12,17 @@ use Rattle.sc_syntax.specs.declared.left.Left.{Left}
 use Rattle.sc_tokens.specs.Bytes.{Bytes}
 use Rattle.sc_tokens.specs.Cuts.{before, after}
 use Rattle.sc_syntax.specs.UriParts.{then_read}
-use Rattle.sc_tokens.specs.Blanks.{trimmed, trimmed_back}
+use Rattle.sc_tokens.specs.Blanks.{without_blanks as trimmed, trimmed_back}
 use Rattle.sc_syntax.specs.Lines.{is_end, pieces_at}
-use Rattle.sc_syntax.specs.Folds.{all_continued, joined}
-use Rattle.sc_syntax.specs.Judging.{header_named, taken, named, judged}
-use Rattle.sc_syntax.specs.Messages.{placed, all_judged}
+use Rattle.sc_syntax.specs.Folds.{all_continued, text_without_folds as joined}
+use Rattle.sc_syntax.specs.Judging.{header_named, with_header as taken, with_named_header as named, left_with_line as judged}
+use Rattle.sc_syntax.specs.Messages.{fault_at_place as placed, all_judged}
 use Rattle.sc_syntax.proofs.BlankLaws.{both, back_padded, padded_is_trimmed}
 use Rattle.sc_syntax.proofs.ClassLaws.{differs, class_lacks, before_joined, after_joined, class_ends, solid_back}
 use Rattle.sc_syntax.proofs.SpelledUriLaws.{lacks_joined}
 use Rattle.sc_syntax.proofs.AddressLaws.{blanks_lack}
 use Rattle.sc_syntax.proofs.ParameterLaws.{token_is, token_solid}
-use Rattle.sc_spelling.specs.SpelledLines.{ended, ArePieces, IsFirst, IsFolded, IsFieldSpelled, IsLineSpelled}
+use Rattle.sc_spelling.specs.SpelledLines.{line_end_before as ended, ArePieces, IsFirst, IsFolded, IsFieldSpelled, IsLineSpelled}
 use Rattle.sc_spelling.proofs.Entries.{entry_of, then_taken, all_taken}
 use Rattle.sc_spelling.proofs.EndLaws.{is_clear, clear_joined, line_clear, break_clear, no_return, any_end, not_empty, fold_goes_on, piece_alone, piece_first}
 

@@ -14,7 +14,7 @@ use Rattle.sc_value.specs.declared.message.Response.{Response as Answered}
 use Rattle.sc_value.specs.declared.message.Message.{Message}
 use Rattle.sc_value.specs.declared.message.Message.TheVariants.{Request, Response}
 use Rattle.sc_tokens.specs.Bytes.{Bytes}
-use Rattle.sc_grammar.specs.Written.{written}
+use Rattle.sc_grammar.specs.Written.{text_of_message as written}
 use Rattle.sc_syntax.specs.Messages.{message_of}
 use Rattle.sc_syntax.proofs.ValueLaws.{value_is_line, value_is_trimmed}
 use Rattle.sc_spelling.specs.SpelledLines.{IsValue}

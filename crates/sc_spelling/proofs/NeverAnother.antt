@@ -12,17 +12,17 @@ use Rattle.sc_value.specs.declared.message.Head.{Head}
 use Rattle.sc_value.specs.declared.message.Request.{Request as Asked}
 use Rattle.sc_value.specs.declared.message.Message.{Message}
 use Rattle.sc_value.specs.declared.message.Message.TheVariants.{Request, Response}
-use Rattle.sc_grammar.specs.Written.{written}
+use Rattle.sc_grammar.specs.Written.{text_of_message as written}
 use Rattle.sc_syntax.specs.declared.left.Header.TheVariants as headers
 use Rattle.sc_syntax.specs.declared.left.Left.{Left}
 use Rattle.sc_syntax.specs.declared.left.Start.{Start}
 use Rattle.sc_syntax.specs.declared.left.Start.TheVariants as starts
 use Rattle.sc_syntax.specs.UriParts.{Fault, then_read}
 use Rattle.sc_syntax.specs.Lines.{header_lines}
-use Rattle.sc_syntax.specs.Folds.{joined}
-use Rattle.sc_syntax.specs.Judging.{header_named, judged, taken}
+use Rattle.sc_syntax.specs.Folds.{text_without_folds as joined}
+use Rattle.sc_syntax.specs.Judging.{header_named, left_with_line as judged, with_header as taken}
 use Rattle.sc_syntax.specs.StartLines.{start_of}
-use Rattle.sc_syntax.specs.Messages.{placed, nothing_left, all_judged, message_with, finished, message_in, message_of}
+use Rattle.sc_syntax.specs.Messages.{fault_at_place as placed, nothing_left, all_judged, message_with, message_from_parts as finished, message_in, message_of}
 use Rattle.sc_syntax.proofs.ClassLaws.{class_lacks, before_joined}
 use Rattle.sc_syntax.proofs.CutLaws.{some_same}
 use Rattle.sc_syntax.proofs.DecimalLaws.{decimal_is_read}

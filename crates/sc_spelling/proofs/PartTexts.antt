@@ -15,7 +15,7 @@ use Rattle.sc_grammar.specs.Written.{version, signed_text, param_text, params_te
 use Rattle.sc_tokens.specs.Bytes.{Bytes}
 use Rattle.sc_tokens.specs.HeaderTokens.{is_value_byte, is_string, is_param_text}
 use Rattle.sc_tokens.specs.UriTokens.{sip_scheme}
-use Rattle.sc_syntax.specs.SpelledUris.{led, closed_by, IsPortSpelled, spelled_param, IsSipSpelled, IsUriSpelled}
+use Rattle.sc_syntax.specs.SpelledUris.{behind_sign as led, closed_by, IsPortSpelled, spelled_param, IsSipSpelled, IsUriSpelled}
 use Rattle.sc_syntax.specs.SpelledParts.{IsBlanks, Padded, AreLed, header_param, AreParamsSpelled}
 use Rattle.sc_syntax.specs.SpelledVias.{IsViaSpelled}
 use Rattle.sc_syntax.proofs.ClassLaws.{positive, BeginsSolid, EndsSolid, ends_joined, class_ends, solid_is_trimmed}

@@ -15,7 +15,7 @@ use Rattle.sc_syntax.proofs.CutLaws.{some_same, none_some}
 use Rattle.sc_syntax.proofs.BlankLaws.{both, and_true}
 use Rattle.sc_syntax.proofs.ListedLaws.{map_some}
 use Rattle.sc_syntax.proofs.ClassLaws.{same_number, differs, not_true}
-use Rattle.sc_spelling.specs.SpelledLines.{ended}
+use Rattle.sc_spelling.specs.SpelledLines.{line_end_before as ended}
 use Rattle.sc_spelling.proofs.EndLaws.{is_clear, any_end, no_end_here, alone_no_end}
 
 -- ## Ends

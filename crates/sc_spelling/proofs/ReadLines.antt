@@ -17,23 +17,23 @@ use Rattle.sc_tokens.specs.Bytes.{Bytes}
 use Rattle.sc_tokens.specs.Numbers.{number_of}
 use Rattle.sc_tokens.specs.Cuts.{before, after}
 use Rattle.sc_syntax.specs.UriParts.{Fault}
-use Rattle.sc_tokens.specs.Blanks.{trimmed_front, trimmed_back, trimmed}
+use Rattle.sc_tokens.specs.Blanks.{trimmed_front, trimmed_back, without_blanks as trimmed}
 use Rattle.sc_syntax.specs.Lines.{pieces_at}
-use Rattle.sc_syntax.specs.Folds.{continued, all_continued, joined}
+use Rattle.sc_syntax.specs.Folds.{with_piece as continued, all_continued, text_without_folds as joined}
 use Rattle.sc_syntax.specs.Vias.{vias_of}
 use Rattle.sc_syntax.specs.Addresses.{address_of, addresses_of, contacts_of}
 use Rattle.sc_syntax.specs.Sequences.{cseq_of, hops_of}
-use Rattle.sc_syntax.specs.Judging.{header_named, taken_as, taken_once, with_vias, with_routes, with_record_routes, with_contacts, with_from, with_to, with_call_id, with_cseq, with_hops, with_length, with_field, in_line, taken, named, judged}
-use Rattle.sc_syntax.specs.Messages.{placed, all_judged}
+use Rattle.sc_syntax.specs.Judging.{header_named, taken_as, taken_once, with_vias, with_routes, with_record_routes, with_contacts, with_from, with_to, with_call_id, with_cseq, with_hops, with_length, with_field, in_line, with_header as taken, with_named_header as named, left_with_line as judged}
+use Rattle.sc_syntax.specs.Messages.{fault_at_place as placed, all_judged}
 use Rattle.sc_syntax.specs.SpelledParts.{IsBlanks}
-use Rattle.sc_syntax.specs.SpelledUris.{led}
+use Rattle.sc_syntax.specs.SpelledUris.{behind_sign as led}
 use Rattle.sc_syntax.proofs.PartLaws.{then_ok, led_text}
 use Rattle.sc_syntax.proofs.BlankLaws.{both, and_true, blanks_reverse, front_more, front_here, front_none, back_is, trimmed_is_padded}
 use Rattle.sc_syntax.proofs.ListedLaws.{if_some}
 use Rattle.sc_syntax.proofs.ClassLaws.{positive, not_true}
 use Rattle.sc_syntax.proofs.DisplayLaws.{trimmed_again}
 use Rattle.sc_syntax.proofs.ParameterLaws.{token_is, token_solid}
-use Rattle.sc_spelling.specs.SpelledLines.{ended, ArePieces, IsFirst, IsFolded, IsFieldSpelled}
+use Rattle.sc_spelling.specs.SpelledLines.{line_end_before as ended, ArePieces, IsFirst, IsFolded, IsFieldSpelled}
 use Rattle.sc_spelling.proofs.Entries.{entry_of, then_taken, all_taken}
 use Rattle.sc_spelling.proofs.LineLaws.{AreSpelledBy}
 use Rattle.sc_spelling.proofs.StartLaws.{line_joined, class_line, token_line}

@@ -16,8 +16,8 @@ use Rattle.sc_tokens.specs.Numbers.{number_below}
 use Rattle.sc_tokens.specs.Cuts.{has, before, after}
 use Rattle.sc_syntax.specs.Uris.{uri_of}
 use Rattle.sc_syntax.specs.StartLines.{is_version, request_in, request_behind, request_of, at_least_100, code_of, status_in, status_behind, status_of, is_status_line, is_broken, start_of}
-use Rattle.sc_syntax.specs.Messages.{Peers, peers_of, head_of, message_with, is_method_of, fits, finished_with, finished}
-use Rattle.sc_syntax.specs.SpelledUris.{led}
+use Rattle.sc_syntax.specs.Messages.{Peers, peers_of, head_of, message_with, is_method_of, fits, finished_with, message_from_parts as finished}
+use Rattle.sc_syntax.specs.SpelledUris.{behind_sign as led}
 use Rattle.sc_syntax.proofs.PartLaws.{led_text}
 use Rattle.sc_syntax.proofs.ListedLaws.{if_some, then_some, same_text}
 use Rattle.sc_syntax.proofs.ViaLaws.{result_is}

@@ -27,7 +27,7 @@ use Rattle.sc_syntax.specs.Sequences.{cseq_of, hops_of}
 use Rattle.sc_syntax.specs.Fronts.{values_of}
 use Rattle.sc_syntax.specs.StartLines.{start_of}
 use Rattle.sc_syntax.specs.Judging.{has_branch, in_line}
-use Rattle.sc_syntax.specs.Messages.{placed, no_lists, nothing_left, all_judged, Peers, head_of, message_with, is_method_of, fits, finished, message_in, message_of}
+use Rattle.sc_syntax.specs.Messages.{fault_at_place as placed, no_lists, nothing_left, all_judged, Peers, head_of, message_with, is_method_of, fits, message_from_parts as finished, message_in, message_of}
 use Rattle.sc_syntax.specs.SpelledVias.{AreViasSpelled}
 use Rattle.sc_syntax.specs.SpelledAddresses.{IsAddressSpelled, AreAddressesSpelled, AreContactsSpelled}
 use Rattle.sc_syntax.specs.SpelledSequences.{IsCSeqSpelled}
@@ -38,8 +38,8 @@ use Rattle.sc_syntax.proofs.ListedLaws.{if_some}
 use Rattle.sc_syntax.proofs.ViaLaws.{vias_are_spelled}
 use Rattle.sc_syntax.proofs.AddressLaws.{one_address_is_spelled, addresses_are_spelled, contacts_are_spelled}
 use Rattle.sc_syntax.proofs.SequenceLaws.{cseq_is_spelled}
-use Rattle.sc_spelling.specs.SpelledLines.{ended, AreLinesSpelled}
-use Rattle.sc_spelling.specs.SpelledHeads.{AreInLines, IsOnce, IsAtMostOnce, AreFieldsOf, given, value_count}
+use Rattle.sc_spelling.specs.SpelledLines.{line_end_before as ended, AreLinesSpelled}
+use Rattle.sc_spelling.specs.SpelledHeads.{AreInLines, IsOnce, IsAtMostOnce, AreFieldsOf, number_if_any as given, value_count}
 use Rattle.sc_spelling.specs.SpelledMessages.{head_in, IsSpelledBy, IsSpelled}
 use Rattle.sc_spelling.proofs.Entries.{entry_of, values_at, all_taken, Tells, via_tells, route_tells, record_route_tells, contact_tells, from_tells, to_tells, call_id_tells, cseq_tells, max_forwards_tells, content_length_tells, same_values, same_others}
 use Rattle.sc_spelling.proofs.Readings.{ReadsAll, ReadsOnce, Reads, held, count, begins_so}

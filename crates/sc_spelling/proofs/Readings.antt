@@ -18,7 +18,7 @@ use Rattle.sc_tokens.specs.Numbers.{number_of}
 use Rattle.sc_syntax.specs.Vias.{vias_of}
 use Rattle.sc_syntax.specs.Addresses.{address_of, addresses_of, contacts_of}
 use Rattle.sc_syntax.specs.Sequences.{cseq_of, hops_of}
-use Rattle.sc_syntax.specs.Judging.{has_branch, in_line, taken}
+use Rattle.sc_syntax.specs.Judging.{has_branch, in_line, with_header as taken}
 use Rattle.sc_spelling.proofs.Entries.{Entry, Of, values_at, fields_at, then_taken, all_taken}
 
 -- each value is read as some of the items, and all together are these, in order

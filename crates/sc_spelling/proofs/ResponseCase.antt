@@ -16,22 +16,22 @@ use Rattle.sc_tokens.specs.Hosts.{is_host_name, begins, is_none_left, is_host, h
 use Rattle.sc_syntax.specs.UriParts.{then_read, port_in, is_port_start, sent_at, params_at, headers_at}
 use Rattle.sc_tokens.specs.UriTokens.{is_scheme, sip_scheme}
 use Rattle.sc_syntax.specs.Uris.{user_in, behind_user, sent_in, params_text_in, sip_behind, sip_at, other_of, uri_behind, uri_of}
-use Rattle.sc_tokens.specs.Blanks.{trimmed_front, trimmed_back, trimmed, first_word, behind_word}
+use Rattle.sc_tokens.specs.Blanks.{trimmed_front, trimmed_back, without_blanks as trimmed, first_word, behind_word}
 use Rattle.sc_syntax.specs.Scanning.{is_outside, past_front, past_word, past_bracketed, past_params, in_string, past, is_part_end, parts, with_first, all_read}
 use Rattle.sc_tokens.specs.HeaderTokens.{is_value_byte, is_param_text, is_display_byte}
 use Rattle.sc_syntax.specs.Parameters.{param_in, param_of}
 use Rattle.sc_syntax.specs.Vias.{behind_slash, behind_version, hop_in, via_with, via_in, via_of, vias_of}
-use Rattle.sc_syntax.specs.Addresses.{enclosed, unless_empty, token_named, named_in, with_uri, address_with, address_in, address_of, addresses_of}
+use Rattle.sc_syntax.specs.Addresses.{uri_in_brackets as enclosed, unless_empty, token_named, named_in, with_uri, address_with, address_in, address_of, addresses_of}
 use Rattle.sc_syntax.specs.Sequences.{cseq_in, cseq_of, hops_of}
 use Rattle.sc_syntax.specs.Lines.{begins_break, is_end, end_of, pieces_at, start_line, lines_behind, behind_start, header_lines}
-use Rattle.sc_syntax.specs.Folds.{continued, all_continued, joined}
+use Rattle.sc_syntax.specs.Folds.{with_piece as continued, all_continued, text_without_folds as joined}
 use Rattle.sc_syntax.specs.StartLines.{is_version, request_in, request_behind, request_of, at_least_100, code_of, status_in, status_behind, status_of, is_status_line, is_broken, start_of}
-use Rattle.sc_syntax.specs.Judging.{header_named, counted, taken_as, taken_once, has_branch, begins_well, with_vias, with_routes, with_from, with_to, with_call_id, with_cseq, with_hops, with_length, with_field, in_line, taken, named, judged}
-use Rattle.sc_syntax.specs.Messages.{placed, no_lists, no_singles, nothing_left, all_judged, peers_of, head_of, message_with, is_method_of, fits, finished_with, finished, message_in, message_of}
+use Rattle.sc_syntax.specs.Judging.{header_named, with_values as counted, taken_as, taken_once, has_branch, begins_well, with_vias, with_routes, with_from, with_to, with_call_id, with_cseq, with_hops, with_length, with_field, in_line, with_header as taken, with_named_header as named, left_with_line as judged}
+use Rattle.sc_syntax.specs.Messages.{fault_at_place as placed, no_lists, no_singles, nothing_left, all_judged, peers_of, head_of, message_with, is_method_of, fits, finished_with, message_from_parts as finished, message_in, message_of}
 use Rattle.sc_value.specs.declared.message.Message.{Message}
 use Rattle.sc_spelling.specs.SpelledMessages.{IsSpelled}
-use Rattle.sc_grammar.specs.Written.{written}
-use Rattle.sc_spelling.specs.SpelledHeads.{given, value_count}
+use Rattle.sc_grammar.specs.Written.{text_of_message as written}
+use Rattle.sc_spelling.specs.SpelledHeads.{number_if_any as given, value_count}
 use Rattle.sc_spelling.specs.SpelledMessages.{head_in}
 use Rattle.sc_spelling.specs.Kept.{KeepsGrammar, HasRoom, written_hops}
 use Rattle.sc_spelling.proofs.WrittenLaws.{message_is_spelled}

@@ -28,7 +28,7 @@ use Rattle.sc_syntax.proofs.BlankLaws.{both, and_true}
 use Rattle.sc_syntax.proofs.SpelledViaLaws.{vias_are_read}
 use Rattle.sc_syntax.proofs.SpelledAddressLaws.{address_is_read, addresses_are_read, contacts_are_read}
 use Rattle.sc_syntax.proofs.SequenceLaws.{cseq_is_read}
-use Rattle.sc_spelling.specs.SpelledHeads.{AreInLines, IsOnce, IsAtMostOnce, is_other, AreFieldsOf, given, value_count}
+use Rattle.sc_spelling.specs.SpelledHeads.{AreInLines, IsOnce, IsAtMostOnce, is_other, AreFieldsOf, number_if_any as given, value_count}
 use Rattle.sc_spelling.proofs.Entries.{Entry, Of, entry_of, values_at, fields_at, all_taken, Tells, via_tells, route_tells, record_route_tells, contact_tells, from_tells, to_tells, call_id_tells, cseq_tells, max_forwards_tells, content_length_tells, same_values, same_others}
 use Rattle.sc_spelling.proofs.Readings.{ReadsAll, ReadsOnce, ReadsFields, Reads, held, either_of, are_apart, count, joined, merged, begins_so, Fits}
 use Rattle.sc_spelling.proofs.TakenLists.{Runs, via_taken, route_taken, record_route_taken, contact_taken, other_taken}

@@ -18,7 +18,7 @@ use Rattle.sc_syntax.specs.SpelledParts.{IsBlanks, Padded}
 use Rattle.sc_syntax.proofs.BlankLaws.{both}
 use Rattle.sc_syntax.proofs.ClassLaws.{positive}
 use Rattle.sc_syntax.proofs.ParameterLaws.{token_is, token_solid}
-use Rattle.sc_spelling.specs.SpelledLines.{ended, ArePieces, IsFirst, IsValue, IsLineSpelled, AreLinesSpelled}
+use Rattle.sc_spelling.specs.SpelledLines.{line_end_before as ended, ArePieces, IsFirst, IsValue, IsLineSpelled, AreLinesSpelled}
 use Rattle.sc_spelling.specs.SpelledHeads.{is_other}
 use Rattle.sc_spelling.specs.Kept.{AllKeep, IsField}
 use Rattle.sc_spelling.proofs.Entries.{is_kind, same_kind, Tells, other_tells}

@@ -3,8 +3,8 @@ use Rattle.std.proofs.Common.{[], ◌∷◌, refl}
 use Rattle.std.specs.Prelude.{codes}
 use Rattle.sc_tokens.specs.HeaderNames.{long_of, long_name, call_id_name, contact_name, content_encoding_name, content_length_name, content_type_name, from_name, subject_name, supported_name, to_name, via_name}
 use Rattle.sc_tokens.specs.Tokens.{is_token, is_token_byte, is_blank, begins_blank, is_line_break, is_one_line}
-use Rattle.sc_tokens.specs.Blanks.{trimmed_front, trimmed_back, trimmed}
-use Rattle.sc_syntax.specs.Folds.{continued}
+use Rattle.sc_tokens.specs.Blanks.{trimmed_front, trimmed_back, without_blanks as trimmed}
+use Rattle.sc_syntax.specs.Folds.{with_piece as continued}
 use Rattle.sc_spelling.specs.SpelledLines.{ArePieces, IsFolded, IsFieldSpelled, IsLineSpelled}
 
 -- the CR LF with all blanks round it is one space, and so are two of them with blanks alone between

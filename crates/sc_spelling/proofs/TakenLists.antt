@@ -10,7 +10,7 @@ use Rattle.sc_syntax.specs.declared.left.Singles.{Singles}
 use Rattle.sc_syntax.specs.declared.left.Header.TheVariants as headers
 use Rattle.sc_tokens.specs.Bytes.{Bytes}
 use Rattle.sc_syntax.specs.Vias.{vias_of}
-use Rattle.sc_syntax.specs.Judging.{counted, taken_as, begins_well, with_vias, with_routes, with_record_routes, with_contacts, with_field, in_line, taken}
+use Rattle.sc_syntax.specs.Judging.{with_values as counted, taken_as, begins_well, with_vias, with_routes, with_record_routes, with_contacts, with_field, in_line, with_header as taken}
 use Rattle.sc_spelling.proofs.Entries.{Entry, Of, is_kind, number_at, values_at, fields_at}
 use Rattle.sc_spelling.proofs.Readings.{ReadsAll, Reads, count, joined, begins_so, Fits, Ends, ends_on, is_within, begun_by}
 use Rattle.sc_syntax.specs.SpelledParts.{AreListed}

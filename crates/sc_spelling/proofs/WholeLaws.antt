@@ -24,10 +24,10 @@ use Rattle.sc_syntax.specs.UriParts.{Fault, then_read}
 use Rattle.sc_syntax.specs.Lines.{begins_break, is_end, end_of, pieces_at, start_line, lines_behind, behind_start, header_lines}
 use Rattle.sc_syntax.specs.StartLines.{start_of}
 use Rattle.sc_syntax.specs.Judging.{has_branch}
-use Rattle.sc_syntax.specs.Messages.{placed, no_lists, no_singles, nothing_left, all_judged, Peers, peers_of, head_of, message_with, is_method_of, fits, finished_with, finished, message_in, message_of}
+use Rattle.sc_syntax.specs.Messages.{fault_at_place as placed, no_lists, no_singles, nothing_left, all_judged, Peers, peers_of, head_of, message_with, is_method_of, fits, finished_with, message_from_parts as finished, message_in, message_of}
 use Rattle.sc_syntax.proofs.BlankLaws.{both, and_true}
 use Rattle.sc_syntax.proofs.ClassLaws.{positive}
-use Rattle.sc_spelling.specs.SpelledLines.{ended, IsLineSpelled, AreLinesSpelled}
+use Rattle.sc_spelling.specs.SpelledLines.{line_end_before as ended, IsLineSpelled, AreLinesSpelled}
 use Rattle.sc_spelling.specs.SpelledMessages.{head_in, HasMethod, HasHops, IsSpelledBy, IsSpelled}
 use Rattle.sc_spelling.proofs.Entries.{entry_of}
 use Rattle.sc_spelling.proofs.Readings.{either_of, joined, merged}

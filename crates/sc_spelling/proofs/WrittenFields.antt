@@ -7,7 +7,7 @@ use Rattle.sc_value.specs.declared.parts.Field.{Field}
 use Rattle.sc_value.specs.declared.message.Head.{Head}
 use Rattle.sc_grammar.specs.Written.{crlf, line, via_text, address_text, contact_text, cseq_text, via_line, route_line, record_route_line, contact_line, field_line, hops_line, routing_lines, dialog_lines, closing_lines, head_text}
 use Rattle.sc_tokens.specs.Bytes.{Bytes}
-use Rattle.sc_spelling.specs.SpelledLines.{ended}
+use Rattle.sc_spelling.specs.SpelledLines.{line_end_before as ended}
 use Rattle.sc_spelling.proofs.Segments.{Segment, field_in, fields_in}
 
 unfoldable pub hops_values : Option ℕ → List Bytes

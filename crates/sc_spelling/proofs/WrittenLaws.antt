@@ -8,10 +8,10 @@ use Rattle.sc_value.specs.declared.message.Request.{Request as Asked}
 use Rattle.sc_value.specs.declared.message.Response.{Response as Answered}
 use Rattle.sc_value.specs.declared.message.Message.{Message}
 use Rattle.sc_value.specs.declared.message.Message.TheVariants.{Request, Response}
-use Rattle.sc_grammar.specs.Written.{crlf, version, uri_text, head_text, request_line, status_line, written}
+use Rattle.sc_grammar.specs.Written.{crlf, version, uri_text, head_text, request_line, status_line, text_of_message as written}
 use Rattle.sc_tokens.specs.Bytes.{Bytes}
 use Rattle.sc_syntax.proofs.DecimalLaws.{decimal_is_read}
-use Rattle.sc_spelling.specs.SpelledLines.{ended}
+use Rattle.sc_spelling.specs.SpelledLines.{line_end_before as ended}
 use Rattle.sc_spelling.specs.SpelledStarts.{IsCodeSpelled, IsStartSpelled}
 use Rattle.sc_spelling.specs.SpelledMessages.{head_in, HasHops, IsSpelledBy, IsSpelled}
 use Rattle.sc_spelling.specs.Kept.{IsStart, KeepsGrammar, HasBranch, written_hops, HasRoom}

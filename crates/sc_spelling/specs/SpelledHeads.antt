@@ -54,12 +54,12 @@ pub record AreFieldsOf (fields : List Field) (head : Head) (hops len : Option �
   pub others : filter is_other fields ≡ head.others
 
 -- one, where there is a number
-unfoldable pub given : Option ℕ → ℕ
-given None = 0
-given (Some n) = 1
+unfoldable pub number_if_any : Option ℕ → ℕ
+number_if_any None = 0
+number_if_any (Some n) = 1
 
 -- how many values there are: an item of a list is one, and so is every other header
 unfoldable pub value_count : Head → Option ℕ → Option ℕ → ℕ
 value_count head hops len =
     length head.via + length head.route + length head.record_route + length head.contact
-    + length head.others + 4 + given hops + given len
+    + length head.others + 4 + number_if_any hops + number_if_any len

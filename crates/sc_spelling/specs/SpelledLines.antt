@@ -6,13 +6,13 @@ use Rattle.sc_tokens.specs.HeaderNames.{long_name}
 use Rattle.sc_tokens.specs.Tokens.{is_token, is_one_line, begins_blank}
 use Rattle.sc_value.specs.declared.parts.Field.{Field}
 use Rattle.sc_tokens.specs.Bytes.{Bytes}
-use Rattle.sc_tokens.specs.Blanks.{trimmed}
-use Rattle.sc_syntax.specs.Folds.{continued}
+use Rattle.sc_tokens.specs.Blanks.{without_blanks}
+use Rattle.sc_syntax.specs.Folds.{with_piece}
 use Rattle.sc_syntax.specs.SpelledParts.{IsBlanks, Padded}
 
 -- the end of a line, and what stands behind it
-abbrev pub ended : Bytes → Bytes
-ended rest = 13 ∷ 10 ∷ rest
+abbrev pub line_end_before : Bytes → Bytes
+line_end_before rest = 13 ∷ 10 ∷ rest
 
 -- ## Folds
 
@@ -31,13 +31,13 @@ IsFirst first =
 abbrev pub IsFolded : Bytes → Bytes → Type 0
 IsFolded line text =
     (first : Bytes) × (more : List Bytes) × IsFirst first × ArePieces more
-    × (line ≡ first ++ flat_map ended more) × (text ≡ fold continued first more)
+    × (line ≡ first ++ flat_map line_end_before more) × (text ≡ fold with_piece first more)
 
 -- ## Names and values
 
 -- the value of a header: one line, without a blank at an end
 abbrev pub IsValue : Bytes → Type 0
-IsValue value = (is_one_line value ≡ true) × (trimmed value ≡ value)
+IsValue value = (is_one_line value ≡ true) × (without_blanks value ≡ value)
 
 -- a name, long or compact, blanks or none, a colon, and the value between blanks or none. The field
 -- has the long name
@@ -55,4 +55,4 @@ unfoldable pub AreLinesSpelled : Bytes → List Field → Type 0
 AreLinesSpelled text [] = text ≡ []
 AreLinesSpelled text (field ∷ fields) =
     (line rest : Bytes) × IsLineSpelled line field × AreLinesSpelled rest fields
-    × (text ≡ line ++ ended rest)
+    × (text ≡ line ++ line_end_before rest)

@@ -8,7 +8,7 @@ use Rattle.sc_value.specs.declared.message.Message.{Message}
 use Rattle.sc_value.specs.declared.message.Message.TheVariants.{Request, Response}
 use Rattle.sc_tokens.specs.Bytes.{Bytes}
 use Rattle.sc_syntax.specs.Judging.{has_branch}
-use Rattle.sc_spelling.specs.SpelledLines.{ended, AreLinesSpelled}
+use Rattle.sc_spelling.specs.SpelledLines.{AreLinesSpelled, line_end_before}
 use Rattle.sc_spelling.specs.SpelledStarts.{IsStartSpelled}
 use Rattle.sc_spelling.specs.SpelledHeads.{AreFieldsOf, value_count}
 
@@ -48,4 +48,5 @@ pub record IsSpelledBy (start : Bytes) (fields : List Field) (body : Bytes)
 abbrev pub IsSpelled : Bytes → Message → Type 0
 IsSpelled text message =
     (start lines body : Bytes) × (fields : List Field) × AreLinesSpelled lines fields
-    × IsSpelledBy start fields body message × (text ≡ start ++ ended (lines ++ ended body))
+    × IsSpelledBy start fields body message
+    × (text ≡ start ++ line_end_before (lines ++ line_end_before body))

@@ -1,7 +1,7 @@
 ghost use Rattle.std.specs.Prelude.{◌≡◌, Ok, List, ℕ, true};
 ghost use Rattle.sc_value.specs.declared.message.Message.{Message};
 ghost use Rattle.sc_tokens.specs.Tokens.{is_value};
-ghost use Rattle.sc_grammar.specs.Written.{written};
+ghost use Rattle.sc_grammar.specs.Written.{text_of_message};
 ghost use Rattle.sc_syntax.specs.Messages.{message_of};
 ghost use Rattle.sc_spelling.specs.Kept.{KeepsGrammar, HasBranch, HasRoom};
 ghost use Rattle.sc_spelling.specs.SpelledLines.{IsValue};
@@ -23,9 +23,9 @@ pub fn spelled_exactly()
 /// the law, and the call does nothing.
 pub fn written_is_spelled()
     ensures spelled { (message : Message) → KeepsGrammar message → HasBranch message
-        → HasRoom message → IsSpelled (written message) message }
+        → HasRoom message → IsSpelled (text_of_message message) message }
     ensures read { (message : Message) → KeepsGrammar message → HasBranch message → HasRoom message
-        → message_of (written message) ≡ Ok message }
+        → message_of (text_of_message message) ≡ Ok message }
 {}
 
 /// A message that is read from a text keeps the grammar, and its first Via has its branch. So it is
@@ -37,7 +37,7 @@ pub fn read_keeps_grammar()
     ensures branch { (text : List ℕ) (message : Message) → message_of text ≡ Ok message
         → HasBranch message }
     ensures again { (text : List ℕ) (message : Message) → message_of text ≡ Ok message
-        → HasRoom message → message_of (written message) ≡ Ok message }
+        → HasRoom message → message_of (text_of_message message) ≡ Ok message }
 {}
 
 /// A text is the value of a header, one line without a blank at an end, exactly where the test for

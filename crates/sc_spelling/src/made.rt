@@ -5,7 +5,7 @@ ghost use Rattle.sc_value.specs.AddressValues.{IsAddress};
 ghost use Rattle.sc_value.specs.ContactRules.{IsContact};
 ghost use Rattle.sc_value.specs.ViaValues.{IsVia};
 ghost use Rattle.sc_value.specs.declared.message.Message.{Message};
-ghost use Rattle.sc_grammar.specs.Written.{written};
+ghost use Rattle.sc_grammar.specs.Written.{text_of_message};
 ghost use Rattle.sc_syntax.specs.Messages.{message_of};
 ghost use Rattle.sc_spelling.specs.Kept.{AllKeep, HasBranch, HasRoom, IsHead};
 ghost use Rattle.sc_spelling.specs.Made.{HasCode, IsMade};
@@ -21,8 +21,8 @@ use sc_value::{Address, Contact, Head, Message, Via};
 #[tactic(auto, using(crate::proofs::MadeLaws::made_again, crate::proofs::NeverAnother::never_another))]
 pub fn written_again(message: &Message)
     ensures again { HasMethod message.now → HasCode message.now → HasBranch message.now
-        → HasRoom message.now → message_of (written message.now) ≡ Ok message.now }
-    ensures never_another { (other : Message) → message_of (written message.now) ≡ Ok other
+        → HasRoom message.now → message_of (text_of_message message.now) ≡ Ok message.now }
+    ensures never_another { (other : Message) → message_of (text_of_message message.now) ≡ Ok other
         → other ≡ message.now }
 {
     known(message);

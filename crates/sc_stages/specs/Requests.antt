@@ -3,7 +3,7 @@ use Rattle.std.specs.Prelude.{List, [], Option, unwrap_or, slice_get}
 use Rattle.sc_value.specs.declared.parts.Via.{Via}
 use Rattle.sc_value.specs.declared.message.Request.{Request}
 use Rattle.sc_value.specs.Params.{param_value, branch_name}
-use Rattle.sc_grammar.specs.Written.{Bytes}
+use Rattle.sc_tokens.specs.Bytes.{Bytes}
 
 -- the top Via and its branch
 abbrev pub top_via : List Via → Option Via

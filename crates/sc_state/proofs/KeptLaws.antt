@@ -11,7 +11,7 @@ use Rattle.sc_state.specs.declared.host.Server.{Server}
 use Rattle.sc_stages.specs.States.{is_over}
 use Rattle.sc_state.specs.Groups.{branch_number, groups_of_client, groups_of_server}
 use Rattle.sc_state.specs.Hosts.{Host}
-use Rattle.sc_state.specs.Keeping.{is_live, lives_here, is_kept_client, is_kept_server, tidied, lives_among, kept_client, kept_server, AllKept, is_same_client}
+use Rattle.sc_state.specs.Keeping.{is_live, lives_here, is_kept_client, is_kept_server, without_ended as tidied, lives_among, kept_client, kept_server, AllKept, is_same_client}
 use Rattle.sc_state.specs.Standing.{is_client, is_same_app, is_server, is_invite_client, is_invite_server, state_of_client, state_of_server}
 use Rattle.sc_state.proofs.AllLaws.{found_any, filter_all, all_filter, all_pushed, all_weaker, all_changed, kept_without, kept_outside, any_pushed}
 

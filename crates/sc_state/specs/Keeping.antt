@@ -32,8 +32,8 @@ is_kept_server host server =
     || (is_invite_server server && lives_here server.app host)
 
 -- the host without the transactions that it doesn't keep
-unfoldable pub tidied : {S : Type 0} → Host S → Host S
-tidied host =
+unfoldable pub without_ended : {S : Type 0} → Host S → Host S
+without_ended host =
     record host {
       clients = filter (is_kept_client host) host.clients;
       servers = filter (is_kept_server host) host.servers;

@@ -10,7 +10,7 @@ ghost use Rattle.sc_state.specs.declared.host.Live.{Live};
 ghost use Rattle.sc_state.specs.declared.host.Server.{Server};
 ghost use Rattle.sc_state.specs.Entries.{least_due};
 ghost use Rattle.sc_state.specs.Groups.{groups_of_client, groups_of_live, groups_of_server};
-ghost use Rattle.sc_state.specs.Keeping.{tidied, is_live, is_same_client, first_number};
+ghost use Rattle.sc_state.specs.Keeping.{first_number, is_live, is_same_client, without_ended};
 ghost use Rattle.sc_state.specs.Standing.{is_client, is_server, due_of_client, due_of_server, busy_client, busy_server};
 ghost use Rattle.std.specs.Arc.{arc_value};
 ghost use Rattle.sc_state.specs.Sharing.{lists_of};
@@ -103,7 +103,7 @@ impl<S: Timed> Host<S> {
     /// Lets go of the transactions that are over, but for those of an INVITE whose session lives.
     /// In constant time where all are known to be kept.
     pub fn tidied(&mut self, alloc: Global) -> Result<(), NoMemory>
-        ensures { OnOk result (self.new ≡ tidied self.old) }
+        ensures { OnOk result (self.new ≡ without_ended self.old) }
     {
         self.own()?;
         match &mut self.lists {
@@ -235,7 +235,7 @@ impl<S: Timed> Host<S> {
     pub fn end_live(&mut self, alloc: Global, serial: u64) -> Result<(), NoMemory>
         ensures { OnOk result
             (self.new
-            ≡ tidied
+            ≡ without_ended
             (record self.old { sessions = remove_first (is_live serial) self.old.sessions })) }
     {
         self.own()?;
@@ -343,7 +343,7 @@ impl<S: Timed> Host<S> {
     pub fn change_client(&mut self, alloc: Global, client: Shared<Client>) -> Result<(), NoMemory>
         ensures { OnOk result
             (self.new
-            ≡ tidied
+            ≡ without_ended
             (record self.old {
               clients = change_first (is_same_client client) (λ _. client) self.old.clients;
             })) }
@@ -457,7 +457,7 @@ impl<S: Timed> Host<S> {
     pub fn change_server(&mut self, alloc: Global, server: Shared<Server>) -> Result<(), NoMemory>
         ensures { OnOk result
             (self.new
-            ≡ tidied
+            ≡ without_ended
             (record self.old {
               servers = change_first (is_server server.event) (λ _. server) self.old.servers;
             })) }
@@ -473,7 +473,7 @@ impl<S: Timed> Host<S> {
 // ## Changes of lists that nobody else has
 
 fn tidied_in<S: Timed>(lists: &mut Arc<HostLists<S>>, alloc: Global) -> Result<(), NoMemory>
-    ensures { OnOk result (arc_value lists.new ≡ tidied (arc_value lists.old)) }
+    ensures { OnOk result (arc_value lists.new ≡ without_ended (arc_value lists.old)) }
 {
     match Arc::get_mut(lists) {
         Some(lists) => lists.tidied(alloc),
@@ -519,7 +519,7 @@ fn end_live_in<S: Timed>(
 ) -> Result<(), NoMemory>
     ensures { OnOk result
         (arc_value lists.new
-        ≡ tidied
+        ≡ without_ended
         (record (arc_value lists.old) { sessions = remove_first (is_live serial) (arc_value lists.old).sessions })) }
 {
     match Arc::get_mut(lists) {
@@ -548,7 +548,7 @@ fn change_client_in<S: Timed>(
 ) -> Result<(), NoMemory>
     ensures { OnOk result
         (arc_value lists.new
-        ≡ tidied
+        ≡ without_ended
         (record (arc_value lists.old) {
           clients = change_first (is_same_client client) (λ _. client) (arc_value lists.old).clients;
         })) }
@@ -595,7 +595,7 @@ fn change_server_in<S: Timed>(
 ) -> Result<(), NoMemory>
     ensures { OnOk result
         (arc_value lists.new
-        ≡ tidied
+        ≡ without_ended
         (record (arc_value lists.old) {
           servers = change_first (is_server server.event) (λ _. server) (arc_value lists.old).servers;
         })) }

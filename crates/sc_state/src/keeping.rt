@@ -3,7 +3,7 @@
 ghost use Rattle.std.specs.Prelude.{◌≡◌, ◌==◌, ◌||◌, OnOk, true, filter};
 ghost use Rattle.std.specs.List.{list_all};
 ghost use Rattle.sc_value.specs.Lists.{change_first, remove_first};
-ghost use Rattle.sc_state.specs.Keeping.{kept_client, kept_server, is_same_client};
+ghost use Rattle.sc_state.specs.Keeping.{is_same_client, kept_client, kept_server};
 ghost use Rattle.sc_state.specs.Standing.{is_server};
 
 use crate::groups::branch_number;

@@ -10,7 +10,7 @@ ghost use Rattle.sc_state.specs.declared.host.Live.{Live};
 ghost use Rattle.sc_state.specs.declared.host.Server.{Server};
 ghost use Rattle.sc_state.specs.Entries.{least_due};
 ghost use Rattle.sc_state.specs.Groups.{groups_of_client, groups_of_live, groups_of_server};
-ghost use Rattle.sc_state.specs.Keeping.{tidied, is_live, is_same_client, first_number};
+ghost use Rattle.sc_state.specs.Keeping.{first_number, is_live, is_same_client, without_ended};
 ghost use Rattle.sc_state.specs.Standing.{is_client, is_server, due_of_client, due_of_server, busy_client, busy_server};
 
 use crate::groups::branch_number;
@@ -24,8 +24,8 @@ use sc_value::{AppId, CloneIn, List, NoMemory, Shared};
 use std::alloc::Global;
 use std::marker::Model;
 
-/// The transactions and sessions of a host. A contract sees their lists. A copy costs little, and so
-/// does a change, however many there are.
+/// The transactions and sessions of a host. A contract sees their lists. A copy costs little, and
+/// so does a change, however many there are.
 #[derive(Drop)]
 pub struct HostLists<S: Timed> {
     clients: Line<Client>,
@@ -80,7 +80,7 @@ impl<S: Timed> HostLists<S> {
 
     #[tactic(auto, using(crate::proofs::KeptLaws::tidied_is, crate::proofs::KeptLaws::clients_filtered, crate::proofs::KeptLaws::servers_filtered))]
     pub fn tidied(&mut self, alloc: Global) -> Result<(), NoMemory>
-        ensures { OnOk result (self.new ≡ tidied self.old) }
+        ensures { OnOk result (self.new ≡ without_ended self.old) }
     {
         let tidy = self.tidy;
         self.tidy = false;
@@ -181,7 +181,7 @@ impl<S: Timed> HostLists<S> {
     pub fn end_live(&mut self, alloc: Global, serial: u64) -> Result<(), NoMemory>
         ensures { OnOk result
             (self.new
-            ≡ tidied
+            ≡ without_ended
             (record self.old { sessions = remove_first (is_live serial) self.old.sessions })) }
     {
         let tidy = self.tidy;
@@ -271,7 +271,7 @@ impl<S: Timed> HostLists<S> {
     pub fn change_client(&mut self, alloc: Global, client: Shared<Client>) -> Result<(), NoMemory>
         ensures { OnOk result
             (self.new
-            ≡ tidied
+            ≡ without_ended
             (record self.old {
               clients = change_first (is_same_client client) (λ _. client) self.old.clients;
             })) }
@@ -365,7 +365,7 @@ impl<S: Timed> HostLists<S> {
     pub fn change_server(&mut self, alloc: Global, server: Shared<Server>) -> Result<(), NoMemory>
         ensures { OnOk result
             (self.new
-            ≡ tidied
+            ≡ without_ended
             (record self.old {
               servers = change_first (is_server server.event) (λ _. server) self.old.servers;
             })) }

@@ -1,7 +1,7 @@
 //! Tests of transactions.
 
 ghost use Rattle.std.specs.Prelude.{◌≡◌, ◌==◌, ◌||◌, not};
-ghost use Rattle.sc_state.specs.Keeping.{lives_among, kept_client, kept_server};
+ghost use Rattle.sc_state.specs.Keeping.{kept_client, kept_server, lives_among};
 ghost use Rattle.sc_state.specs.Standing.{is_client, is_cancel_client};
 
 use crate::standing::{

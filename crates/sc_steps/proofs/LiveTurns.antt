@@ -16,7 +16,7 @@ use Rattle.sc_state.specs.declared.session.Session.{Session}
 use Rattle.sc_hosts.specs.Histories.{as_session, after_turn}
 use Rattle.sc_hosts.specs.Nets.{change_host, host_at}
 use Rattle.sc_hosts.specs.Sessions.{Turn}
-use Rattle.sc_hosts.specs.Steps.{closed_turn, live_at, outcome_by, turn_of, turned, turned_live, turns, turns_first, with_ready}
+use Rattle.sc_hosts.specs.Steps.{closed_turn, live_at, outcome_by, turn_of, net_after_turn as turned, turned_live, turns, turns_first, with_ready}
 use Rattle.sc_hosts.specs.Inboxes.{is_live}
 use Rattle.sc_steps.specs.TurnParts.{closed_by, first_by, host_after, live_after, net_after, ready_by, turned_by, turns_by, wakes}
 

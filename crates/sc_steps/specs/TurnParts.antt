@@ -20,10 +20,10 @@ use Rattle.sc_state.specs.declared.session.Session.{Session}
 use Rattle.sc_state.specs.declared.working.Prepared.{Prepared}
 use Rattle.sc_hosts.specs.Finishing.{is_ready}
 use Rattle.sc_hosts.specs.Histories.{as_session}
-use Rattle.sc_hosts.specs.Nets.{change_host, obeyed, queue_for}
-use Rattle.sc_hosts.specs.Preparing.{prepared}
+use Rattle.sc_hosts.specs.Nets.{after_orders, change_host, queue_for}
+use Rattle.sc_hosts.specs.Preparing.{prepared_session}
 use Rattle.sc_hosts.specs.Sessions.{entries_of}
-use Rattle.sc_hosts.specs.Steps.{inbox_of, invalidated, live_at, outcome_by, still_fired, turn_of}
+use Rattle.sc_hosts.specs.Steps.{inbox_of, live_at, outcome_by, still_fired, turn_of, without_application}
 use Rattle.sc_hosts.specs.Inboxes.{is_live}
 use Rattle.sc_hosts.specs.Transacting.{tidied}
 
@@ -74,14 +74,14 @@ ready_by app session net =
 -- the session ends with its turn, or goes on
 unfoldable pub closed_by : Setup → AppId → Session → Bool → Net Session → Net Session
 closed_by setup app session true net =
-    invalidated setup app session (inbox_of (live_at app net)) net
+    without_application setup app session (inbox_of (live_at app net)) net
 closed_by setup app session false net = ready_by app session net
 
 -- what a turn makes of the net
 unfoldable pub turned_by : Setup → AppId → Outcome → Net Session → Net Session
 turned_by setup app done net =
     closed_by setup app done.session done.ends
-    (obeyed setup app done.orders (net_after app done.session net))
+    (after_orders setup app done.orders (net_after app done.session net))
 
 -- a turn with the first event, where one waits
 unfoldable pub first_by : Setup → AppId → Session → Option Waiting → ℕ → List CallRecord → End
@@ -104,7 +104,7 @@ turns_by setup app (Some live) now made end net =
 unfoldable pub FirstBegins : Config → List ℕ → Session → Option Waiting → ℕ → Prepared → Type 0
 FirstBegins config ringing session None now begun = Unit {0}
 FirstBegins config ringing session (Some waiting) now begun =
-    prepared config ringing session waiting now ≡ begun
+    prepared_session config ringing session waiting now ≡ begun
 
 -- so does the turn of the first event of this session, where it lives
 unfoldable pub Begins : Config → List ℕ → Option (Live Session) → ℕ → Prepared → Type 0

@@ -3,8 +3,8 @@
 ghost use Rattle.std.specs.Prelude.{◌≡◌, OnOk};
 ghost use Rattle.sc_value.specs.Lists.{change_nth};
 ghost use Rattle.sc_hosts.specs.Histories.{as_session};
-ghost use Rattle.sc_hosts.specs.Nets.{obeyed};
-ghost use Rattle.sc_hosts.specs.Steps.{without_live, inbox_of, invalidated, withdrawn, live_at};
+ghost use Rattle.sc_hosts.specs.Nets.{after_orders};
+ghost use Rattle.sc_hosts.specs.Steps.{inbox_of, live_at, withdrawn, without_application, without_live};
 ghost use Rattle.sc_steps.specs.TurnParts.{host_without};
 
 use crate::lives::live_copy;
@@ -47,14 +47,15 @@ fn goes(
     given: &[Order],
     net: &mut Net<Session>,
 ) -> Result<(), NoMemory>
-    ensures { OnOk result (net.new ≡ without_live app (obeyed setup.now app given.now net.old)) }
+    ensures { OnOk result
+        (net.new ≡ without_live app (after_orders setup.now app given.now net.old)) }
 {
     obeyed(alloc, setup, app, given, net)?;
     without_live(alloc, app, net)
 }
 
 /// What invalidation sends is sent, and the session goes (JSR 289 section 6.1.2).
-#[tactic(auto, unfolding(sc_hosts::specs::Steps::invalidated))]
+#[tactic(auto, unfolding(sc_hosts::specs::Steps::without_application))]
 fn invalidated(
     alloc: Global,
     setup: &Setup,
@@ -63,7 +64,8 @@ fn invalidated(
     inbox: &[Waiting],
     net: &mut Net<Session>,
 ) -> Result<(), NoMemory>
-    ensures { OnOk result (net.new ≡ invalidated setup.now app session.now inbox.now net.old) }
+    ensures { OnOk result
+        (net.new ≡ without_application setup.now app session.now inbox.now net.old) }
 {
     let given = goodbye(alloc, &setup.config, session, inbox)?;
     goes(alloc, setup, app, given.as_slice(), net)
@@ -79,7 +81,7 @@ fn ended_by(
     net: &mut Net<Session>,
 ) -> Result<(), NoMemory>
     ensures { OnOk result
-        (net.new ≡ invalidated setup.now app session.now (inbox_of live.now) net.old) }
+        (net.new ≡ without_application setup.now app session.now (inbox_of live.now) net.old) }
 {
     match live {
         Some(live) => invalidated(alloc, setup, app, session, live.get().inbox.as_slice(), net),
@@ -96,7 +98,7 @@ pub fn ended(
     net: &mut Net<Session>,
 ) -> Result<(), NoMemory>
     ensures { OnOk result
-        (net.new ≡ invalidated setup.now app session.now (inbox_of (live_at app net.old)) net.old) }
+        (net.new ≡ without_application setup.now app session.now (inbox_of (live_at app net.old)) net.old) }
 {
     let live = live_copy(alloc, app, net)?;
     ended_by(alloc, setup, app, session, &live, net)

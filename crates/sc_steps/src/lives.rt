@@ -3,7 +3,7 @@
 ghost use Rattle.std.specs.Prelude.{◌≡◌, IfOk};
 ghost use Rattle.std.specs.Option.{option_copied};
 ghost use Rattle.sc_hosts.specs.Nets.{host_at};
-ghost use Rattle.sc_hosts.specs.Steps.{live_of, live_at, ringing_at};
+ghost use Rattle.sc_hosts.specs.Steps.{live_at, live_of, ringing_at};
 
 use sc_inboxes::live_in;
 use sc_state::{Host, Live, Net, Session};

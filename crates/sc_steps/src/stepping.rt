@@ -6,7 +6,7 @@ ghost use Rattle.sc_hosts.specs.Histories.{as_session};
 ghost use Rattle.sc_hosts.specs.Runs.{after_step};
 ghost use Rattle.sc_hosts.specs.Arrivals.{bad_by};
 ghost use Rattle.sc_hosts.specs.Nets.{host_at};
-ghost use Rattle.sc_hosts.specs.Steps.{live_at, ringing_at, stepped};
+ghost use Rattle.sc_hosts.specs.Steps.{before_delivery, live_at, ringing_at};
 ghost use Rattle.sc_steps.specs.TurnParts.{Begins};
 
 use crate::endings::withdrawn;
@@ -43,14 +43,14 @@ fn bad_arrived(
 }
 
 /// A step, before anything is delivered.
-#[tactic(auto, unfolding(sc_hosts::specs::Steps::stepped))]
+#[tactic(auto, unfolding(sc_hosts::specs::Steps::before_delivery))]
 fn stepped(
     alloc: Global,
     setup: &Setup,
     step: &Step,
     net: &mut Net<Session>,
 ) -> Result<(), NoMemory>
-    ensures { OnOk result (net.new ≡ stepped as_session setup.now step.now net.old) }
+    ensures { OnOk result (net.new ≡ before_delivery as_session setup.now step.now net.old) }
 {
     match step {
         Step::In(from, message) => arrived(alloc, setup, *from, message, net),
@@ -86,7 +86,7 @@ pub fn after_step(
 
 /// What a turn of an event makes of a net, as `after_step`; it may be known already what the turn
 /// begins with.
-#[tactic(auto, unfolding(sc_hosts::specs::Runs::after_step, sc_hosts::specs::Steps::stepped))]
+#[tactic(auto, unfolding(sc_hosts::specs::Runs::after_step, sc_hosts::specs::Steps::before_delivery))]
 pub fn after_begun(
     alloc: Global,
     setup: &Setup,
@@ -103,7 +103,7 @@ pub fn after_begun(
         Begins setup.now.config (ringing_at app (host_at app.host net.old)) (live_at app net.old)
         now shown) }
     ensures { OnOk result
-        (net.new ≡ after_step as_session setup.now net.old (Step.Turn app event now made.now end)) }
+        (net.new ≡ after_step as_session setup.now net.old (Step.Turn end app event now made.now)) }
 {
     let _ = event;
     nothing_sent(alloc, net);

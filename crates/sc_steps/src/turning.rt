@@ -4,8 +4,8 @@ ghost use Rattle.std.specs.Prelude.{◌≡◌, IfOk, IfSome, OnOk};
 ghost use Rattle.std.specs.Option.{option_copied};
 ghost use Rattle.sc_hosts.specs.Histories.{as_session};
 ghost use Rattle.sc_hosts.specs.Nets.{host_at};
-ghost use Rattle.sc_hosts.specs.Preparing.{prepared};
-ghost use Rattle.sc_hosts.specs.Steps.{outcome_by, ringing_at, turn_of, turns, live_at};
+ghost use Rattle.sc_hosts.specs.Preparing.{prepared_session};
+ghost use Rattle.sc_hosts.specs.Steps.{live_at, outcome_by, ringing_at, turn_of, turns};
 ghost use Rattle.sc_steps.specs.TurnParts.{Begins, FirstBegins, turned_by, first_by, turns_by};
 
 use crate::leaving::net_after;
@@ -90,7 +90,7 @@ fn outcome_begun(
 ) -> Result<Outcome, NoMemory>
     requires { IfSome begun
         (λ shown.
-        prepared config.now (ringing_at app (host_at app.host net.now)) session.now waiting.now
+        prepared_session config.now (ringing_at app (host_at app.host net.now)) session.now waiting.now
         now ≡ shown) }
     ensures { IfOk result
         (λ done.

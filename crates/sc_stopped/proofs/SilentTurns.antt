@@ -18,16 +18,16 @@ use Rattle.sc_state.specs.declared.queue.Waiting.{Waiting}
 use Rattle.sc_state.specs.declared.session.Session.{Session}
 use Rattle.sc_state.specs.declared.working.Prepared.{Prepared}
 use Rattle.sc_state.specs.declared.working.Working.{Working}
-use Rattle.sc_grammar.specs.Written.{Bytes}
+use Rattle.sc_tokens.specs.Bytes.{Bytes}
 use Rattle.sc_model.specs.BestResponses.{server_error}
 use Rattle.sc_model.specs.Settings.{Charters}
-use Rattle.sc_hosts.specs.Acting.{all_act, drafts_ended, faulted, passed_request_of, is_request_event, passes_later}
+use Rattle.sc_hosts.specs.Acting.{all_act, drafts_ended, after_fault as faulted, passed_request_of, is_request_event, passes_later}
 use Rattle.sc_hosts.specs.Bringing.{Allowed, IsSilent}
-use Rattle.sc_hosts.specs.Finishing.{finished, outcome, outcome_of}
+use Rattle.sc_hosts.specs.Finishing.{after_all_calls as finished, outcome, outcome_of}
 use Rattle.sc_hosts.specs.Legs.{is_low, leg_of, session_for}
 use Rattle.sc_hosts.specs.Looking.{session_in}
-use Rattle.sc_hosts.specs.Preparing.{prepared, prepared_for}
-use Rattle.sc_hosts.specs.PreparingRequests.{prepared_request, refused, silent, taken, taken_in, too_low}
+use Rattle.sc_hosts.specs.Preparing.{prepared_session as prepared, prepared_for}
+use Rattle.sc_hosts.specs.PreparingRequests.{prepared_request, refusal_orders as refused, silent, prepared_for_request as taken, taken_in, too_low}
 use Rattle.sc_hosts.specs.Runs.{AllowedBy}
 use Rattle.sc_hosts.specs.Words.{does_not_exist}
 use Rattle.sc_hosts.specs.Working.{starts, worked_all}

@@ -17,16 +17,16 @@ use Rattle.sc_state.specs.declared.host.Peer.TheVariants as peers
 use Rattle.sc_state.specs.declared.host.Taken.{Taken}
 use Rattle.sc_state.specs.declared.net.Entry.{Entry}
 use Rattle.sc_state.specs.declared.net.Net.{Net}
-use Rattle.sc_grammar.specs.Written.{Bytes}
+use Rattle.sc_tokens.specs.Bytes.{Bytes}
 use Rattle.sc_model.specs.Names.{IsOf64}
 use Rattle.sc_model.specs.SessionStates.{ack}
 use Rattle.std.specs.Option.{option_map_or}
 use Rattle.sc_hosts.specs.declared.sorts.Sort.TheVariants.{Later, Nobodys}
-use Rattle.sc_hosts.specs.Arrivals.{arrived, edge_answer, sort_in, arrives_as}
-use Rattle.sc_hosts.specs.Inboxes.{is_full, is_live, quiet}
-use Rattle.sc_hosts.specs.Nets.{deliver_at, deliver_entry, deliver_first, has_named, host_at, named_from, named_host, placed, put, put_reply}
+use Rattle.sc_hosts.specs.Arrivals.{after_arrival as arrived, edge_answer, sort_in, arrives_as}
+use Rattle.sc_hosts.specs.Inboxes.{is_full, is_live, without_answer as quiet}
+use Rattle.sc_hosts.specs.Nets.{deliver_at, deliver_entry, deliver_first, has_named, host_at, named_from, named_host, with_host_after as placed, with_message as put, put_reply}
 use Rattle.sc_hosts.specs.Sessions.{Form}
-use Rattle.sc_hosts.specs.Steps.{live_at, stepped}
+use Rattle.sc_hosts.specs.Steps.{live_at, before_delivery as stepped}
 use Rattle.sc_hosts.specs.Taking.{named_live, names, own_uri, queue_later, refuse, takes, server_for, sort_of, sort_at, taken_as}
 use Rattle.sc_hosts.specs.Transacting.{method_of}
 use Rattle.sc_hosts.specs.Words.{does_not_exist, unavailable}
@@ -36,7 +36,7 @@ use Rattle.sc_reached.proofs.Claims.{host-unclaimed, not-claimed}
 use Rattle.sc_reached.proofs.NamedHosts.{named_host-is}
 use Rattle.sc_reached.proofs.Naming.{named-here, named_live-is}
 use Rattle.sc_reached.proofs.Reaching.{at-host}
-use Rattle.sc_stopped.specs.Stopped.{IsFirstTo, IsLaterTo, answer_back, answer_to, answered, returned}
+use Rattle.sc_stopped.specs.Stopped.{IsFirstTo, IsLaterTo, answer_back, answer_to, net_with_answer as answered, net_with_return as returned}
 
 -- ## No session
 

@@ -22,7 +22,7 @@ use Rattle.sc_state.specs.declared.orders.Order.{Order}
 use Rattle.sc_state.specs.declared.orders.Order.TheVariants as orders
 use Rattle.sc_state.specs.declared.queue.Waiting.{Waiting}
 use Rattle.sc_state.specs.declared.session.Session.{Session}
-use Rattle.sc_grammar.specs.Written.{Bytes}
+use Rattle.sc_tokens.specs.Bytes.{Bytes}
 use Rattle.sc_model.specs.DialogRequests.{cancel}
 use Rattle.sc_model.specs.Dialogs.{tag_of}
 use Rattle.sc_model.specs.Names.{IsOf64, edge_tag}
@@ -34,7 +34,7 @@ use Rattle.sc_hosts.specs.Messages.{own_response}
 use Rattle.sc_hosts.specs.Nets.{host_at}
 use Rattle.sc_hosts.specs.Taking.{names, own_uri, server_for}
 use Rattle.sc_hosts.specs.Transacting.{method_of}
-use Rattle.sc_hosts.specs.Preparing.{prepared}
+use Rattle.sc_hosts.specs.Preparing.{prepared_session}
 use Rattle.sc_hosts.specs.Words.{does_not_exist}
 use Rattle.sc_model.specs.BestResponses.{server_error}
 use Rattle.sc_lasting.specs.Lasting.{All}
@@ -63,8 +63,8 @@ answer_to config from code reason request =
     } ∷ []
 
 -- the net with that sent, and else as it was
-abbrev pub answered : {S : Type 0} → Config → Place → ℕ → Bytes → Request → Net S → Net S
-answered config from code reason request net =
+abbrev pub net_with_answer : {S : Type 0} → Config → Place → ℕ → Bytes → Request → Net S → Net S
+net_with_answer config from code reason request net =
     record net { sent = net.sent ++ answer_to config from code reason request }
 
 -- ## Between hosts
@@ -101,8 +101,8 @@ answer_back config entry code reason request =
     } ∷ []
 
 -- the net without the first of the wire and with that behind the others, and else as it was
-abbrev pub returned : {S : Type 0} → Config → Entry → ℕ → Bytes → Request → Net S → Net S
-returned config entry code reason request net =
+abbrev pub net_with_return : {S : Type 0} → Config → Entry → ℕ → Bytes → Request → Net S → Net S
+net_with_return config entry code reason request net =
     record net { wire = drop 1 net.wire ++ answer_back config entry code reason request }
 
 -- ## In the turn of its session
@@ -128,7 +128,7 @@ IsNoLater order = Unit {0}
 -- request in a dialog
 pub record RefusesFirst (config : Config) (ringing : List ℕ) (session : Session) (waiting : Waiting)
     (now : ℕ) (made : List CallRecord) (end : End) (first : List Order) : Type 0 where
-  pub event : (prepared config ringing session waiting now).event ≡ None
+  pub event : (prepared_session config ringing session waiting now).event ≡ None
   pub more : List Order
   pub given : (outcome config ringing session waiting now made end).orders ≡ first ++ more
   pub none : All IsNoLater more

@@ -13,20 +13,20 @@ ghost use Rattle.sc_state.specs.declared.net.Entry.{Entry};
 ghost use Rattle.sc_state.specs.declared.net.Net.{Net};
 ghost use Rattle.sc_state.specs.declared.queue.Queued.TheVariants as queued;
 ghost use Rattle.sc_state.specs.declared.session.Session.{Session};
-ghost use Rattle.sc_grammar.specs.Written.{Bytes};
+ghost use Rattle.sc_tokens.specs.Bytes.{Bytes};
 ghost use Rattle.sc_model.specs.Settings.{Charters};
 ghost use Rattle.sc_hosts.specs.Histories.{History};
 ghost use Rattle.sc_hosts.specs.Inboxes.{is_full};
 ghost use Rattle.sc_hosts.specs.Nets.{deliver_first};
-ghost use Rattle.sc_hosts.specs.Preparing.{prepared};
-ghost use Rattle.sc_hosts.specs.PreparingRequests.{refused};
+ghost use Rattle.sc_hosts.specs.Preparing.{prepared_session};
+ghost use Rattle.sc_hosts.specs.PreparingRequests.{refusal_orders};
 ghost use Rattle.sc_hosts.specs.Runs.{AllowedBy};
 ghost use Rattle.sc_hosts.specs.Sessions.{Form};
-ghost use Rattle.sc_hosts.specs.Steps.{live_at, stepped};
+ghost use Rattle.sc_hosts.specs.Steps.{before_delivery, live_at};
 ghost use Rattle.sc_hosts.specs.Taking.{own_uri};
 ghost use Rattle.sc_hosts.specs.Words.{does_not_exist, unavailable};
 ghost use Rattle.sc_reached.specs.Reached.{IsLater};
-ghost use Rattle.sc_stopped.specs.Stopped.{IsFirstTo, IsLaterTo, IsRefusedThere, RefusesFirst, answered, returned};
+ghost use Rattle.sc_stopped.specs.Stopped.{IsFirstTo, IsLaterTo, IsRefusedThere, RefusesFirst, net_with_answer, net_with_return};
 
 /// A request from outside with a To tag that no transaction takes is answered 481 where no own URI
 /// leads it to a session, its top Route or else its Request-URI, and where the session that its own
@@ -38,32 +38,32 @@ ghost use Rattle.sc_stopped.specs.Stopped.{IsFirstTo, IsLaterTo, IsRefusedThere,
 pub fn later_requests_are_answered_where_they_stop()
     ensures unled_session { (form : Form Session) (setup : Setup) (from : Place) (request : Request)
         (net : Net Session) → IsLater from request net → own_uri setup.config request ≡ None
-        → stepped form setup (steps.In from (messages.Request request)) net
-        ≡ answered setup.config from 481 does_not_exist request net }
+        → before_delivery form setup (steps.In from (messages.Request request)) net
+        ≡ net_with_answer setup.config from 481 does_not_exist request net }
     ensures unled_history { (form : Form History) (setup : Setup) (from : Place) (request : Request)
         (net : Net History) → IsLater from request net → own_uri setup.config request ≡ None
-        → stepped form setup (steps.In from (messages.Request request)) net
-        ≡ answered setup.config from 481 does_not_exist request net }
+        → before_delivery form setup (steps.In from (messages.Request request)) net
+        ≡ net_with_answer setup.config from 481 does_not_exist request net }
     ensures gone_session { (form : Form Session) (setup : Setup) (from : Place) (request : Request)
         (net : Net Session) (app : AppId) → IsLaterTo setup from request net app
         → live_at app net ≡ None
-        → stepped form setup (steps.In from (messages.Request request)) net
-        ≡ answered setup.config from 481 does_not_exist request net }
+        → before_delivery form setup (steps.In from (messages.Request request)) net
+        ≡ net_with_answer setup.config from 481 does_not_exist request net }
     ensures gone_history { (form : Form History) (setup : Setup) (from : Place) (request : Request)
         (net : Net History) (app : AppId) → IsLaterTo setup from request net app
         → live_at app net ≡ None
-        → stepped form setup (steps.In from (messages.Request request)) net
-        ≡ answered setup.config from 481 does_not_exist request net }
+        → before_delivery form setup (steps.In from (messages.Request request)) net
+        ≡ net_with_answer setup.config from 481 does_not_exist request net }
     ensures full_session { (form : Form Session) (setup : Setup) (from : Place) (request : Request)
         (net : Net Session) (app : AppId) (live : Live Session)
         → IsLaterTo setup from request net app → live_at app net ≡ Some live → is_full live ≡ true
-        → stepped form setup (steps.In from (messages.Request request)) net
-        ≡ answered setup.config from 503 unavailable request net }
+        → before_delivery form setup (steps.In from (messages.Request request)) net
+        ≡ net_with_answer setup.config from 503 unavailable request net }
     ensures full_history { (form : Form History) (setup : Setup) (from : Place) (request : Request)
         (net : Net History) (app : AppId) (live : Live History)
         → IsLaterTo setup from request net app → live_at app net ≡ Some live → is_full live ≡ true
-        → stepped form setup (steps.In from (messages.Request request)) net
-        ≡ answered setup.config from 503 unavailable request net }
+        → before_delivery form setup (steps.In from (messages.Request request)) net
+        ≡ net_with_answer setup.config from 503 unavailable request net }
 {}
 
 /// Between hosts it is the same: where the first of the wire is such a request, it is answered 481
@@ -77,20 +77,20 @@ pub fn delivered_requests_are_answered_where_they_stop()
         (net : Net Session) (app : AppId) → IsFirstTo setup entry request net app
         → live_at app net ≡ None
         → deliver_first form setup net
-        ≡ returned setup.config entry 481 does_not_exist request net }
+        ≡ net_with_return setup.config entry 481 does_not_exist request net }
     ensures gone_history { (form : Form History) (setup : Setup) (entry : Entry) (request : Request)
         (net : Net History) (app : AppId) → IsFirstTo setup entry request net app
         → live_at app net ≡ None
         → deliver_first form setup net
-        ≡ returned setup.config entry 481 does_not_exist request net }
+        ≡ net_with_return setup.config entry 481 does_not_exist request net }
     ensures full_session { (form : Form Session) (setup : Setup) (entry : Entry) (request : Request)
         (net : Net Session) (app : AppId) (live : Live Session)
         → IsFirstTo setup entry request net app → live_at app net ≡ Some live → is_full live ≡ true
-        → deliver_first form setup net ≡ returned setup.config entry 503 unavailable request net }
+        → deliver_first form setup net ≡ net_with_return setup.config entry 503 unavailable request net }
     ensures full_history { (form : Form History) (setup : Setup) (entry : Entry) (request : Request)
         (net : Net History) (app : AppId) (live : Live History)
         → IsFirstTo setup entry request net app → live_at app net ≡ Some live → is_full live ≡ true
-        → deliver_first form setup net ≡ returned setup.config entry 503 unavailable request net }
+        → deliver_first form setup net ≡ net_with_return setup.config entry 503 unavailable request net }
 {}
 
 /// In the turn of a session for a later request of which no SipSession of it has the dialog, or
@@ -103,10 +103,10 @@ pub fn turns_answer_what_no_dialog_takes()
         (request : Request) (now : ℕ) (made : List CallRecord) (end : End)
         (charters : Option Charters)
         → AllowedBy charters
-        (prepared config ringing session
+        (prepared_session config ringing session
         (record { number = number; event = queued.Request request }) now) made end
         → (code : ℕ) (reason : Bytes) → IsRefusedThere session request code reason
         → RefusesFirst config ringing session
         (record { number = number; event = queued.Request request }) now made end
-        (refused number code reason request) }
+        (refusal_orders number code reason request) }
 {}

@@ -14,7 +14,7 @@ use Rattle.sc_syntax.specs.UriParts.{Fault}
 use Rattle.sc_tokens.specs.Hosts.{begins}
 use Rattle.sc_syntax.specs.Lines.{begins_break, is_end, end_of}
 use Rattle.sc_syntax.specs.Messages.{message_in}
-use Rattle.sc_syntax.specs.Fronts.{behind_breaks, body_len, bad, whole, sized, headed, front_of}
+use Rattle.sc_syntax.specs.Fronts.{behind_breaks, body_len, bad_front as bad, whole, front_of_length as sized, front_after_head as headed, front_of}
 use Rattle.sc_stream.specs.Frames.{front_behind, is_open, len_of}
 
 -- ## The empty line

@@ -12,7 +12,7 @@ use Rattle.sc_syntax.specs.declared.front.Front.TheVariants.{Open, Long}
 use Rattle.sc_tokens.specs.Bytes.{Bytes}
 use Rattle.sc_syntax.specs.Lines.{begins_break, is_end, end_of}
 use Rattle.sc_syntax.specs.Messages.{message_in, parts_in}
-use Rattle.sc_syntax.specs.Fronts.{behind_breaks, front_of, headed, sized, whole}
+use Rattle.sc_syntax.specs.Fronts.{behind_breaks, front_of, front_after_head as headed, front_of_length as sized, whole}
 use Rattle.sc_stream.specs.declared.first.First.{First}
 use Rattle.sc_stream.specs.declared.first.Known.{Known}
 use Rattle.sc_stream.specs.declared.first.Known.TheVariants.{Searched, Read}

@@ -3,7 +3,7 @@ use Rattle.std.proofs.Common.{◌≡◌, ℕ, suc, Bool, true, false, cond, Opti
 use Rattle.std.specs.Prelude.{filter_map, filter, map, ⊤}
 use Rattle.std.specs.List.{flat_map, position_or_len}
 use Rattle.std.specs.Option.{option_map, option_and_then}
-use Rattle.sc_tokens.specs.Blanks.{trimmed, trimmed_back}
+use Rattle.sc_tokens.specs.Blanks.{without_blanks as trimmed, trimmed_back}
 use Rattle.sc_tokens.specs.Cuts.{before, after}
 use Rattle.sc_tokens.specs.HeaderNames.{via_name, long_name}
 use Rattle.sc_tokens.specs.Names.{same_name}
@@ -16,7 +16,7 @@ use Rattle.sc_syntax.specs.Vias.{vias_of}
 use Rattle.sc_syntax.specs.Scanning.{with_first, all_read}
 use Rattle.sc_syntax.specs.Judging.{in_line}
 use Rattle.sc_syntax.specs.Lines.{lines_behind, pieces_at}
-use Rattle.sc_syntax.specs.Folds.{joined}
+use Rattle.sc_syntax.specs.Folds.{text_without_folds as joined}
 use Rattle.sc_syntax.specs.Fronts.{field_of, only, values_of}
 use Rattle.sc_syntax.proofs.CutLaws.{none_some, some_same}
 use Rattle.sc_syntax.proofs.DisplayLaws.{trimmed_again}

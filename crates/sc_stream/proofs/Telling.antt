@@ -7,8 +7,8 @@ use Rattle.sc_syntax.specs.declared.front.Front.{Front}
 use Rattle.sc_syntax.specs.declared.front.Front.TheVariants.{Open, Whole, Long}
 use Rattle.sc_syntax.specs.declared.left.HeadParts.{HeadParts}
 use Rattle.sc_tokens.specs.Bytes.{Bytes}
-use Rattle.sc_syntax.specs.Messages.{placed, finished, message_in, parts_in, lacking}
-use Rattle.sc_syntax.specs.Fronts.{bad, headed, sized, whole}
+use Rattle.sc_syntax.specs.Messages.{fault_at_place as placed, message_from_parts as finished, message_in, parts_in, lacking}
+use Rattle.sc_syntax.specs.Fronts.{bad_front as bad, front_after_head as headed, front_of_length as sized, whole}
 use Rattle.sc_syntax.proofs.HeadLaws.{message_read, headed_refused, headed_lacking, headed_read}
 use Rattle.sc_stream.specs.declared.fronts.Wanted.{Wanted}
 use Rattle.sc_stream.specs.declared.fronts.Wanted.TheVariants as wanted

@@ -5,7 +5,7 @@ use Rattle.sc_syntax.specs.declared.ending.Ending.TheVariants.{Empty}
 use Rattle.sc_tokens.specs.Bytes.{Bytes}
 use Rattle.sc_syntax.specs.Lines.{begins_break, end_of}
 use Rattle.sc_syntax.specs.Messages.{message_in, parts_in}
-use Rattle.sc_syntax.specs.Fronts.{behind_breaks, headed, sized}
+use Rattle.sc_syntax.specs.Fronts.{behind_breaks, front_after_head, front_of_length}
 use Rattle.sc_stream.specs.declared.first.First.{First}
 use Rattle.sc_stream.specs.declared.first.Known.{Known}
 use Rattle.sc_stream.specs.declared.first.Known.TheVariants.{Searched, Read}
@@ -18,12 +18,14 @@ use Rattle.sc_stream.specs.declared.fronts.Wanted.TheVariants as wanted
 abbrev pub IsSized : Bytes → ℕ → Type 0
 IsSized head len =
     (length head + 4 ≤ len) × (len ≤ 65535)
-    × ((text : Bytes) → headed text head (message_in head []) ≡ sized text head len)
+    × ((text : Bytes)
+    → front_after_head text head (message_in head []) ≡ front_of_length text head len)
 
 -- what a head tells of the texts with it
 abbrev pub Tells : Wanted → Bytes → Type 0
 Tells (wanted.Body len parts) head = IsSized head len × (parts_in head ≡ Ok parts)
-Tells (wanted.Nothing front) head = (text : Bytes) → headed text head (message_in head []) ≡ front
+Tells (wanted.Nothing front) head =
+    (text : Bytes) → front_after_head text head (message_in head []) ≡ front
 
 -- how many bytes head and body have together, where they are within the limit
 abbrev pub IsLenOf : Option ℕ → ℕ → Type 0

@@ -9,7 +9,7 @@ ghost use Rattle.sc_syntax.specs.Sequences.{cseq_of};
 ghost use Rattle.sc_syntax.specs.Vias.{vias_of};
 ghost use Rattle.sc_syntax.specs.Judging.{has_branch, in_line};
 ghost use Rattle.sc_syntax.specs.Lines.{lines_behind};
-ghost use Rattle.sc_syntax.specs.Folds.{joined};
+ghost use Rattle.sc_syntax.specs.Folds.{text_without_folds};
 ghost use Rattle.sc_syntax.specs.Fronts.{answerable_in, answerable_of, answerable_with, field_of, once, vias_in, with_branch};
 ghost use Rattle.sc_head_text.specs.Answers.{Gives};
 ghost use Rattle.sc_stream.specs.Answers.{TakesVias, all_vias, vias_at};
@@ -47,7 +47,7 @@ fn answerable_behind(alloc: Global, rest: Option<&[u8]>) -> Result<Option<Answer
         (λ heads.
         heads
         ≡ answerable_in
-        (filter_map (λ line. field_of (joined line))
+        (filter_map (λ line. field_of (text_without_folds line))
         (lines_behind (option_copied rest.entry)))) }
 {
     let fields = fields_behind(alloc, rest)?;

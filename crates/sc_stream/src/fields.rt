@@ -4,7 +4,7 @@ ghost use Rattle.std.specs.Prelude.{◌≡◌, ◌++◌, ◌∷◌, [], IfOk, On
 ghost use Rattle.std.specs.List.{position_or_len};
 ghost use Rattle.std.specs.Option.{option_copied};
 ghost use Rattle.sc_syntax.specs.Lines.{lines_behind};
-ghost use Rattle.sc_syntax.specs.Folds.{joined};
+ghost use Rattle.sc_syntax.specs.Folds.{text_without_folds};
 ghost use Rattle.sc_syntax.specs.Fronts.{field_of, only, values_of};
 ghost use Rattle.sc_stream.specs.Fields.{is_of, with_some};
 
@@ -19,7 +19,7 @@ pub fn fields_behind(alloc: Global, rest: Option<&[u8]>) -> Result<List<Field>, 
     ensures { IfOk result
         (λ fields.
         fields
-        ≡ filter_map (λ line. field_of (joined line))
+        ≡ filter_map (λ line. field_of (text_without_folds line))
         (lines_behind (option_copied rest.entry))) }
 {
     let mut fields = List::new(alloc);
@@ -37,7 +37,8 @@ pub fn fields_behind(alloc: Global, rest: Option<&[u8]>) -> Result<List<Field>, 
 
 // A line's field, at the end.
 fn put_line(fields: &mut List<Field>, alloc: Global, line: &[u8]) -> Result<(), NoMemory>
-    ensures { OnOk result (fields.new ≡ with_some fields.old (field_of (joined line.now))) }
+    ensures { OnOk result
+        (fields.new ≡ with_some fields.old (field_of (text_without_folds line.now))) }
 {
     match read_line(alloc, line)? {
         Some(field) => put_last(fields, field),
@@ -54,7 +55,7 @@ fn put_last(fields: &mut List<Field>, field: Field) -> Result<(), NoMemory>
 
 // The field of a line, whose folds are joined first.
 fn read_line(alloc: Global, line: &[u8]) -> Result<Option<Field>, NoMemory>
-    ensures { IfOk result (λ field. field ≡ field_of (joined line.now)) }
+    ensures { IfOk result (λ field. field ≡ field_of (text_without_folds line.now)) }
 {
     let text = join(alloc, line)?;
     read_field(alloc, text.as_slice())

@@ -4,7 +4,7 @@ ghost use Rattle.std.specs.Prelude.{◌≡◌, ◌≤◌, ◌+◌, [], Ok, None,
 ghost use Rattle.sc_syntax.specs.declared.ending.Ending.TheVariants.{Empty};
 ghost use Rattle.sc_syntax.specs.Lines.{end_of};
 ghost use Rattle.sc_syntax.specs.Messages.{lacking, message_in, parts_in};
-ghost use Rattle.sc_syntax.specs.Fronts.{bad, front_of, headed, sized, whole};
+ghost use Rattle.sc_syntax.specs.Fronts.{bad_front, front_after_head, front_of, front_of_length, whole};
 ghost use Rattle.sc_syntax.specs.declared.front.Front.TheVariants.{Open, Long};
 ghost use Rattle.sc_stream.specs.declared.fronts.Wanted.TheVariants.{Nothing};
 ghost use Rattle.sc_stream.specs.Knowing.{IsLenOf, Tells};
@@ -67,7 +67,8 @@ pub fn unended(text: &[u8]) -> Front
 // A text with this head.
 fn headed(alloc: Global, text: &[u8], head: &[u8]) -> Result<Front, NoMemory>
     requires { length head.now + 4 ≤ 65535 }
-    ensures { IfOk result (λ front. front ≡ headed text.now head.now (message_in head.now [])) }
+    ensures { IfOk result
+        (λ front. front ≡ front_after_head text.now head.now (message_in head.now [])) }
 {
     match wanted_by(alloc, head) {
         Ok(Wanted::Body { len, parts }) => sized(alloc, text, head, len, parts),
@@ -100,7 +101,7 @@ pub fn wanted_by(alloc: Global, head: &[u8]) -> Result<Wanted, NoMemory>
 // A head with this fault, which isn't the length of its body.
 fn wanted_never(alloc: Global, head: &[u8], at: usize, kind: u8) -> Result<Wanted, NoMemory>
     ensures { IfOk result
-        (λ wanted. wanted ≡ Nothing (bad head.now (record { at = at; kind = kind }))) }
+        (λ wanted. wanted ≡ Nothing (bad_front head.now (record { at = at; kind = kind }))) }
 {
     match bad(alloc, head, at, kind) {
         Ok(front) => Ok(Wanted::Nothing(front)),
@@ -151,7 +152,7 @@ fn len_with(head: &[u8], told: Option<u64>) -> Option<usize>
 }
 
 /// Head and body, which have so many bytes together. The head is read.
-#[tactic(auto, unfolding(sc_syntax::specs::Fronts::sized))]
+#[tactic(auto, unfolding(sc_syntax::specs::Fronts::front_of_length))]
 pub fn sized(
     alloc: Global,
     text: &[u8],
@@ -162,7 +163,7 @@ pub fn sized(
     requires whole { length head.now + 4 ≤ len }
     requires within { len ≤ 65535 }
     requires read { parts_in head.now ≡ Ok parts }
-    ensures { IfOk result (λ front. front ≡ sized text.now head.now len) }
+    ensures { IfOk result (λ front. front ≡ front_of_length text.now head.now len) }
 {
     if len > text.len() {
         return Ok(Front::Open);
@@ -204,9 +205,9 @@ pub fn whole(
 }
 
 // A head with this fault.
-#[tactic(auto, unfolding(sc_syntax::specs::Fronts::bad, sc_syntax::specs::Fronts::answerable_of))]
+#[tactic(auto, unfolding(sc_syntax::specs::Fronts::bad_front, sc_syntax::specs::Fronts::answerable_of))]
 fn bad(alloc: Global, head: &[u8], at: usize, kind: u8) -> Result<Front, NoMemory>
-    ensures { IfOk result (λ front. front ≡ bad head.now (record { at = at; kind = kind })) }
+    ensures { IfOk result (λ front. front ≡ bad_front head.now (record { at = at; kind = kind })) }
 {
     let heads = answerable_of(alloc, head, kind)?;
     Ok(Front::Bad { at, kind, heads })

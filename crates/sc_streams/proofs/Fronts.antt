@@ -8,7 +8,7 @@ use Rattle.sc_syntax.specs.declared.ending.Ending.TheVariants.{Empty}
 use Rattle.sc_tokens.specs.Bytes.{Bytes}
 use Rattle.sc_syntax.specs.UriParts.{Fault}
 use Rattle.sc_syntax.specs.Lines.{begins_break, end_of}
-use Rattle.sc_syntax.specs.Fronts.{bad, behind_breaks, body_len, front_of, headed, sized, whole}
+use Rattle.sc_syntax.specs.Fronts.{bad_front as bad, behind_breaks, body_len, front_of, front_after_head as headed, front_of_length as sized, whole}
 use Rattle.sc_syntax.specs.Messages.{message_in}
 use Rattle.sc_stream.specs.Frames.{front_behind, len_of}
 

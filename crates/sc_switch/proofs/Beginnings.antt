@@ -13,8 +13,8 @@ use Rattle.sc_state.specs.declared.session.Session.{Session}
 use Rattle.sc_state.specs.declared.working.Prepared.{Prepared}
 use Rattle.sc_hosts.specs.Histories.{as_session}
 use Rattle.sc_hosts.specs.Nets.{host_at}
-use Rattle.sc_hosts.specs.Preparing.{prepared, prepared_for}
-use Rattle.sc_hosts.specs.Runs.{shown}
+use Rattle.sc_hosts.specs.Preparing.{prepared_session as prepared, prepared_for}
+use Rattle.sc_hosts.specs.Runs.{prepared_turn as shown}
 use Rattle.sc_hosts.specs.Steps.{live_at, ringing_at}
 use Rattle.sc_steps.specs.TurnParts.{Begins, FirstBegins}
 use Rattle.sc_switch.specs.declared.readied.Begun.{Begun}

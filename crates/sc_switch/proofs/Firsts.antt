@@ -12,7 +12,7 @@ use Rattle.sc_state.specs.declared.net.Net.{Net}
 use Rattle.sc_state.specs.declared.session.Session.{Session}
 use Rattle.sc_model.specs.Settings.{app_of}
 use Rattle.sc_hosts.specs.Histories.{as_session}
-use Rattle.sc_hosts.specs.Runs.{chained, IsLawful}
+use Rattle.sc_hosts.specs.Runs.{net_from as chained, IsLawful}
 use Rattle.sc_hosts.specs.Steps.{live_at, live_of}
 use Rattle.sc_lives.proofs.HostCountSteps.{chained-hosts}
 use Rattle.sc_moments.proofs.PastRuns.{first-is-past}

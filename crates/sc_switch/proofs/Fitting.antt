@@ -20,7 +20,7 @@ use Rattle.sc_servlets.specs.Stated.{servlet_at, listener_at}
 use Rattle.sc_servlets.proofs.Brought.{brought_allowed}
 use Rattle.sc_model.specs.Settings.{Charters, IsSetup, app_of, charters_of}
 use Rattle.sc_hosts.specs.Histories.{as_session}
-use Rattle.sc_hosts.specs.Runs.{AllowedBy, IsAllowed, MayTurn, shown}
+use Rattle.sc_hosts.specs.Runs.{AllowedBy, IsAllowed, MayTurn, prepared_turn as shown}
 use Rattle.sc_hosts.specs.Steps.{live_at}
 use Rattle.sc_switch.specs.Standing.{AreKept, Fits, Known, listener_of, net_of, servlet_of, step_of}
 use Rattle.sc_leases.proofs.KeptLeases.{kept-shows}

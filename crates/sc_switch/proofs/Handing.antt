@@ -7,7 +7,7 @@ use Rattle.sc_state.specs.declared.net.Net.{Net}
 use Rattle.sc_state.specs.declared.session.Session.{Session}
 use Rattle.sc_model.specs.JournalSizes.{journal_size}
 use Rattle.sc_hosts.specs.Histories.{as_session}
-use Rattle.sc_hosts.specs.Runs.{chained}
+use Rattle.sc_hosts.specs.Runs.{net_from as chained}
 use Rattle.sc_switch.specs.Answers.{handing}
 use Rattle.sc_switch.specs.Standing.{Known, net_of, steps_of, whole, IsSwitch}
 

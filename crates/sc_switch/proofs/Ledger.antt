@@ -31,7 +31,7 @@ fewer old (steps.In from message) are = omega arith
 fewer old (steps.Bad from bad) are = omega arith
 fewer old (steps.Lost place) are = omega arith
 fewer old (steps.Tick now) are = omega arith
-fewer old (steps.Turn app event now calls end) are = app-fewer as_session old.setup (net_of old) old.kept 0 old.leases app are
+fewer old (steps.Turn end app event now calls) are = app-fewer as_session old.setup (net_of old) old.kept 0 old.leases app are
 fewer old (steps.Withdraw app) are = app-fewer as_session old.setup (net_of old) old.kept 0 old.leases app are
 
 pub step_counts : (earlier others : ℕ) (old : Known) (step : Step) → AreKept old → IsCounted earlier others old → IsCounted earlier others (with_step old step)

@@ -11,7 +11,7 @@ use Rattle.sc_state.specs.declared.net.Net.{Net}
 use Rattle.sc_state.specs.declared.queue.Waiting.{Waiting}
 use Rattle.sc_state.specs.declared.session.Session.{Session}
 use Rattle.sc_hosts.specs.Histories.{as_session}
-use Rattle.sc_hosts.specs.Runs.{chained}
+use Rattle.sc_hosts.specs.Runs.{net_from as chained}
 use Rattle.sc_hosts.specs.Steps.{live_at}
 use Rattle.sc_lives.proofs.NumberedRuns.{chained-found}
 use Rattle.sc_runs.specs.Following.{first_number}

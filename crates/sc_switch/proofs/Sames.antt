@@ -14,7 +14,7 @@ use Rattle.sc_state.specs.declared.working.Prepared.{Prepared}
 use Rattle.sc_servlets.specs.declared.lease.Lease.{Lease}
 use Rattle.sc_model.specs.Settings.{app_of}
 use Rattle.sc_hosts.specs.Histories.{as_session}
-use Rattle.sc_hosts.specs.Runs.{shown}
+use Rattle.sc_hosts.specs.Runs.{prepared_turn as shown}
 use Rattle.sc_hosts.specs.Steps.{live_at}
 use Rattle.sc_runs.specs.Following.{first_number}
 use Rattle.sc_runs.specs.Next.{Next, next_events}

@@ -17,7 +17,7 @@ use Rattle.sc_servlets.specs.declared.done.Done.{Done}
 use Rattle.sc_model.specs.JournalSizes.{HasNoRoom, journal_size, record_size, step_size}
 use Rattle.sc_model.specs.Settings.{IsSetup}
 use Rattle.sc_hosts.specs.Histories.{as_session}
-use Rattle.sc_hosts.specs.Runs.{IsAllowed, IsLawful, IsLawfulFrom, after_step, all_sent, all_sent_from, chained, chained_from, live_count, quiet_host, start, waiting_count}
+use Rattle.sc_hosts.specs.Runs.{IsAllowed, IsLawful, IsLawfulFrom, after_step, all_sent, all_sent_from, net_from as chained, chained_from, live_count, quiet_host, start, waiting_count}
 use Rattle.sc_hosts.proofs.RunLaws.{sent-of-beginning}
 use Rattle.sc_switch.specs.declared.refused.StepRefused.{StepRefused}
 use Rattle.sc_switch.specs.declared.refused.StepRefused.TheVariants as refused

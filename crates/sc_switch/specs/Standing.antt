@@ -18,7 +18,7 @@ use Rattle.sc_servlets.specs.Stated.{servlet_at, listener_at}
 use Rattle.sc_model.specs.JournalSizes.{journal_size}
 use Rattle.sc_model.specs.Settings.{IsSetup, charters_of}
 use Rattle.sc_hosts.specs.Histories.{as_session}
-use Rattle.sc_hosts.specs.Runs.{chained, IsLawful, all_sent, live_count, shown, waiting_count}
+use Rattle.sc_hosts.specs.Runs.{IsLawful, all_sent, live_count, net_from, prepared_turn, waiting_count}
 use Rattle.sc_leases.specs.Leases.{AreLeases, has_number}
 
 -- what callers see: the set-up, the number and the first moment of the epoch, the steps of the
@@ -40,7 +40,7 @@ whole known = known.handed ++ known.journal
 
 -- the net after them
 unfoldable pub net_of : Known → Net Session
-net_of known = chained as_session known.setup known.epoch known.began (whole known)
+net_of known = net_from as_session known.setup known.epoch known.began (whole known)
 
 -- the steps of journals, one after the other
 unfoldable pub steps_of : List (Kept Step) → List Step
@@ -76,7 +76,7 @@ pub record Fits (setup : Setup) (kept : List Lease) (done : Done) : Type 0 where
 -- the step of a turn that is brought
 unfoldable pub step_of : Done → Step
 step_of done =
-    steps.Turn done.lease.app done.lease.event_number done.lease.shown.now done.calls done.end
+    steps.Turn done.end done.lease.app done.lease.event_number done.lease.shown.now done.calls
 
 -- ## What the switch stands for
 

@@ -3,7 +3,7 @@
 ghost use Rattle.std.specs.Prelude.{◌≡◌, ◌≤◌, ◌<◌, ◌^◌, ◌++◌, ◌∷◌, [], IfOk, OnErr, OnOk, IfSome, IsTrue, Option, Some, is_some, length, slice_get, false, true};
 ghost use Rattle.std.specs.Option.{option_copied};
 ghost use Rattle.sc_hosts.specs.Histories.{as_session};
-ghost use Rattle.sc_hosts.specs.Runs.{shown};
+ghost use Rattle.sc_hosts.specs.Runs.{prepared_turn};
 ghost use Rattle.sc_hosts.specs.Nets.{host_at};
 ghost use Rattle.sc_hosts.specs.Steps.{live_at, ringing_at};
 ghost use Rattle.sc_model.specs.Settings.{app_of};
@@ -66,7 +66,7 @@ fn ringing_for(
 }
 
 /// What the first event of a session shows at a moment.
-#[tactic(auto, unfolding(sc_hosts::specs::Runs::shown, sc_hosts::specs::Histories::as_session))]
+#[tactic(auto, unfolding(sc_hosts::specs::Runs::prepared_turn, sc_hosts::specs::Histories::as_session))]
 fn shown(
     alloc: Global,
     setup: &Setup,
@@ -77,7 +77,7 @@ fn shown(
     now: u64,
 ) -> Result<Prepared, NoMemory>
     ensures { IfOk result
-        (λ p. p ≡ shown as_session setup.now net.now app live.now waiting.now now) }
+        (λ p. p ≡ prepared_turn as_session setup.now net.now app live.now waiting.now now) }
 {
     let ringing = ringing_for(alloc, app, &waiting.event, net)?;
     let session = live.session.get().clone_in(alloc)?;
@@ -102,7 +102,7 @@ fn shown_kept(
     now: u64,
 ) -> Result<Boxed<Prepared>, NoMemory>
     ensures { IfOk result
-        (λ p. p ≡ shown as_session setup.now net.now app live.now waiting.now now) }
+        (λ p. p ≡ prepared_turn as_session setup.now net.now app live.now waiting.now now) }
 {
     let shown = shown(alloc, setup, net, app, live, waiting, now)?;
     Boxed::new(alloc, shown)
@@ -152,7 +152,8 @@ fn lease_of(
     now: u64,
     shown: &Prepared,
 ) -> Result<Lease, NoMemory>
-    ensures { IfOk result (λ lease. IsMade number app kind event_number now shown.now lease) }
+    ensures { IfOk result
+        (λ lease. IsMade number app kind event_number now prepared_turn.now lease) }
 {
     if shown.view.now != now || !is_in_range(&shown.view) {
         return Err(NoMemory);
@@ -175,7 +176,8 @@ fn let_go(shown: Boxed<Prepared>) {
 
 /// What is shown, but for the timer of a branch.
 fn begun_of(event: &Queued, shown: Boxed<Prepared>) -> Option<Boxed<Prepared>>
-    ensures { IfSome result (λ begun. (begun ≡ shown) × (is_branch_timer event.now ≡ false)) }
+    ensures { IfSome result
+        (λ begun. (begun ≡ prepared_turn) × (is_branch_timer event.now ≡ false)) }
 {
     if is_branch_timer(event) {
         let_go(shown);
@@ -208,7 +210,7 @@ pub fn offer(
 
 /// Keeps what the turn of an offered lease begins with.
 fn keep_begun(app: AppId, now: u64, offered: Offered, net: &mut Readied) -> Lease
-    requires { IfSome offered.begun (λ shown. BeginsAnyhow net.old app now shown) }
+    requires { IfSome offered.begun (λ prepared_turn. BeginsAnyhow net.old app now prepared_turn) }
     ensures lease { result ≡ offered.lease }
     ensures same { net.new ≡ net.old }
 {
@@ -298,7 +300,7 @@ fn offer_first(
     requires past { live.now.since ≤ net.now.moment }
     requires kind { is_some (app_of setup.now.config app.host) ≡ true }
     requires begun { begun.now
-        ≡ shown as_session setup.now net.now app live.now waiting.now net.now.moment }
+        ≡ prepared_turn as_session setup.now net.now app live.now waiting.now net.now.moment }
     ensures { IfOk result (λ lease. IsOffer setup.now net.now app number lease) }
 {
     let kind = match app_of(setup, app.host) {

@@ -4,7 +4,7 @@
 ghost use Rattle.std.specs.Prelude.{◌≡◌, List, ℕ, decimal, length, min};
 ghost use Rattle.std.specs.List.{flat_map};
 ghost use Rattle.std.specs.Option.{option_copied};
-ghost use Rattle.sc_grammar.specs.Written.{address_text, closing_lines, contact_line, contact_text, cseq_text, dialog_lines, field_line, head_text, hops_line, param_text, params_text, port_text, record_route_line, request_line, route_line, routing_lines, sip_uri_text, status_line, uri_text, via_line, via_text, written};
+ghost use Rattle.sc_grammar.specs.Written.{address_text, closing_lines, contact_line, contact_text, cseq_text, dialog_lines, field_line, head_text, hops_line, param_text, params_text, port_text, record_route_line, request_line, route_line, routing_lines, sip_uri_text, status_line, text_of_message, uri_text, via_line, via_text};
 ghost use Rattle.sc_switch.specs.Lengths.{marked_length};
 
 use crate::sizes::length_of;
@@ -14,9 +14,9 @@ use sc_value::{
 };
 
 /// How many bytes the written text of a message has.
-#[tactic(auto, unfolding(sc_grammar::specs::Written::written), using(crate::proofs::WrittenLengths::two))]
+#[tactic(auto, unfolding(sc_grammar::specs::Written::text_of_message), using(crate::proofs::WrittenLengths::two))]
 pub fn message_len(message: &Message) -> u64
-    ensures { result ≡ min (length (written message.now)) u64.MAX }
+    ensures { result ≡ min (length (text_of_message message.now)) u64.MAX }
 {
     match message {
         Message::Request(request) => {

@@ -3,7 +3,7 @@
 ghost use Rattle.std.specs.Prelude.{◌≡◌, ◌+◌, ◌<◌, ◌≤◌, ◌^◌, ◌∷◌, [], ◌++◌, Ok, List, map, min, length, Option, Some, option_map, IfOk, IfErr, OnOk, OnErr, IfSome, IfNone, is_some, true, false};
 ghost use Rattle.sc_servlets.specs.Stated.{both_charters};
 ghost use Rattle.sc_value.specs.declared.message.Sent.{Sent};
-ghost use Rattle.sc_grammar.specs.Written.{written};
+ghost use Rattle.sc_grammar.specs.Written.{text_of_message};
 ghost use Rattle.sc_model.specs.JournalSizes.{step_size};
 ghost use Rattle.sc_model.specs.Settings.{IsSetup};
 ghost use Rattle.sc_hosts.specs.Histories.{as_session};
@@ -199,9 +199,9 @@ impl Switch {
     ) -> Result<(), StepRefused>
         requires { HasVia message }
         ensures ok { OnOk result (self.new ≡ with_step self.old (Step.In from message)) }
-        ensures room { OnOk result (¬ (IsFullFor self.old (length (written message)))) }
+        ensures room { OnOk result (¬ (IsFullFor self.old (length (text_of_message message)))) }
         ensures refused { IfErr result
-            (λ cause. RefusesRight self.old (length (written message)) cause) }
+            (λ cause. RefusesRight self.old (length (text_of_message message)) cause) }
         ensures err { OnErr result (self.new ≡ self.old) }
     {
         let bytes = message_len(&message);

@@ -17,7 +17,7 @@ use Rattle.sc_tokens.specs.Bytes.{Bytes}
 use Rattle.sc_tokens.specs.Cuts.{has}
 use Rattle.sc_tokens.specs.Hosts.{begins}
 use Rattle.sc_syntax.specs.Uris.{uri_of}
-use Rattle.sc_tokens.specs.Blanks.{trimmed_front, trimmed}
+use Rattle.sc_tokens.specs.Blanks.{trimmed_front, without_blanks as trimmed}
 use Rattle.sc_syntax.specs.Scanning.{is_outside, past_front, past_word, past, is_part_end}
 use Rattle.sc_syntax.specs.Parameters.{params_of}
 use Rattle.sc_syntax.specs.Addresses.{Named, named_in, with_uri, address_with, address_in, address_of, addresses_of, contact_of, contacts_of}

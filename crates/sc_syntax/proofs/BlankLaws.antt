@@ -8,7 +8,7 @@ use Rattle.std.proofs.lemmas.List.{take-append-drop, reverse-reverse, reverse-ap
 use Rattle.std.proofs.lemmas.List.Folds.{list_all-append}
 use Rattle.sc_tokens.specs.Tokens.{is_blank}
 use Rattle.sc_tokens.specs.Bytes.{Bytes}
-use Rattle.sc_tokens.specs.Blanks.{trimmed_front, trimmed_back, trimmed}
+use Rattle.sc_tokens.specs.Blanks.{trimmed_front, trimmed_back, without_blanks as trimmed}
 use Rattle.sc_syntax.specs.SpelledParts.{IsBlanks, Padded}
 
 pub both : (a b : Bool) → (a && b) ≡ true → (a ≡ true) × (b ≡ true)

@@ -8,7 +8,7 @@ use Rattle.std.proofs.lemmas.List.Folds.{list_any-append}
 use Rattle.sc_tokens.specs.Tokens.{is_blank}
 use Rattle.sc_tokens.specs.Bytes.{Bytes}
 use Rattle.sc_tokens.specs.Cuts.{has, before, after}
-use Rattle.sc_tokens.specs.Blanks.{trimmed_front, trimmed_back, trimmed}
+use Rattle.sc_tokens.specs.Blanks.{trimmed_front, trimmed_back, without_blanks as trimmed}
 use Rattle.sc_syntax.proofs.CutLaws.{before_here, before_on, after_here, after_on}
 use Rattle.sc_syntax.proofs.BlankLaws.{both, front_here, back_is}
 

@@ -10,10 +10,10 @@ use Rattle.sc_tokens.specs.Bytes.{Bytes}
 use Rattle.sc_tokens.specs.Cuts.{before, after}
 use Rattle.sc_tokens.specs.Hosts.{begins, is_none_left}
 use Rattle.sc_tokens.specs.Quoted.{closing, is_quote_at, quoted_end}
-use Rattle.sc_tokens.specs.Blanks.{trimmed}
+use Rattle.sc_tokens.specs.Blanks.{without_blanks as trimmed}
 use Rattle.sc_tokens.specs.HeaderTokens.{is_string, is_display_byte, IsDisplay}
-use Rattle.sc_syntax.specs.Addresses.{Named, enclosed, in_brackets, quoted_named, unless_empty, token_named, named_in}
-use Rattle.sc_syntax.specs.SpelledUris.{led}
+use Rattle.sc_syntax.specs.Addresses.{Named, uri_in_brackets as enclosed, in_brackets, quoted_named, unless_empty, token_named, named_in}
+use Rattle.sc_syntax.specs.SpelledUris.{behind_sign as led}
 use Rattle.sc_syntax.specs.SpelledParts.{IsBlanks, Padded}
 use Rattle.sc_syntax.proofs.CutLaws.{some_same, none_some}
 use Rattle.sc_syntax.proofs.PartLaws.{led_text}

@@ -12,8 +12,8 @@ use Rattle.sc_syntax.specs.declared.left.Start.{Start}
 use Rattle.sc_syntax.specs.UriParts.{Fault, then_read}
 use Rattle.sc_syntax.specs.Lines.{start_line, header_lines}
 use Rattle.sc_syntax.specs.StartLines.{start_of}
-use Rattle.sc_syntax.specs.Messages.{placed, nothing_left, all_judged, Peers, peers_of, head_of, message_with, is_method_of, fits, finished_with, finished, message_in, parts_in, lacking}
-use Rattle.sc_syntax.specs.Fronts.{bad, body_len, headed, sized}
+use Rattle.sc_syntax.specs.Messages.{fault_at_place as placed, nothing_left, all_judged, Peers, peers_of, head_of, message_with, is_method_of, fits, finished_with, message_from_parts as finished, message_in, parts_in, lacking}
+use Rattle.sc_syntax.specs.Fronts.{bad_front as bad, body_len, front_after_head as headed, front_of_length as sized}
 use Rattle.sc_syntax.proofs.CutLaws.{none_some, some_same}
 use Rattle.sc_syntax.proofs.KindLaws.{head_fault}
 use Rattle.sc_syntax.proofs.PartLaws.{then_ok}

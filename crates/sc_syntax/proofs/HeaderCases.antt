@@ -13,12 +13,12 @@ use Rattle.sc_tokens.specs.Quoted.{closing, is_quote_at, quoted_end}
 use Rattle.sc_syntax.specs.UriParts.{then_read, port_in, is_port_start, sent_at, params_at, headers_at}
 use Rattle.sc_tokens.specs.UriTokens.{is_scheme, sip_scheme}
 use Rattle.sc_syntax.specs.Uris.{user_in, behind_user, sent_in, params_text_in, sip_behind, sip_at, other_of, uri_behind, uri_of}
-use Rattle.sc_tokens.specs.Blanks.{trimmed_front, trimmed_back, trimmed, first_word, behind_word}
+use Rattle.sc_tokens.specs.Blanks.{trimmed_front, trimmed_back, without_blanks as trimmed, first_word, behind_word}
 use Rattle.sc_syntax.specs.Scanning.{is_outside, past_front, past_word, past_bracketed, past_params, in_string, past, is_part_end, parts, with_first, all_read}
 use Rattle.sc_tokens.specs.HeaderTokens.{is_value_byte, is_string, is_param_text, is_display_byte}
 use Rattle.sc_syntax.specs.Parameters.{param_in, param_of}
 use Rattle.sc_syntax.specs.Vias.{behind_slash, behind_version, hop_in, via_with, via_in, via_of, vias_of}
-use Rattle.sc_syntax.specs.Addresses.{enclosed, in_brackets, quoted_named, unless_empty, token_named, named_in, with_uri, address_with, address_in, address_of, addresses_of, contact_of, contacts_of}
+use Rattle.sc_syntax.specs.Addresses.{uri_in_brackets as enclosed, in_brackets, quoted_named, unless_empty, token_named, named_in, with_uri, address_with, address_in, address_of, addresses_of, contact_of, contacts_of}
 use Rattle.sc_syntax.specs.Sequences.{cseq_in, cseq_of, hops_of}
 
 -- ## Parameters

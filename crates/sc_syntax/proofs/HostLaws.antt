@@ -13,7 +13,7 @@ use Rattle.sc_tokens.specs.Numbers.{is_digits, number_in, number_below, port_of}
 use Rattle.sc_tokens.specs.Cuts.{has, before, after, onto_first, pieces}
 use Rattle.sc_tokens.specs.Hosts.{is_host_name, begins, is_octet, is_ipv4, is_group, groups_of, sum_of, groups_in, groups, begins_gap, gap_of, leaves_gap, is_full, is_ipv6, is_none_left, is_literal_end, is_host, host_len}
 use Rattle.sc_syntax.specs.UriParts.{Fault, port_fault, then_read, port_in, is_port_start, sent_at}
-use Rattle.sc_syntax.specs.SpelledUris.{led, IsPortSpelled}
+use Rattle.sc_syntax.specs.SpelledUris.{behind_sign as led, IsPortSpelled}
 use Rattle.sc_syntax.proofs.CutLaws.{some_same, none_some}
 use Rattle.sc_syntax.proofs.PartLaws.{led_text, lacks_before}
 use Rattle.sc_syntax.proofs.BlankLaws.{both, and_true}

@@ -4,7 +4,7 @@ use Rattle.std.specs.Prelude.{⊤, is_some, nat_le}
 use Rattle.std.specs.Option.{option_map_or}
 use Rattle.std.specs.Result.{result_ok}
 use Rattle.sc_tokens.specs.Bytes.{Bytes}
-use Rattle.sc_tokens.specs.Blanks.{trimmed, trimmed_back}
+use Rattle.sc_tokens.specs.Blanks.{without_blanks as trimmed, trimmed_back}
 use Rattle.sc_tokens.specs.Cuts.{has, before, after}
 use Rattle.sc_tokens.specs.HeaderNames.{long_name}
 use Rattle.sc_tokens.specs.Numbers.{number_of}
@@ -20,10 +20,10 @@ use Rattle.sc_syntax.specs.Vias.{vias_of}
 use Rattle.sc_syntax.specs.Addresses.{address_of, addresses_of, contacts_of}
 use Rattle.sc_syntax.specs.Sequences.{cseq_of, hops_of}
 use Rattle.sc_syntax.specs.Lines.{start_line, header_lines}
-use Rattle.sc_syntax.specs.Folds.{joined}
+use Rattle.sc_syntax.specs.Folds.{text_without_folds as joined}
 use Rattle.sc_syntax.specs.StartLines.{is_version, request_in, request_behind, request_of, code_of, status_in, status_behind, status_of, is_status_line, is_broken, start_of}
-use Rattle.sc_syntax.specs.Judging.{header_named, counted, taken_as, taken_once, begins_well, with_vias, with_routes, with_record_routes, with_contacts, with_from, with_to, with_call_id, with_cseq, with_hops, with_length, with_field, in_line, taken, named, judged}
-use Rattle.sc_syntax.specs.Messages.{placed, nothing_left, all_judged, parts_in}
+use Rattle.sc_syntax.specs.Judging.{header_named, with_values as counted, taken_as, taken_once, begins_well, with_vias, with_routes, with_record_routes, with_contacts, with_from, with_to, with_call_id, with_cseq, with_hops, with_length, with_field, in_line, with_header as taken, with_named_header as named, left_with_line as judged}
+use Rattle.sc_syntax.specs.Messages.{fault_at_place as placed, nothing_left, all_judged, parts_in}
 
 -- a fault has another kind
 IsEarly : {X : Type 0} → Result X ℕ → Type 0

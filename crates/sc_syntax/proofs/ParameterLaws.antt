@@ -8,11 +8,11 @@ use Rattle.sc_syntax.specs.declared.scan.Scan.{Scan}
 use Rattle.sc_syntax.specs.declared.scan.Scan.TheVariants.{Params}
 use Rattle.sc_tokens.specs.Bytes.{Bytes}
 use Rattle.sc_tokens.specs.Cuts.{before, after}
-use Rattle.sc_tokens.specs.Blanks.{trimmed}
+use Rattle.sc_tokens.specs.Blanks.{without_blanks as trimmed}
 use Rattle.sc_syntax.specs.Scanning.{is_outside, past_params, past, is_part_end, parts}
 use Rattle.sc_tokens.specs.HeaderTokens.{is_value_byte, is_string, is_param_text}
 use Rattle.sc_syntax.specs.Parameters.{param_in, param_of, params_of}
-use Rattle.sc_syntax.specs.SpelledUris.{led}
+use Rattle.sc_syntax.specs.SpelledUris.{behind_sign as led}
 use Rattle.sc_syntax.specs.SpelledParts.{IsBlanks, Padded, header_param, IsParamSpelled, AreLed, AreParamsSpelled}
 use Rattle.sc_syntax.proofs.BlankLaws.{both, and_true, padded_is_trimmed}
 use Rattle.sc_syntax.proofs.ClassLaws.{positive, differs, all_weaker, class_lacks, before_joined, after_joined, before_all, after_none, EndsSolid, begins_joined, ends_joined, class_begins, class_ends, solid_is_trimmed, not_true}

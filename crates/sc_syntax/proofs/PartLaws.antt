@@ -15,7 +15,7 @@ use Rattle.sc_tokens.specs.Hosts.{begins, is_host, host_len}
 use Rattle.sc_tokens.specs.UriTokens.{is_param_name, is_param_value}
 use Rattle.sc_syntax.specs.UriParts.{Fault, port_fault, then_read, port_in, is_port_start, sent_at, param_at, params_in, params_at, headers_at}
 use Rattle.sc_value.specs.ParamRules.{IsUriParam, AreUriParams}
-use Rattle.sc_syntax.specs.SpelledUris.{led, IsPortSpelled, spelled_param}
+use Rattle.sc_syntax.specs.SpelledUris.{behind_sign as led, IsPortSpelled, spelled_param}
 use Rattle.sc_syntax.proofs.CutLaws.{some_same, none_some, before_here, before_on, after_here, after_on}
 
 -- ## Answers

@@ -10,7 +10,7 @@ use Rattle.sc_tokens.specs.Tokens.{is_token, is_token_byte}
 use Rattle.sc_value.specs.declared.parts.CSeq.{CSeq}
 use Rattle.sc_tokens.specs.Bytes.{Bytes}
 use Rattle.sc_tokens.specs.Numbers.{number_below}
-use Rattle.sc_tokens.specs.Blanks.{trimmed, first_word, behind_word}
+use Rattle.sc_tokens.specs.Blanks.{without_blanks as trimmed, first_word, behind_word}
 use Rattle.sc_syntax.specs.Sequences.{cseq_in, cseq_of}
 use Rattle.sc_syntax.specs.SpelledParts.{IsBlanks}
 use Rattle.sc_syntax.specs.SpelledSequences.{IsSequenceSpelled, IsCSeqSpelled}

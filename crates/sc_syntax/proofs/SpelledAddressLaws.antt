@@ -24,11 +24,11 @@ use Rattle.sc_tokens.specs.Quoted.{closing, quoted_end}
 use Rattle.sc_syntax.specs.UriParts.{scheme_fault}
 use Rattle.sc_tokens.specs.UriTokens.{is_scheme}
 use Rattle.sc_syntax.specs.Uris.{uri_behind, uri_of}
-use Rattle.sc_tokens.specs.Blanks.{trimmed_front, trimmed_back, trimmed}
+use Rattle.sc_tokens.specs.Blanks.{trimmed_front, trimmed_back, without_blanks as trimmed}
 use Rattle.sc_syntax.specs.Scanning.{is_outside, past_front, past_word, past_bracketed, past_params, past, is_part_end, address_parts, all_read}
 use Rattle.sc_tokens.specs.HeaderTokens.{is_string, is_display_byte, IsWords, IsDisplay}
 use Rattle.sc_syntax.specs.Parameters.{params_of}
-use Rattle.sc_syntax.specs.Addresses.{enclosed, in_brackets, quoted_named, unless_empty, token_named, named_in, with_uri, address_with, address_in, address_of, addresses_of, contact_of, contacts_of}
+use Rattle.sc_syntax.specs.Addresses.{uri_in_brackets as enclosed, in_brackets, quoted_named, unless_empty, token_named, named_in, with_uri, address_with, address_in, address_of, addresses_of, contact_of, contacts_of}
 use Rattle.sc_syntax.specs.SpelledUris.{IsUriSpelled}
 use Rattle.sc_syntax.specs.SpelledParts.{IsBlanks, Padded, AreLed, AreParamsSpelled}
 use Rattle.sc_syntax.specs.SpelledAddresses.{IsNamedSpelled, IsBareSpelled, IsAddressIn, AreAddressesSpelled, IsContactSpelled, AreContactsSpelled}

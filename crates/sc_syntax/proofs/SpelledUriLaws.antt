@@ -19,7 +19,7 @@ use Rattle.sc_syntax.specs.UriParts.{Fault, scheme_fault, host_fault, param_faul
 use Rattle.sc_syntax.specs.Uris.{user_in, behind_user, sent_in, params_text_in, sip_behind, sip_at, other_of, uri_behind, uri_of}
 use Rattle.sc_value.specs.ParamRules.{AreUriParams}
 use Rattle.sc_value.specs.UriValues.{IsSipUri}
-use Rattle.sc_syntax.specs.SpelledUris.{led, closed_by, IsPortSpelled, spelled_param, spelled_behind, IsSipSpelled, IsUriSpelled}
+use Rattle.sc_syntax.specs.SpelledUris.{behind_sign as led, closed_by, IsPortSpelled, spelled_param, spelled_behind, IsSipSpelled, IsUriSpelled}
 use Rattle.sc_syntax.proofs.BlankLaws.{both, and_true}
 use Rattle.sc_syntax.proofs.ClassLaws.{itself, neither, both_false, differs, all_weaker, class_lacks, before_joined, after_joined, before_all, after_none, has_append}
 use Rattle.sc_syntax.proofs.HostLaws.{is_sent_byte, sent_bytes, sent_is_read}

@@ -16,7 +16,7 @@ use Rattle.sc_tokens.specs.Bytes.{Bytes}
 use Rattle.sc_tokens.specs.Cuts.{has, after}
 use Rattle.sc_tokens.specs.Hosts.{is_host}
 use Rattle.sc_syntax.specs.UriParts.{sent_at}
-use Rattle.sc_tokens.specs.Blanks.{trimmed_front, trimmed_back, trimmed, first_word, behind_word}
+use Rattle.sc_tokens.specs.Blanks.{trimmed_front, trimmed_back, without_blanks as trimmed, first_word, behind_word}
 use Rattle.sc_syntax.specs.Scanning.{via_parts}
 use Rattle.sc_syntax.specs.Vias.{behind_slash, behind_version, hop_in, via_with, via_in, via_of, vias_of}
 use Rattle.sc_syntax.specs.SpelledUris.{IsPortSpelled}

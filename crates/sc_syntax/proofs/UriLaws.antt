@@ -13,7 +13,7 @@ use Rattle.sc_syntax.specs.UriParts.{Fault, scheme_fault, sent_at, params_at, he
 use Rattle.sc_tokens.specs.UriTokens.{is_scheme, sip_scheme, IsUser}
 use Rattle.sc_syntax.specs.Uris.{user_in, behind_user, sent_in, params_text_in, sip_behind, sip_at, other_of, uri_behind, uri_of}
 use Rattle.sc_value.specs.UriValues.{IsSipUri}
-use Rattle.sc_syntax.specs.SpelledUris.{led, closed_by, IsPortSpelled, spelled_param, spelled_behind, IsUriSpelled}
+use Rattle.sc_syntax.specs.SpelledUris.{behind_sign as led, closed_by, IsPortSpelled, spelled_param, spelled_behind, IsUriSpelled}
 use Rattle.sc_syntax.proofs.PartLaws.{ok_same, err_ok, if_ok, then_ok, led_text, lacks_before, lacks_all, lacks_after, params_spelled, sent_spelled, headers_are}
 
 -- the parts behind the user, put together

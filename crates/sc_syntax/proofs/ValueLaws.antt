@@ -4,7 +4,7 @@ use Rattle.std.specs.Prelude.{slice_get}
 use Rattle.std.specs.Option.{option_map_or}
 use Rattle.sc_tokens.specs.Tokens.{is_blank, begins_blank, ends_blank, is_one_line, is_value}
 use Rattle.sc_tokens.specs.Bytes.{Bytes}
-use Rattle.sc_tokens.specs.Blanks.{trimmed, trimmed_back}
+use Rattle.sc_tokens.specs.Blanks.{without_blanks as trimmed, trimmed_back}
 use Rattle.sc_syntax.proofs.BlankLaws.{both, and_true, front_more, trimmed_is_padded, trimmed_padded}
 use Rattle.sc_syntax.proofs.ClassLaws.{not_true, solid_is_trimmed}
 use Rattle.sc_syntax.proofs.DisplayLaws.{trimmed_again}

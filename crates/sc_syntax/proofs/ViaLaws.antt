@@ -16,11 +16,11 @@ use Rattle.sc_tokens.specs.Bytes.{Bytes}
 use Rattle.sc_tokens.specs.Cuts.{before, after}
 use Rattle.sc_tokens.specs.Hosts.{begins, is_host_name, is_host}
 use Rattle.sc_syntax.specs.UriParts.{Fault, sent_at}
-use Rattle.sc_tokens.specs.Blanks.{trimmed_front, trimmed_back, trimmed, first_word, behind_word}
+use Rattle.sc_tokens.specs.Blanks.{trimmed_front, trimmed_back, without_blanks as trimmed, first_word, behind_word}
 use Rattle.sc_tokens.specs.HeaderTokens.{is_param_text}
 use Rattle.sc_syntax.specs.Parameters.{param_in, param_of, params_of}
 use Rattle.sc_syntax.specs.Vias.{behind_slash, behind_version, hop_in, via_with, via_in, via_of, vias_of}
-use Rattle.sc_syntax.specs.SpelledUris.{led}
+use Rattle.sc_syntax.specs.SpelledUris.{behind_sign as led}
 use Rattle.sc_value.specs.ParamRules.{IsHeaderParam}
 use Rattle.sc_syntax.specs.SpelledParts.{IsBlanks, Padded, header_param, IsParamSpelled, AreParamsSpelled}
 use Rattle.sc_syntax.specs.SpelledVias.{IsHopSpelled, IsViaSpelled, AreViasSpelled}

@@ -16,7 +16,7 @@ use Rattle.sc_tokens.specs.Cuts.{before, after}
 use Rattle.sc_tokens.specs.Hosts.{begins, is_none_left}
 use Rattle.sc_tokens.specs.Quoted.{quoted_end}
 use Rattle.sc_syntax.specs.Uris.{uri_of}
-use Rattle.sc_tokens.specs.Blanks.{trimmed}
+use Rattle.sc_tokens.specs.Blanks.{without_blanks}
 use Rattle.sc_syntax.specs.Scanning.{address_items, address_parts, all_read}
 use Rattle.sc_syntax.specs.Parameters.{params_of}
 
@@ -25,17 +25,17 @@ abbrev pub Named : Type 0
 Named = Option Bytes × Bytes
 
 -- behind the opening bracket: the URI up to the closing one, which ends the text
-unfoldable pub enclosed : Bytes → Option Bytes
-enclosed text = if is_none_left (after 62 text) then Some (before 62 text) else None
+unfoldable pub uri_in_brackets : Bytes → Option Bytes
+uri_in_brackets text = if is_none_left (after 62 text) then Some (before 62 text) else None
 
 -- a URI in its brackets
 unfoldable pub in_brackets : Bytes → Option Bytes
-in_brackets text = if begins 60 text then enclosed (drop 1 text) else None
+in_brackets text = if begins 60 text then uri_in_brackets (drop 1 text) else None
 
 -- a quoted string of so many bytes, and a URI in its brackets
 unfoldable pub quoted_named : Bytes → ℕ → Option Named
 quoted_named text end =
-    option_map (λ uri. (Some (take end text), uri)) (in_brackets (trimmed (drop end text)))
+    option_map (λ uri. (Some (take end text), uri)) (in_brackets (without_blanks (drop end text)))
 
 -- none, or the text
 unfoldable pub unless_empty : Bytes → Option Bytes
@@ -45,7 +45,7 @@ unless_empty text = if length text == 0 then None else Some text
 unfoldable pub token_named : Bytes → Bytes → Option Named
 token_named display rest =
     if list_all is_display_byte display
-    then option_map (λ uri. (unless_empty display, uri)) (enclosed rest)
+    then option_map (λ uri. (unless_empty display, uri)) (uri_in_brackets rest)
     else None
 
 -- the first part between semicolons, without blanks round it: without an opening bracket it is a
@@ -54,7 +54,8 @@ unfoldable pub named_in : Bytes → Option Named
 named_in text =
     if begins 34 text
     then option_and_then (quoted_named text) (quoted_end 0 text)
-    else option_map_or (token_named (trimmed (before 60 text))) (after 60 text) (Some (None, text))
+    else option_map_or (token_named (without_blanks (before 60 text))) (after 60 text)
+    (Some (None, text))
 
 -- the address, where the URI is one
 unfoldable pub with_uri : List Param → Named → Option Address
@@ -64,7 +65,7 @@ with_uri params named =
 
 -- the first part between semicolons, with these parameters
 unfoldable pub address_with : Bytes → List Param → Option Address
-address_with text params = option_and_then (with_uri params) (named_in (trimmed text))
+address_with text params = option_and_then (with_uri params) (named_in (without_blanks text))
 
 -- the parts between semicolons
 unfoldable pub address_in : List Bytes → Option Address
@@ -82,7 +83,8 @@ addresses_of text = all_read address_of (address_items text)
 -- an item of Contact: `*` alone, or an address
 unfoldable pub contact_of : Bytes → Option Contact
 contact_of text =
-    if same_bytes (trimmed text) (codes "*") then Some Star else option_map At (address_of text)
+    if same_bytes (without_blanks text) (codes "*") then Some Star
+    else option_map At (address_of text)
 
 -- items with commas between
 unfoldable pub contacts_of : Bytes → Option (List Contact)

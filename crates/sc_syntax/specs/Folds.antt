@@ -4,18 +4,18 @@ use Rattle.std.specs.Prelude.{List, [], ◌∷◌, ◌++◌}
 use Rattle.std.specs.List.{fold}
 use Rattle.sc_syntax.specs.declared.ending.Ending.TheVariants.{Any}
 use Rattle.sc_tokens.specs.Bytes.{Bytes}
-use Rattle.sc_tokens.specs.Blanks.{trimmed_front, trimmed_back}
+use Rattle.sc_tokens.specs.Blanks.{trimmed_back, trimmed_front}
 use Rattle.sc_syntax.specs.Lines.{pieces_at}
 
 -- a text, and the piece that continues it
-unfoldable pub continued : Bytes → Bytes → Bytes
-continued text piece = trimmed_back text ++ 32 ∷ trimmed_front piece
+unfoldable pub with_piece : Bytes → Bytes → Bytes
+with_piece text piece = trimmed_back text ++ 32 ∷ trimmed_front piece
 
 -- the first piece, continued by the others
 unfoldable pub all_continued : List Bytes → Bytes
 all_continued [] = []
-all_continued (first ∷ more) = fold continued first more
+all_continued (first ∷ more) = fold with_piece first more
 
 -- the text of a line, with its folds
-unfoldable pub joined : Bytes → Bytes
-joined line = all_continued (pieces_at Any line)
+unfoldable pub text_without_folds : Bytes → Bytes
+text_without_folds line = all_continued (pieces_at Any line)

@@ -19,16 +19,16 @@ use Rattle.sc_syntax.specs.declared.front.Front.TheVariants.{Open, Whole, Bad, L
 use Rattle.sc_tokens.specs.Bytes.{Bytes}
 use Rattle.sc_tokens.specs.Cuts.{before, after}
 use Rattle.sc_syntax.specs.UriParts.{Fault}
-use Rattle.sc_tokens.specs.Blanks.{trimmed, trimmed_back}
+use Rattle.sc_tokens.specs.Blanks.{trimmed_back, without_blanks}
 use Rattle.sc_syntax.specs.Scanning.{all_read}
 use Rattle.sc_syntax.specs.Vias.{vias_of}
 use Rattle.sc_syntax.specs.Addresses.{address_of}
 use Rattle.sc_syntax.specs.Sequences.{cseq_of}
 use Rattle.sc_syntax.specs.Lines.{begins_break, end_of, start_line, header_lines}
-use Rattle.sc_syntax.specs.Folds.{joined}
+use Rattle.sc_syntax.specs.Folds.{text_without_folds}
 use Rattle.sc_syntax.specs.StartLines.{is_status_line}
 use Rattle.sc_syntax.specs.Judging.{has_branch, in_line}
-use Rattle.sc_syntax.specs.Messages.{nothing_left, all_judged, message_in}
+use Rattle.sc_syntax.specs.Messages.{all_judged, message_in, nothing_left}
 
 -- ## What an answer needs
 
@@ -37,7 +37,8 @@ unfoldable pub field_of : Bytes → Option Field
 field_of line =
     if is_token (trimmed_back (before 58 line))
     then option_map
-    (λ value. record { name = long_name (trimmed_back (before 58 line)); value = trimmed value })
+    (λ value.
+    record { name = long_name (trimmed_back (before 58 line)); value = without_blanks value })
     (after 58 line)
     else None
 
@@ -93,7 +94,7 @@ answerable_in fields =
 unfoldable pub answerable_of : Bytes → Fault → Option Answerable
 answerable_of head fault =
     if is_status_line (start_line head) || fault.kind == 1 then None
-    else answerable_in (filter_map (λ line. field_of (joined line)) (header_lines head))
+    else answerable_in (filter_map (λ line. field_of (text_without_folds line)) (header_lines head))
 
 -- ## The front
 
@@ -111,17 +112,17 @@ body_len head =
 
 -- the front is no message: the place and kind of its fault, and the headers of an answer where
 -- there are some
-unfoldable pub bad : Bytes → Fault → Front
-bad head fault = Bad fault.at fault.kind (answerable_of head fault)
+unfoldable pub bad_front : Bytes → Fault → Front
+bad_front head fault = Bad fault.at fault.kind (answerable_of head fault)
 
 -- the front is a message of so many bytes, or has a fault
 unfoldable pub whole : Bytes → ℕ → Result Message Fault → Front
 whole head len (Ok message) = Whole len message
-whole head len (Err fault) = bad head fault
+whole head len (Err fault) = bad_front head fault
 
 -- head and body of so many bytes
-unfoldable pub sized : Bytes → Bytes → ℕ → Front
-sized text head len =
+unfoldable pub front_of_length : Bytes → Bytes → ℕ → Front
+front_of_length text head len =
     if nat_le len 65535
     then
     (if nat_le len (length text)
@@ -130,13 +131,15 @@ sized text head len =
     else Long
 
 -- a fault of the head comes before its body; only a body's length can't be one yet
-unfoldable pub headed : Bytes → Bytes → Result Message Fault → Front
-headed text head (Ok message) = sized text head (length head + 4 + body_len head)
-headed text head (Err fault) =
-    if fault.kind == 12 then sized text head (length head + 4 + body_len head) else bad head fault
+unfoldable pub front_after_head : Bytes → Bytes → Result Message Fault → Front
+front_after_head text head (Ok message) =
+    front_of_length text head (length head + 4 + body_len head)
+front_after_head text head (Err fault) =
+    if fault.kind == 12 then front_of_length text head (length head + 4 + body_len head)
+    else bad_front head fault
 
 -- the front of a text whose first bytes are no CR LF
 unfoldable pub front_of : Bytes → Front
 front_of text =
-    option_map_or (λ end. headed text (take end text) (message_in (take end text) []))
+    option_map_or (λ end. front_after_head text (take end text) (message_in (take end text) []))
     (end_of Empty (take 65535 text)) (if nat_le (length text) 65535 then Open else Long)

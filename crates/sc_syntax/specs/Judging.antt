@@ -17,7 +17,7 @@ use Rattle.sc_syntax.specs.declared.left.Header.TheVariants as headers
 use Rattle.sc_tokens.specs.Bytes.{Bytes}
 use Rattle.sc_tokens.specs.Numbers.{number_of}
 use Rattle.sc_tokens.specs.Cuts.{before, after}
-use Rattle.sc_tokens.specs.Blanks.{trimmed, trimmed_back}
+use Rattle.sc_tokens.specs.Blanks.{trimmed_back, without_blanks}
 use Rattle.sc_syntax.specs.Vias.{vias_of}
 use Rattle.sc_syntax.specs.Addresses.{address_of, addresses_of, contacts_of}
 use Rattle.sc_syntax.specs.Sequences.{cseq_of, hops_of}
@@ -40,8 +40,9 @@ header_named name =
 -- ## What is left
 
 -- so many values more, where there is room for them
-unfoldable pub counted : ℕ → Left → Result Left ℕ
-counted n left = if nat_le n left.room then Ok (record left { room = left.room - n }) else Err 11
+unfoldable pub with_values : ℕ → Left → Result Left ℕ
+with_values n left =
+    if nat_le n left.room then Ok (record left { room = left.room - n }) else Err 11
 
 -- what a value that is read makes of all; a value that isn't read is at fault
 unfoldable pub taken_as : {X : Type 0} → (X → Result Left ℕ) → Option X → Result Left ℕ
@@ -66,60 +67,62 @@ begins_well left vias =
 unfoldable pub with_vias : Left → List Via → Result Left ℕ
 with_vias left vias =
     if begins_well left vias
-    then counted (length vias)
+    then with_values (length vias)
     (record left { lists = record left.lists { via = left.lists.via ++ vias } })
     else Err 9
 
 -- the Routes of a line, behind those before
 unfoldable pub with_routes : Left → List Address → Result Left ℕ
 with_routes left routes =
-    counted (length routes)
+    with_values (length routes)
     (record left { lists = record left.lists { route = left.lists.route ++ routes } })
 
 -- the Record-Routes of a line, behind those before
 unfoldable pub with_record_routes : Left → List Address → Result Left ℕ
 with_record_routes left routes =
-    counted (length routes)
+    with_values (length routes)
     (record left { lists = record left.lists { record_route = left.lists.record_route ++ routes } })
 
 -- the Contacts of a line, behind those before
 unfoldable pub with_contacts : Left → List Contact → Result Left ℕ
 with_contacts left contacts =
-    counted (length contacts)
+    with_values (length contacts)
     (record left { lists = record left.lists { contact = left.lists.contact ++ contacts } })
 
 -- the one From
 unfoldable pub with_from : Left → Address → Result Left ℕ
 with_from left address =
-    counted 1 (record left { singles = record left.singles { from = Some address } })
+    with_values 1 (record left { singles = record left.singles { from = Some address } })
 
 -- the one To
 unfoldable pub with_to : Left → Address → Result Left ℕ
 with_to left address =
-    counted 1 (record left { singles = record left.singles { to = Some address } })
+    with_values 1 (record left { singles = record left.singles { to = Some address } })
 
 -- the one Call-ID
 unfoldable pub with_call_id : Left → Bytes → Result Left ℕ
 with_call_id left text =
-    counted 1 (record left { singles = record left.singles { call_id = Some text } })
+    with_values 1 (record left { singles = record left.singles { call_id = Some text } })
 
 -- the one CSeq
 unfoldable pub with_cseq : Left → CSeq → Result Left ℕ
-with_cseq left cseq = counted 1 (record left { singles = record left.singles { cseq = Some cseq } })
+with_cseq left cseq =
+    with_values 1 (record left { singles = record left.singles { cseq = Some cseq } })
 
 -- the one Max-Forwards
 unfoldable pub with_hops : Left → ℕ → Result Left ℕ
-with_hops left hops = counted 1 (record left { singles = record left.singles { hops = Some hops } })
+with_hops left hops =
+    with_values 1 (record left { singles = record left.singles { hops = Some hops } })
 
 -- the one Content-Length
 unfoldable pub with_length : Left → ℕ → Result Left ℕ
 with_length left len =
-    counted 1 (record left { singles = record left.singles { length = Some len } })
+    with_values 1 (record left { singles = record left.singles { length = Some len } })
 
 -- a header without structure, behind those before
 unfoldable pub with_field : Left → Bytes → Bytes → Result Left ℕ
 with_field left name value =
-    counted 1
+    with_values 1
     (record left {
       lists =
           record left.lists {
@@ -132,34 +135,35 @@ unfoldable pub in_line : {X : Type 0} → (Bytes → Option X) → Bytes → Opt
 in_line read value = if is_one_line value then read value else None
 
 -- the header of this long name with this value
-unfoldable pub taken : Left → Bytes → Header → Bytes → Result Left ℕ
-taken left name headers.Via value = taken_as (with_vias left) (in_line vias_of value)
-taken left name headers.Route value = taken_as (with_routes left) (in_line addresses_of value)
-taken left name headers.RecordRoute value =
+unfoldable pub with_header : Left → Bytes → Header → Bytes → Result Left ℕ
+with_header left name headers.Via value = taken_as (with_vias left) (in_line vias_of value)
+with_header left name headers.Route value = taken_as (with_routes left) (in_line addresses_of value)
+with_header left name headers.RecordRoute value =
     taken_as (with_record_routes left) (in_line addresses_of value)
-taken left name headers.Contact value = taken_as (with_contacts left) (in_line contacts_of value)
-taken left name headers.From value =
+with_header left name headers.Contact value =
+    taken_as (with_contacts left) (in_line contacts_of value)
+with_header left name headers.From value =
     taken_once (is_some left.singles.from) (with_from left) (in_line address_of value)
-taken left name headers.To value =
+with_header left name headers.To value =
     taken_once (is_some left.singles.to) (with_to left) (in_line address_of value)
-taken left name headers.CallId value =
+with_header left name headers.CallId value =
     taken_once (is_some left.singles.call_id) (with_call_id left) (in_line Some value)
-taken left name headers.CSeq value =
+with_header left name headers.CSeq value =
     taken_once (is_some left.singles.cseq) (with_cseq left) (in_line cseq_of value)
-taken left name headers.MaxForwards value =
+with_header left name headers.MaxForwards value =
     taken_once (is_some left.singles.hops) (with_hops left) (in_line hops_of value)
-taken left name headers.ContentLength value =
+with_header left name headers.ContentLength value =
     taken_once (is_some left.singles.length) (with_length left) (in_line number_of value)
-taken left name headers.Other value = taken_as (with_field left name) (in_line Some value)
+with_header left name headers.Other value = taken_as (with_field left name) (in_line Some value)
 
 -- a name, which may be compact, and what stands behind its colon
-unfoldable pub named : Left → Bytes → Bytes → Result Left ℕ
-named left name value =
+unfoldable pub with_named_header : Left → Bytes → Bytes → Result Left ℕ
+with_named_header left name value =
     if is_token name
-    then taken left (long_name name) (header_named (long_name name)) (trimmed value)
+    then with_header left (long_name name) (header_named (long_name name)) (without_blanks value)
     else Err 6
 
 -- the text of a header line: the name, perhaps blanks, a colon and the value between blanks
-unfoldable pub judged : Left → Bytes → Result Left ℕ
-judged left line =
-    option_map_or (named left (trimmed_back (before 58 line))) (after 58 line) (Err 6)
+unfoldable pub left_with_line : Left → Bytes → Result Left ℕ
+left_with_line left line =
+    option_map_or (with_named_header left (trimmed_back (before 58 line))) (after 58 line) (Err 6)

@@ -21,14 +21,14 @@ use Rattle.sc_syntax.specs.declared.left.Start.TheVariants.{Request, Status}
 use Rattle.sc_tokens.specs.Bytes.{Bytes}
 use Rattle.sc_syntax.specs.UriParts.{Fault, then_read}
 use Rattle.sc_syntax.specs.Lines.{begins_break, end_of, start_line, header_lines}
-use Rattle.sc_syntax.specs.Folds.{joined}
+use Rattle.sc_syntax.specs.Folds.{text_without_folds}
 use Rattle.sc_syntax.specs.StartLines.{start_of}
-use Rattle.sc_syntax.specs.Judging.{judged}
+use Rattle.sc_syntax.specs.Judging.{left_with_line}
 
 -- what is read, or the kind of its fault at this place
-unfoldable pub placed : {X : Type 0} → ℕ → Result X ℕ → Result X Fault
-placed at (Ok x) = Ok x
-placed at (Err kind) = Err (record { at = at; kind = kind })
+unfoldable pub fault_at_place : {X : Type 0} → ℕ → Result X ℕ → Result X Fault
+fault_at_place at (Ok x) = Ok x
+fault_at_place at (Err kind) = Err (record { at = at; kind = kind })
 
 -- ## The header lines
 
@@ -49,7 +49,7 @@ nothing_left = record { room = 128; lists = no_lists; singles = no_singles }
 unfoldable pub all_judged : ℕ → Left → List Bytes → Result Left Fault
 all_judged at left [] = Ok left
 all_judged at left (line ∷ more) =
-    then_read (placed at (judged left (joined line)))
+    then_read (fault_at_place at (left_with_line left (text_without_folds line)))
     (λ next. all_judged (at + length line + 2) next more)
 
 -- ## The message
@@ -103,8 +103,8 @@ finished_with start lists hops len body peers =
     else Ok (message_with start hops (head_of lists peers body))
 
 -- the message of a start line, of what its header lines have left and of the body
-unfoldable pub finished : Start → Left → Bytes → Result Message ℕ
-finished start left body =
+unfoldable pub message_from_parts : Start → Left → Bytes → Result Message ℕ
+message_from_parts start left body =
     if length left.lists.via == 0 then Err 7
     else option_map_or (finished_with start left.lists left.singles.hops left.singles.length body)
     (peers_of left.singles) (Err 7)
@@ -114,7 +114,7 @@ finished start left body =
 -- start line and header lines, read
 unfoldable pub parts_in : Bytes → Result HeadParts Fault
 parts_in head =
-    then_read (placed 0 (start_of (start_line head))) (λ start.
+    then_read (fault_at_place 0 (start_of (start_line head))) (λ start.
     then_read (all_judged (length (start_line head) + 2) nothing_left (header_lines head)) (λ left.
     Ok (record { start = start; left = left })))
 
@@ -131,9 +131,9 @@ lacking parts =
 -- the message of a head, which ends at this place, and of a body
 unfoldable pub message_in : Bytes → Bytes → Result Message Fault
 message_in head body =
-    then_read (placed 0 (start_of (start_line head))) (λ start.
+    then_read (fault_at_place 0 (start_of (start_line head))) (λ start.
     then_read (all_judged (length (start_line head) + 2) nothing_left (header_lines head)) (λ left.
-    placed (length head + 2) (finished start left body)))
+    fault_at_place (length head + 2) (message_from_parts start left body)))
 
 -- the message, or the first fault. A text that begins with CR LF has an empty start line
 unfoldable pub message_of : Bytes → Result Message Fault

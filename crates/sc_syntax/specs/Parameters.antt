@@ -9,7 +9,7 @@ use Rattle.sc_tokens.specs.Tokens.{is_token}
 use Rattle.sc_value.specs.declared.parts.Param.{Param}
 use Rattle.sc_tokens.specs.Bytes.{Bytes}
 use Rattle.sc_tokens.specs.Cuts.{before, after}
-use Rattle.sc_tokens.specs.Blanks.{trimmed}
+use Rattle.sc_tokens.specs.Blanks.{without_blanks}
 use Rattle.sc_syntax.specs.Scanning.{all_read}
 
 -- a parameter without blanks round it
@@ -21,7 +21,7 @@ param_in text =
 
 -- one part between semicolons
 unfoldable pub param_of : Bytes → Option Param
-param_of text = param_in (trimmed text)
+param_of text = param_in (without_blanks text)
 
 -- the parts between semicolons
 abbrev pub params_of : List Bytes → Option (List Param)

@@ -6,7 +6,7 @@ use Rattle.sc_tokens.specs.Tokens.{is_token}
 use Rattle.sc_value.specs.declared.parts.CSeq.{CSeq}
 use Rattle.sc_tokens.specs.Bytes.{Bytes}
 use Rattle.sc_tokens.specs.Numbers.{number_below}
-use Rattle.sc_tokens.specs.Blanks.{trimmed, first_word, behind_word}
+use Rattle.sc_tokens.specs.Blanks.{behind_word, first_word, without_blanks}
 
 -- a number below 2^31, blanks, and a method
 unfoldable pub cseq_in : Bytes → Option CSeq
@@ -18,7 +18,7 @@ cseq_in text =
 
 -- the same between blanks
 unfoldable pub cseq_of : Bytes → Option CSeq
-cseq_of text = cseq_in (trimmed text)
+cseq_of text = cseq_in (without_blanks text)
 
 -- 0 to 255
 unfoldable pub hops_of : Bytes → Option ℕ

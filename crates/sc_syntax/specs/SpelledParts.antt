@@ -5,7 +5,7 @@ use Rattle.std.specs.List.{list_all}
 use Rattle.sc_tokens.specs.Tokens.{is_blank}
 use Rattle.sc_value.specs.declared.parts.Param.{Param}
 use Rattle.sc_tokens.specs.Bytes.{Bytes}
-use Rattle.sc_syntax.specs.SpelledUris.{led}
+use Rattle.sc_syntax.specs.SpelledUris.{behind_sign}
 use Rattle.sc_value.specs.ParamRules.{IsHeaderParam}
 
 -- spaces and tabs alone, or nothing
@@ -34,7 +34,7 @@ AreListed sign Spells text (x ∷ xs) =
 
 -- `name` or `name=value`
 unfoldable pub header_param : Param → Bytes
-header_param param = param.name ++ led 61 param.value
+header_param param = param.name ++ behind_sign 61 param.value
 
 -- a header parameter, with blanks round it or none
 abbrev pub IsParamSpelled : Bytes → Param → Type 0

@@ -13,9 +13,9 @@ use Rattle.sc_tokens.specs.Numbers.{port_of}
 use Rattle.sc_value.specs.UriValues.{IsSipUri}
 
 -- nothing, or the sign and the text
-unfoldable pub led : ℕ → Option Bytes → Bytes
-led sign None = []
-led sign (Some text) = sign ∷ text
+unfoldable pub behind_sign : ℕ → Option Bytes → Bytes
+behind_sign sign None = []
+behind_sign sign (Some text) = sign ∷ text
 
 -- nothing, or the text and the sign
 unfoldable pub closed_by : ℕ → Option Bytes → Bytes
@@ -30,12 +30,12 @@ IsPortSpelled text (Some port) =
 
 -- `;name` or `;name=value`
 unfoldable pub spelled_param : Param → Bytes
-spelled_param param = 59 ∷ (param.name ++ led 61 param.value)
+spelled_param param = 59 ∷ (param.name ++ behind_sign 61 param.value)
 
 -- the text behind the user, with this spelling of the port
 abbrev pub spelled_behind : SipUri → Bytes → Bytes
 spelled_behind uri port =
-    uri.host ++ (port ++ (flat_map spelled_param uri.params ++ led 63 uri.headers))
+    uri.host ++ (port ++ (flat_map spelled_param uri.params ++ behind_sign 63 uri.headers))
 
 -- a `sip:` URI
 abbrev pub IsSipSpelled : Bytes → SipUri → Type 0

@@ -11,13 +11,14 @@ use Rattle.sc_value.specs.declared.parts.Via.{Via}
 use Rattle.sc_tokens.specs.Bytes.{Bytes}
 use Rattle.sc_tokens.specs.Cuts.{before, after}
 use Rattle.sc_syntax.specs.UriParts.{sent_at}
-use Rattle.sc_tokens.specs.Blanks.{trimmed, first_word, behind_word}
+use Rattle.sc_tokens.specs.Blanks.{behind_word, first_word, without_blanks}
 use Rattle.sc_syntax.specs.Scanning.{via_items, via_parts, all_read}
 use Rattle.sc_syntax.specs.Parameters.{params_of}
 
 -- what stands behind the first slash, where this word stands before it
 unfoldable pub behind_slash : Bytes → Bytes → Option Bytes
-behind_slash word text = if same_bytes (trimmed (before 47 text)) word then after 47 text else None
+behind_slash word text =
+    if same_bytes (without_blanks (before 47 text)) word then after 47 text else None
 
 -- what stands behind `SIP/2.0/`
 unfoldable pub behind_version : Bytes → Option Bytes
@@ -35,7 +36,8 @@ hop_in text params =
 
 -- the first part between semicolons, with these parameters
 unfoldable pub via_with : Bytes → List Param → Option Via
-via_with text params = option_and_then (λ rest. hop_in (trimmed rest) params) (behind_version text)
+via_with text params =
+    option_and_then (λ rest. hop_in (without_blanks rest) params) (behind_version text)
 
 -- the parts between semicolons
 unfoldable pub via_in : List Bytes → Option Via

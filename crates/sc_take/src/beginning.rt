@@ -4,7 +4,7 @@ ghost use Rattle.std.specs.Prelude.{◌≡◌, ◌+◌, ◌∷◌, ◌++◌, [],
 ghost use Rattle.sc_state.specs.declared.queue.Queued.{Queued};
 ghost use Rattle.sc_model.specs.Names.{tag_text};
 ghost use Rattle.sc_hosts.specs.Histories.{as_session};
-ghost use Rattle.sc_hosts.specs.Taking.{begun_live, begun, take_initial};
+ghost use Rattle.sc_hosts.specs.Taking.{begun_live, take_initial, take_new};
 ghost use Rattle.sc_inboxes.specs.TakenParts.{taken_by};
 
 use sc_inboxes::{Told, quiet, refuse_full, refuse_unknown, with_server, with_trying};
@@ -105,7 +105,7 @@ fn with_live(
     host.push_live(live, serial)
 }
 
-#[tactic(auto, unfolding(sc_hosts::specs::Taking::begun, sc_hosts::specs::Inboxes::quiet))]
+#[tactic(auto, unfolding(sc_hosts::specs::Taking::take_new, sc_hosts::specs::Inboxes::without_answer))]
 fn begun(
     alloc: Global,
     config: &Config,
@@ -116,7 +116,7 @@ fn begun(
 ) -> Result<Told, NoMemory>
     ensures { IfOk result
         (λ t.
-        begun as_session config.now coming noted.now request.now host.old ≡ taken_by host.new t) }
+        take_new as_session config.now coming noted.now request.now host.old ≡ taken_by host.new t) }
 {
     let serial = sum(host.last(), 1)?;
     let app = AppId {

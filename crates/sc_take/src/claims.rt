@@ -8,8 +8,8 @@ ghost use Rattle.sc_state.specs.declared.queue.Queued.{Queued};
 ghost use Rattle.sc_state.specs.Hosts.{Host};
 ghost use Rattle.sc_state.specs.declared.session.Session.{Session};
 ghost use Rattle.sc_hosts.specs.Messages.{own_response};
-ghost use Rattle.sc_hosts.specs.Inboxes.{quiet, queue};
-ghost use Rattle.sc_hosts.specs.Taking.{cancelled, again_if, repeated, server_for};
+ghost use Rattle.sc_hosts.specs.Inboxes.{queue, without_answer};
+ghost use Rattle.sc_hosts.specs.Taking.{again_if, server_for, take_cancel, take_repeated};
 ghost use Rattle.sc_hosts.specs.Transacting.{has_final, pass_server};
 ghost use Rattle.sc_hosts.specs.Words.{ok};
 ghost use Rattle.sc_inboxes.specs.TakenParts.{taken_by};
@@ -25,7 +25,7 @@ use sc_transact::{
 use sc_value::{CloneIn, Message, NoMemory, Request, Response, Shared};
 use std::alloc::Global;
 
-#[tactic(auto, unfolding(sc_hosts::specs::Inboxes::quiet))]
+#[tactic(auto, unfolding(sc_hosts::specs::Inboxes::without_answer))]
 fn tell_cancelled(
     alloc: Global,
     now: u64,
@@ -35,7 +35,7 @@ fn tell_cancelled(
 ) -> Result<Told, NoMemory>
     ensures { IfOk result
         (λ t.
-        (if has_final server.now then quiet host.old count
+        (if has_final server.now then without_answer host.old count
         else queue server.now.app.serial now (Queued.Cancelled server.now.event) count host.old)
         ≡ taken_by host.new t) }
 {
@@ -56,7 +56,7 @@ fn ok_response(alloc: Global, server: &Server, request: &Request) -> Result<Resp
 }
 
 /// A CANCEL is answered 200, and the session is told where its INVITE has no final response.
-#[tactic(auto, unfolding(sc_hosts::specs::Taking::cancelled))]
+#[tactic(auto, unfolding(sc_hosts::specs::Taking::take_cancel))]
 pub fn cancelled(
     alloc: Global,
     from: Peer,
@@ -67,18 +67,18 @@ pub fn cancelled(
     host: &mut Host<Session>,
 ) -> Result<Told, NoMemory>
     ensures { IfOk result
-        (λ t. cancelled from now server.now request.now count host.old ≡ taken_by host.new t) }
+        (λ t. take_cancel from now server.now request.now count host.old ≡ taken_by host.new t) }
 {
     let response = ok_response(alloc, server, request)?;
     let told = tell_cancelled(alloc, now, server, count, host)?;
     answering(alloc, from, response, told)
 }
 
-#[tactic(auto, unfolding(sc_hosts::specs::Taking::last_again, sc_hosts::specs::Taking::again_if, sc_hosts::specs::Inboxes::quiet))]
+#[tactic(auto, unfolding(sc_hosts::specs::Taking::last_again, sc_hosts::specs::Taking::again_if, sc_hosts::specs::Inboxes::without_answer))]
 fn last_again(alloc: Global, server: &Server, again: bool, count: u64) -> Result<Told, NoMemory>
     ensures { IfOk result
         (λ t.
-        (host : Host Session) → again_if again server.now (quiet host count) ≡ taken_by host t) }
+        (host : Host Session) → again_if again server.now (without_answer host count) ≡ taken_by host t) }
 {
     if !again {
         return Ok(quiet(count));
@@ -93,14 +93,14 @@ fn last_again(alloc: Global, server: &Server, again: bool, count: u64) -> Result
 }
 
 /// A request that comes again gets the last answer again, where its transaction does that.
-#[tactic(auto, unfolding(sc_hosts::specs::Taking::repeated))]
+#[tactic(auto, unfolding(sc_hosts::specs::Taking::take_repeated))]
 pub fn repeated(
     alloc: Global,
     server: &Server,
     count: u64,
     host: &mut Host<Session>,
 ) -> Result<Told, NoMemory>
-    ensures { IfOk result (λ t. repeated server.now count host.old ≡ taken_by host.new t) }
+    ensures { IfOk result (λ t. take_repeated server.now count host.old ≡ taken_by host.new t) }
 {
     let again = is_sent_again(is_invite_server(server), server.passed.as_slice());
     pass_server(alloc, server.event, ServerItem::RequestAgain, host)?;
@@ -108,7 +108,7 @@ pub fn repeated(
 }
 
 /// An ACK passes its transaction.
-#[tactic(auto, unfolding(sc_hosts::specs::Inboxes::quiet))]
+#[tactic(auto, unfolding(sc_hosts::specs::Inboxes::without_answer))]
 pub fn acked(
     alloc: Global,
     server: &Server,
@@ -117,7 +117,7 @@ pub fn acked(
 ) -> Result<Told, NoMemory>
     ensures { IfOk result
         (λ t.
-        quiet (pass_server server.now.event ServerItem.AckCame host.old) count
+        without_answer (pass_server server.now.event ServerItem.AckCame host.old) count
         ≡ taken_by host.new t) }
 {
     pass_server(alloc, server.event, ServerItem::AckCame, host)?;

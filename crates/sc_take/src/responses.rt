@@ -4,7 +4,7 @@ ghost use Rattle.std.specs.Prelude.{◌≡◌, IfOk};
 ghost use Rattle.sc_value.specs.declared.message.Message.{Message};
 ghost use Rattle.sc_hosts.specs.Messages.{cancel_of, without_via};
 ghost use Rattle.sc_hosts.specs.Inboxes.{replying};
-ghost use Rattle.sc_hosts.specs.TakingResponses.{told, told_by, cancelling, with_reply, response_for, response_to, take_response};
+ghost use Rattle.sc_hosts.specs.TakingResponses.{cancelling, response_for, response_to, take_provisional, take_response, told_by, with_reply};
 ghost use Rattle.sc_hosts.specs.Transacting.{client_for, with_client};
 ghost use Rattle.sc_inboxes.specs.TakenParts.{taken_by};
 
@@ -56,7 +56,7 @@ fn told_response(alloc: Global, client: &Client, response: &Response) -> Result<
 
 // A provisional response finds no room in a full inbox, and the answer to a CANCEL tells nobody
 // anything.
-#[tactic(auto, unfolding(sc_hosts::specs::TakingResponses::told, sc_hosts::specs::Inboxes::quiet))]
+#[tactic(auto, unfolding(sc_hosts::specs::TakingResponses::take_provisional, sc_hosts::specs::Inboxes::without_answer))]
 fn told(
     alloc: Global,
     now: u64,
@@ -66,7 +66,7 @@ fn told(
     host: &mut Host<Session>,
 ) -> Result<Told, NoMemory>
     ensures { IfOk result
-        (λ t. told now client.now response.now count host.old ≡ taken_by host.new t) }
+        (λ t. take_provisional now client.now response.now count host.old ≡ taken_by host.new t) }
 {
     if is_cancel_client(client) || (response.code <= 199 && is_full_at(client.app.serial, host)) {
         return Ok(quiet(count));
@@ -79,7 +79,7 @@ fn told(
     queue(alloc, client.app.serial, now, event, count, host)
 }
 
-#[tactic(auto, unfolding(sc_hosts::specs::TakingResponses::told_by, sc_hosts::specs::Inboxes::quiet))]
+#[tactic(auto, unfolding(sc_hosts::specs::TakingResponses::told_by, sc_hosts::specs::Inboxes::without_answer))]
 fn told_by(
     alloc: Global,
     code: Option<u16>,
@@ -125,7 +125,7 @@ fn cancel_with(
     ensures { IfOk result
         (λ t.
         replying client.now.peer (Message.Request (cancel_of client.now.request))
-        (taken_by (with_client (cancelling now client.now) host.old) told)
+        (taken_by (with_client (cancelling now client.now) host.old) take_provisional)
         ≡ taken_by host.new t) }
 {
     let request = cancel_of(alloc, client.request.get())?;
@@ -146,7 +146,7 @@ fn with_reply(
 ) -> Result<Told, NoMemory>
     ensures { IfOk result
         (λ t.
-        with_reply out now client.now response.now (taken_by host.old told)
+        with_reply out now client.now response.now (taken_by host.old take_provisional)
         ≡ taken_by host.new t) }
 {
     if out.ack {
@@ -188,7 +188,7 @@ fn response_for(
     with_reply(alloc, out, now, client, response, told, host)
 }
 
-#[tactic(auto, unfolding(sc_hosts::specs::TakingResponses::response_to, sc_hosts::specs::Inboxes::quiet))]
+#[tactic(auto, unfolding(sc_hosts::specs::TakingResponses::response_to, sc_hosts::specs::Inboxes::without_answer))]
 fn response_to(
     alloc: Global,
     now: u64,

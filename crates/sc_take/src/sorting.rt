@@ -3,7 +3,7 @@
 ghost use Rattle.std.specs.Prelude.{◌≡◌, None, IfOk};
 ghost use Rattle.sc_tokens.specs.Names.{same_bytes};
 ghost use Rattle.sc_model.specs.Dialogs.{update};
-ghost use Rattle.sc_hosts.specs.Taking.{is_never_initial, sort_of, sort_at};
+ghost use Rattle.sc_hosts.specs.Taking.{is_never_initial, sort_at, sort_of};
 ghost use Rattle.sc_hosts.specs.Transacting.{method_of};
 ghost use Rattle.sc_hosts.specs.Words.{prack};
 

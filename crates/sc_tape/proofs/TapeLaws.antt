@@ -5,7 +5,7 @@ use Rattle.std.proofs.lemmas.List.{append-nil}
 use Rattle.std.specs.List.{flat_map, fold}
 use Rattle.sc_edge.specs.declared.notice.Noted.{Noted}
 use Rattle.sc_edge.specs.declared.notice.Noted.TheVariants as noted
-use Rattle.sc_grammar.specs.Written.{Bytes}
+use Rattle.sc_tokens.specs.Bytes.{Bytes}
 use Rattle.sc_journal.specs.Kept.{Kept}
 use Rattle.sc_terms.specs.declared.steps.Step.{Step}
 use Rattle.sc_courses.specs.Courses.{TellsEpochs, Telling, Told, told_by, with_item}

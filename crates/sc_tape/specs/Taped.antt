@@ -1,7 +1,7 @@
 -- A run that is recorded, and what its recording has. Recordings are this project's own.
 use Rattle.std.specs.Prelude.{◌≡◌, List, [], ◌++◌, Option, None, Some}
 use Rattle.sc_edge.specs.declared.notice.Noted.{Noted}
-use Rattle.sc_grammar.specs.Written.{Bytes}
+use Rattle.sc_tokens.specs.Bytes.{Bytes}
 use Rattle.sc_journal.specs.Kept.{Kept}
 use Rattle.sc_terms.specs.declared.steps.Step.{Step}
 use Rattle.sc_courses.specs.Courses.{TellsEpochs, Told}

@@ -25,11 +25,11 @@ pub enum Step {
     Tick(u64),
     /// An application session handled the event of this number at this moment.
     Turn {
+        end: End,
         app: AppId,
         event: u64,
         now: u64,
         calls: List<CallRecord>,
-        end: End,
     },
     /// An application session was ended from outside.
     Withdraw(AppId),

@@ -18,7 +18,7 @@ use Rattle.sc_model.proofs.RisingKeys.{marked, rises}
 use Rattle.sc_state.specs.declared.net.Net.{Net}
 use Rattle.sc_state.specs.declared.session.Session.{Session}
 use Rattle.sc_hosts.specs.Histories.{as_session}
-use Rattle.sc_hosts.specs.Ticks.{DueItem, Of_session, Of_client, Of_server, Dated, dated, same_entry, is_fired, client_timer, client_dated, server_dated, live_dated, host_dated, hosts_dated, all_dated, due_items}
+use Rattle.sc_hosts.specs.Ticks.{DueItem, Of_session, Of_client, Of_server, Dated, dated_entry as dated, same_entry, is_fired, client_timer, client_dated, server_dated, live_dated, host_dated, hosts_dated, all_dated, due_items}
 use Rattle.sc_hosts.specs.Transacting.{due_of_client, due_of_server}
 use Rattle.sc_value.specs.declared.ids.AppId.{AppId}
 use Rattle.sc_book.specs.Words.{is_before}

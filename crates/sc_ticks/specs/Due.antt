@@ -7,7 +7,7 @@ use Rattle.sc_state.specs.Entries.{least_due}
 use Rattle.sc_state.specs.Hosts.{Host}
 use Rattle.sc_hosts.specs.Histories.{as_session}
 use Rattle.sc_hosts.specs.Sessions.{entries_of}
-use Rattle.sc_hosts.specs.Ticks.{Dated, client_dated, server_dated, live_dated}
+use Rattle.sc_hosts.specs.Ticks.{Dated, client_dated, live_dated, server_dated}
 use Rattle.sc_hosts.specs.Transacting.{due_of_client, due_of_server}
 
 -- what may be due at a host before this moment

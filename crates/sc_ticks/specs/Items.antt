@@ -6,7 +6,7 @@ use Rattle.sc_state.specs.declared.host.Fired.{Fired}
 use Rattle.sc_state.specs.declared.host.Live.{Live}
 use Rattle.sc_state.specs.declared.session.Session.{Session}
 use Rattle.sc_hosts.specs.Sessions.{SessionEntry}
-use Rattle.sc_hosts.specs.Ticks.{DueItem, Of_session, Of_client, Of_server, Dated, dated, is_fired}
+use Rattle.sc_hosts.specs.Ticks.{Dated, DueItem, Of_client, Of_server, Of_session, dated_entry, is_fired}
 use Rattle.sc_ticks.specs.declared.due.Item.{Item}
 use Rattle.sc_ticks.specs.declared.due.Item.TheVariants as items
 
@@ -20,7 +20,7 @@ item_of (items.Server server) = Of_server server
 unfoldable pub entry_dated : AppId → List Fired → SessionEntry → List Dated
 entry_dated app fired entry =
     if is_fired fired entry.due entry.timer then []
-    else dated app entry.timer (Of_session app entry.event) (Some entry.due)
+    else dated_entry app entry.timer (Of_session app entry.event) (Some entry.due)
 
 -- the session with one entry more that has had its event
 unfoldable pub with_fired : ℕ → TimerName → Live Session → Live Session

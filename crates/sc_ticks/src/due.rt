@@ -3,7 +3,7 @@
 ghost use Rattle.std.specs.Prelude.{◌≡◌, ◌++◌, IfOk, OnOk};
 ghost use Rattle.std.specs.List.{flat_map};
 ghost use Rattle.sc_hosts.specs.Histories.{as_session};
-ghost use Rattle.sc_hosts.specs.Ticks.{dated, client_timer, client_dated, server_dated, live_dated};
+ghost use Rattle.sc_hosts.specs.Ticks.{client_dated, client_timer, dated_entry, live_dated, server_dated};
 ghost use Rattle.sc_ticks.specs.Due.{host_due, hosts_due};
 ghost use Rattle.sc_ticks.specs.Items.{item_of, entry_dated};
 
@@ -43,7 +43,7 @@ impl Model for Dated {
     ghost view = { λ d. record { entry = d.key; item = item_of d.item } };
 }
 
-#[tactic(auto, unfolding(sc_hosts::specs::Ticks::dated))]
+#[tactic(auto, unfolding(sc_hosts::specs::Ticks::dated_entry))]
 fn put_dated(
     app: AppId,
     timer: TimerName,
@@ -51,7 +51,7 @@ fn put_dated(
     due: Option<u64>,
     out: &mut List<Dated>,
 ) -> Result<(), NoMemory>
-    ensures { OnOk result (out.new ≡ out.old ++ dated app timer (item_of item) due) }
+    ensures { OnOk result (out.new ≡ out.old ++ dated_entry app timer (item_of item) due) }
 {
     match due {
         Some(due) => {

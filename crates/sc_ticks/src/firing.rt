@@ -6,7 +6,7 @@ ghost use Rattle.std.specs.List.{fold};
 ghost use Rattle.sc_parts.specs.declared.transactions.ClientItem.{ClientItem};
 ghost use Rattle.sc_hosts.specs.Histories.{as_session};
 ghost use Rattle.sc_hosts.specs.Nets.{change_host, queue_for};
-ghost use Rattle.sc_hosts.specs.Ticks.{mark_fired, passes, fires, ticked};
+ghost use Rattle.sc_hosts.specs.Ticks.{fires, mark_fired, net_after_tick, passes};
 ghost use Rattle.sc_hosts.specs.Words.{request_timeout};
 
 use crate::due::{Dated, Item};
@@ -93,14 +93,14 @@ fn all_fired(
 
 /// Time passes: all that is due at this moment takes place, by due moment, host, serial and the
 /// timer's name. The events of sessions are queued, and the timers of transactions pass them.
-#[tactic(auto, unfolding(sc_hosts::specs::Ticks::ticked))]
+#[tactic(auto, unfolding(sc_hosts::specs::Ticks::net_after_tick))]
 pub fn ticked(
     alloc: Global,
     config: &Config,
     now: u64,
     net: &mut Net<Session>,
 ) -> Result<(), NoMemory>
-    ensures { OnOk result (net.new ≡ ticked as_session config.now now net.old) }
+    ensures { OnOk result (net.new ≡ net_after_tick as_session config.now now net.old) }
 {
     let items = due_items(alloc, now, net)?;
     net.moment = now;

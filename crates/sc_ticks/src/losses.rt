@@ -4,7 +4,7 @@ ghost use Rattle.std.specs.Prelude.{◌≡◌, ◌++◌, [], filter, IfOk, OnOk}
 ghost use Rattle.std.specs.BTreeSet.{insert_key};
 ghost use Rattle.std.specs.List.{flat_map, fold};
 ghost use Rattle.sc_parts.specs.declared.transactions.ClientItem.{ClientItem};
-ghost use Rattle.sc_hosts.specs.Ticks.{client_order, clients_of, lost, passes};
+ghost use Rattle.sc_hosts.specs.Ticks.{client_order, clients_of, net_after_loss, passes};
 ghost use Rattle.sc_hosts.specs.Transacting.{goes_to};
 ghost use Rattle.sc_hosts.specs.Words.{unavailable};
 
@@ -120,14 +120,14 @@ fn all_lost(
 
 /// A place is lost: each client transaction whose request went there ends as by 503 (RFC 3261
 /// section 8.1.3.1), and its session is told so. They do it by host, serial and branch.
-#[tactic(auto, unfolding(sc_hosts::specs::Ticks::lost, sc_hosts::specs::Ticks::clients_to))]
+#[tactic(auto, unfolding(sc_hosts::specs::Ticks::net_after_loss, sc_hosts::specs::Ticks::clients_to))]
 pub fn lost(
     alloc: Global,
     config: &Config,
     place: Place,
     net: &mut Net<Session>,
 ) -> Result<(), NoMemory>
-    ensures { OnOk result (net.new ≡ lost config.now place net.old) }
+    ensures { OnOk result (net.new ≡ net_after_loss config.now place net.old) }
 {
     let clients = clients_of(alloc, net)?;
     let going = going_to(alloc, place, clients.as_slice())?;

@@ -6,7 +6,7 @@ ghost use Rattle.sc_state.specs.declared.queue.Queued.{Queued};
 ghost use Rattle.sc_model.specs.Names.{edge_tag};
 ghost use Rattle.sc_hosts.specs.Messages.{own_response, without_via};
 ghost use Rattle.sc_hosts.specs.Nets.{change_host, queue_for};
-ghost use Rattle.sc_hosts.specs.Ticks.{own_telling, told_at, passes};
+ghost use Rattle.sc_hosts.specs.Ticks.{own_telling, passes, told_at};
 ghost use Rattle.sc_hosts.specs.Transacting.{pass_server};
 
 use sc_inboxes::edge_response;

@@ -8,7 +8,7 @@ use Rattle.sc_state.specs.declared.working.Play.{Play}
 use Rattle.sc_model.specs.Transactions.{is_success}
 use Rattle.sc_hosts.specs.HelperParts.{answer_with}
 use Rattle.sc_hosts.specs.Scripting.{attribute, where_some}
-use Rattle.sc_hosts.specs.SessionTimers.{Granted, On, Timed, grant, grant_by, granted, least_interval, refreshed, timed_name, timed_of}
+use Rattle.sc_hosts.specs.SessionTimers.{Granted, On, Timed, grant, grant_by, grant_to as granted, least_interval, script_after_refresh as refreshed, timed_name, timed_of}
 use Rattle.sc_promised.specs.Refreshing.{IsAccepted, IsBegun}
 use Rattle.sc_promised.specs.Reliable.{play_after}
 use Rattle.sc_promised.proofs.Refreshes.{Begins, answered-begun, begun-at}

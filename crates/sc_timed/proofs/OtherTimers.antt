@@ -7,7 +7,7 @@ use Rattle.std.specs.Option.{option_map_or}
 use Rattle.sc_tokens.specs.Names.{same_bytes}
 use Rattle.sc_value.specs.declared.ids.ReqId.{ReqId}
 use Rattle.sc_value.specs.declared.ids.SessId.{SessId}
-use Rattle.sc_grammar.specs.Written.{Bytes}
+use Rattle.sc_tokens.specs.Bytes.{Bytes}
 use Rattle.sc_terms.specs.declared.calls.Call.TheVariants as calls
 use Rattle.sc_terms.specs.declared.views.Period.TheVariants.{Once}
 use Rattle.sc_terms.specs.declared.views.View.{View}
@@ -15,10 +15,10 @@ use Rattle.sc_model.specs.Dialogs.{update}
 use Rattle.sc_model.specs.SessionStates.{bye}
 use Rattle.sc_model.specs.Transactions.{is_failure, is_success}
 use Rattle.sc_hosts.proofs.Deliveries.{same_bytes-equal}
-use Rattle.sc_hosts.specs.Effects.{begun}
+use Rattle.sc_hosts.specs.Effects.{first_play as begun}
 use Rattle.sc_hosts.specs.HelperParts.{accepted_then, answer_with, cancel_then, remove_then, send_in}
 use Rattle.sc_hosts.specs.Scripting.{Done, Make, Script, attribute, only, reply, then_make, where_some, with_number}
-use Rattle.sc_hosts.specs.SessionTimers.{Granted, Named, Off, On, Timed, Too_small, begin_timed, deadline, grant, grant_by, granted, granted_fields, least_interval, refresh_by, refreshed, stop_then, timed_name, timed_of, timed_text, too_small}
+use Rattle.sc_hosts.specs.SessionTimers.{Granted, Named, Off, On, Timed, Too_small, begin_timed, deadline, grant, grant_by, grant_to as granted, granted_fields, least_interval, refresh_by, script_after_refresh as refreshed, stop_then, timed_name, timed_of, timed_text, too_small}
 use Rattle.sc_hosts.specs.Words.{ok}
 use Rattle.sc_promised.specs.Reliable.{play_after}
 use Rattle.sc_remembered.proofs.Others.{AreFor, IsFor, cancel-for, cut-front, done-for, if-for, number-for, only-for, reply-for, script-other, then-for, where-for}

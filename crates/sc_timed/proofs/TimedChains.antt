@@ -2,17 +2,17 @@
 use Rattle.std.proofs.Common.{◌≡◌, ◌<◌, ◌⊎◌, inl, inr, ℕ, ◌++◌, Bool, true, false, Option, None, Some, List, [], ◌∷◌, refl, sym, ap, subst, ◌∙◌}
 use Rattle.std.specs.Prelude.{◌==◌, ◌^◌}
 use Rattle.sc_value.specs.declared.ids.SessId.{SessId}
-use Rattle.sc_grammar.specs.Written.{Bytes}
+use Rattle.sc_tokens.specs.Bytes.{Bytes}
 use Rattle.sc_terms.specs.declared.calls.CallRecord.{CallRecord}
 use Rattle.sc_terms.specs.declared.events.Event.{Event}
 use Rattle.sc_terms.specs.declared.settings.Config.{Config}
 use Rattle.sc_terms.specs.declared.views.View.{View}
 use Rattle.sc_state.specs.declared.session.Session.{Session}
 use Rattle.sc_state.specs.declared.working.Play.{Play}
-use Rattle.sc_hosts.specs.Effects.{after_calls, begun}
+use Rattle.sc_hosts.specs.Effects.{after_calls, first_play as begun}
 use Rattle.sc_hosts.specs.Histories.{History, after_turn, session_after}
 use Rattle.sc_hosts.specs.Legs.{first_view, fresh}
-use Rattle.sc_hosts.specs.Scripting.{Script, attribute, played}
+use Rattle.sc_hosts.specs.Scripting.{Script, attribute, calls_of_script as played}
 use Rattle.sc_hosts.specs.SessionTimers.{timed_script}
 use Rattle.sc_hosts.specs.Sessions.{Turn}
 use Rattle.sc_lasting.proofs.Began.{same-number}

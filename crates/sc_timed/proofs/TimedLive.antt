@@ -13,10 +13,10 @@ use Rattle.sc_state.specs.declared.queue.Waiting.{Waiting}
 use Rattle.sc_state.specs.declared.session.Session.{Session}
 use Rattle.sc_hosts.specs.Bringing.{servlet_script}
 use Rattle.sc_hosts.specs.Histories.{History, as_history}
-use Rattle.sc_hosts.specs.Runs.{IsLawful, chained}
+use Rattle.sc_hosts.specs.Runs.{IsLawful, net_from as chained}
 use Rattle.sc_hosts.specs.SessionTimers.{timed_script}
 use Rattle.sc_hosts.specs.Steps.{live_at}
-use Rattle.sc_lived.specs.Lived.{HasLived, IsLived, Told, told}
+use Rattle.sc_lived.specs.Lived.{HasLived, IsLived, Told, turns_in as told}
 use Rattle.sc_lived.proofs.Sayings.{has-lived}
 use Rattle.sc_remembered.proofs.Played.{life-plays}
 use Rattle.sc_timed.specs.TimedLives.{HasActs, HaveRoom, IsTimed}

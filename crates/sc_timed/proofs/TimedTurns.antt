@@ -7,7 +7,7 @@ use Rattle.sc_terms.specs.declared.events.Event.TheVariants as events
 use Rattle.sc_terms.specs.declared.views.View.{View}
 use Rattle.sc_model.specs.Dialogs.{update}
 use Rattle.sc_model.specs.SessionStates.{bye, invite}
-use Rattle.sc_hosts.specs.Effects.{begun}
+use Rattle.sc_hosts.specs.Effects.{first_play as begun}
 use Rattle.sc_hosts.specs.Scripting.{Script}
 use Rattle.sc_hosts.specs.SessionTimers.{is_granting, timed_script}
 use Rattle.sc_hosts.specs.Words.{ok}

@@ -7,16 +7,16 @@ use Rattle.sc_value.specs.declared.ids.ReqId.{ReqId}
 use Rattle.sc_value.specs.declared.ids.SessId.{SessId}
 use Rattle.sc_value.specs.declared.ids.TimerId.{TimerId}
 use Rattle.sc_value.specs.declared.message.Request.{Request}
-use Rattle.sc_grammar.specs.Written.{Bytes}
+use Rattle.sc_tokens.specs.Bytes.{Bytes}
 use Rattle.sc_terms.specs.declared.events.Event.{Event}
 use Rattle.sc_terms.specs.declared.events.Event.TheVariants as events
 use Rattle.sc_terms.specs.declared.views.View.{View}
 use Rattle.sc_state.specs.declared.working.Play.{Play}
 use Rattle.sc_model.specs.Dialogs.{update}
 use Rattle.sc_model.specs.SessionStates.{bye, invite}
-use Rattle.sc_hosts.specs.Effects.{begun}
+use Rattle.sc_hosts.specs.Effects.{first_play}
 use Rattle.sc_hosts.specs.Scripting.{Done, Script, attribute, reply, then_make, where_some}
-use Rattle.sc_hosts.specs.SessionTimers.{Named, grant, is_granting, named_timed, refresh_by, refreshed, stop_then, timed_name, timed_of}
+use Rattle.sc_hosts.specs.SessionTimers.{Named, grant, is_granting, named_timed, refresh_by, script_after_refresh, stop_then, timed_name, timed_of}
 use Rattle.sc_hosts.specs.Words.{ok}
 use Rattle.sc_promised.specs.Reliable.{play_after}
 
@@ -40,7 +40,7 @@ calls_of view (Grants req sess request) = grant view req sess request
 calls_of view (HangsUp req sess) = then_make (reply req 200 ok) (stop_then sess view Done)
 calls_of view (Refreshes sess code) =
     where_some (option_and_then timed_of (attribute (timed_name sess) view))
-    (refreshed view sess code)
+    (script_after_refresh view sess code)
 calls_of view (Comes id) = where_some (timer_of view id) refresh_by
 
 -- the SipSession that the act is of; a servlet timer that is none of a session timer is of no
@@ -68,7 +68,7 @@ act_of view event = None
 -- view
 unfoldable pub IsOneAct : View → Event → Script → Type 0
 IsOneAct view event script =
-    ((play_after (begun view) script).view.attributes ≡ view.attributes)
+    ((play_after (first_play view) script).view.attributes ≡ view.attributes)
     ⊎ ((act : TimedAct) × (act_of view event ≡ Some act) × (script ≡ calls_of view act))
 
 -- ## Chains of acts

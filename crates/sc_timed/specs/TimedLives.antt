@@ -9,7 +9,7 @@ use Rattle.sc_terms.specs.declared.settings.Config.{Config}
 use Rattle.sc_terms.specs.declared.views.View.{View}
 use Rattle.sc_parts.specs.declared.setup.Setup.{Setup}
 use Rattle.sc_model.specs.Settings.{charters_of}
-use Rattle.sc_hosts.specs.Effects.{after_calls, begun}
+use Rattle.sc_hosts.specs.Effects.{after_calls, first_play}
 use Rattle.sc_hosts.specs.Histories.{History, session_after}
 use Rattle.sc_hosts.specs.Sessions.{Turn}
 use Rattle.sc_promised.specs.Reliable.{play_after}
@@ -27,7 +27,7 @@ LeavesTimer n view made = timer_at (after_calls view made).view n ≡ timer_at v
 pub record IsActOf (n : ℕ) (view : View) (made : List CallRecord) (act : TimedAct) : Type 0 where
   pub of : side_of view act ≡ Some (record { 0 = n })
   pub comes_to : timer_at (after_calls view made).view n
-      ≡ timer_at (play_after (begun view) (calls_of view act)).view n
+      ≡ timer_at (play_after (first_play view) (calls_of view act)).view n
 
 -- the acts of the SipSession of this number that these turns of a history made, each turn one at
 -- most, the oldest act first
@@ -40,7 +40,7 @@ AreActs config history n (turn ∷ earlier) acts =
     × (acts
     ≡ before
     ++ record {
-      play = begun (shown_in config (session_after config history earlier) turn);
+      play = first_play (shown_in config (session_after config history earlier) turn);
       act = act;
     } ∷ [])
     × IsActOf n (shown_in config (session_after config history earlier) turn) turn.calls act

@@ -12,11 +12,11 @@ ghost use Rattle.sc_state.specs.declared.host.Live.{Live};
 ghost use Rattle.sc_state.specs.declared.session.Session.{Session};
 ghost use Rattle.sc_hosts.specs.Histories.{History, as_history};
 ghost use Rattle.sc_model.specs.Transactions.{is_success};
-ghost use Rattle.sc_hosts.specs.Runs.{IsLawful, chained};
+ghost use Rattle.sc_hosts.specs.Runs.{IsLawful, net_from};
 ghost use Rattle.sc_hosts.specs.Scripting.{attribute};
-ghost use Rattle.sc_hosts.specs.SessionTimers.{On, Timed, granted, least_interval, timed_name, timed_of, timed_script};
+ghost use Rattle.sc_hosts.specs.SessionTimers.{On, Timed, grant_to, least_interval, timed_name, timed_of, timed_script};
 ghost use Rattle.sc_hosts.specs.Steps.{live_at};
-ghost use Rattle.sc_lived.specs.Lived.{HasLived, told};
+ghost use Rattle.sc_lived.specs.Lived.{HasLived, turns_in};
 ghost use Rattle.sc_promised.specs.Refreshing.{IsAccepted, IsBegun};
 ghost use Rattle.sc_remembered.specs.Played.{ArePlayed};
 ghost use Rattle.sc_timed.specs.TimedActs.{Grants, IsChain, IsOneAct, Refreshes, TimedHappened, after, calls_of};
@@ -56,7 +56,7 @@ pub fn timed_lives_make_acts()
 pub fn granted_timers_are_in_time()
     ensures granted { (h : TimedHappened) (req : ReqId) (sess : SessId) (request : Request) (n : ℕ)
         (me : Bool) → h.act ≡ Grants req sess request
-        → granted request (least_interval h.play.view) ≡ On n me
+        → grant_to request (least_interval h.play.view) ≡ On n me
         → IsAccepted h.play (calls_of h.play.view h.act)
         → IsBegun h.play.view.now sess n me (after h).view }
     ensures refreshed { (h : TimedHappened) (sess : SessId) (code : ℕ) (timed : Timed)
@@ -75,11 +75,11 @@ pub fn live_timed_sessions_make_acts()
     ensures history { (setup : Setup) (epoch began : ℕ) (journal : List Step) (app : AppId)
         (live : Live History) (n : ℕ)
         → IsLawful (as_history setup.config) setup epoch began journal
-        → live_at app (chained (as_history setup.config) setup epoch began journal) ≡ Some live
+        → live_at app (net_from (as_history setup.config) setup epoch began journal) ≡ Some live
         → IsTimed setup app → n < 2 ^ 64 → HaveRoom setup.config live.session live.session.turns
         → ∥ HasActs setup.config live.session n live.session.turns ∥₁ }
     ensures session { (setup : Setup) (app : AppId) (journal : List Step) (live : Live Session)
-        (n : ℕ) → (lived : HasLived setup app (told app journal) live.session live.inbox)
+        (n : ℕ) → (lived : HasLived setup app (turns_in app journal) live.session live.inbox)
         → IsTimed setup app → n < 2 ^ 64 → HaveRoom setup.config lived.history lived.history.turns
         → ∥ HasActs setup.config lived.history n lived.history.turns ∥₁ }
 {}

@@ -27,7 +27,7 @@ use Rattle.sc_model.proofs.DueLaws.{exact, total}
 use Rattle.sc_hosts.specs.Inboxes.{is_live}
 use Rattle.sc_hosts.specs.Nets.{host_at}
 use Rattle.sc_hosts.specs.Sessions.{Form}
-use Rattle.sc_hosts.specs.Ticks.{DueItem, Of_session, Of_client, Of_server, Dated, dated, client_timer, client_dated, server_dated, live_dated, host_dated, hosts_dated, all_dated, same_entry, due_items}
+use Rattle.sc_hosts.specs.Ticks.{DueItem, Of_session, Of_client, Of_server, Dated, dated_entry as dated, client_timer, client_dated, server_dated, live_dated, host_dated, hosts_dated, all_dated, same_entry, due_items}
 use Rattle.sc_hosts.specs.Transacting.{is_cancel_client, is_same_app, due_of_client, due_of_server}
 use Rattle.sc_keyed.specs.Keyed.{IsIn}
 

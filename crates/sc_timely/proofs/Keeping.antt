@@ -18,7 +18,7 @@ use Rattle.sc_state.specs.declared.host.Server.{Server}
 use Rattle.sc_state.specs.declared.net.Net.{Net}
 use Rattle.sc_state.specs.declared.queue.Queued.{Queued}
 use Rattle.sc_model.specs.Timers.{DueEntry}
-use Rattle.sc_hosts.specs.Inboxes.{is_live, live_in, with_event, quiet, queue}
+use Rattle.sc_hosts.specs.Inboxes.{is_live, live_in, with_event, without_answer as quiet, queue}
 use Rattle.sc_hosts.specs.Nets.{host_at, change_host}
 use Rattle.sc_hosts.specs.Steps.{live_at, live_of}
 use Rattle.sc_hosts.specs.Ticks.{mark_fired}

@@ -11,11 +11,11 @@ use Rattle.sc_state.specs.Hosts.{Host}
 use Rattle.sc_state.specs.declared.host.Live.{Live}
 use Rattle.sc_state.specs.declared.net.Net.{Net}
 use Rattle.sc_state.specs.declared.queue.Queued.{Queued}
-use Rattle.sc_hosts.specs.Inboxes.{is_live, live_in, quiet, queue, with_event}
+use Rattle.sc_hosts.specs.Inboxes.{is_live, live_in, without_answer as quiet, queue, with_event}
 use Rattle.sc_hosts.specs.Nets.{change_host, host_at}
 use Rattle.sc_hosts.specs.Sessions.{Form}
 use Rattle.sc_hosts.specs.Steps.{live_at, live_of}
-use Rattle.sc_hosts.specs.Ticks.{mark_fired, ticked}
+use Rattle.sc_hosts.specs.Ticks.{mark_fired, net_after_tick as ticked}
 use Rattle.sc_once.proofs.Finding.{slice_get-other}
 use Rattle.sc_walks.specs.Walks.{HostLaws, NetLaws}
 use Rattle.sc_walks.proofs.WalkSteps.{ticked-walks}

@@ -8,7 +8,7 @@ use Rattle.sc_state.specs.declared.host.Live.{Live}
 use Rattle.sc_state.specs.declared.net.Net.{Net}
 use Rattle.sc_hosts.specs.Histories.{as_history, as_session}
 use Rattle.sc_hosts.specs.Nets.{host_at}
-use Rattle.sc_hosts.specs.Runs.{after_step, chained, chained_from, start}
+use Rattle.sc_hosts.specs.Runs.{after_step, net_from as chained, chained_from, start}
 use Rattle.sc_hosts.specs.Sessions.{Form}
 use Rattle.sc_hosts.specs.Steps.{live_at}
 use Rattle.sc_hosts.specs.Ticks.{due_items}

@@ -20,8 +20,8 @@ use Rattle.sc_model.specs.Transactions.{is_reached}
 use Rattle.sc_hosts.specs.Nets.{host_at, is_busy}
 use Rattle.sc_hosts.specs.Runs.{after_step}
 use Rattle.sc_hosts.specs.Sessions.{Form}
-use Rattle.sc_hosts.specs.Steps.{live_at, stepped}
-use Rattle.sc_hosts.specs.Ticks.{Dated, DueItem, Of_client, Of_server, Of_session, all_dated, client_dated, client_timer, dated, due_items, host_dated, hosts_dated, live_dated, same_entry, server_dated, ticked}
+use Rattle.sc_hosts.specs.Steps.{live_at, before_delivery as stepped}
+use Rattle.sc_hosts.specs.Ticks.{Dated, DueItem, Of_client, Of_server, Of_session, all_dated, client_dated, client_timer, dated_entry as dated, due_items, host_dated, hosts_dated, live_dated, same_entry, server_dated, net_after_tick as ticked}
 use Rattle.sc_hosts.specs.Transacting.{due_of_client, due_of_server}
 use Rattle.sc_hosts.proofs.Deliveries.{none-delivered}
 use Rattle.sc_keyed.specs.Keyed.{HasOwnKeys, HaveOwnKeys, IsIn}

@@ -18,11 +18,11 @@ use Rattle.sc_state.specs.declared.host.Live.{Live}
 use Rattle.sc_state.specs.declared.host.Server.{Server}
 use Rattle.sc_state.specs.declared.net.Net.{Net}
 use Rattle.sc_state.specs.declared.queue.Queued.{Queued}
-use Rattle.sc_grammar.specs.Written.{Bytes}
+use Rattle.sc_tokens.specs.Bytes.{Bytes}
 use Rattle.sc_model.specs.Timers.{DueEntry}
 use Rattle.sc_model.specs.Transactions.{is_reached}
-use Rattle.sc_hosts.specs.Inboxes.{quiet, queue}
-use Rattle.sc_hosts.specs.Nets.{host_at, placed, put_reply, queue_for, queued_at}
+use Rattle.sc_hosts.specs.Inboxes.{without_answer as quiet, queue}
+use Rattle.sc_hosts.specs.Nets.{host_at, with_host_after as placed, put_reply, queue_for, queued_at}
 use Rattle.sc_hosts.specs.Ticks.{Dated, DueItem, Of_client, Of_server, Of_session, fires, mark_fired, passes, told_at}
 use Rattle.sc_hosts.specs.Transacting.{client_passed, due_of_client, due_of_server, out_of_client, pass_client, pass_server, server_passed, tidied}
 use Rattle.sc_hosts.specs.Words.{request_timeout}

@@ -14,14 +14,14 @@ use Rattle.sc_state.specs.declared.host.Reply.{Reply}
 use Rattle.sc_state.specs.declared.host.Taken.{Taken}
 use Rattle.sc_state.specs.declared.net.Net.{Net}
 use Rattle.sc_state.specs.declared.queue.Queued.{Queued}
-use Rattle.sc_grammar.specs.Written.{Bytes}
+use Rattle.sc_tokens.specs.Bytes.{Bytes}
 use Rattle.sc_model.specs.Timers.{DueEntry}
-use Rattle.sc_hosts.specs.Inboxes.{quiet, queue}
-use Rattle.sc_hosts.specs.Nets.{change_host, is_busy, placed, put_reply, queue_for, queued_at}
-use Rattle.sc_hosts.specs.Runs.{after_step, chained, chained_from, start}
+use Rattle.sc_hosts.specs.Inboxes.{without_answer as quiet, queue}
+use Rattle.sc_hosts.specs.Nets.{change_host, is_busy, with_host_after as placed, put_reply, queue_for, queued_at}
+use Rattle.sc_hosts.specs.Runs.{after_step, net_from as chained, chained_from, start}
 use Rattle.sc_hosts.specs.Sessions.{Form}
-use Rattle.sc_hosts.specs.Steps.{stepped}
-use Rattle.sc_hosts.specs.Ticks.{Dated, DueItem, Of_client, Of_server, Of_session, due_items, fires, passes, ticked, told_at}
+use Rattle.sc_hosts.specs.Steps.{before_delivery as stepped}
+use Rattle.sc_hosts.specs.Ticks.{Dated, DueItem, Of_client, Of_server, Of_session, due_items, fires, passes, net_after_tick as ticked, told_at}
 use Rattle.sc_hosts.proofs.Deliveries.{none-delivered, wire-ends-empty}
 
 -- nothing is put on the wire, and nothing is sent

@@ -22,14 +22,14 @@ use Rattle.sc_state.specs.declared.host.Fired.{Fired}
 use Rattle.sc_state.specs.declared.host.Live.{Live}
 use Rattle.sc_state.specs.declared.net.Net.{Net}
 use Rattle.sc_state.specs.declared.queue.Queued.{Queued}
-use Rattle.sc_grammar.specs.Written.{Bytes}
+use Rattle.sc_tokens.specs.Bytes.{Bytes}
 use Rattle.sc_model.specs.Timers.{DueEntry, is_due}
 use Rattle.sc_hosts.specs.Inboxes.{is_live, live_in}
 use Rattle.sc_hosts.specs.Nets.{host_at, change_host, queue_for, queued_at}
 use Rattle.sc_hosts.specs.Runs.{after_step}
 use Rattle.sc_hosts.specs.Sessions.{Form}
-use Rattle.sc_hosts.specs.Steps.{live_at, live_of, stepped}
-use Rattle.sc_hosts.specs.Ticks.{DueItem, Of_session, Of_client, Of_server, Dated, dated, live_dated, told_at, passes, mark_fired, fires, ticked, due_items}
+use Rattle.sc_hosts.specs.Steps.{live_at, live_of, before_delivery as stepped}
+use Rattle.sc_hosts.specs.Ticks.{DueItem, Of_session, Of_client, Of_server, Dated, dated_entry as dated, live_dated, told_at, passes, mark_fired, fires, net_after_tick as ticked, due_items}
 use Rattle.sc_hosts.specs.Transacting.{is_cancel_client, out_of_client, pass_client}
 use Rattle.sc_walks.proofs.WalkHosts.{pass_server-walks}
 use Rattle.sc_walks.proofs.WalkNets.{if-walks, fold-walks, change_host-walks, placed-walks, passed-walks, delivered-walks}

@@ -12,7 +12,7 @@ ghost use Rattle.sc_state.specs.declared.net.Net.{Net};
 ghost use Rattle.sc_state.specs.declared.session.Session.{Session};
 ghost use Rattle.sc_model.specs.Transactions.{is_reached};
 ghost use Rattle.sc_hosts.specs.Histories.{History, as_history, as_session};
-ghost use Rattle.sc_hosts.specs.Runs.{after_step, chained};
+ghost use Rattle.sc_hosts.specs.Runs.{after_step, net_from};
 ghost use Rattle.sc_hosts.specs.Sessions.{Form};
 ghost use Rattle.sc_hosts.specs.Steps.{live_at};
 ghost use Rattle.sc_hosts.specs.Ticks.{due_items};
@@ -50,11 +50,11 @@ pub fn moments_end_timers()
 pub fn ticks_send_nothing()
     ensures session { (form : Form Session) (setup : Setup) (epoch began : ℕ) (journal : List Step)
         (now : ℕ)
-        → (after_step form setup (chained form setup epoch began journal) (steps.Tick now)).sent
+        → (after_step form setup (net_from form setup epoch began journal) (steps.Tick now)).sent
         ≡ [] }
     ensures history { (form : Form History) (setup : Setup) (epoch began : ℕ) (journal : List Step)
         (now : ℕ)
-        → (after_step form setup (chained form setup epoch began journal) (steps.Tick now)).sent
+        → (after_step form setup (net_from form setup epoch began journal) (steps.Tick now)).sent
         ≡ [] }
 {}
 
@@ -64,12 +64,12 @@ pub fn ticks_send_nothing()
 pub fn nothing_is_due()
     ensures session { (setup : Setup) (epoch began : ℕ) (journal : List Step) (now : ℕ)
         → due_items as_session now
-        (after_step as_session setup (chained as_session setup epoch began journal)
+        (after_step as_session setup (net_from as_session setup epoch began journal)
         (steps.Tick now)) ≡ [] }
     ensures history { (setup : Setup) (epoch began : ℕ) (journal : List Step) (now : ℕ)
         → due_items (as_history setup.config) now
         (after_step (as_history setup.config) setup
-        (chained (as_history setup.config) setup epoch began journal) (steps.Tick now)) ≡ [] }
+        (net_from (as_history setup.config) setup epoch began journal) (steps.Tick now)) ≡ [] }
 {}
 
 /// Each entry that is due is taken once: no two items of what is due in a net at a moment are of

@@ -13,8 +13,8 @@ unfoldable pub trimmed_back : Bytes → Bytes
 trimmed_back text = take (length text - suffix_len is_blank text) text
 
 -- without the blanks at both ends
-unfoldable pub trimmed : Bytes → Bytes
-trimmed text = trimmed_back (trimmed_front text)
+unfoldable pub without_blanks : Bytes → Bytes
+without_blanks text = trimmed_back (trimmed_front text)
 
 -- what stands before the first blank
 unfoldable pub first_word : Bytes → Bytes
@@ -22,4 +22,4 @@ first_word text = take (position_or_len is_blank text) text
 
 -- what stands behind the first word, without blanks
 unfoldable pub behind_word : Bytes → Bytes
-behind_word text = trimmed (drop (position_or_len is_blank text) text)
+behind_word text = without_blanks (drop (position_or_len is_blank text) text)

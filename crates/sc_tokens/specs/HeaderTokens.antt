@@ -5,7 +5,7 @@ use Rattle.std.specs.List.{list_all}
 use Rattle.std.specs.Option.{option_map_or}
 use Rattle.sc_tokens.specs.Tokens.{is_blank, is_token_byte}
 use Rattle.sc_tokens.specs.Bytes.{Bytes}
-use Rattle.sc_tokens.specs.Blanks.{trimmed}
+use Rattle.sc_tokens.specs.Blanks.{without_blanks}
 use Rattle.sc_tokens.specs.Quoted.{quoted_end}
 
 -- the byte may stand in a value outside strings: a token's, or one of an IPv6 literal in brackets
@@ -27,7 +27,8 @@ is_display_byte b = is_token_byte b || is_blank b
 -- one token or more with blanks between, and none at the ends
 abbrev pub IsWords : Bytes → Type 0
 IsWords text =
-    ((length text == 0) ≡ false) × (list_all is_display_byte text ≡ true) × (trimmed text ≡ text)
+    ((length text == 0) ≡ false) × (list_all is_display_byte text ≡ true)
+    × (without_blanks text ≡ text)
 
 -- what a display is: a quoted string, or words
 unfoldable pub IsDisplay : Option Bytes → Type 0

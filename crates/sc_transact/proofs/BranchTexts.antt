@@ -7,7 +7,7 @@ use Rattle.std.proofs.lemmas.Slice.Eq.{slice_eq-Decides}
 use Rattle.std.proofs.lemmas.Bool.Decides.{Decides-eqb}
 use Rattle.sc_tokens.specs.Names.{same_bytes}
 use Rattle.sc_value.specs.declared.ids.AppId.{AppId}
-use Rattle.sc_grammar.specs.Written.{Bytes}
+use Rattle.sc_tokens.specs.Bytes.{Bytes}
 use Rattle.sc_model.specs.Names.{branch_cookie, mark_text, tag_text, counted_text, branch_text}
 use Rattle.sc_names.specs.Reading.{IsRead, IsCounted}
 use Rattle.sc_transact.specs.Named.{is_named}

@@ -8,7 +8,7 @@ use Rattle.sc_value.specs.declared.message.Response.{Response}
 use Rattle.sc_value.specs.Lists.{change_first}
 use Rattle.sc_tokens.specs.Names.{same_bytes}
 use Rattle.sc_parts.specs.declared.transactions.ClientItem.{ClientItem}
-use Rattle.sc_grammar.specs.Written.{Bytes}
+use Rattle.sc_tokens.specs.Bytes.{Bytes}
 use Rattle.sc_model.specs.Names.{branch_text, counted_text}
 use Rattle.sc_model.specs.Transactions.{has_provisional}
 use Rattle.sc_book.specs.Words.{belongs}
@@ -17,7 +17,7 @@ use Rattle.sc_state.specs.declared.host.Peer.{Peer}
 use Rattle.sc_state.specs.declared.session.Session.{Session}
 use Rattle.sc_state.specs.Hosts.{Host}
 use Rattle.sc_state.specs.Groups.{text_number, branch_number, groups_of_client}
-use Rattle.sc_state.specs.Keeping.{is_same_client, tidied}
+use Rattle.sc_state.specs.Keeping.{is_same_client, without_ended as tidied}
 use Rattle.sc_state.specs.Standing.{is_client, is_same_app, is_cancel_client, is_invite_client}
 use Rattle.sc_hosts.specs.Transacting.{takes_from, is_over, state_of_client, method_of, is_answered_by, client_passed, pass_client, top_via, branch_of}
 use Rattle.sc_transact.specs.Ringing.{is_ringing}

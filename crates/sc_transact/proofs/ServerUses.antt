@@ -14,7 +14,7 @@ use Rattle.sc_state.specs.declared.host.Server.{Server}
 use Rattle.sc_state.specs.declared.session.Session.{Session}
 use Rattle.sc_state.specs.Hosts.{Host}
 use Rattle.sc_state.specs.Groups.{text_number, via_number, groups_of_server}
-use Rattle.sc_state.specs.Keeping.{tidied}
+use Rattle.sc_state.specs.Keeping.{without_ended as tidied}
 use Rattle.sc_state.specs.Standing.{is_server, is_invite_server, state_of_server}
 use Rattle.sc_hosts.specs.Transacting.{takes_from, is_over, is_completed, method_of, same_top, same_via, port_of, is_kin, is_cancelled_by, is_acked_by, is_repeated_by, server_passed, pass_server, top_via, branch_of}
 use Rattle.sc_transact.proofs.BranchTexts.{equal_text}

@@ -8,7 +8,7 @@ use Rattle.sc_terms.specs.declared.calls.CallAnswer.TheVariants.{Fine, Number, R
 use Rattle.sc_terms.specs.declared.calls.Refusal.{Refusal}
 use Rattle.sc_terms.specs.declared.calls.Refusal.TheVariants.{Limit, NoMemory}
 use Rattle.sc_state.specs.declared.working.Play.{Play}
-use Rattle.sc_hosts.specs.Effects.{accepted, answer_by, answer_of}
+use Rattle.sc_hosts.specs.Effects.{answer_to_call as accepted, answer_by, answer_of}
 use Rattle.sc_hosts.specs.RefusalParts.{MOST_CALLS, first_of}
 use Rattle.sc_hosts.specs.Refusals.{refusal}
 use Rattle.sc_turn.specs.Working.{Working, play_of, after_made, after_refused, after_starved, IsAccepted, IsRefused, Answers}

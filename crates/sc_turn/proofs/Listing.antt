@@ -6,7 +6,7 @@ use Rattle.sc_terms.specs.declared.calls.Call.{Call}
 use Rattle.sc_terms.specs.declared.calls.CallRecord.{CallRecord}
 use Rattle.sc_state.specs.declared.working.Play.{Play}
 use Rattle.sc_hosts.specs.Scripting.{IsAnsweredFrom}
-use Rattle.sc_hosts.specs.Effects.{begun, answer_of, after_listed, after_calls}
+use Rattle.sc_hosts.specs.Effects.{first_play as begun, answer_of, after_listed, after_calls}
 use Rattle.sc_hosts.specs.RefusalParts.{MOST_CALLS}
 use Rattle.sc_turn.specs.Working.{IsWorking, record_of}
 

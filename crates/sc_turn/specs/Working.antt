@@ -10,7 +10,7 @@ use Rattle.sc_terms.specs.declared.calls.Refusal.{Refusal}
 use Rattle.sc_terms.specs.declared.calls.Refusal.TheVariants.{NoMemory}
 use Rattle.sc_state.specs.declared.working.Play.{Play}
 use Rattle.sc_hosts.specs.Scripting.{IsAnswered}
-use Rattle.sc_hosts.specs.Effects.{after_calls, accepted, answer_of}
+use Rattle.sc_hosts.specs.Effects.{after_calls, answer_of, answer_to_call}
 use Rattle.sc_hosts.specs.RefusalParts.{MOST_CALLS}
 use Rattle.sc_hosts.specs.Refusals.{refusal}
 
@@ -62,7 +62,7 @@ IsRefused call old refused new =
 unfoldable pub IsAccepted : Call → Working → CallAnswer → Working → Type 0
 IsAccepted call old answer new =
     (old.starved ≡ false) × (refusal (play_of old) call ≡ None)
-    × (answer ≡ accepted (play_of old) call) × (new ≡ after_made call old)
+    × (answer ≡ answer_to_call (play_of old) call) × (new ≡ after_made call old)
 
 -- what a call answered, and what it left of the turn
 unfoldable pub Answers : {X : Type 0} → (X → CallAnswer) → Call → Working → Result X Refusal

@@ -2,7 +2,7 @@
 
 ghost use Rattle.std.specs.Prelude.{◌≡◌, ◌+◌, ◌<◌, nat_le, false, OnErr, IfOk};
 ghost use Rattle.sc_terms.specs.declared.calls.CallAnswer.TheVariants.{Number};
-ghost use Rattle.sc_hosts.specs.Effects.{answer_of, accepted};
+ghost use Rattle.sc_hosts.specs.Effects.{answer_of, answer_to_call};
 ghost use Rattle.sc_hosts.specs.RefusalParts.{MOST_CALLS};
 ghost use Rattle.sc_turn.specs.Working.{play_of, after_made, after_starved, Answers};
 
@@ -71,7 +71,8 @@ impl Turn {
     /// A call that answers nothing but that it was accepted.
     #[tactic(auto, unfolding(crate::specs::Working::Answers, crate::specs::Working::IsAccepted, crate::specs::Working::IsRefused))]
     pub(crate) fn make_fine(&mut self, call: Call) -> Result<(), Refusal>
-        ensures { Answers (λ _. accepted (play_of self.old) call) call self.old result self.new }
+        ensures { Answers (λ _. answer_to_call (play_of self.old) call) call self.old result
+            self.new }
     {
         match self.make(call) {
             Ok(_) => Ok(()),
@@ -98,7 +99,8 @@ impl Turn {
     /// A call that makes a draft, and answers its number.
     #[tactic(auto, unfolding(crate::specs::Working::Answers, crate::specs::Working::IsAccepted, crate::specs::Working::IsRefused), using(crate::proofs::Answering::starved_turn))]
     pub(crate) fn make_draft(&mut self, call: Call) -> Result<u32, Refusal>
-        requires { accepted (play_of self.old) call ≡ Number ((play_of self.old).drafted + 1) }
+        requires { answer_to_call (play_of self.old) call
+            ≡ Number ((play_of self.old).drafted + 1) }
         ensures { Answers (λ n. Number n) call self.old result self.new }
     {
         let number = match self.next_draft() {
@@ -126,7 +128,8 @@ impl Turn {
     /// A call that sends a request, and answers its number.
     #[tactic(auto, unfolding(crate::specs::Working::Answers, crate::specs::Working::IsAccepted, crate::specs::Working::IsRefused))]
     pub(crate) fn make_request(&mut self, call: Call) -> Result<ReqId, Refusal>
-        requires { accepted (play_of self.old) call ≡ Number (play_of self.old).view.next_request }
+        requires { answer_to_call (play_of self.old) call
+            ≡ Number (play_of self.old).view.next_request }
         ensures { Answers (λ req. Number req.0) call self.old result self.new }
     {
         let req = self.next_request();
@@ -147,7 +150,8 @@ impl Turn {
     /// A call that starts a timer, and answers its number.
     #[tactic(auto, unfolding(crate::specs::Working::Answers, crate::specs::Working::IsAccepted, crate::specs::Working::IsRefused))]
     pub(crate) fn make_timer(&mut self, call: Call) -> Result<TimerId, Refusal>
-        requires { accepted (play_of self.old) call ≡ Number (play_of self.old).view.next_timer }
+        requires { answer_to_call (play_of self.old) call
+            ≡ Number (play_of self.old).view.next_timer }
         ensures { Answers (λ id. Number id.0) call self.old result self.new }
     {
         let id = self.next_timer();

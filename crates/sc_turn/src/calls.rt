@@ -1,7 +1,7 @@
 //! The calls of a turn.
 
 ghost use Rattle.sc_terms.specs.declared.calls.CallAnswer.{CallAnswer};
-ghost use Rattle.sc_hosts.specs.Effects.{accepted};
+ghost use Rattle.sc_hosts.specs.Effects.{answer_to_call};
 ghost use Rattle.sc_turn.specs.Working.{Answers};
 
 use crate::Turn;
@@ -21,7 +21,7 @@ impl Turn {
     ///   method take none (RFC 3261 sections 10.3, 11.2 and 21).
     /// - `BadText`: 0 for a code below 101 or above 699, 1 for a reason that isn't one line, 2 and more for the
     ///   field of that place.
-    #[tactic(auto, unfolding(sc_hosts::specs::Effects::accepted, crate::specs::Working::Answers))]
+    #[tactic(auto, unfolding(sc_hosts::specs::Effects::answer_to_call, crate::specs::Working::Answers))]
     pub fn respond(&mut self, req: ReqId, answer: Answer) -> Result<(), Refusal>
         ensures { Answers (λ _. CallAnswer.Fine) (Call.Respond req answer) self.old result
             self.new }
@@ -40,7 +40,7 @@ impl Turn {
     /// - `NotInitial`: CONTINUE and REVERSE need a received initial origin.
     /// - `SystemHeader`: a header that the container sets itself, or a Contact in another request than REGISTER.
     /// - `BadText`: 0 for the method, 2 and more for the field of that place.
-    #[tactic(auto, unfolding(sc_hosts::specs::Effects::accepted, crate::specs::Working::Answers))]
+    #[tactic(auto, unfolding(sc_hosts::specs::Effects::answer_to_call, crate::specs::Working::Answers))]
     pub fn create_request(&mut self, ask: Ask) -> Result<u32, Refusal>
         ensures { Answers (λ n. CallAnswer.Number n) (Call.CreateRequest ask) self.old result
             self.new }
@@ -57,7 +57,7 @@ impl Turn {
     /// - `WrongState`: the SipSession has no open dialog, or the application proxies in it.
     /// - `SystemHeader`: a header that the container sets itself.
     /// - `BadText`: 0 for the method, 2 and more for the field of that place.
-    #[tactic(auto, unfolding(sc_hosts::specs::Effects::accepted, crate::specs::Working::Answers))]
+    #[tactic(auto, unfolding(sc_hosts::specs::Effects::answer_to_call, crate::specs::Working::Answers))]
     pub fn create_in_dialog(&mut self, sess: SessId, ask: Inside) -> Result<u32, Refusal>
         ensures { Answers (λ n. CallAnswer.Number n) (Call.CreateInDialog sess ask) self.old result
             self.new }
@@ -78,7 +78,7 @@ impl Turn {
     /// - `AlreadyLinked`: its SipSession is linked.
     /// - `NoHops`: its Max-Forwards is 0.
     /// - `Limit(64)`: the application session has as many SipSessions.
-    #[tactic(auto, unfolding(sc_hosts::specs::Effects::accepted, crate::specs::Working::Answers))]
+    #[tactic(auto, unfolding(sc_hosts::specs::Effects::answer_to_call, crate::specs::Working::Answers))]
     pub fn b2b_create(&mut self, req: ReqId, uri: Option<Uri>) -> Result<u32, Refusal>
         ensures { Answers (λ n. CallAnswer.Number n) (Call.B2bCreate req uri) self.old result
             self.new }
@@ -92,7 +92,7 @@ impl Turn {
     ///
     /// Those of every call, and then the first of these that holds:
     /// - `NotInitial`: the draft is no initial request, or CONTINUE and REVERSE lack a received initial origin.
-    #[tactic(auto, unfolding(sc_hosts::specs::Effects::accepted, crate::specs::Working::Answers))]
+    #[tactic(auto, unfolding(sc_hosts::specs::Effects::answer_to_call, crate::specs::Working::Answers))]
     pub fn set_directive(
         &mut self,
         draft: u32,
@@ -115,7 +115,7 @@ impl Turn {
     ///
     /// Those of every call, and then the first of these that holds:
     /// - `WrongState`: its dialog has ended.
-    #[tactic(auto, unfolding(sc_hosts::specs::Effects::accepted, crate::specs::Working::Answers))]
+    #[tactic(auto, unfolding(sc_hosts::specs::Effects::answer_to_call, crate::specs::Working::Answers))]
     pub fn send(&mut self, draft: u32) -> Result<ReqId, Refusal>
         ensures { Answers (λ req. CallAnswer.Number req.0) (Call.Send draft) self.old result
             self.new }
@@ -128,7 +128,7 @@ impl Turn {
     /// # Errors
     ///
     /// Those of every call.
-    #[tactic(auto, unfolding(sc_hosts::specs::Effects::accepted, crate::specs::Working::Answers))]
+    #[tactic(auto, unfolding(sc_hosts::specs::Effects::answer_to_call, crate::specs::Working::Answers))]
     pub fn discard(&mut self, draft: u32) -> Result<(), Refusal>
         ensures { Answers (λ _. CallAnswer.Fine) (Call.Discard draft) self.old result self.new }
     {
@@ -141,7 +141,7 @@ impl Turn {
     ///
     /// Those of every call, and then the first of these that holds:
     /// - `NotSent`: no 2xx waits for its ACK there.
-    #[tactic(auto, unfolding(sc_hosts::specs::Effects::accepted, crate::specs::Working::Answers))]
+    #[tactic(auto, unfolding(sc_hosts::specs::Effects::answer_to_call, crate::specs::Working::Answers))]
     pub fn ack(&mut self, sess: SessId, body: Text) -> Result<(), Refusal>
         ensures { Answers (λ _. CallAnswer.Fine) (Call.Ack sess body) self.old result self.new }
     {
@@ -155,7 +155,7 @@ impl Turn {
     /// Those of every call, and then the first of these that holds:
     /// - `NotSent`: the request was received, or it is no INVITE.
     /// - `WrongState`: it has its final answer.
-    #[tactic(auto, unfolding(sc_hosts::specs::Effects::accepted, crate::specs::Working::Answers))]
+    #[tactic(auto, unfolding(sc_hosts::specs::Effects::answer_to_call, crate::specs::Working::Answers))]
     pub fn cancel(&mut self, req: ReqId) -> Result<(), Refusal>
         ensures { Answers (λ _. CallAnswer.Fine) (Call.Cancel req) self.old result self.new }
     {
@@ -176,7 +176,7 @@ impl Turn {
     /// - `NoHops`: its Max-Forwards is 0.
     /// - `BadText`: 0 for no target, 1 for a time of 0 or above 3,600 seconds.
     /// - `Limit(32)`: the application session would have more branches.
-    #[tactic(auto, unfolding(sc_hosts::specs::Effects::accepted, crate::specs::Working::Answers))]
+    #[tactic(auto, unfolding(sc_hosts::specs::Effects::answer_to_call, crate::specs::Working::Answers))]
     pub fn proxy_to(
         &mut self,
         req: ReqId,
@@ -200,7 +200,7 @@ impl Turn {
     /// Those of every call, and then the first of these that holds:
     /// - `NotSent`: the request isn't proxied.
     /// - `AlreadyAnswered`: a final response was forwarded.
-    #[tactic(auto, unfolding(sc_hosts::specs::Effects::accepted, crate::specs::Working::Answers))]
+    #[tactic(auto, unfolding(sc_hosts::specs::Effects::answer_to_call, crate::specs::Working::Answers))]
     pub fn proxy_cancel(&mut self, req: ReqId) -> Result<(), Refusal>
         ensures { Answers (λ _. CallAnswer.Fine) (Call.ProxyCancel req) self.old result self.new }
     {
@@ -215,7 +215,7 @@ impl Turn {
     /// Those of every call, and then the first of these that holds:
     /// - `NotLinked`: the SipSession isn't linked.
     /// - Those of [`respond`](Turn::respond); `NotYours` where no received request began it.
-    #[tactic(auto, unfolding(sc_hosts::specs::Effects::accepted, crate::specs::Working::Answers))]
+    #[tactic(auto, unfolding(sc_hosts::specs::Effects::answer_to_call, crate::specs::Working::Answers))]
     pub fn b2b_respond(&mut self, sess: SessId, answer: Answer) -> Result<(), Refusal>
         ensures { Answers (λ _. CallAnswer.Fine) (Call.B2bRespond sess answer) self.old result
             self.new }
@@ -230,7 +230,7 @@ impl Turn {
     /// Those of every call, and then the first of these that holds:
     /// - `AlreadyLinked`: they are the same, or one is linked.
     /// - `WrongState`: one is TERMINATED.
-    #[tactic(auto, unfolding(sc_hosts::specs::Effects::accepted, crate::specs::Working::Answers))]
+    #[tactic(auto, unfolding(sc_hosts::specs::Effects::answer_to_call, crate::specs::Working::Answers))]
     pub fn link(&mut self, a: SessId, b: SessId) -> Result<(), Refusal>
         ensures { Answers (λ _. CallAnswer.Fine) (Call.Link a b) self.old result self.new }
     {
@@ -243,7 +243,7 @@ impl Turn {
     ///
     /// Those of every call, and then the first of these that holds:
     /// - `NotLinked`: it isn't linked.
-    #[tactic(auto, unfolding(sc_hosts::specs::Effects::accepted, crate::specs::Working::Answers))]
+    #[tactic(auto, unfolding(sc_hosts::specs::Effects::answer_to_call, crate::specs::Working::Answers))]
     pub fn unlink(&mut self, a: SessId) -> Result<(), Refusal>
         ensures { Answers (λ _. CallAnswer.Fine) (Call.Unlink a) self.old result self.new }
     {
@@ -257,7 +257,7 @@ impl Turn {
     /// Those of every call, and then the first of these that holds:
     /// - `BadText(1)`: a period of 0.
     /// - `Limit(64)`: as many timers are active.
-    #[tactic(auto, unfolding(sc_hosts::specs::Effects::accepted, crate::specs::Working::Answers))]
+    #[tactic(auto, unfolding(sc_hosts::specs::Effects::answer_to_call, crate::specs::Working::Answers))]
     pub fn start_timer(
         &mut self,
         delay_ms: u32,
@@ -280,7 +280,7 @@ impl Turn {
     ///
     /// Those of every call, and then the first of these that holds:
     /// - `NotYours`: no such timer is active.
-    #[tactic(auto, unfolding(sc_hosts::specs::Effects::accepted, crate::specs::Working::Answers))]
+    #[tactic(auto, unfolding(sc_hosts::specs::Effects::answer_to_call, crate::specs::Working::Answers))]
     pub fn cancel_timer(&mut self, id: TimerId) -> Result<(), Refusal>
         ensures { Answers (λ _. CallAnswer.Fine) (Call.CancelTimer id) self.old result self.new }
     {
@@ -293,7 +293,7 @@ impl Turn {
     ///
     /// Those of every call, and then the first of these that holds:
     /// - `Limit(4096)`: the names and values would have more bytes.
-    #[tactic(auto, unfolding(sc_hosts::specs::Effects::accepted, crate::specs::Working::Answers))]
+    #[tactic(auto, unfolding(sc_hosts::specs::Effects::answer_to_call, crate::specs::Working::Answers))]
     pub fn set_attribute(&mut self, name: Text, value: Text) -> Result<(), Refusal>
         ensures { Answers (λ _. CallAnswer.Fine) (Call.SetAttribute name value) self.old result
             self.new }
@@ -307,7 +307,7 @@ impl Turn {
     ///
     /// Those of every call, and then the first of these that holds:
     /// - `NotYours`: it isn't set.
-    #[tactic(auto, unfolding(sc_hosts::specs::Effects::accepted, crate::specs::Working::Answers))]
+    #[tactic(auto, unfolding(sc_hosts::specs::Effects::answer_to_call, crate::specs::Working::Answers))]
     pub fn remove_attribute(&mut self, name: Text) -> Result<(), Refusal>
         ensures { Answers (λ _. CallAnswer.Fine) (Call.RemoveAttribute name) self.old result
             self.new }
@@ -321,7 +321,7 @@ impl Turn {
     /// # Errors
     ///
     /// Those of every call.
-    #[tactic(auto, unfolding(sc_hosts::specs::Effects::accepted, crate::specs::Working::Answers))]
+    #[tactic(auto, unfolding(sc_hosts::specs::Effects::answer_to_call, crate::specs::Working::Answers))]
     pub fn set_expires(&mut self, minutes: i32) -> Result<(), Refusal>
         ensures { Answers (λ _. CallAnswer.Fine) (Call.SetExpires minutes) self.old result
             self.new }
@@ -335,7 +335,7 @@ impl Turn {
     /// # Errors
     ///
     /// Those of every call.
-    #[tactic(auto, unfolding(sc_hosts::specs::Effects::accepted, crate::specs::Working::Answers))]
+    #[tactic(auto, unfolding(sc_hosts::specs::Effects::answer_to_call, crate::specs::Working::Answers))]
     pub fn set_ready_flag(&mut self, target: Target, flag: bool) -> Result<(), Refusal>
         ensures { Answers (λ _. CallAnswer.Fine) (Call.SetReadyFlag target flag) self.old result
             self.new }
@@ -348,7 +348,7 @@ impl Turn {
     /// # Errors
     ///
     /// Those of every call.
-    #[tactic(auto, unfolding(sc_hosts::specs::Effects::accepted, crate::specs::Working::Answers))]
+    #[tactic(auto, unfolding(sc_hosts::specs::Effects::answer_to_call, crate::specs::Working::Answers))]
     pub fn invalidate_session(&mut self, sess: SessId) -> Result<(), Refusal>
         ensures { Answers (λ _. CallAnswer.Fine) (Call.InvalidateSession sess) self.old result
             self.new }
@@ -361,7 +361,7 @@ impl Turn {
     /// # Errors
     ///
     /// Those of every call.
-    #[tactic(auto, unfolding(sc_hosts::specs::Effects::accepted, crate::specs::Working::Answers))]
+    #[tactic(auto, unfolding(sc_hosts::specs::Effects::answer_to_call, crate::specs::Working::Answers))]
     pub fn invalidate_application(&mut self) -> Result<(), Refusal>
         ensures { Answers (λ _. CallAnswer.Fine) (Call.InvalidateApplication) self.old result
             self.new }

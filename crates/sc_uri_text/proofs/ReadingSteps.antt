@@ -10,7 +10,7 @@ use Rattle.sc_tokens.specs.Cuts.{has, before, after}
 use Rattle.sc_tokens.specs.Names.{same_name}
 use Rattle.sc_tokens.specs.UriTokens.{IsOtherSpelled, IsUser, is_scheme, sip_scheme}
 use Rattle.sc_syntax.specs.UriParts.{Fault, host_fault, then_read, sent_at, params_at, headers_at}
-use Rattle.sc_syntax.specs.SpelledUris.{led}
+use Rattle.sc_syntax.specs.SpelledUris.{behind_sign as led}
 use Rattle.sc_syntax.proofs.PartLaws.{led_text, lacks_before, lacks_all, lacks_after}
 use Rattle.sc_uri_text.specs.Answers.{IsFault}
 use Rattle.sc_uri_text.specs.declared.refused.UriRefused.{UriRefused}

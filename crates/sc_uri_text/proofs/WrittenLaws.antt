@@ -7,10 +7,11 @@ use Rattle.sc_tokens.specs.Names.{same_name}
 use Rattle.sc_value.specs.declared.parts.Param.{Param}
 use Rattle.sc_value.specs.declared.parts.SipUri.{SipUri}
 use Rattle.sc_value.specs.declared.parts.Uri.TheVariants.{Sip}
-use Rattle.sc_grammar.specs.Written.{Bytes, signed_text, param_text, params_text, ended_text, port_text, scheme, sip_uri_text, uri_text}
+use Rattle.sc_tokens.specs.Bytes.{Bytes}
+use Rattle.sc_grammar.specs.Written.{signed_text, param_text, params_text, ended_text, port_text, scheme, sip_uri_text, uri_text}
 use Rattle.sc_tokens.specs.UriTokens.{sip_scheme}
 use Rattle.sc_value.specs.UriValues.{IsSipUri}
-use Rattle.sc_syntax.specs.SpelledUris.{led, closed_by, IsPortSpelled, spelled_param, spelled_behind, IsUriSpelled}
+use Rattle.sc_syntax.specs.SpelledUris.{behind_sign as led, closed_by, IsPortSpelled, spelled_param, spelled_behind, IsUriSpelled}
 use Rattle.sc_syntax.proofs.DecimalLaws.{decimal_is_read}
 
 led_is : (sign : ℕ) (text : Option Bytes) → signed_text sign text ≡ led sign text

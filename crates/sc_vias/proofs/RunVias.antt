@@ -20,13 +20,13 @@ use Rattle.sc_state.specs.declared.orders.Order.{Order}
 use Rattle.sc_state.specs.declared.orders.Order.TheVariants as orders
 use Rattle.sc_state.specs.declared.queue.Waiting.{Waiting}
 use Rattle.sc_state.specs.declared.session.Session.{Session}
-use Rattle.sc_grammar.specs.Written.{Bytes}
+use Rattle.sc_tokens.specs.Bytes.{Bytes}
 use Rattle.sc_hosts.specs.Histories.{after_turn, as_history, as_session, session_of}
 use Rattle.sc_hosts.specs.Inboxes.{is_live, live_in}
 use Rattle.sc_hosts.specs.Legs.{first_view, fresh}
 use Rattle.sc_hosts.specs.Messages.{kin}
 use Rattle.sc_hosts.specs.Nets.{host_at, with_routes}
-use Rattle.sc_hosts.specs.Runs.{after_step, chained, chained_from, quiet_host, start}
+use Rattle.sc_hosts.specs.Runs.{after_step, net_from as chained, chained_from, quiet_host, start}
 use Rattle.sc_hosts.specs.Sessions.{Turn}
 use Rattle.sc_hosts.specs.Steps.{live_at, outcome_by, turn_of}
 use Rattle.sc_forms.specs.Simulations.{map_host, map_net}
@@ -145,14 +145,14 @@ module _ (setup : Setup) (epoch : ℕ) (Small : ℕ → Type 0) where
   Kept net = Hold setup.config epoch Small net
 
   pub drawn-is : (net : Net Session) (app : AppId) (event now : ℕ) (made : List CallRecord) (end : End) (live : Live Session) (waiting : Waiting) → live_at app net ≡ Some live → slice_get live.inbox 0 ≡ Some waiting
-      → drawn_by setup net (steps.Turn app event now made end) ≡ (outcome_by as_session setup.config live.session (turn_of net app waiting now made end)).session.view.counter
+      → drawn_by setup net (steps.Turn end app event now made) ≡ (outcome_by as_session setup.config live.session (turn_of net app waiting now made end)).session.view.counter
   unfolding drawn_by
   drawn-is net app event now made end live waiting lives first = rw (lives, first) refl
 
   fits-by : (step : Step) (net : Net Session) → ((n : ℕ) → n ≤ drawn_by setup net step → Small n) → Kept net
       → StepFits as_session epoch (IsOfName epoch) (IsVia setup.config epoch Small) (via-kinds setup.config epoch Small) setup (record net { sent = [] }) step
   unfolding StepFits turn_of
-  fits-by (steps.Turn app event now made end) net small kept =
+  fits-by (steps.Turn end app event now made) net small kept =
       λ live waiting lives first. on-ordered setup.config epoch Small app _ live.session.view.counter _ (λ n under. small n (subst (λ (m : ℕ). n ≤ m) (sym (drawn-is net app event now made end live waiting lives first)) under))
       (turn-on setup.config epoch Small app net live waiting now made end lives kept)
   fits-by (steps.In from message) net small kept = tt

@@ -34,18 +34,18 @@ use Rattle.sc_state.specs.declared.orders.Outcome.{Outcome}
 use Rattle.sc_state.specs.declared.queue.Queued.TheVariants as queued
 use Rattle.sc_state.specs.declared.queue.Waiting.{Waiting}
 use Rattle.sc_state.specs.declared.session.Session.{Session}
-use Rattle.sc_grammar.specs.Written.{Bytes}
+use Rattle.sc_tokens.specs.Bytes.{Bytes}
 use Rattle.sc_model.specs.Timers.{DueEntry}
 use Rattle.sc_hosts.proofs.EachSort.{arrives-each}
-use Rattle.sc_hosts.specs.Arrivals.{host_takes, taken_at, edge_answer, begins_by, initial_arrives, response_by, arrived, bad_by}
+use Rattle.sc_hosts.specs.Arrivals.{host_takes, taken_at, edge_answer, begins_by, initial_arrives, response_by, after_arrival as arrived, bad_by}
 use Rattle.sc_hosts.specs.Inboxes.{is_live}
 use Rattle.sc_hosts.specs.Nets.{change_host, host_at}
 use Rattle.sc_hosts.specs.Routes.{unrouted_initial, popped_route}
 use Rattle.sc_hosts.specs.Runs.{after_step}
 use Rattle.sc_hosts.specs.Sessions.{Form, Turn}
-use Rattle.sc_hosts.specs.Steps.{closed_turn, invalidated, live_at, outcome_by, stepped, turn_of, turned, turned_live, turns, turns_first, with_ready, withdrawn, without_live}
+use Rattle.sc_hosts.specs.Steps.{closed_turn, without_application as invalidated, live_at, outcome_by, before_delivery as stepped, turn_of, net_after_turn as turned, turned_live, turns, turns_first, with_ready, withdrawn, without_live}
 use Rattle.sc_hosts.specs.Taking.{takes}
-use Rattle.sc_hosts.specs.Ticks.{told_at, passes, clients_to, lost, Dated, DueItem, Of_session, Of_client, Of_server, mark_fired, fires, due_items, ticked}
+use Rattle.sc_hosts.specs.Ticks.{told_at, passes, clients_to, net_after_loss as lost, Dated, DueItem, Of_session, Of_client, Of_server, mark_fired, fires, due_items, net_after_tick as ticked}
 use Rattle.sc_hosts.specs.Transacting.{tidied}
 use Rattle.sc_hosts.specs.Words.{unavailable}
 use Rattle.sc_lasting.specs.Lasting.{All}
@@ -205,7 +205,7 @@ module _ {S : Type 0} (form : Form S) (epoch : ℕ) (Named : AppId → S → Typ
 
   -- what the turn of a step gives to send is fit
   unfoldable pub StepFits : Net S → Step → Type 0
-  StepFits net (steps.Turn app event now made end) =
+  StepFits net (steps.Turn end app event now made) =
       (live : Live S) (waiting : Waiting) → live_at app net ≡ Some live → slice_get live.inbox 0 ≡ Some waiting
       → All (Ordered app) (outcome_by form setup.config live.session (turn_of net app waiting now made end)).orders
   StepFits net step = Unit {0}
@@ -237,7 +237,7 @@ module _ {S : Type 0} (form : Form S) (epoch : ℕ) (Named : AppId → S → Typ
   stepped-kept (steps.Bad from bad) net fits kept = bad_by-kept setup.config from bad.heads net kept
   stepped-kept (steps.Lost place) net fits kept = lost-kept setup.config place net kept
   stepped-kept (steps.Tick now) net fits kept = ticked-kept setup.config now net kept
-  stepped-kept (steps.Turn app event now made end) net fits kept = turns-kept app _ now made end net fits kept
+  stepped-kept (steps.Turn end app event now made) net fits kept = turns-kept app _ now made end net fits kept
   stepped-kept (steps.Withdraw app) net fits kept = withdrawn-kept app _ net kept
 
   pub step-kept : (step : Step) (net : Net S) → StepFits (record net { sent = [] }) step → Kept net → Kept (after_step form setup net step)

@@ -25,7 +25,7 @@ HaveOwnVias {S = S} config net =
 
 -- the number that the session of a step's turn drew last; where the step is no turn it is 0
 unfoldable pub drawn_by : Setup → Net Session → Step → ℕ
-drawn_by setup net (steps.Turn app event now made end) =
+drawn_by setup net (steps.Turn end app event now made) =
     option_map_or
     (λ live.
     option_map_or

@@ -15,10 +15,10 @@ use Rattle.sc_state.specs.declared.net.Net.{Net}
 use Rattle.sc_state.specs.declared.orders.Outcome.{Outcome}
 use Rattle.sc_state.specs.declared.queue.Waiting.{Waiting}
 use Rattle.sc_hosts.specs.Inboxes.{is_live, live_in}
-use Rattle.sc_hosts.specs.Nets.{host_at, change_host, obeyed}
-use Rattle.sc_hosts.specs.Runs.{delivered, after_step}
+use Rattle.sc_hosts.specs.Nets.{host_at, change_host, after_orders as obeyed}
+use Rattle.sc_hosts.specs.Runs.{after_delivery as delivered, after_step}
 use Rattle.sc_hosts.specs.Sessions.{Form, Turn}
-use Rattle.sc_hosts.specs.Steps.{live_of, live_at, outcome_by, turned_live, turn_of, with_ready, closed_turn, turned, turns_first, turns, stepped}
+use Rattle.sc_hosts.specs.Steps.{live_of, live_at, outcome_by, turned_live, turn_of, with_ready, closed_turn, net_after_turn as turned, turns_first, turns, before_delivery as stepped}
 use Rattle.sc_walks.proofs.WalkNets.{obeyed-walks, delivered-walks}
 use Rattle.sc_walks.proofs.WalkSteps.{arrived-walks, bad_by-walks, lost-walks, ticked-walks, with_ready-walks}
 use Rattle.sc_once.proofs.Finding.{find-changed}
@@ -43,7 +43,7 @@ module _ {S : Type 0} (form : Form S) (setup : Setup) (app : AppId) where
   steps-before net (steps.Bad from bad) away = bad_by-walks H (NetGrows app) (grow-hosts app.serial) (grow-nets app) setup.config from bad.heads net
   steps-before net (steps.Lost place) away = lost-walks H (NetGrows app) (grow-hosts app.serial) (grow-nets app) setup.config place net
   steps-before net (steps.Tick now) away = ticked-walks H (NetGrows app) (grow-hosts app.serial) (grow-nets app) form setup.config now net
-  steps-before net (steps.Turn other event now made end) away = turns-grow app other away form setup (live_at other net) now made end net
+  steps-before net (steps.Turn end other event now made) away = turns-grow app other away form setup (live_at other net) now made end net
   steps-before net (steps.Withdraw other) away = withdrawn-grows app other away form setup (live_at other net) net
 
   -- a step of another lets what waits grow at its end
@@ -90,7 +90,7 @@ module _ {S : Type 0} (form : Form S) (setup : Setup) (app : AppId) where
   pub turn-follows : (net : Net S) (live : Live S) (waiting : Waiting) (event now : ℕ) (made : List CallRecord) (end : End)
       → live_at app net ≡ Some live → slice_get live.inbox 0 ≡ Some waiting
       → (outcome_by form setup.config live.session (turn_of (record net { sent = [] }) app waiting now made end)).ends ≡ false
-      → Follows app net (after_step form setup net (steps.Turn app event now made end))
+      → Follows app net (after_step form setup net (steps.Turn end app event now made))
   unfolding after_step stepped turns turns_first turned events_in
   turn-follows net live waiting event now made end lives first goes-on =
       let start : Net S = record net { sent = [] } in

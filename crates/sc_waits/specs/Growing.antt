@@ -41,7 +41,7 @@ pub record NetGrows {S : Type 0} (app : AppId) (net changed : Net S) : Type 0 wh
 
 -- neither a turn nor the withdrawal of this session
 unfoldable pub IsElsewhere : AppId → Step → Type 0
-IsElsewhere app (steps.Turn other event now made end) = is_same_app other app ≡ false
+IsElsewhere app (steps.Turn end other event now made) = is_same_app other app ≡ false
 IsElsewhere app (steps.Withdraw other) = is_same_app other app ≡ false
 IsElsewhere app step = Unit {0}
 

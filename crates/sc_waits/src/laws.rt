@@ -31,12 +31,12 @@ pub fn events_wait_in_order()
         → (outcome_by form setup.config live.session
         (turn_of (record net { sent = [] }) app waiting now made end)).ends
         ≡ false
-        → Follows app net (after_step form setup net (steps.Turn app event now made end)) }
+        → Follows app net (after_step form setup net (steps.Turn end app event now made)) }
     ensures turn_history { (form : Form History) (setup : Setup) (app : AppId) (net : Net History)
         (live : Live History) (waiting : Waiting) (event now : ℕ) (made : List CallRecord)
         (end : End) → live_at app net ≡ Some live → slice_get live.inbox 0 ≡ Some waiting
         → (outcome_by form setup.config live.session
         (turn_of (record net { sent = [] }) app waiting now made end)).ends
         ≡ false
-        → Follows app net (after_step form setup net (steps.Turn app event now made end)) }
+        → Follows app net (after_step form setup net (steps.Turn end app event now made)) }
 {}

@@ -31,17 +31,17 @@ use Rattle.sc_state.specs.declared.working.Play.{Play}
 use Rattle.sc_state.specs.declared.working.Prepared.{Prepared}
 use Rattle.sc_state.specs.declared.working.Working.{Working}
 use Rattle.sc_state.specs.declared.working.Written.{Written}
-use Rattle.sc_grammar.specs.Written.{Bytes}
+use Rattle.sc_tokens.specs.Bytes.{Bytes}
 use Rattle.sc_model.specs.Dialogs.{DialogState, By_self}
-use Rattle.sc_hosts.specs.Branches.{stopped}
-use Rattle.sc_hosts.specs.Effects.{begun, after_call, after_listed, played_by, created, created_later, with_draft, sent, discarded, acked, without_session, with_timer, flagged}
+use Rattle.sc_hosts.specs.Branches.{without_search as stopped}
+use Rattle.sc_hosts.specs.Effects.{first_play as begun, after_call, after_listed, played_by, play_with_initial as created, created_later, with_draft, play_with_request as sent, play_without_draft as discarded, view_with_ack as acked, without_session, with_timer, with_invalidation_flag as flagged}
 use Rattle.sc_hosts.specs.Giving.{answering, writes, drafts_own, drafts_later, drafts_leg, directs, forgets}
 use Rattle.sc_hosts.specs.Legs.{change_leg, in_dialog}
-use Rattle.sc_hosts.specs.Looking.{removed, request_in}
+use Rattle.sc_hosts.specs.Looking.{without_sip_session as removed, request_in}
 use Rattle.sc_hosts.specs.Preparing.{kept_of}
 use Rattle.sc_hosts.specs.Refusals.{refusal, awaits_ack}
-use Rattle.sc_hosts.specs.ViewChanges.{tidy, invalidated, settled_request, settled_requests}
-use Rattle.sc_hosts.specs.Working.{starts, keeps_sent, sends_initial, sends_later, sends_in, sends_written, sends, ack_with, acknowledges, cancels, invalidates, does, does_by, worked, worked_all}
+use Rattle.sc_hosts.specs.ViewChanges.{tidy, view_without as invalidated, settled_request, settled_requests}
+use Rattle.sc_hosts.specs.Working.{starts, keeps_sent, sends_initial, sends_later, sends_in, sends_written, sends, ack_with, acknowledges, cancels, invalidates, effects_of_call as does, does_by, after_one_call as worked, worked_all}
 use Rattle.sc_walked.proofs.WalkParts.{each-first, each-map, follow-same, if-is, same-request, session-walks, leg-walks, proxy-walks, tidy-walks, answered-walks}
 use Rattle.sc_walked.proofs.WalkShown.{stopped-kept}
 use Rattle.sc_walked.specs.SessionWalks.{AreDone, IsSameRequest, IsSameLeg, SessionLaws, with_legs, after_sent}

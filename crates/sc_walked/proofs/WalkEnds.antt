@@ -32,21 +32,21 @@ use Rattle.sc_model.specs.BestResponses.{best_response, server_error}
 use Rattle.sc_model.specs.Dialogs.{tag_of, subscribe}
 use Rattle.sc_model.specs.SessionStates.{is_final, ack}
 use Rattle.sc_model.specs.Transactions.{is_success}
-use Rattle.sc_hosts.specs.Acting.{in_view, drawn, closed_session, is_over, moved_on, with_forwarded, subscribed_tag, sent_proxy, without_left, drafts_ended, fault_at, faulted, started, forwarded_view, with_subscribed, forwards, passes, forwards_best, chooses, closes, proxy_now, sends_cancels, rested, acted, acts, all_act, hops_spent, passed_on, passed_later, passed_request_of, is_request_event, passes_later}
-use Rattle.sc_hosts.specs.Effects.{begun, after_listed}
+use Rattle.sc_hosts.specs.Acting.{in_view, with_next_branch as drawn, closed_session, is_over, moved_on, with_forwarded, subscribed_tag, sent_proxy, without_left, drafts_ended, fault_at, after_fault as faulted, after_start as started, forwarded_view, with_subscribed, forwards, passes, forwards_best, chooses, closes, proxy_now, sends_cancels, at_rest as rested, after_proxy as acted, acts, all_act, hops_spent, passed_on, passed_later, passed_request_of, is_request_event, passes_later}
+use Rattle.sc_hosts.specs.Effects.{first_play as begun, after_listed}
 use Rattle.sc_hosts.specs.Legs.{fresh}
 use Rattle.sc_hosts.specs.Refusals.{refusal}
 use Rattle.sc_state.specs.declared.working.Play.{Play}
 use Rattle.sc_hosts.specs.Branches.{starting, is_exhausted, can_pass, can_choose, new_branch}
-use Rattle.sc_hosts.specs.Finishing.{is_session_ready, swept_one, swept, without_acks, lightened, session_in_play, is_ended, finished, outcome_of, outcome}
+use Rattle.sc_hosts.specs.Finishing.{is_session_ready, swept_one, swept, without_acks, without_unneeded as lightened, session_in_play, is_ended, after_all_calls as finished, outcome_of, outcome}
 use Rattle.sc_hosts.specs.Giving.{giving, answering}
 use Rattle.sc_hosts.specs.Histories.{History, after_turn, session_after, session_of}
-use Rattle.sc_hosts.specs.Looking.{change_session, removed, request_in, in_state}
+use Rattle.sc_hosts.specs.Looking.{change_session, without_sip_session as removed, request_in, in_state}
 use Rattle.sc_hosts.specs.Messages.{bare_answer, on_branch, passed_request}
-use Rattle.sc_hosts.specs.Preparing.{kept_of, prepared}
+use Rattle.sc_hosts.specs.Preparing.{kept_of, prepared_session as prepared}
 use Rattle.sc_hosts.specs.PreparingResponses.{change_proxy, is_invalid}
 use Rattle.sc_hosts.specs.Sessions.{Turn}
-use Rattle.sc_hosts.specs.ViewChanges.{answered, answered_in, is_owed}
+use Rattle.sc_hosts.specs.ViewChanges.{view_with_answer as answered, answered_in, is_owed}
 use Rattle.sc_hosts.specs.Working.{next_branch, worked_all}
 use Rattle.sc_hosts.specs.Words.{too_many_hops}
 use Rattle.sc_walked.proofs.WalkParts.{follow-ended, follow-initial, follow-same, if-is, moved, same-proxy, stays-on, session-walks, sessions-walk, proxy-walks, tidy-walks, answered_in-walks, answered-walks, if-walks, if-view, fold-walks}

@@ -19,7 +19,7 @@ use Rattle.sc_state.specs.declared.session.Known.{Known}
 use Rattle.sc_state.specs.declared.session.Leg.{Leg}
 use Rattle.sc_state.specs.declared.session.Session.{Session}
 use Rattle.sc_tokens.specs.Names.{same_bytes}
-use Rattle.sc_grammar.specs.Written.{Bytes}
+use Rattle.sc_tokens.specs.Bytes.{Bytes}
 use Rattle.sc_model.specs.Dialogs.{subscribe}
 use Rattle.sc_model.specs.SessionStates.{bye, ended_state, invite, is_final}
 use Rattle.sc_model.specs.Transactions.{is_failure, is_success}
@@ -27,7 +27,7 @@ use Rattle.sc_hosts.specs.Legs.{change_leg, is_leg_of}
 use Rattle.sc_hosts.specs.Looking.{change_request, change_session, is_session, is_request, is_uac}
 use Rattle.sc_hosts.specs.PreparingResponses.{change_proxy}
 use Rattle.sc_hosts.specs.States.{after_initial, after_later, after_response, failed_state, invited_state, subscribed_state, unsubscribed_state}
-use Rattle.sc_hosts.specs.ViewChanges.{tidy, with_there, with_answer, with_response, answered_in, answered, stands}
+use Rattle.sc_hosts.specs.ViewChanges.{tidy, with_there, with_answer, with_response, answered_in, view_with_answer as answered, stands}
 use Rattle.sc_walked.specs.SessionWalks.{Each, IsMoved, IsSameRequest, IsSameLeg, IsSameProxy, IsKeptProxy, HasGoneOn, SessionLaws, may_follow}
 
 -- ## Item by item

@@ -29,20 +29,20 @@ use Rattle.sc_state.specs.declared.session.Known.{Known}
 use Rattle.sc_state.specs.declared.session.Leg.{Leg}
 use Rattle.sc_state.specs.declared.session.Session.{Session}
 use Rattle.sc_state.specs.declared.working.Prepared.{Prepared}
-use Rattle.sc_grammar.specs.Written.{Bytes}
+use Rattle.sc_tokens.specs.Bytes.{Bytes}
 use Rattle.sc_model.specs.Transactions.{is_failure, is_success}
 use Rattle.sc_model.specs.Dialogs.{tag_of, dialog_of, Calling, By_peer}
 use Rattle.sc_value.specs.declared.message.Message.TheVariants as messages
 use Rattle.sc_model.specs.Names.{edge_tag}
 use Rattle.sc_model.specs.SessionStates.{is_final}
-use Rattle.sc_hosts.specs.Branches.{is_supervised, stopped, to_cancel, ended_by, heard, after_end, ended_branch, with_candidate, with_targets, added_targets, passing_on, recurses, rung, is_global, branch_in, is_open}
+use Rattle.sc_hosts.specs.Branches.{is_supervised, without_search as stopped, to_cancel, ended_by, proxy_after_response as heard, after_end, ended_branch, with_candidate, with_targets, added_targets, passing_on, recurses, after_ringing as rung, is_global, branch_in, is_open}
 use Rattle.sc_hosts.specs.DerivedSessions.{Handling, In, Takes, Derives, handled_in, is_overtaken, loses_tag, overtaken_session, overtaken_leg, overtaken, is_of, failed_session, without_derived}
 use Rattle.sc_hosts.specs.Legs.{change_leg, FIRST_SESSION, in_dialog, with_request, with_answer, answered_leg, as_answer, makes_dialog_of}
 use Rattle.sc_hosts.specs.Looking.{change_request, same_session, session_in, is_proxy, in_state}
 use Rattle.sc_hosts.specs.Messages.{own_response}
-use Rattle.sc_hosts.specs.PreparingRequests.{silent, showing, showing_in, received, too_low, taken, taken_in, prepared_request}
-use Rattle.sc_hosts.specs.PreparingResponses.{is_sent_on, noted_final, shown_again, with_request_again, responded_again, accepts_invite, with_success, is_first_success, settled_legs, responded, placed, responded_in, prepared_own, with_branches, heard_in, branch_placed, prepared_branch, prepared_response, change_proxy}
-use Rattle.sc_hosts.specs.Preparing.{kept_of, proxy_of, terminated, cancelled_proxy, cancelled_request, prepared_cancel, fired, prepared_timer, has_expired, prepared_expiry, timed_out, prepared_branch_timer, prepared_for, prepared}
+use Rattle.sc_hosts.specs.PreparingRequests.{silent, showing, showing_in, with_received_request as received, too_low, prepared_for_request as taken, taken_in, prepared_request}
+use Rattle.sc_hosts.specs.PreparingResponses.{is_sent_on, noted_final, shown_again, with_request_again, responded_again, accepts_invite, with_success, is_first_success, settled_legs, with_handled_response as responded, session_of_response as placed, responded_in, prepared_own, with_branches, heard_in, branch_placed, prepared_branch, prepared_response, change_proxy}
+use Rattle.sc_hosts.specs.Preparing.{kept_of, proxy_of, prepared_end as terminated, cancelled_proxy, cancelled_request, prepared_cancel, after_timer as fired, prepared_timer, has_expired, prepared_expiry, timed_out, prepared_branch_timer, prepared_for, prepared_session as prepared}
 use Rattle.sc_hosts.specs.ViewChanges.{tidy, answered_in, with_answer as with_final}
 use Rattle.sc_hosts.specs.Words.{request_timeout}
 use Rattle.sc_walked.proofs.WalkParts.{each-map, follow-ended, follow-same, if-is, moved, answer-same, same-request, same-leg, same-proxy, stays-on, session-walks, sessions-walk, request-walks, leg-walks, proxy-walks, tidy-walks, answered_in-walks, answered-walks, if-walks}

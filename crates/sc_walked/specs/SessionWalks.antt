@@ -28,17 +28,17 @@ use Rattle.sc_state.specs.declared.session.Session.{Session}
 use Rattle.sc_state.specs.declared.session.Way.TheVariants.{Sent}
 use Rattle.sc_state.specs.declared.working.Draft.{Draft}
 use Rattle.sc_state.specs.declared.working.Play.{Play}
-use Rattle.sc_grammar.specs.Written.{Bytes}
+use Rattle.sc_tokens.specs.Bytes.{Bytes}
 use Rattle.sc_hosts.specs.Acting.{sent_proxy}
 use Rattle.sc_hosts.specs.DerivedSessions.{derived_session, derived_leg}
-use Rattle.sc_hosts.specs.Effects.{after_listed, created_leg, proxied, sent_view}
+use Rattle.sc_hosts.specs.Effects.{after_listed, created_leg, sent_view, view_with_targets}
 use Rattle.sc_hosts.specs.Legs.{FIRST_SESSION, leg_of, new_leg}
-use Rattle.sc_hosts.specs.Looking.{is_uac, request_in, session_in, removed, unlinked}
+use Rattle.sc_hosts.specs.Looking.{is_uac, request_in, session_in, without_link, without_sip_session}
 use Rattle.sc_hosts.specs.Preparing.{kept_of}
-use Rattle.sc_hosts.specs.PreparingRequests.{numbered, received}
+use Rattle.sc_hosts.specs.PreparingRequests.{with_number_used, with_received_request}
 use Rattle.sc_hosts.specs.PreparingResponses.{with_request_again}
 use Rattle.sc_hosts.specs.Refusals.{refusal}
-use Rattle.sc_hosts.specs.ViewChanges.{linked, new_session, with_own_session}
+use Rattle.sc_hosts.specs.ViewChanges.{new_session, with_link, with_own_session}
 use Rattle.sc_hosts.specs.Working.{proxies}
 
 -- ## What stays of the parts
@@ -185,7 +185,7 @@ pub record SessionLaws (event : Queued) (Does : Call → Type 0)
       → Q x (record x { view = record x.view { attributes = fields } })
   pub counts : (x : Session)
       → Q x (record x { view = record x.view { counter = x.view.counter + 1 } })
-  pub numbers : (x : Session) → Q x (numbered x)
+  pub numbers : (x : Session) → Q x (with_number_used x)
   -- what is there changes, and nothing is added
   pub moves : (x : Session) (sessions : List SessionView) → Each IsMoved x.view.sessions sessions
       → Q x (record x { view = record x.view { sessions = sessions } })
@@ -202,13 +202,14 @@ pub record SessionLaws (event : Queued) (Does : Call → Type 0)
       → Q x (record x { known = record x.known { kept = filter test x.known.kept } })
   -- a SipSession goes, or its link
   pub unlinks : (x : Session) (sess : SessId) → Does (calls.Unlink sess)
-      → Q x (record x { view = unlinked sess x.view })
-  pub removes : (x : Session) (sess : SessId) → Q x (record x { view = removed sess x.view })
+      → Q x (record x { view = without_link sess x.view })
+  pub removes : (x : Session) (sess : SessId)
+      → Q x (record x { view = without_sip_session sess x.view })
   -- a request comes, one is shown again, and one is sent
   pub receives : (x : Session) (number : ℕ) (sess : SessId) (initial passed : Bool)
       (request : Request)
       → Brings event x sess initial passed request
-      → Q x (received x number sess initial passed request)
+      → Q x (with_received_request x number sess initial passed request)
   pub shows : (x : Session) (request : RequestView) → IsShownAgain x.known request
       → Q x (with_request_again request x)
   pub sends : (x : Session) (draft : Draft) (request : Request)
@@ -250,14 +251,14 @@ pub record SessionLaws (event : Queued) (Does : Call → Type 0)
   pub links : (play : Play) (known : Known) (a b : SessId) → refusal play (calls.Link a b) ≡ None
       → Does (calls.Link a b)
       → Q (record { view = play.view; known = known })
-      (record { view = linked a b play.view; known = known })
+      (record { view = with_link a b play.view; known = known })
   pub turns : (play : Play) (known : Known) (req : ReqId) (uris : List Uri) (how : ProxyOptions)
       (request : Option RequestView)
       → refusal play (calls.ProxyTo req uris how) ≡ None → Does (calls.ProxyTo req uris how)
       → request_in play.view req ≡ request
       → Q (record { view = play.view; known = known })
       (record {
-        view = proxied request (length uris) play.view;
+        view = view_with_targets request (length uris) play.view;
         known = proxies req uris how known;
       })
   -- a later request is passed on

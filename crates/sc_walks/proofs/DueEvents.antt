@@ -20,7 +20,7 @@ use Rattle.sc_state.specs.Entries.{SessionEntry, expiry_entry, timer_entry, bran
 use Rattle.sc_parts.specs.declared.timers.TimerName.{TimerName}
 use Rattle.sc_model.specs.Timers.{DueEntry}
 use Rattle.sc_hosts.specs.Sessions.{Form}
-use Rattle.sc_hosts.specs.Ticks.{Dated, DueItem, Of_session, Of_client, Of_server, all_dated, client_dated, dated, due_items, host_dated, hosts_dated, live_dated, same_entry, server_dated}
+use Rattle.sc_hosts.specs.Ticks.{Dated, DueItem, Of_session, Of_client, Of_server, all_dated, client_dated, dated_entry as dated, due_items, host_dated, hosts_dated, live_dated, same_entry, server_dated}
 
 unfoldable pub All : {A : Type 0} → (A → Type 0) → List A → Type 0
 All P [] = Unit {0}

@@ -27,9 +27,9 @@ use Rattle.sc_state.specs.declared.net.Note.{Note}
 use Rattle.sc_state.specs.declared.orders.Order.{Order}
 use Rattle.sc_state.specs.declared.orders.Order.TheVariants as orders
 use Rattle.sc_state.specs.declared.queue.Queued.{Queued}
-use Rattle.sc_grammar.specs.Written.{Bytes}
-use Rattle.sc_hosts.specs.Nets.{host_at, change_host, put, put_reply, placed, queued_at, queue_for, tell_own, send_to, leave_for, leave, begin_by, send_named, send_later, acknowledge, send_cancel, cancel_by, cancel_for, respond_by, obey, obeyed, is_busy, deliver_at, deliver_entry, deliver_first, weight}
-use Rattle.sc_hosts.specs.Runs.{delivered}
+use Rattle.sc_tokens.specs.Bytes.{Bytes}
+use Rattle.sc_hosts.specs.Nets.{host_at, change_host, with_message as put, put_reply, with_host_after as placed, queued_at, queue_for, tell_own, send_to, leave_for, leave, begin_by, send_named, send_later, acknowledge, send_cancel, cancel_by, cancel_for, respond_by, obey, after_orders as obeyed, is_busy, deliver_at, deliver_entry, deliver_first, weight}
+use Rattle.sc_hosts.specs.Runs.{after_delivery as delivered}
 use Rattle.sc_hosts.specs.Sessions.{Form}
 use Rattle.sc_hosts.specs.Settle.{steps, settle}
 use Rattle.sc_hosts.specs.Transacting.{tidied, pass_client, with_client}

@@ -14,7 +14,7 @@ use Rattle.sc_state.specs.declared.queue.Queued.{Queued}
 use Rattle.sc_state.specs.declared.queue.Queued.TheVariants as queued
 use Rattle.sc_model.specs.Timers.{DueEntry}
 use Rattle.sc_hosts.specs.Inboxes.{queue}
-use Rattle.sc_hosts.specs.Nets.{host_at, change_host}
+use Rattle.sc_hosts.specs.Nets.{change_host, host_at}
 use Rattle.sc_hosts.specs.Sessions.{Form}
 use Rattle.sc_hosts.specs.Taking.{begun_live}
 use Rattle.sc_hosts.specs.Ticks.{mark_fired}

@@ -16,7 +16,7 @@ use Rattle.sc_lasting.specs.Lasting.{All}
 use Rattle.sc_lasting.proofs.Began.{test-found}
 use Rattle.sc_lasting.proofs.Shared.{found-behind}
 use Rattle.sc_paths.specs.Moments.{Moment, began_with, first_server, is_first_of}
-use Rattle.sc_paths.specs.Pieces.{Piece, received}
+use Rattle.sc_paths.specs.Pieces.{Piece, server_of_piece as received}
 use Rattle.sc_keyed.proofs.Apart.{found-in}
 use Rattle.sc_keyed.proofs.ClientKeys.{app-is}
 use Rattle.sc_keyed.proofs.KeyedNets.{AllKeyed}

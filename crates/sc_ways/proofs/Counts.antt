@@ -19,11 +19,11 @@ use Rattle.sc_state.specs.declared.queue.Queued.{Queued}
 use Rattle.sc_state.specs.declared.queue.Waiting.{Waiting}
 use Rattle.sc_state.specs.declared.session.Session.{Session}
 use Rattle.sc_model.specs.Timers.{DueEntry}
-use Rattle.sc_hosts.specs.Inboxes.{live_in, queue, quiet}
+use Rattle.sc_hosts.specs.Inboxes.{live_in, queue, without_answer as quiet}
 use Rattle.sc_hosts.specs.Nets.{change_host, host_at}
 use Rattle.sc_hosts.specs.Runs.{after_step, chained_from}
 use Rattle.sc_hosts.specs.Sessions.{Form, Turn}
-use Rattle.sc_hosts.specs.Steps.{closed_turn, invalidated, stepped, turned, turns, turns_first, withdrawn, without_live}
+use Rattle.sc_hosts.specs.Steps.{closed_turn, without_application as invalidated, before_delivery as stepped, net_after_turn as turned, turns, turns_first, withdrawn, without_live}
 use Rattle.sc_hosts.specs.Ticks.{mark_fired}
 use Rattle.sc_hosts.specs.Transacting.{tidied}
 use Rattle.sc_lives.specs.Numbers.{AreNumbered, IsNumberedAt, IsRising}
@@ -180,7 +180,7 @@ module _ {S : Type 0} where
     stepped-rises (steps.Bad from bad) net = bad_by-walks H Rises hosts nets setup.config from bad.heads net
     stepped-rises (steps.Lost place) net = lost-walks H Rises hosts nets setup.config place net
     stepped-rises (steps.Tick now) net = ticked-walks H Rises hosts nets form setup.config now net
-    stepped-rises (steps.Turn app event now made end) net = turns-rises app _ now made end net
+    stepped-rises (steps.Turn end app event now made) net = turns-rises app _ now made end net
     stepped-rises (steps.Withdraw app) net = withdrawn-rises app _ net
 
     pub step-rises : (net : Net S) (step : Step) → Rises net (after_step form setup net step)

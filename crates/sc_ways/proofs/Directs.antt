@@ -18,7 +18,7 @@ use Rattle.sc_parts.specs.declared.setup.Setup.{Setup}
 use Rattle.sc_state.specs.declared.host.Live.{Live}
 use Rattle.sc_state.specs.declared.net.Net.{Net}
 use Rattle.sc_state.specs.declared.session.Session.{Session}
-use Rattle.sc_grammar.specs.Written.{Bytes}
+use Rattle.sc_tokens.specs.Bytes.{Bytes}
 use Rattle.sc_hosts.specs.Histories.{as_session}
 use Rattle.sc_hosts.specs.Looking.{is_session}
 use Rattle.sc_hosts.specs.Runs.{after_step}
@@ -28,7 +28,7 @@ use Rattle.sc_hosts.specs.Scripting.{is_refused}
 use Rattle.sc_lasting.specs.Lasting.{All, AreDirect, Directly, IsDirect}
 use Rattle.sc_lasting.proofs.Parts.{all-both, all-found}
 use Rattle.sc_lasting.proofs.Shared.{all-front}
-use Rattle.sc_lived.specs.Lived.{AreAccepted, Told, told, told_by}
+use Rattle.sc_lived.specs.Lived.{AreAccepted, Told, turns_in as told, told_by}
 use Rattle.sc_paths.specs.Moments.{Moment, moments_from, options_in, options_of, proxied_with}
 use Rattle.sc_ways.specs.Ways.{TakesNoProxy}
 
@@ -92,7 +92,7 @@ turn-direct false event now made end none = tt
 
 step-direct : (app : AppId) (step : Step) → options_in app step ≡ [] → AreAccepted Directly (told_by app step)
 unfolding options_in told_by All
-step-direct app (steps.Turn other event now made end) none =
+step-direct app (steps.Turn end other event now made) none =
     turn-direct (is_same_app app other) event now made end (subst (λ (b : Bool). cond b (filter_map (λ (m : CallRecord). options_of m.call m.answer) made) [] ≡ []) (flipped other app) none)
 step-direct app (steps.In from message) none = tt
 step-direct app (steps.Bad from bad) none = tt

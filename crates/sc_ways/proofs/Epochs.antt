@@ -14,7 +14,7 @@ use Rattle.sc_state.specs.declared.queue.Waiting.{Waiting}
 use Rattle.sc_state.specs.declared.session.Session.{Session}
 use Rattle.sc_hosts.specs.Runs.{after_step}
 use Rattle.sc_hosts.specs.Sessions.{Form}
-use Rattle.sc_hosts.specs.Steps.{closed_turn, invalidated, stepped, turned, turns, turns_first, withdrawn, without_live}
+use Rattle.sc_hosts.specs.Steps.{closed_turn, without_application as invalidated, before_delivery as stepped, net_after_turn as turned, turns, turns_first, withdrawn, without_live}
 use Rattle.sc_walks.specs.Walks.{HostLaws, NetLaws}
 use Rattle.sc_walks.proofs.WalkNets.{delivered-walks, obeyed-walks}
 use Rattle.sc_walks.proofs.WalkSteps.{arrived-walks, bad_by-walks, lost-walks, ticked-walks, with_ready-walks}
@@ -77,7 +77,7 @@ module _ {S : Type 0} (form : Form S) (setup : Setup) where
   stepped-epoch (steps.Bad from bad) net = bad_by-walks H P hosts nets setup.config from bad.heads net
   stepped-epoch (steps.Lost place) net = lost-walks H P hosts nets setup.config place net
   stepped-epoch (steps.Tick now) net = ticked-walks H P hosts nets form setup.config now net
-  stepped-epoch (steps.Turn app event now made end) net = turns-epoch app _ now made end net
+  stepped-epoch (steps.Turn end app event now made) net = turns-epoch app _ now made end net
   stepped-epoch (steps.Withdraw app) net = withdrawn-epoch app _ net
 
   pub step-epoch : (net : Net S) (step : Step) → (after_step form setup net step).epoch ≡ net.epoch

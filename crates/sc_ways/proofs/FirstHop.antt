@@ -22,14 +22,14 @@ use Rattle.sc_state.specs.declared.host.Peer.TheVariants as peers
 use Rattle.sc_state.specs.declared.net.Net.{Net}
 use Rattle.sc_state.specs.declared.queue.Queued.TheVariants as queued
 use Rattle.sc_state.specs.declared.session.Session.{Session}
-use Rattle.sc_grammar.specs.Written.{Bytes}
+use Rattle.sc_tokens.specs.Bytes.{Bytes}
 use Rattle.sc_hosts.specs.EventLists.{live_from}
 use Rattle.sc_hosts.specs.Histories.{as_session}
 use Rattle.sc_hosts.specs.Inboxes.{is_full, is_live}
 use Rattle.sc_hosts.specs.Nets.{host_at, is_busy}
-use Rattle.sc_hosts.specs.Runs.{IsLawful, after_step, chained, start}
-use Rattle.sc_hosts.specs.Steps.{inbox_of, live_at, live_of, stepped}
-use Rattle.sc_hosts.specs.Taking.{names, own_uri, unrouted}
+use Rattle.sc_hosts.specs.Runs.{IsLawful, after_step, net_from as chained, start}
+use Rattle.sc_hosts.specs.Steps.{inbox_of, live_at, live_of, before_delivery as stepped}
+use Rattle.sc_hosts.specs.Taking.{names, own_uri, without_own_route as unrouted}
 use Rattle.sc_hosts.specs.Transacting.{branch_of, port_of, same_via}
 use Rattle.sc_hosts.proofs.Deliveries.{none-delivered}
 use Rattle.sc_keyed.specs.Keyed.{IsIn}
@@ -39,7 +39,7 @@ use Rattle.sc_reached.proofs.Reaching.{reaches, serial-is}
 use Rattle.sc_hops.proofs.OneTurn.{unrouted-vias}
 use Rattle.sc_paths.specs.LaterRequests.{Occurrence, SetOut, carries, carries_by, has_vias, is_turn_of, later_vias, leads, set_out, set_out_by, visits, visits_from}
 use Rattle.sc_paths.specs.Moments.{Got, Moment, got_in, moments, same_vias, waiting_at}
-use Rattle.sc_paths.specs.Pieces.{Dialog, Direction, IsPiece, Piece, ahead, along, end_of, listed, recorders}
+use Rattle.sc_paths.specs.Pieces.{Dialog, Direction, IsPiece, Piece, ahead, along, end_of, list_of_option as listed, recorders}
 use Rattle.sc_lasting.proofs.Shared.{all-at, found-behind}
 use Rattle.sc_ways.specs.Ways.{AreSmallDraws, AreSmallNames, IsApart, IsPrefix, VisitsFirst}
 use Rattle.sc_ways.proofs.Law.{prefix}

@@ -13,18 +13,18 @@ use Rattle.sc_parts.specs.declared.setup.Setup.{Setup}
 use Rattle.sc_state.specs.declared.host.Peer.TheVariants as peers
 use Rattle.sc_state.specs.declared.net.Net.{Net}
 use Rattle.sc_state.specs.declared.session.Session.{Session}
-use Rattle.sc_grammar.specs.Written.{Bytes}
+use Rattle.sc_tokens.specs.Bytes.{Bytes}
 use Rattle.sc_model.specs.Names.{IsOf64}
 use Rattle.sc_hosts.specs.Histories.{as_session}
-use Rattle.sc_hosts.specs.Runs.{IsLawful, after_step, chained, start}
-use Rattle.sc_hosts.specs.Steps.{stepped}
+use Rattle.sc_hosts.specs.Runs.{IsLawful, after_step, net_from as chained, start}
+use Rattle.sc_hosts.specs.Steps.{before_delivery as stepped}
 use Rattle.sc_hosts.specs.Taking.{own_uri}
 use Rattle.sc_hosts.specs.Words.{does_not_exist, unavailable}
 use Rattle.sc_hosts.proofs.Deliveries.{none-delivered}
 use Rattle.sc_lasting.specs.Lasting.{All}
 use Rattle.sc_lasting.proofs.Shared.{all-at, found-behind}
 use Rattle.sc_reached.specs.Reached.{IsLater}
-use Rattle.sc_stopped.specs.Stopped.{IsLaterTo, answered}
+use Rattle.sc_stopped.specs.Stopped.{IsLaterTo, net_with_answer as answered}
 use Rattle.sc_stopped.proofs.Stops.{full, gone, unled}
 use Rattle.sc_paths.specs.LaterRequests.{Occurrence, SetOut, carries, carries_by, set_out, set_out_by}
 use Rattle.sc_paths.specs.Moments.{Moment, moments}

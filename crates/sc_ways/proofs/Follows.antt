@@ -21,7 +21,7 @@ use Rattle.sc_state.specs.declared.host.Live.{Live}
 use Rattle.sc_state.specs.declared.net.Net.{Net}
 use Rattle.sc_state.specs.declared.queue.Queued.TheVariants as queued
 use Rattle.sc_state.specs.declared.session.Session.{Session}
-use Rattle.sc_grammar.specs.Written.{Bytes}
+use Rattle.sc_tokens.specs.Bytes.{Bytes}
 use Rattle.sc_model.specs.Names.{IsOf64}
 use Rattle.sc_model.specs.OwnHosts.{is_own}
 use Rattle.sc_hosts.specs.Histories.{as_session}
@@ -30,13 +30,13 @@ use Rattle.sc_hosts.specs.Looking.{is_proxy, session_in}
 use Rattle.sc_hosts.specs.Messages.{on_branch, passed_request}
 use Rattle.sc_hosts.specs.Runs.{after_step}
 use Rattle.sc_hosts.specs.Steps.{live_at}
-use Rattle.sc_hosts.specs.Taking.{names, own_uri, unrouted}
+use Rattle.sc_hosts.specs.Taking.{names, own_uri, without_own_route as unrouted}
 use Rattle.sc_hosts.specs.Transacting.{is_same_app}
 use Rattle.sc_lasting.specs.Lasting.{All}
 use Rattle.sc_reached.proofs.Naming.{names-one}
 use Rattle.sc_paths.specs.LaterRequests.{is_passed_on, is_turn_of, leads, visits_from}
 use Rattle.sc_paths.specs.Moments.{Got, Moment, got_in, moments_from}
-use Rattle.sc_paths.specs.Pieces.{listed}
+use Rattle.sc_paths.specs.Pieces.{list_of_option as listed}
 use Rattle.sc_ways.specs.Ways.{IsPrefix, TakesNoProxy}
 use Rattle.sc_ways.proofs.OneHop.{IsFine, IsNext, next-of}
 use Rattle.sc_ways.proofs.Popping.{comes, comes-at-end, leads-out, passed-leads}
@@ -74,7 +74,7 @@ not-turn got (steps.In from message) is = tt
 not-turn got (steps.Bad from bad) is = tt
 not-turn got (steps.Lost place) is = tt
 not-turn got (steps.Tick now) is = tt
-not-turn got (steps.Turn app event now made end) is = is
+not-turn got (steps.Turn end app event now made) is = is
 not-turn got (steps.Withdraw app) is = tt
 
 -- the Call-ID stays
@@ -141,7 +141,7 @@ module _ (setup : Setup) (epoch : ℕ) (small : epoch < 2 ^ 64) (call_id : Bytes
     pub made : List CallRecord
     pub end : End
     pub number : event ≡ got.waiting.number
-    pub is : step ≡ steps.Turn got.app event now made end
+    pub is : step ≡ steps.Turn end got.app event now made
 
   pub turn-of : (got : Got) (step : Step) → is_turn_of got step ≡ true → IsTurn got step
   unfolding is_turn_of
@@ -149,9 +149,9 @@ module _ (setup : Setup) (epoch : ℕ) (small : epoch < 2 ^ 64) (call_id : Bytes
   turn-of got (steps.Bad from bad) is = cc
   turn-of got (steps.Lost place) is = cc
   turn-of got (steps.Tick now) is = cc
-  turn-of got (steps.Turn app event now made end) is =
+  turn-of got (steps.Turn end app event now made) is =
       let both = parts (is_same_app app got.app) (event == got.waiting.number) is in
-      record { event = event; now = now; made = made; end = end; number = equal event got.waiting.number both.1; is = ap (λ (a : AppId). steps.Turn a event now made end) (same-app app got.app both.0) }
+      record { event = event; now = now; made = made; end = end; number = equal event got.waiting.number both.1; is = ap (λ (a : AppId). steps.Turn end a event now made) (same-app app got.app both.0) }
   turn-of got (steps.Withdraw app) is = cc
 
   abbrev At : Net Session → Step → Moment

@@ -14,7 +14,7 @@ use Rattle.sc_state.specs.declared.net.Net.{Net}
 use Rattle.sc_state.specs.declared.session.Session.{Session}
 use Rattle.sc_model.specs.Names.{IsOf64}
 use Rattle.sc_hosts.specs.Histories.{as_session}
-use Rattle.sc_hosts.specs.Runs.{IsLawful, chained, start}
+use Rattle.sc_hosts.specs.Runs.{IsLawful, net_from as chained, start}
 use Rattle.sc_lasting.specs.Lasting.{All, AreDirect, Directly}
 use Rattle.sc_lasting.proofs.Direct.{nothing-proxied}
 use Rattle.sc_lasting.proofs.Parts.{all-append, all-both}
@@ -22,7 +22,7 @@ use Rattle.sc_lasting.proofs.Shared.{all-front}
 use Rattle.sc_lived.proofs.Since.{session-holds}
 use Rattle.sc_paths.specs.LaterRequests.{Occurrence, carries, visits}
 use Rattle.sc_paths.specs.Moments.{Moment, given_in, moments, moments_from, proxied_with}
-use Rattle.sc_paths.specs.Pieces.{Dialog, Direction, From_caller, From_callee, IsPiece, Piece, ahead, along, answer_by, answers_of, end_of, heads_at_end, is_made, listed, received, recorders}
+use Rattle.sc_paths.specs.Pieces.{Dialog, Direction, From_caller, From_callee, IsPiece, Piece, ahead, along, answer_by, answers_of, end_of, heads_at_end, is_made, list_of_option as listed, server_of_piece as received, recorders}
 use Rattle.sc_keyed.proofs.KeyedNets.{AllKeyed}
 use Rattle.sc_keyed.proofs.KeyedRuns.{session-keyed}
 use Rattle.sc_keyed.proofs.KeyedTurns.{NoTurn}

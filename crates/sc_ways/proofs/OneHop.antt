@@ -29,7 +29,7 @@ use Rattle.sc_hosts.specs.Histories.{as_session}
 use Rattle.sc_hosts.specs.Nets.{host_at}
 use Rattle.sc_hosts.specs.Runs.{IsAllowed, MayTurn, after_step}
 use Rattle.sc_hosts.specs.Steps.{live_at, outcome_by, turn_of}
-use Rattle.sc_hosts.specs.Taking.{names, own_uri, unrouted}
+use Rattle.sc_hosts.specs.Taking.{names, own_uri, without_own_route as unrouted}
 use Rattle.sc_hosts.specs.Transacting.{same_via, method_of}
 use Rattle.sc_lives.specs.Numbers.{AreNumbered}
 use Rattle.sc_once.specs.Growing.{IsBetween}
@@ -136,14 +136,14 @@ fit-request Told Sent setup epoch app event request is fits = subst (λ (e : Que
 
 module _ (setup : Setup) (net : Net Session) (app : AppId) (event now : ℕ) (made : List CallRecord) (end : End) where
   abbrev pub moment : Moment
-  moment = record { before = net; step = steps.Turn app event now made end; after = after_step as_session setup net (steps.Turn app event now made end) }
+  moment = record { before = net; step = steps.Turn end app event now made; after = after_step as_session setup net (steps.Turn end app event now made) }
 
   pub orders-are : (live : Live Session) (waiting : Waiting) → live_at app net ≡ Some live → slice_get live.inbox 0 ≡ Some waiting
       → given_in setup moment ≡ (outcome_by as_session setup.config live.session (turn_of (record net { sent = [] }) app waiting now made end)).orders
   unfolding orders_by turn_of
   orders-are live waiting lives first = rw (lives, first) refl
 
-  pub allowed-turn : IsAllowed as_session setup net (steps.Turn app event now made end) → MayTurn as_session setup net app event now made end
+  pub allowed-turn : IsAllowed as_session setup net (steps.Turn end app event now made) → MayTurn as_session setup net app event now made end
   unfolding IsAllowed
   allowed-turn may = may
 

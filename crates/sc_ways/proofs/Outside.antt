@@ -27,20 +27,20 @@ use Rattle.sc_state.specs.declared.net.Net.{Net}
 use Rattle.sc_state.specs.declared.queue.Queued.{Queued}
 use Rattle.sc_state.specs.declared.queue.Queued.TheVariants as queued
 use Rattle.sc_state.specs.declared.session.Session.{Session}
-use Rattle.sc_grammar.specs.Written.{Bytes}
+use Rattle.sc_tokens.specs.Bytes.{Bytes}
 use Rattle.sc_model.specs.DialogRequests.{cancel}
 use Rattle.sc_model.specs.Dialogs.{tag_of}
 use Rattle.sc_model.specs.SessionStates.{ack, invite}
 use Rattle.sc_hosts.proofs.Deliveries.{none-delivered}
 use Rattle.sc_hosts.proofs.EachSort.{takes-by, arrives-each}
-use Rattle.sc_hosts.specs.Arrivals.{arrived, edge_answer, first_host, host_takes, taken_at}
+use Rattle.sc_hosts.specs.Arrivals.{after_arrival as arrived, edge_answer, first_host, host_takes, taken_at}
 use Rattle.sc_hosts.specs.EventLists.{waiting_in}
 use Rattle.sc_hosts.specs.Histories.{as_session}
-use Rattle.sc_hosts.specs.Inboxes.{is_full, queue, quiet}
-use Rattle.sc_hosts.specs.Nets.{host_at, is_busy, placed, put, put_reply}
+use Rattle.sc_hosts.specs.Inboxes.{is_full, queue, without_answer as quiet}
+use Rattle.sc_hosts.specs.Nets.{host_at, is_busy, with_host_after as placed, with_message as put, put_reply}
 use Rattle.sc_hosts.specs.Runs.{after_step}
-use Rattle.sc_hosts.specs.Steps.{stepped}
-use Rattle.sc_hosts.specs.Taking.{is_named_live, named_live, names, own_tag, own_uri, queue_later, refuse, takes, unrouted, with_server, with_trying, server_for}
+use Rattle.sc_hosts.specs.Steps.{before_delivery as stepped}
+use Rattle.sc_hosts.specs.Taking.{is_named_live, named_live, names, own_tag, own_uri, queue_later, refuse, takes, without_own_route as unrouted, with_server, with_trying, server_for}
 use Rattle.sc_hosts.specs.Transacting.{method_of}
 use Rattle.sc_lasting.proofs.Began.{test-found}
 use Rattle.sc_lives.specs.Numbers.{AreNumbered}

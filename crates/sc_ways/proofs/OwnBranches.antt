@@ -271,19 +271,19 @@ record IsOwn (setup : Setup) (net : Net Session) (step : Step) (place : ℕ) (re
 
 turn-own : (setup : Setup) (epoch : ℕ) (net : Net Session) (app : AppId) (event now : ℕ) (made : List CallRecord) (end : End) (place : ℕ) (request : Request) → IsReady setup epoch net
     → ((a : AppId) (live : Live Session) → live_at a net ≡ Some live → IsOf64 epoch a 0)
-    → IsAllowed as_session setup net (steps.Turn app event now made end) → Is64 (drawn_by setup net (steps.Turn app event now made end))
-    → option_and_then later_in (slice_get (orders_by setup net (steps.Turn app event now made end)) place) ≡ Some request
-    → IsOwn setup net (steps.Turn app event now made end) place request
+    → IsAllowed as_session setup net (steps.Turn end app event now made) → Is64 (drawn_by setup net (steps.Turn end app event now made))
+    → option_and_then later_in (slice_get (orders_by setup net (steps.Turn end app event now made)) place) ≡ Some request
+    → IsOwn setup net (steps.Turn end app event now made) place request
 unfolding turn_of
 turn-own setup epoch net app event now made end place request ready names allowed drawn is =
     let may = allowed-turn setup net app event now made end allowed in
     let live : Live Session = may.live in
     let done = outcome_by as_session setup.config live.session (turn_of net app may.waiting now made end) in
-    let same : orders_by setup net (steps.Turn app event now made end) ≡ done.orders = orders-are setup net app event now made end live may.waiting may.live_is may.waiting_is in
+    let same : orders_by setup net (steps.Turn end app event now made) ≡ done.orders = orders-are setup net app event now made end live may.waiting may.live_is may.waiting_is in
     let most : Is64 done.session.view.counter = subst Is64 (drawn-is setup epoch Is64 net app event now made end live may.waiting may.live_is may.waiting_is) drawn in
     let small = names app live may.live_is in
     let on = turn-on setup.config epoch Is64 app net live may.waiting now made end may.live_is ready.kept in
-    let sent = found-behind later_in (slice_get (orders_by setup net (steps.Turn app event now made end)) place) request is in
+    let sent = found-behind later_in (slice_get (orders_by setup net (steps.Turn end app event now made)) place) request is in
     let own = placed setup.config epoch app small request done.orders place live.session.view.counter done.session.view.counter sent.0 most on
     (subst (λ (given : List Order). slice_get given place ≡ Some sent.0) same sent.1) sent.2 in
     record {
@@ -314,7 +314,7 @@ pub out-own : (setup : Setup) (epoch : ℕ) (moment : Moment) (order : ℕ) (out
     → IsOnOwnBranch setup out order
 out-own setup epoch moment order out small at by =
     let from = session-by setup moment moment.step order out by in
-    let turn : Step = steps.Turn from.app from.event from.now from.made from.end in
+    let turn : Step = steps.Turn from.end from.app from.event from.now from.made in
     let own = turn-own setup epoch moment.before from.app from.event from.now from.made from.end order from.request at.ready
     (λ a live lives. found-small epoch moment.before a live (host_at a.host moment.before) refl lives small at.fine.few_before at.fine.small_before)
     (subst (λ (s : Step). IsAllowed as_session setup moment.before s) from.step_is at.fine.allowed) (subst (λ (s : Step). Is64 (drawn_by setup moment.before s)) from.step_is at.drawn)

@@ -12,7 +12,7 @@ use Rattle.sc_terms.specs.declared.views.View.{View}
 use Rattle.sc_model.specs.OwnHosts.{is_own}
 use Rattle.sc_hosts.specs.Destinations.{next_uri}
 use Rattle.sc_hosts.specs.Messages.{on_branch, passed_request}
-use Rattle.sc_hosts.specs.Taking.{names, own_uri, unrouted}
+use Rattle.sc_hosts.specs.Taking.{names, own_uri, without_own_route as unrouted}
 use Rattle.sc_paths.specs.LaterRequests.{leads, leads_to}
 
 -- what it comes by, and what is left

@@ -19,19 +19,19 @@ use Rattle.sc_parts.specs.declared.setup.Setup.{Setup}
 use Rattle.sc_state.specs.declared.host.Peer.TheVariants as peers
 use Rattle.sc_state.specs.declared.net.Net.{Net}
 use Rattle.sc_state.specs.declared.session.Session.{Session}
-use Rattle.sc_grammar.specs.Written.{Bytes}
+use Rattle.sc_tokens.specs.Bytes.{Bytes}
 use Rattle.sc_model.specs.DialogRequests.{cancel}
 use Rattle.sc_model.specs.Dialogs.{tag_of}
 use Rattle.sc_model.specs.Names.{IsOf64}
 use Rattle.sc_hosts.specs.Histories.{as_session}
 use Rattle.sc_hosts.specs.Runs.{HasVia, IsAllowed, after_step}
-use Rattle.sc_hosts.specs.Taking.{names, own_uri, unrouted, server_for}
+use Rattle.sc_hosts.specs.Taking.{names, own_uri, without_own_route as unrouted, server_for}
 use Rattle.sc_hosts.specs.Transacting.{method_of}
 use Rattle.sc_lasting.specs.Lasting.{All}
 use Rattle.sc_lasting.proofs.Shared.{all-at, found-behind}
 use Rattle.sc_paths.specs.LaterRequests.{Occurrence, SetOut, carries, carries_by, has_tags, has_vias, is_between, later_in, is_new, leads, set_out, set_out_by, visits, visits_from}
 use Rattle.sc_paths.specs.Moments.{Got, Moment, given_in, got_in, moments_from}
-use Rattle.sc_paths.specs.Pieces.{Dialog, Direction, From_caller, From_callee, Piece, ahead, along, end_of, listed, recorders}
+use Rattle.sc_paths.specs.Pieces.{Dialog, Direction, From_caller, From_callee, Piece, ahead, along, end_of, list_of_option as listed, recorders}
 use Rattle.sc_hops.proofs.OneTurn.{unrouted-vias}
 use Rattle.sc_ways.specs.Ways.{IsPrefix}
 use Rattle.sc_hops.specs.Hops.{GoesAs}
@@ -80,7 +80,7 @@ outside-by setup moment (steps.In place (messages.Response response)) out is = c
 outside-by setup moment (steps.Bad place bad) out is = cc
 outside-by setup moment (steps.Lost place) out is = cc
 outside-by setup moment (steps.Tick now) out is = cc
-outside-by setup moment (steps.Turn app event now made end) out is = cc
+outside-by setup moment (steps.Turn end app event now made) out is = cc
 outside-by setup moment (steps.Withdraw app) out is = cc
 
 -- ## What it carries
@@ -283,7 +283,7 @@ module _ (setup : Setup) (net : Net Session) (given : List Step) (Goal : SetOut 
   out-turn place order there out taken by own =
       let from = session-by setup there there.step order out by in
       let cut = cut-at given setup net place there taken in
-      let step_is : cut.step ≡ steps.Turn from.app from.event from.now from.made from.end = sym (ap (λ (m : Moment). m.step) cut.is) ∙ from.step_is in
+      let step_is : cut.step ≡ steps.Turn from.end from.app from.event from.now from.made = sym (ap (λ (m : Moment). m.step) cut.is) ∙ from.step_is in
       let here : Moment = moment setup cut.net from.app from.event from.now from.made from.end in
       let moment_is : ◌≡◌ {A = Moment} there here = cut.is ∙ ap (λ (s : Step). record { before = cut.net; step = s; after = after_step as_session setup cut.net s }) step_is in
       let rest_is : drop (place + 1) Steps ≡ moments_from setup here.after cut.later = cut.rest ∙ ap (λ (s : Step). moments_from setup (after_step as_session setup cut.net s) cut.later) step_is in

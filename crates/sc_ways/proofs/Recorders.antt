@@ -53,7 +53,7 @@ cond-some false xs rest first is = cc
 step-small : (setup : Setup) (epoch : ℕ) (net : Net Session) (step : Step) (app : AppId) (first : ProxyOptions) (rest : List ProxyOptions) → epoch < 2 ^ 64 → length net.hosts ≤ 2 ^ 64 → AllSmall net.hosts
     → IsAllowed as_session setup net step → options_in app step ≡ first ∷ rest → IsOf64 epoch app 0
 unfolding options_in IsAllowed
-step-small setup epoch net (steps.Turn other event now made end) app first rest small few all may is =
+step-small setup epoch net (steps.Turn end other event now made) app first rest small few all may is =
     let same : app ≡ other = same-app as_session setup other app (cond-some (is_same_app other app) _ rest first is) in
     found-small epoch net app may.live (host_at app.host net) refl (subst (λ (a : AppId). live_at a net ≡ Some may.live) (sym same) may.live_is) small few all
 step-small setup epoch net (steps.In from message) app first rest small few all may is = cc

@@ -17,10 +17,10 @@ use Rattle.sc_state.specs.declared.orders.Order.{Order}
 use Rattle.sc_state.specs.declared.queue.Waiting.{Waiting}
 use Rattle.sc_state.specs.declared.session.Session.{Session}
 use Rattle.sc_hosts.proofs.Deliveries.{wire-ends-empty}
-use Rattle.sc_hosts.specs.EventLists.{handled, waiting, waiting_in}
+use Rattle.sc_hosts.specs.EventLists.{turns_of as handled, waiting, waiting_in}
 use Rattle.sc_hosts.specs.Histories.{as_session}
 use Rattle.sc_hosts.specs.Nets.{host_at, is_busy}
-use Rattle.sc_hosts.specs.Runs.{IsLawful, IsLawfulFrom, after_step, chained, chained_from, quiet_host, start}
+use Rattle.sc_hosts.specs.Runs.{IsLawful, IsLawfulFrom, after_step, net_from as chained, chained_from, quiet_host, start}
 use Rattle.sc_hosts.specs.Steps.{live_at, outcome_by, ringing_at, turn_of}
 use Rattle.sc_lives.proofs.HostCountSteps.{chained-hosts}
 use Rattle.sc_lives.specs.Numbers.{AreNumbered, IsNumbered, IsRising}
@@ -134,7 +134,7 @@ of-live (Some live) give each = each live refl
 
 initial-given : (setup : Setup) (epoch began : ℕ) (before : List Step) (step : Step) → IsLawful as_session setup epoch began before → All IsUntagged (orders_by setup (chained as_session setup epoch began before) step)
 unfolding orders_by outcome_by as_session turn_of
-initial-given setup epoch began before (steps.Turn app event now made end) lawful =
+initial-given setup epoch began before (steps.Turn end app event now made) lawful =
     let net : Net Session = chained as_session setup epoch began before in
     of-live (live_at app net) _
     (λ live is. of-waiting (slice_get live.inbox 0) (λ waiting. (outcome_by as_session setup.config live.session (turn_of net app waiting now made end)).orders)

@@ -79,7 +79,7 @@ pub record IsBySession (setup : Setup) (moment : Moment) (step : Step) (place : 
   pub made : List CallRecord
   pub end : End
   pub request : Request
-  pub step_is : step ≡ steps.Turn app event now made end
+  pub step_is : step ≡ steps.Turn end app event now made
   pub out_is : out ≡ record { moment = moment; sender = peers.Inside app.host; request = request }
   pub ordered : option_and_then later_in (slice_get (given_in setup moment) place) ≡ Some request
 
@@ -93,7 +93,7 @@ mapped moment app (Some request) out is = (request, refl, sym (some-is (record {
 
 pub session-by : (setup : Setup) (moment : Moment) (step : Step) (place : ℕ) (out : SetOut) → set_out_by setup moment step (Some place) ≡ Some out → IsBySession setup moment step place out
 unfolding set_out_by
-session-by setup moment (steps.Turn app event now made end) place out is =
+session-by setup moment (steps.Turn end app event now made) place out is =
     let found = mapped moment app _ out is in
     record { app = app; event = event; now = now; made = made; end = end; request = found.0; step_is = refl; out_is = found.2; ordered = found.1 }
 session-by setup moment (steps.In from (messages.Request request)) place out is = cc

@@ -7,12 +7,12 @@ use Rattle.sc_terms.specs.declared.calls.ProxyOptions.{ProxyOptions}
 use Rattle.sc_terms.specs.declared.steps.Step.{Step}
 use Rattle.sc_parts.specs.declared.setup.Setup.{Setup}
 use Rattle.sc_hosts.specs.Histories.{as_session}
-use Rattle.sc_hosts.specs.Runs.{IsLawful, chained}
+use Rattle.sc_hosts.specs.Runs.{IsLawful, net_from as chained}
 use Rattle.sc_lasting.specs.Lasting.{All}
 use Rattle.sc_lasting.proofs.Parts.{all-both, all-map}
 use Rattle.sc_paths.specs.LaterRequests.{Occurrence, carries, visits}
 use Rattle.sc_paths.specs.Moments.{Moment, moments, proxied_with}
-use Rattle.sc_paths.specs.Pieces.{Dialog, Direction, From_caller, From_callee, IsPiece, Piece, ahead, along, end_of, is_made, listed, recorders}
+use Rattle.sc_paths.specs.Pieces.{Dialog, Direction, From_caller, From_callee, IsPiece, Piece, ahead, along, end_of, is_made, list_of_option as listed, recorders}
 use Rattle.sc_ways.specs.Ways.{AreSmallDraws, AreSmallNames, HasRecorded, IsAmong, IsApart, IsPrefix, Stays}
 use Rattle.sc_ways.proofs.Law.{all-reverse, answered-end, prefix}
 

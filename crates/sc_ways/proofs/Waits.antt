@@ -19,10 +19,10 @@ use Rattle.sc_state.specs.declared.session.Session.{Session}
 use Rattle.sc_hosts.specs.EventLists.{waiting_in}
 use Rattle.sc_hosts.specs.Finishing.{goodbye}
 use Rattle.sc_hosts.specs.Inboxes.{is_live}
-use Rattle.sc_hosts.specs.Nets.{change_host, host_at, obeyed}
-use Rattle.sc_hosts.specs.Runs.{IsAllowed, MayTurn, after_step, delivered}
+use Rattle.sc_hosts.specs.Nets.{change_host, host_at, after_orders as obeyed}
+use Rattle.sc_hosts.specs.Runs.{IsAllowed, MayTurn, after_step, after_delivery as delivered}
 use Rattle.sc_hosts.specs.Sessions.{Form, Turn}
-use Rattle.sc_hosts.specs.Steps.{closed_turn, inbox_of, invalidated, live_at, outcome_by, stepped, turn_of, turned, turned_live, turns, turns_first, withdrawn, without_live}
+use Rattle.sc_hosts.specs.Steps.{closed_turn, inbox_of, without_application as invalidated, live_at, outcome_by, before_delivery as stepped, turn_of, net_after_turn as turned, turned_live, turns, turns_first, withdrawn, without_live}
 use Rattle.sc_hosts.specs.Transacting.{is_same_app}
 use Rattle.sc_lasting.specs.Lasting.{All}
 use Rattle.sc_lives.specs.Numbers.{AreNumbered}
@@ -96,7 +96,7 @@ pub data Waits {S : Type 0} (app : AppId) (waiting : Waiting) (net : Net S) : Ty
 
 -- a turn of this session to another event, or any other step
 unfoldable pub IsNotTurn : AppId → ℕ → Step → Type 0
-IsNotTurn app number (steps.Turn other event now made end) = (is_same_app other app && event == number) ≡ false
+IsNotTurn app number (steps.Turn end other event now made) = (is_same_app other app && event == number) ≡ false
 IsNotTurn app number step = Unit {0}
 
 pub events-live : {S : Type 0} (app : AppId) (net : Net S) (live : Live S) → live_at app net ≡ Some live → events_in app net ≡ live.inbox
@@ -155,7 +155,7 @@ module _ {S : Type 0} (form : Form S) (setup : Setup) (app : AppId) where
   turn-gone : (net : Net S) (live : Live S) (waiting : Waiting) (event now : ℕ) (made : List CallRecord) (end : End) → AreNumbered net → live_at app net ≡ Some live
       → slice_get live.inbox 0 ≡ Some waiting
       → (outcome_by form setup.config live.session (turn_of (record net { sent = [] }) app waiting now made end)).ends ≡ true
-      → GoneIn app.serial (host_at app.host (after_step form setup net (steps.Turn app event now made end)))
+      → GoneIn app.serial (host_at app.host (after_step form setup net (steps.Turn end app event now made)))
   unfolding after_step stepped turns turns_first turned turned_live
   turn-gone net live waiting event now made end numbered lives first is =
       let start : Net S = record net { sent = [] } in
@@ -210,8 +210,8 @@ module _ {S : Type 0} (form : Form S) (setup : Setup) (app : AppId) where
 
     turned-by : (ends : Bool) (live : Live S) (front : Waiting) (event now : ℕ) (made : List CallRecord) (end : End) → live_at app net ≡ Some live → slice_get live.inbox 0 ≡ Some front
         → (outcome_by form setup.config live.session (turn_of (record net { sent = [] }) app front now made end)).ends ≡ ends → (front.number ≡ waiting.number → ⊥)
-        → net.count ≤ (after_step form setup net (steps.Turn app event now made end)).count → IsHeld app waiting net
-        → Waits app waiting (after_step form setup net (steps.Turn app event now made end))
+        → net.count ≤ (after_step form setup net (steps.Turn end app event now made)).count → IsHeld app waiting net
+        → Waits app waiting (after_step form setup net (steps.Turn end app event now made))
     turned-by true live front event now made end lives first is other rises held =
         gone-past _ (held-given held) rises (turn-gone net live front event now made end numbered lives first is)
     turned-by false live front event now made end lives first is other rises held =
@@ -224,22 +224,22 @@ module _ {S : Type 0} (form : Form S) (setup : Setup) (app : AppId) where
     elsewhere step away held = Held (grown _ (step-grows form setup app net step away) held)
 
     own-turn : (event now : ℕ) (made : List CallRecord) (end : End) → MayTurn form setup net app event now made end → (event ≡ waiting.number → ⊥)
-        → net.count ≤ (after_step form setup net (steps.Turn app event now made end)).count → IsHeld app waiting net
-        → Waits app waiting (after_step form setup net (steps.Turn app event now made end))
+        → net.count ≤ (after_step form setup net (steps.Turn end app event now made)).count → IsHeld app waiting net
+        → Waits app waiting (after_step form setup net (steps.Turn end app event now made))
     own-turn event now made end may other more held =
         turned-by _ may.live may.waiting event now made end may.live_is may.waiting_is refl (λ same. other (sym may.event_is ∙ same)) more held
 
     turn-step : (other : AppId) (b : Bool) → is_same_app other app ≡ b → (event now : ℕ) (made : List CallRecord) (end : End) → MayTurn form setup net other event now made end
-        → (b && event == waiting.number) ≡ false → net.count ≤ (after_step form setup net (steps.Turn other event now made end)).count → IsHeld app waiting net
-        → Waits app waiting (after_step form setup net (steps.Turn other event now made end))
+        → (b && event == waiting.number) ≡ false → net.count ≤ (after_step form setup net (steps.Turn end other event now made)).count → IsHeld app waiting net
+        → Waits app waiting (after_step form setup net (steps.Turn end other event now made))
     unfolding IsElsewhere
-    turn-step other false is event now made end may not_turn more held = elsewhere (steps.Turn other event now made end) is held
+    turn-step other false is event now made end may not_turn more held = elsewhere (steps.Turn end other event now made) is held
     turn-step other true is event now made end may not_turn more held =
         let same : other ≡ app = same-app form setup app other (flipped other.host app.host other.serial app.serial true is) in
         let apart : event ≡ waiting.number → ⊥ = λ equal. both-true true (event == waiting.number) refl (rw equal (own-number waiting.number)) not_turn in
-        subst (λ (a : AppId). Waits app waiting (after_step form setup net (steps.Turn a event now made end))) (sym same)
+        subst (λ (a : AppId). Waits app waiting (after_step form setup net (steps.Turn end a event now made))) (sym same)
         (own-turn event now made end (subst (λ (a : AppId). MayTurn form setup net a event now made end) same may) apart
-        (subst (λ (a : AppId). net.count ≤ (after_step form setup net (steps.Turn a event now made end)).count) same more) held)
+        (subst (λ (a : AppId). net.count ≤ (after_step form setup net (steps.Turn end a event now made)).count) same more) held)
 
     withdraw-step : (other : AppId) (b : Bool) → is_same_app other app ≡ b → is_some (live_at other net) ≡ true → net.count ≤ (after_step form setup net (steps.Withdraw other)).count
         → IsHeld app waiting net → Waits app waiting (after_step form setup net (steps.Withdraw other))
@@ -258,7 +258,7 @@ module _ {S : Type 0} (form : Form S) (setup : Setup) (app : AppId) where
     held-step (steps.Bad from bad) allowed other more held = elsewhere (steps.Bad from bad) tt held
     held-step (steps.Lost place) allowed other more held = elsewhere (steps.Lost place) tt held
     held-step (steps.Tick now) allowed other more held = elsewhere (steps.Tick now) tt held
-    held-step (steps.Turn at event now made end) allowed other more held = turn-step at _ refl event now made end allowed other more held
+    held-step (steps.Turn end at event now made) allowed other more held = turn-step at _ refl event now made end allowed other more held
     held-step (steps.Withdraw at) allowed other more held = withdraw-step at _ refl allowed more held
 
     -- over a step that isn't its turn

@@ -12,7 +12,7 @@ use Rattle.sc_parts.specs.declared.setup.Setup.{Setup}
 use Rattle.sc_state.specs.declared.host.Live.{Live}
 use Rattle.sc_state.specs.declared.net.Net.{Net}
 use Rattle.sc_state.specs.declared.session.Session.{Session}
-use Rattle.sc_grammar.specs.Written.{Bytes}
+use Rattle.sc_tokens.specs.Bytes.{Bytes}
 use Rattle.sc_model.specs.Names.{IsOf64}
 use Rattle.sc_hosts.specs.Inboxes.{is_full}
 use Rattle.sc_hosts.specs.Legs.{session_for}
@@ -22,8 +22,8 @@ use Rattle.sc_hosts.specs.Words.{does_not_exist, unavailable}
 use Rattle.sc_lasting.specs.Lasting.{All}
 use Rattle.sc_paths.specs.LaterRequests.{Occurrence, SetOut, visits}
 use Rattle.sc_paths.specs.Moments.{Moment, proxied_with}
-use Rattle.sc_paths.specs.Pieces.{Dialog, Direction, Piece, ahead, end_of, listed}
-use Rattle.sc_stopped.specs.Stopped.{answered}
+use Rattle.sc_paths.specs.Pieces.{Dialog, Direction, Piece, ahead, end_of, list_of_option}
+use Rattle.sc_stopped.specs.Stopped.{net_with_answer}
 use Rattle.sc_vias.specs.Vias.{drawn_by}
 
 -- the first list begins the second
@@ -39,7 +39,7 @@ pub record AreSmallNames (setup : Setup) (epoch : ℕ) (net : Net Session)
   pub within : epoch < 2 ^ 64
   pub hosts : length setup.config.app ≤ 2 ^ 64
   pub events : net.count < 2 ^ 64
-  pub caller : All (λ (app : AppId). IsOf64 epoch app 0) (listed piece.caller)
+  pub caller : All (λ (app : AppId). IsOf64 epoch app 0) (list_of_option piece.caller)
 
 -- at this moment no request of this Call-ID would come to the session in the SipSession of a proxy
 unfoldable pub TakesNoProxy : Bytes → AppId → Moment → Type 0
@@ -112,5 +112,5 @@ IsFollowed setup run direction piece occurrence place out =
     ⊎ ((code : ℕ) × (reason : Bytes)
     × StopsBefore (ahead run direction piece) out.moment.before code reason
     × (out.moment.after
-    ≡ answered setup.config place code reason out.request
+    ≡ net_with_answer setup.config place code reason out.request
     (record out.moment.before { sent = [] })))

@@ -7,16 +7,16 @@ ghost use Rattle.sc_parts.specs.declared.setup.Setup.{Setup};
 ghost use Rattle.sc_state.specs.declared.host.Live.{Live};
 ghost use Rattle.sc_state.specs.declared.host.Peer.TheVariants as peers;
 ghost use Rattle.sc_state.specs.declared.session.Session.{Session};
-ghost use Rattle.sc_grammar.specs.Written.{Bytes};
+ghost use Rattle.sc_tokens.specs.Bytes.{Bytes};
 ghost use Rattle.sc_hosts.specs.Histories.{as_history, as_session};
 ghost use Rattle.sc_hosts.specs.Inboxes.{is_full};
-ghost use Rattle.sc_hosts.specs.Runs.{IsLawful, chained};
+ghost use Rattle.sc_hosts.specs.Runs.{IsLawful, net_from};
 ghost use Rattle.sc_hosts.specs.Steps.{live_at};
 ghost use Rattle.sc_lasting.specs.Lasting.{All};
 ghost use Rattle.sc_paths.specs.LaterRequests.{Occurrence, SetOut, carries, set_out, visits};
 ghost use Rattle.sc_paths.specs.Moments.{moments, proxied_with};
 ghost use Rattle.sc_paths.specs.Pieces.{Dialog, Direction, IsPiece, Piece, ahead};
-ghost use Rattle.sc_stopped.specs.Stopped.{answered};
+ghost use Rattle.sc_stopped.specs.Stopped.{net_with_answer};
 ghost use Rattle.sc_ways.specs.Ways.{AreSmallDraws, AreSmallNames, IsApart, IsFollowed, IsPrefix, Stays, StopsBefore, VisitsFirst};
 
 /// A later request that keeps to the way of the INVITE of its dialog, whether it comes from outside
@@ -33,7 +33,7 @@ pub fn later_requests_keep_to_the_way()
         → IsLawful as_session setup epoch began journal
         → IsPiece setup epoch (moments setup epoch began journal) dialog piece
         → IsApart (moments setup epoch began journal) dialog piece
-        → AreSmallNames setup epoch (chained as_session setup epoch began journal) piece
+        → AreSmallNames setup epoch (net_from as_session setup epoch began journal) piece
         → AreSmallDraws setup (moments setup epoch began journal)
         → carries setup (moments setup epoch began journal) dialog direction piece occurrence ≡ true
         → IsPrefix (visits setup (moments setup epoch began journal) occurrence)
@@ -43,7 +43,7 @@ pub fn later_requests_keep_to_the_way()
         → IsLawful (as_history setup.config) setup epoch began journal
         → IsPiece setup epoch (moments setup epoch began journal) dialog piece
         → IsApart (moments setup epoch began journal) dialog piece
-        → AreSmallNames setup epoch (chained as_session setup epoch began journal) piece
+        → AreSmallNames setup epoch (net_from as_session setup epoch began journal) piece
         → AreSmallDraws setup (moments setup epoch began journal)
         → carries setup (moments setup epoch began journal) dialog direction piece occurrence ≡ true
         → IsPrefix (visits setup (moments setup epoch began journal) occurrence)
@@ -63,7 +63,7 @@ pub fn later_requests_pass_by_who_left()
         → IsLawful as_session setup epoch began journal
         → IsPiece setup epoch (moments setup epoch began journal) dialog piece
         → IsApart (moments setup epoch began journal) dialog piece
-        → AreSmallNames setup epoch (chained as_session setup epoch began journal) piece
+        → AreSmallNames setup epoch (net_from as_session setup epoch began journal) piece
         → AreSmallDraws setup (moments setup epoch began journal)
         → carries setup (moments setup epoch began journal) dialog direction piece occurrence ≡ true
         → All (Stays (moments setup epoch began journal) direction piece)
@@ -73,7 +73,7 @@ pub fn later_requests_pass_by_who_left()
         → IsLawful (as_history setup.config) setup epoch began journal
         → IsPiece setup epoch (moments setup epoch began journal) dialog piece
         → IsApart (moments setup epoch began journal) dialog piece
-        → AreSmallNames setup epoch (chained as_session setup epoch began journal) piece
+        → AreSmallNames setup epoch (net_from as_session setup epoch began journal) piece
         → AreSmallDraws setup (moments setup epoch began journal)
         → carries setup (moments setup epoch began journal) dialog direction piece occurrence ≡ true
         → All (Stays (moments setup epoch began journal) direction piece)
@@ -83,7 +83,7 @@ pub fn later_requests_pass_by_who_left()
         (how : ProxyOptions) → IsLawful as_session setup epoch began journal
         → IsPiece setup epoch (moments setup epoch began journal) dialog piece
         → IsApart (moments setup epoch began journal) dialog piece
-        → AreSmallNames setup epoch (chained as_session setup epoch began journal) piece
+        → AreSmallNames setup epoch (net_from as_session setup epoch began journal) piece
         → AreSmallDraws setup (moments setup epoch began journal)
         → carries setup (moments setup epoch began journal) dialog direction piece occurrence ≡ true
         → proxied_with (moments setup epoch began journal) app ≡ Some how → how.record_route ≡ false
@@ -95,7 +95,7 @@ pub fn later_requests_pass_by_who_left()
         (how : ProxyOptions) → IsLawful (as_history setup.config) setup epoch began journal
         → IsPiece setup epoch (moments setup epoch began journal) dialog piece
         → IsApart (moments setup epoch began journal) dialog piece
-        → AreSmallNames setup epoch (chained as_session setup epoch began journal) piece
+        → AreSmallNames setup epoch (net_from as_session setup epoch began journal) piece
         → AreSmallDraws setup (moments setup epoch began journal)
         → carries setup (moments setup epoch began journal) dialog direction piece occurrence ≡ true
         → proxied_with (moments setup epoch began journal) app ≡ Some how → how.record_route ≡ false
@@ -116,7 +116,7 @@ pub fn later_requests_come_to_the_first()
         → IsLawful as_session setup epoch began journal
         → IsPiece setup epoch (moments setup epoch began journal) dialog piece
         → IsApart (moments setup epoch began journal) dialog piece
-        → AreSmallNames setup epoch (chained as_session setup epoch began journal) piece
+        → AreSmallNames setup epoch (net_from as_session setup epoch began journal) piece
         → AreSmallDraws setup (moments setup epoch began journal)
         → carries setup (moments setup epoch began journal) dialog direction piece occurrence ≡ true
         → (out : SetOut) (place : Place)
@@ -130,7 +130,7 @@ pub fn later_requests_come_to_the_first()
         → IsLawful (as_history setup.config) setup epoch began journal
         → IsPiece setup epoch (moments setup epoch began journal) dialog piece
         → IsApart (moments setup epoch began journal) dialog piece
-        → AreSmallNames setup epoch (chained as_session setup epoch began journal) piece
+        → AreSmallNames setup epoch (net_from as_session setup epoch began journal) piece
         → AreSmallDraws setup (moments setup epoch began journal)
         → carries setup (moments setup epoch began journal) dialog direction piece occurrence ≡ true
         → (out : SetOut) (place : Place)
@@ -152,7 +152,7 @@ pub fn later_requests_stop_before_the_first()
         (direction : Direction) (piece : Piece) (occurrence : Occurrence)
         → IsLawful as_session setup epoch began journal
         → IsPiece setup epoch (moments setup epoch began journal) dialog piece
-        → AreSmallNames setup epoch (chained as_session setup epoch began journal) piece
+        → AreSmallNames setup epoch (net_from as_session setup epoch began journal) piece
         → carries setup (moments setup epoch began journal) dialog direction piece occurrence ≡ true
         → (out : SetOut) (place : Place)
         → set_out setup (moments setup epoch began journal) occurrence ≡ Some out
@@ -160,13 +160,13 @@ pub fn later_requests_stop_before_the_first()
         → StopsBefore (ahead (moments setup epoch began journal) direction piece) out.moment.before
         code reason
         → out.moment.after
-        ≡ answered setup.config place code reason out.request
+        ≡ net_with_answer setup.config place code reason out.request
         (record out.moment.before { sent = [] }) }
     ensures history { (setup : Setup) (epoch began : ℕ) (journal : List Step) (dialog : Dialog)
         (direction : Direction) (piece : Piece) (occurrence : Occurrence)
         → IsLawful (as_history setup.config) setup epoch began journal
         → IsPiece setup epoch (moments setup epoch began journal) dialog piece
-        → AreSmallNames setup epoch (chained as_session setup epoch began journal) piece
+        → AreSmallNames setup epoch (net_from as_session setup epoch began journal) piece
         → carries setup (moments setup epoch began journal) dialog direction piece occurrence ≡ true
         → (out : SetOut) (place : Place)
         → set_out setup (moments setup epoch began journal) occurrence ≡ Some out
@@ -174,7 +174,7 @@ pub fn later_requests_stop_before_the_first()
         → StopsBefore (ahead (moments setup epoch began journal) direction piece) out.moment.before
         code reason
         → out.moment.after
-        ≡ answered setup.config place code reason out.request
+        ≡ net_with_answer setup.config place code reason out.request
         (record out.moment.before { sent = [] }) }
 {}
 
@@ -190,7 +190,7 @@ pub fn later_requests_come_first_or_are_answered()
         → IsLawful as_session setup epoch began journal
         → IsPiece setup epoch (moments setup epoch began journal) dialog piece
         → IsApart (moments setup epoch began journal) dialog piece
-        → AreSmallNames setup epoch (chained as_session setup epoch began journal) piece
+        → AreSmallNames setup epoch (net_from as_session setup epoch began journal) piece
         → AreSmallDraws setup (moments setup epoch began journal)
         → carries setup (moments setup epoch began journal) dialog direction piece occurrence ≡ true
         → (out : SetOut) (place : Place)
@@ -203,7 +203,7 @@ pub fn later_requests_come_first_or_are_answered()
         → IsLawful (as_history setup.config) setup epoch began journal
         → IsPiece setup epoch (moments setup epoch began journal) dialog piece
         → IsApart (moments setup epoch began journal) dialog piece
-        → AreSmallNames setup epoch (chained as_session setup epoch began journal) piece
+        → AreSmallNames setup epoch (net_from as_session setup epoch began journal) piece
         → AreSmallDraws setup (moments setup epoch began journal)
         → carries setup (moments setup epoch began journal) dialog direction piece occurrence ≡ true
         → (out : SetOut) (place : Place)

@@ -7,7 +7,7 @@ use Rattle.sc_book.proofs.Uses.{set_found, unset_absent}
 use Rattle.sc_state.specs.declared.host.Server.{Server}
 use Rattle.sc_state.specs.declared.session.Session.{Session}
 use Rattle.sc_state.specs.Hosts.{Host}
-use Rattle.sc_state.specs.Keeping.{tidied}
+use Rattle.sc_state.specs.Keeping.{without_ended as tidied}
 use Rattle.sc_state.specs.Standing.{is_server}
 use Rattle.sc_hosts.specs.Nets.{answered_server}
 use Rattle.sc_wire.specs.HostChanges.{answered_host}

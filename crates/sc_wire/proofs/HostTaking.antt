@@ -15,7 +15,7 @@ use Rattle.sc_state.specs.declared.host.Taken.{Taken}
 use Rattle.sc_state.specs.declared.net.Net.{Net}
 use Rattle.sc_state.specs.declared.queue.Queued.{Queued}
 use Rattle.sc_state.specs.declared.session.Session.{Session}
-use Rattle.sc_hosts.specs.Nets.{host_at, put_reply, placed, queued_at, queue_for, deliver_at}
+use Rattle.sc_hosts.specs.Nets.{host_at, put_reply, with_host_after as placed, queued_at, queue_for, deliver_at}
 use Rattle.sc_hosts.specs.Inboxes.{queue}
 use Rattle.sc_hosts.specs.Taking.{takes}
 use Rattle.sc_wire.specs.HostChanges.{host_after, told_after, net_after}

@@ -5,7 +5,7 @@ use Rattle.std.specs.Net.Grammar.{IsDotted}
 use Rattle.std.specs.Net.Reader.{read_ipv4}
 use Rattle.std.specs.declared.net.ipv4_addr.Ipv4Addr.{Ipv4Addr}
 use Rattle.std.proofs.NetLemmas.Ipv4.{read_ipv4_complete, read_ipv4_sound}
-use Rattle.sc_grammar.specs.Written.{Bytes}
+use Rattle.sc_tokens.specs.Bytes.{Bytes}
 use Rattle.sc_hosts.specs.Destinations.{literal, whole}
 
 pub literal_some : (text octets : Bytes) → IsDotted text octets → literal text ≡ Some octets

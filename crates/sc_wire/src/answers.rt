@@ -5,7 +5,7 @@ ghost use Rattle.std.specs.Option.{option_copied};
 ghost use Rattle.sc_value.specs.declared.message.Message.{Message};
 ghost use Rattle.sc_value.specs.Lists.{change_nth};
 ghost use Rattle.sc_model.specs.ServerTransactions.{is_sent};
-ghost use Rattle.sc_hosts.specs.Nets.{change_host, host_at, answered_server, respond_by, server_at};
+ghost use Rattle.sc_hosts.specs.Nets.{answered_server, change_host, host_at, respond_by, server_at};
 ghost use Rattle.sc_hosts.specs.Transacting.{is_invite_server};
 ghost use Rattle.sc_wire.specs.HostChanges.{answered_host};
 

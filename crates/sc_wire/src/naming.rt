@@ -4,7 +4,7 @@
 ghost use Rattle.std.specs.Prelude.{◌≡◌, if◌then◌else◌, IfOk, OnOk};
 ghost use Rattle.sc_model.specs.OwnHosts.{is_own};
 ghost use Rattle.sc_hosts.specs.Destinations.{destination, next_uri};
-ghost use Rattle.sc_hosts.specs.Nets.{has_named, named_from, named_host, send_named, send_later, peer_of_host, peer_of_place, acknowledge};
+ghost use Rattle.sc_hosts.specs.Nets.{acknowledge, has_named, named_from, named_host, peer_of_host, peer_of_place, send_later, send_named};
 
 use crate::destinations::{destination, next_uri};
 use crate::sending::{leave, request_message, send_to, tell_unknown};

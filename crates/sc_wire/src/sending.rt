@@ -5,7 +5,7 @@ ghost use Rattle.sc_value.specs.declared.message.Message.{Message};
 ghost use Rattle.sc_state.specs.declared.queue.Queued.{Queued};
 ghost use Rattle.sc_model.specs.Names.{edge_tag};
 ghost use Rattle.sc_hosts.specs.Messages.{own_response, without_via};
-ghost use Rattle.sc_hosts.specs.Nets.{tell_own, send_to, leave_for, leave, with_routes, begin_by};
+ghost use Rattle.sc_hosts.specs.Nets.{begin_by, leave, leave_for, send_to, tell_own, with_routes};
 ghost use Rattle.sc_hosts.specs.Words.{does_not_exist, not_found, unavailable};
 
 use crate::destinations::destination;

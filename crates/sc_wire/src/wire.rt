@@ -3,7 +3,7 @@
 ghost use Rattle.std.specs.Prelude.{◌≡◌, Some, slice_get, IfOk, OnOk};
 ghost use Rattle.std.specs.Option.{option_copied};
 ghost use Rattle.sc_value.specs.Lists.{change_nth};
-ghost use Rattle.sc_hosts.specs.Nets.{put, put_reply, change_host, host_at, queue_for};
+ghost use Rattle.sc_hosts.specs.Nets.{change_host, host_at, put_reply, queue_for, with_message};
 ghost use Rattle.sc_hosts.specs.Inboxes.{queue};
 ghost use Rattle.sc_hosts.specs.Transacting.{with_client};
 ghost use Rattle.sc_wire.specs.HostChanges.{with_own_client, host_after, told_after, net_after};
@@ -22,7 +22,7 @@ pub fn host_at(number: u32, net: &Net<Session>) -> Option<&Host<Session>>
 }
 
 /// A message goes outside at once, or onto the wire.
-#[tactic(auto, unfolding(sc_hosts::specs::Nets::put))]
+#[tactic(auto, unfolding(sc_hosts::specs::Nets::with_message))]
 pub fn put(
     sender: u32,
     peer: Peer,
@@ -30,7 +30,7 @@ pub fn put(
     noted: Option<Note>,
     net: &mut Net<Session>,
 ) -> Result<(), NoMemory>
-    ensures { OnOk result (net.new ≡ put sender peer message noted net.old) }
+    ensures { OnOk result (net.new ≡ with_message sender peer message noted net.old) }
 {
     match peer {
         Peer::Outside(place) => {

@@ -17,14 +17,14 @@ use Rattle.sc_state.specs.declared.working.Asked.TheVariants as asked
 use Rattle.sc_state.specs.declared.working.Draft.{Draft}
 use Rattle.sc_state.specs.declared.working.Working.{Working}
 use Rattle.sc_state.specs.declared.working.Written.{Written}
-use Rattle.sc_grammar.specs.Written.{Bytes}
+use Rattle.sc_tokens.specs.Bytes.{Bytes}
 use Rattle.sc_model.specs.Dialogs.{DialogState}
 use Rattle.sc_hosts.specs.Looking.{request_in}
 use Rattle.sc_hosts.specs.Preparing.{kept_of}
 use Rattle.sc_hosts.specs.Refusals.{awaits_ack, begun_by}
 use Rattle.sc_hosts.specs.RefusalParts.{draft_in}
 use Rattle.sc_hosts.specs.Giving.{answering, writes, drafts_own, drafts_later, drafts_leg, is_written, directs, forgets}
-use Rattle.sc_hosts.specs.Working.{keeps_sent, sends_initial, sends_later, dialog_in, sends_in, sends_written, sends, ack_with, acknowledges, cancels, invalidates, does, does_by}
+use Rattle.sc_hosts.specs.Working.{keeps_sent, sends_initial, sends_later, dialog_in, sends_in, sends_written, sends, ack_with, acknowledges, cancels, invalidates, effects_of_call as does, does_by}
 
 answering_play : (config : Config) (request : Option RequestView) (answer : Answer) (working : Working) → (answering config request answer working).play ≡ working.play
 unfolding answering

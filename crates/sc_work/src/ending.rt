@@ -5,7 +5,7 @@ ghost use Rattle.std.specs.List.{flat_map};
 ghost use Rattle.sc_value.specs.Lists.{change_first};
 ghost use Rattle.sc_hosts.specs.Looking.{same_session};
 ghost use Rattle.sc_hosts.specs.Legs.{change_leg, is_leg_of};
-ghost use Rattle.sc_hosts.specs.Working.{owed_answer, insert_number, in_order, branch_of, invite_branches, goodbyes, invalidates};
+ghost use Rattle.sc_hosts.specs.Working.{branch_of, goodbyes, in_order, insert_number, invalidates, invite_branches, owed_answer};
 ghost use Rattle.sc_sending.specs.Pieces.{as_invalidated};
 ghost use Rattle.sc_work.specs.Goodbyes.{is_whose, owed_by, kept_branches, proxy_branches, cancel_now};
 ghost use Rattle.sc_model.specs.BestResponses.{server_error};

@@ -2,7 +2,7 @@
 
 ghost use Rattle.std.specs.Prelude.{◌≡◌, OnOk, IfOk};
 ghost use Rattle.sc_hosts.specs.Refusals.{refusal};
-ghost use Rattle.sc_hosts.specs.Working.{starts, does, does_by, worked, worked_all};
+ghost use Rattle.sc_hosts.specs.Working.{after_one_call, does_by, effects_of_call, starts, worked_all};
 ghost use Rattle.sc_sending.specs.Pieces.{worked_on};
 
 use crate::ending::invalidates;
@@ -32,14 +32,14 @@ pub fn starts(alloc: Global, shown: Prepared) -> Working
 }
 
 /// Does what an accepted call does.
-#[tactic(auto, unfolding(sc_hosts::specs::Working::does))]
+#[tactic(auto, unfolding(sc_hosts::specs::Working::effects_of_call))]
 pub fn does(
     alloc: Global,
     config: &Config,
     working: &mut Working,
     call: &Call,
 ) -> Result<(), NoMemory>
-    ensures { OnOk result (working.new ≡ does config.now working.old call.now) }
+    ensures { OnOk result (working.new ≡ effects_of_call config.now working.old call.now) }
 {
     match call {
         Call::Respond { req, answer } => answering_by(alloc, config, *req, answer, working),
@@ -110,14 +110,14 @@ fn does_by(
 }
 
 /// Makes one call more: an accepted one does what it does, and each is listed.
-#[tactic(auto, unfolding(sc_hosts::specs::Working::worked), using(crate::proofs::Plays::does_by_play))]
+#[tactic(auto, unfolding(sc_hosts::specs::Working::after_one_call), using(crate::proofs::Plays::does_by_play))]
 pub fn worked(
     alloc: Global,
     config: &Config,
     working: &mut Working,
     call: &Call,
 ) -> Result<(), NoMemory>
-    ensures { OnOk result (working.new ≡ worked config.now working.old call.now) }
+    ensures { OnOk result (working.new ≡ after_one_call config.now working.old call.now) }
 {
     does_by(alloc, config, working, call)?;
     let _answer = after_listed(alloc, &mut working.play, call)?;

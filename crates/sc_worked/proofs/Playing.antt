@@ -17,13 +17,13 @@ use Rattle.sc_state.specs.declared.net.Net.{Net}
 use Rattle.sc_state.specs.declared.queue.Waiting.{Waiting}
 use Rattle.sc_state.specs.declared.session.Session.{Session}
 use Rattle.sc_state.specs.declared.working.Prepared.{Prepared}
-use Rattle.sc_grammar.specs.Written.{Bytes}
+use Rattle.sc_tokens.specs.Bytes.{Bytes}
 use Rattle.sc_model.specs.Records.{record_text, end_text}
 use Rattle.sc_model.specs.Settings.{Charters, charters_of}
-use Rattle.sc_hosts.specs.Scripting.{Script, Done, played}
+use Rattle.sc_hosts.specs.Scripting.{Script, Done, calls_of_script as played}
 use Rattle.sc_hosts.specs.Bringing.{servlet_script, listener_script, is_listened}
 use Rattle.sc_hosts.specs.Histories.{as_session}
-use Rattle.sc_hosts.specs.Runs.{start, after_step, shown, live_count}
+use Rattle.sc_hosts.specs.Runs.{start, after_step, prepared_turn as shown, live_count}
 use Rattle.sc_hosts.specs.Steps.{live_at}
 
 -- what a script says, its messages read
@@ -61,7 +61,7 @@ unfoldable pub turn_on : Setup → Played → AppId → Live Session → Option 
 turn_on setup p app live None = p
 turn_on setup p app live (Some waiting) =
     let seen : Prepared = shown as_session setup p.net app live waiting p.net.moment in
-    step_taken setup p (steps.Turn app waiting.number p.net.moment (played seen.view (script_at (charters_of setup app.host) seen.view seen.event)) ends.Fine)
+    step_taken setup p (steps.Turn ends.Fine app waiting.number p.net.moment (played seen.view (script_at (charters_of setup app.host) seen.view seen.event)))
 
 unfoldable pub turn_by : Setup → Played → AppId → Option (Live Session) → Played
 turn_by setup p app None = p

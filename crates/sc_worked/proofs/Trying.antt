@@ -16,7 +16,7 @@ use Rattle.sc_terms.specs.declared.steps.Line.{Line}
 use Rattle.sc_terms.specs.declared.steps.Line.TheVariants as lines
 use Rattle.sc_terms.specs.declared.steps.Step.TheVariants as steps
 use Rattle.sc_parts.specs.declared.setup.Setup.{Setup}
-use Rattle.sc_grammar.specs.Written.{Bytes}
+use Rattle.sc_tokens.specs.Bytes.{Bytes}
 use Rattle.sc_syntax.specs.Messages.{message_of}
 use Rattle.sc_syntax.specs.UriParts.{Fault}
 use Rattle.sc_script.specs.ScriptTexts.{Fault as ScriptFault, script_of}

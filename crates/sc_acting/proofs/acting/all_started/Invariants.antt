@@ -1,6 +1,6 @@
 use Rattle.std.proofs.Common.{◌≡◌, take}
 use Rattle.std.specs.List.{fold}
-use Rattle.sc_hosts.specs.Acting.{started}
+use Rattle.sc_hosts.specs.Acting.{after_start as started}
 use Rattle.sc_acting.proofs.acting.all_started.Given as goal
 
 abbrev pub invariant-loop-uri : goal.invariant-loop-uri

@@ -1,6 +1,6 @@
 use Rattle.std.proofs.Common.{◌++◌}
 use Rattle.std.specs.Map.{values_of}
-use Rattle.sc_book.specs.Gathering.{gathered, is_wanted}
+use Rattle.sc_book.specs.Gathering.{items_at as gathered, is_wanted}
 use Rattle.sc_book.proofs.GatherLaws.{gathered_next, gathered_end}
 use Rattle.sc_book.proofs.gathering.add_all.Goals as goal
 

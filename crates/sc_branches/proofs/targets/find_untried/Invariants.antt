@@ -1,5 +1,5 @@
 use Rattle.std.proofs.Common.{◌≡◌, ◌++◌, drop}
-use Rattle.sc_hosts.specs.Branches.{untried}
+use Rattle.sc_hosts.specs.Branches.{new_targets as untried}
 use Rattle.sc_branches.proofs.targets.find_untried.Given as goal
 
 abbrev pub invariant-loop-uri : goal.invariant-loop-uri

@@ -2,7 +2,7 @@ use Rattle.std.proofs.Common.{◌≡◌, true, false, Some, None, take, get_or, 
 use Rattle.std.specs.List.{list_any}
 use Rattle.sc_tokens.specs.Names.{same_bytes}
 use Rattle.toml.specs.declared.value.Value.{Value}
-use Rattle.sc_config.specs.Documents.{Bytes}
+use Rattle.sc_tokens.specs.Bytes.{Bytes}
 use Rattle.sc_config.proofs.NameLaws.{name_in, doubled_here, doubled_next, doubled_end, double_name_is}
 use Rattle.sc_config.proofs.faults.double_name.Goals as goal
 

@@ -1,5 +1,5 @@
 use Rattle.std.proofs.Common.{◌≡◌, take}
-use Rattle.sc_derived.specs.Marks.{marked}
+use Rattle.sc_derived.specs.Marks.{legs_by_marks as marked}
 use Rattle.sc_derived.proofs.ending.mark_legs.Given as goal
 
 abbrev pub invariant-loop-i : goal.invariant-loop-i

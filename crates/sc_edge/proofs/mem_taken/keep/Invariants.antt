@@ -1,6 +1,6 @@
 use Rattle.std.proofs.Common.{◌≡◌, ◌+◌, ◌≤◌, ◌++◌, take}
 use Rattle.std.specs.Prelude.{vec_len, vec_capacity}
-use Rattle.sc_edge.specs.EdgeTaken.{tagged}
+use Rattle.sc_edge.specs.EdgeTaken.{bytes_of_place as tagged}
 use Rattle.sc_edge.proofs.mem_taken.keep.Given as goal
 
 -- the first bytes stand at the end, and there is room for the others

@@ -1,4 +1,4 @@
-use Rattle.sc_finish.specs.Passing.{passed}
+use Rattle.sc_finish.specs.Passing.{request_onward as passed}
 use Rattle.sc_finish.proofs.later.passed.Goals as goal
 
 pub returns : goal.returns

@@ -1,6 +1,6 @@
 use Rattle.std.proofs.Common.{◌∙◌, sym, ap}
 use Rattle.std.specs.Option.{option_copied}
-use Rattle.sc_hosts.specs.Taking.{tried}
+use Rattle.sc_hosts.specs.Taking.{server_after_trying as tried}
 use Rattle.sc_inboxes.proofs.HostUses.{tried_found, then_same}
 use Rattle.sc_inboxes.proofs.server_parts.try_in.Goals as goal
 

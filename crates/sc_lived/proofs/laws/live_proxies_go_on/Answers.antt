@@ -1,7 +1,7 @@
 use Rattle.sc_state.specs.declared.session.Session.{Session}
 use Rattle.sc_lasting.specs.Lasting.{GoOn}
 use Rattle.sc_lasting.proofs.Proxied.{proxies-go-on}
-use Rattle.sc_lived.specs.Lived.{told}
+use Rattle.sc_lived.specs.Lived.{turns_in as told}
 use Rattle.sc_lived.proofs.Accepted.{any-accepted}
 use Rattle.sc_lived.proofs.Since.{histories-relate, sessions-relate}
 use Rattle.sc_lived.proofs.laws.live_proxies_go_on.Goals as goal

@@ -1,6 +1,6 @@
 use Rattle.sc_lasting.specs.Lasting.{AreDirect, Directly}
 use Rattle.sc_lasting.proofs.Direct.{nothing-proxied}
-use Rattle.sc_lived.specs.Lived.{told}
+use Rattle.sc_lived.specs.Lived.{turns_in as told}
 use Rattle.sc_lived.proofs.Sayings.{has-lived}
 use Rattle.sc_lived.proofs.Since.{history-holds, lived-proxies, session-holds, session-proxies}
 use Rattle.sc_lived.proofs.laws.live_requests_last.Goals as goal

@@ -1,7 +1,7 @@
 use Rattle.sc_state.specs.declared.session.Session.{Session}
 use Rattle.sc_lasting.specs.Lasting.{Continues, IsOnward}
 use Rattle.sc_lasting.proofs.Onward.{states-move-on}
-use Rattle.sc_lived.specs.Lived.{told}
+use Rattle.sc_lived.specs.Lived.{turns_in as told}
 use Rattle.sc_lived.proofs.Accepted.{any-accepted}
 use Rattle.sc_lived.proofs.Since.{histories-relate, sessions-relate}
 use Rattle.sc_lived.proofs.laws.live_states_move_on.Goals as goal

@@ -2,7 +2,7 @@ use Rattle.std.proofs.Common.{◌∙◌, ap, sym}
 use Rattle.std.specs.List.{fold}
 use Rattle.std.specs.Option.{option_copied}
 use Rattle.sc_syntax.specs.declared.ending.Ending.TheVariants.{Any}
-use Rattle.sc_syntax.specs.Folds.{continued}
+use Rattle.sc_syntax.specs.Folds.{with_piece as continued}
 use Rattle.sc_message_text.specs.Pieces.{pieces_behind}
 use Rattle.sc_message_text.proofs.FoldSteps.{behind_some, behind_none, fold_more, fold_end}
 use Rattle.sc_message_text.proofs.folds.continue_all.Goals as goal

@@ -2,7 +2,7 @@ use Rattle.std.proofs.Common.{◌≡◌, ◌+◌, length}
 use Rattle.std.specs.List.{fold}
 use Rattle.std.specs.Option.{option_copied, option_map_or}
 use Rattle.sc_syntax.specs.declared.ending.Ending.TheVariants.{Any}
-use Rattle.sc_syntax.specs.Folds.{continued}
+use Rattle.sc_syntax.specs.Folds.{with_piece as continued}
 use Rattle.sc_message_text.specs.Pieces.{pieces_behind}
 use Rattle.sc_message_text.proofs.folds.continue_all.Given as goal
 

@@ -1,6 +1,6 @@
 use Rattle.std.proofs.Common.{List, ℕ, Option, Bor, sym, subst}
 use Rattle.std.specs.Option.{option_map}
-use Rattle.sc_names.specs.Reading.{IsRead, Lacks, parted}
+use Rattle.sc_names.specs.Reading.{IsRead, Lacks, two_with_sign as parted}
 use Rattle.sc_names.proofs.ReadingLaws.{cut_none, cut_some}
 use Rattle.sc_names.proofs.reading.cut.Goals as goal
 

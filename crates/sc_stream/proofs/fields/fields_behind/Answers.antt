@@ -1,6 +1,6 @@
 use Rattle.std.proofs.Common.{◌∙◌, ap}
 use Rattle.std.specs.Option.{option_copied}
-use Rattle.sc_syntax.specs.Folds.{joined}
+use Rattle.sc_syntax.specs.Folds.{text_without_folds as joined}
 use Rattle.sc_syntax.specs.Fronts.{field_of}
 use Rattle.sc_syntax.specs.Lines.{lines_behind}
 use Rattle.sc_stream.proofs.ReadSteps.{lines_end, lines_none, lines_some, line_put}

@@ -2,7 +2,7 @@ use Rattle.std.proofs.Common.{◌≡◌, ◌++◌, ◌+◌, length}
 use Rattle.std.specs.Prelude.{filter_map}
 use Rattle.std.specs.Option.{option_copied, option_map_or}
 use Rattle.sc_syntax.specs.Lines.{lines_behind}
-use Rattle.sc_syntax.specs.Folds.{joined}
+use Rattle.sc_syntax.specs.Folds.{text_without_folds as joined}
 use Rattle.sc_syntax.specs.Fronts.{field_of}
 use Rattle.sc_stream.proofs.fields.fields_behind.Given as goal
 

@@ -1,6 +1,6 @@
 use Rattle.std.proofs.Common.{◌∙◌, ap, sym, subst, arith}
 use Rattle.std.specs.Prelude.{IfOk, ◌≡◌}
-use Rattle.sc_syntax.specs.Fronts.{sized}
+use Rattle.sc_syntax.specs.Fronts.{front_of_length as sized}
 use Rattle.sc_syntax.specs.Messages.{parts_in}
 use Rattle.sc_stream.proofs.Knowing.{read_front, read_len, read_open, read_parts}
 use Rattle.sc_stream.proofs.first.judge_body.Goals as goal

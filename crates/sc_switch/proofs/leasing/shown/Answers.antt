@@ -1,7 +1,7 @@
 use Rattle.std.proofs.Common.{rules}
 use Rattle.sc_hosts.specs.Histories.{as_session}
 use Rattle.sc_hosts.specs.Nets.{host_at}
-use Rattle.sc_hosts.specs.Runs.{shown}
+use Rattle.sc_hosts.specs.Runs.{prepared_turn as shown}
 use Rattle.sc_hosts.specs.Steps.{ringing_at}
 use Rattle.sc_switch.proofs.Beginnings.{prepared_anyhow}
 use Rattle.sc_switch.proofs.leasing.shown.Goals as goal

@@ -1,6 +1,6 @@
 use Rattle.std.proofs.Common.{◌≡◌, take}
 use Rattle.std.specs.List.{fold}
-use Rattle.sc_hosts.specs.Working.{worked}
+use Rattle.sc_hosts.specs.Working.{after_one_call as worked}
 use Rattle.sc_work.proofs.working.work_all.Given as goal
 
 abbrev pub invariant-loop-call : goal.invariant-loop-call

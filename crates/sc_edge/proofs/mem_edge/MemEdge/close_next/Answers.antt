@@ -1,7 +1,7 @@
 use Rattle.std.proofs.Common.{ap, ◌∙◌}
 use Rattle.sc_edge.proofs.EdgePutLaws.{closed_is}
 use Rattle.sc_edge.specs.EdgeMemory.{told_closes}
-use Rattle.sc_edge.specs.EdgePlaces.{shut, with_known}
+use Rattle.sc_edge.specs.EdgePlaces.{as_shut as shut, with_known}
 use Rattle.sc_edge.specs.contracts.mem_edge.MemEdge.{the_view}
 use Rattle.sc_edge.proofs.mem_edge.MemEdge.close_next.Goals as goal
 

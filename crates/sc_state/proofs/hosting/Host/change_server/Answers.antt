@@ -2,7 +2,7 @@ use Rattle.std.proofs.Common.{◌≡◌, sym, ap, ◌∙◌, subst}
 use Rattle.std.specs.Arc.{arc_value}
 use Rattle.std.specs.Result.{OnOk}
 use Rattle.sc_value.specs.Lists.{change_first}
-use Rattle.sc_state.specs.Keeping.{tidied}
+use Rattle.sc_state.specs.Keeping.{without_ended as tidied}
 use Rattle.sc_state.specs.Sharing.{lists_of}
 use Rattle.sc_state.specs.Standing.{is_server}
 use Rattle.sc_state.proofs.hosting.Host.change_server.Goals as goal

@@ -1,5 +1,5 @@
 use Rattle.std.proofs.Common.{ap, ◌∙◌}
-use Rattle.sc_hosts.specs.Effects.{begun}
+use Rattle.sc_hosts.specs.Effects.{first_play as begun}
 use Rattle.sc_turn.proofs.Listing.{begins}
 use Rattle.sc_turn.proofs.turn.Turn.begin.Goals as goal
 
