@@ -27,8 +27,7 @@ pub record IsTimely {S : Type 0} (setup : Setup) (net : Net S) (lease : Lease) (
 
 -- it shows what the turn of the event begins with
 unfoldable pub IsShown : Prepared → Lease → Type 0
-IsShown prepared_turn lease =
-    (prepared_turn.view ≡ lease.shown) × (prepared_turn.event ≡ lease.event)
+IsShown prepared lease = (prepared.view ≡ lease.shown) × (prepared.event ≡ lease.event)
 
 -- the same of the event that is first, where one waits
 unfoldable pub ShowsFirst : {S : Type 0} → Form S → Setup → Net S → Lease → Live S → Option Waiting

@@ -18,7 +18,7 @@ use Rattle.sc_servlets.specs.Stated.{servlet_at, listener_at}
 use Rattle.sc_model.specs.JournalSizes.{journal_size}
 use Rattle.sc_model.specs.Settings.{IsSetup, charters_of}
 use Rattle.sc_hosts.specs.Histories.{as_session}
-use Rattle.sc_hosts.specs.Runs.{IsLawful, all_sent, live_count, net_from, prepared_turn, waiting_count}
+use Rattle.sc_hosts.specs.Runs.{IsLawful, all_sent, live_count, net_from, waiting_count}
 use Rattle.sc_leases.specs.Leases.{AreLeases, has_number}
 
 -- what callers see: the set-up, the number and the first moment of the epoch, the steps of the

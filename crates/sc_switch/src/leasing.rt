@@ -153,7 +153,7 @@ fn lease_of(
     shown: &Prepared,
 ) -> Result<Lease, NoMemory>
     ensures { IfOk result
-        (λ lease. IsMade number app kind event_number now prepared_turn.now lease) }
+        (λ lease. IsMade number app kind event_number now shown.now lease) }
 {
     if shown.view.now != now || !is_in_range(&shown.view) {
         return Err(NoMemory);
@@ -177,7 +177,7 @@ fn let_go(shown: Boxed<Prepared>) {
 /// What is shown, but for the timer of a branch.
 fn begun_of(event: &Queued, shown: Boxed<Prepared>) -> Option<Boxed<Prepared>>
     ensures { IfSome result
-        (λ begun. (begun ≡ prepared_turn) × (is_branch_timer event.now ≡ false)) }
+        (λ begun. (begun ≡ shown) × (is_branch_timer event.now ≡ false)) }
 {
     if is_branch_timer(event) {
         let_go(shown);
@@ -210,7 +210,7 @@ pub fn offer(
 
 /// Keeps what the turn of an offered lease begins with.
 fn keep_begun(app: AppId, now: u64, offered: Offered, net: &mut Readied) -> Lease
-    requires { IfSome offered.begun (λ prepared_turn. BeginsAnyhow net.old app now prepared_turn) }
+    requires { IfSome offered.begun (λ shown. BeginsAnyhow net.old app now shown) }
     ensures lease { result ≡ offered.lease }
     ensures same { net.new ≡ net.old }
 {
